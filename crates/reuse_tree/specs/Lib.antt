@@ -3,3 +3,4 @@ pub mod Files
 pub mod Change
 pub mod Store
 pub mod Calls
+pub mod FileMap
