@@ -1,5 +1,5 @@
 -- The files of a map.
-use Rattle.std.specs.Prelude.{◌≡◌, List, ℕ, Option, Some, None, IsSome, is_some}
+use Rattle.std.specs.Prelude.{List, ℕ, Option, Some, None, IsSome, is_some}
 use Rattle.std.specs.Ordering.{nat_cmp}
 use Rattle.std.specs.Cmp.Lexicographic.{slice_cmp}
 use Rattle.std.specs.FinMap.{empty, get, get-empty, from_entries}

@@ -1,4 +1,4 @@
-use Rattle.std.proofs.Common.{◌≡◌, ◌++◌, sym, ap, ◌∙◌}
+use Rattle.std.proofs.Common.{◌++◌, sym, ap, ◌∙◌}
 use Rattle.std.proofs.lemmas.List.{append-nil}
 use Rattle.reuse_tree.proofs.Contents.{keys_contents}
 use Rattle.reuse_tree.proofs.file_map.FileMap.list.Goals as goal

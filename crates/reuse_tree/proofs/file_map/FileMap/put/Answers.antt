@@ -1,9 +1,9 @@
-use Rattle.std.proofs.Common.{◌≡◌, nat_cmp, sym, ap, refl, subst, List, ℕ, true, false, IsTrue, ◌∙◌, IfOk}
+use Rattle.std.proofs.Common.{nat_cmp, sym, ap, refl, subst, IsTrue, ◌∙◌}
 use Rattle.std.specs.Cmp.Lexicographic.{slice_cmp}
 use Rattle.std.specs.FinMap.{from_entries, insert}
 use Rattle.std.proofs.lemmas.Bool.{false≢true}
 use Rattle.reuse_tree.specs.Path.{is_path}
-use Rattle.reuse_tree.specs.Files.{AreFiles, Clashes}
+use Rattle.reuse_tree.specs.Files.{Clashes}
 use Rattle.reuse_tree.proofs.Contents.{one_put, inserted, clashes_contents}
 use Rattle.reuse_tree.proofs.file_map.FileMap.put.Goals as goal
 

@@ -1,6 +1,4 @@
-use Rattle.std.proofs.Common.{nat_cmp, sym, subst, List, ℕ}
-use Rattle.std.specs.Cmp.Lexicographic.{slice_cmp}
-use Rattle.std.specs.FinMap.{from_entries}
+use Rattle.std.proofs.Common.{sym, subst}
 use Rattle.reuse_tree.specs.Files.{AreFiles}
 use Rattle.reuse_tree.proofs.Contents.{one_removed}
 use Rattle.reuse_tree.proofs.GoodFiles.{remove_keeps}

@@ -1,4 +1,4 @@
-use Rattle.std.proofs.Common.{◌≡◌, ap, sym, subst, ◌∙◌}
+use Rattle.std.proofs.Common.{ap, sym, ◌∙◌}
 use Rattle.std.specs.FinMap.{keys}
 use Rattle.reuse_tree.specs.FileMap.{files_in}
 use Rattle.reuse_tree.proofs.Contents.{no_paths}
