@@ -1,6 +1,6 @@
 -- The entries of a session on either side of its cursor, as steps of a journal.
 use Rattle.std.proofs.Common.{◌≡◌, ℕ, suc, ◌+◌, ◌-◌, ◌<◌, ◌≤◌, true, false, List, [], ◌∷◌, ◌++◌, length, map, take, drop, reverse, get_or, refl, sym, ap, ◌∙◌, arith, drop-cons}
-use Rattle.std.proofs.lemmas.List.{take_more, length-take, length-append, reverse-append, reverse-reverse, take_at, drop_at, map-append}
+use Rattle.std.proofs.lemmas.List.{take_more, length-take, length-append, reverse-append, reverse-reverse, length-map, length-reverse, map-append}
 use Rattle.std.proofs.Math.Seq.{take-length, drop-length}
 use Rattle.reuse_session.specs.declared.entry.Entry.{Entry}
 use Rattle.reuse_session.specs.declared.session.Session.{Session}
@@ -72,3 +72,14 @@ rows_of_entries session =
     ap (λ rows. rows ++ map (entry_row false) (drop session.history.done session.history.entries.items))
     (sym (ap (map done) (reverse_recorded (reverse front) ∙ ap (map recorded) (reverse-reverse front)) ∙ map_recorded front done))
     ∙ ap (λ rows. map done (reverse (map recorded (reverse front))) ++ rows) (sym (map_recorded (drop session.history.done session.history.entries.items) undone))
+
+pub length_done : (entries : List Entry) (done : ℕ) → done ≤ length entries → length (map recorded (reverse (take done entries))) ≡ done
+length_done entries done within =
+    length-map (reverse (take done entries)) recorded ∙ length-reverse (take done entries) ∙ omega (arith, length-take done entries, within)
+
+pub no_steps : (steps : List Recorded) → length steps ≡ 0 → steps ≡ []
+no_steps [] e = refl
+no_steps (step ∷ steps) e = absurd (omega arith)
+
+pub some_steps : (steps : List Recorded) → 0 < length steps → steps ≡ [] → ⊥
+some_steps steps some e = omega (arith, some, ap length e)

@@ -1,6 +1,7 @@
 -- A tree and a journal follow the machine of whole trees.
-use Rattle.std.proofs.Common.{◌≡◌, ℕ, suc, ◌+◌, ◌<◌, ◌≤◌, Bool, true, false, cond, ◌||◌, List, [], ◌∷◌, ◌++◌, length, map, reverse, Result, Ok, Err, nat_le, refl, sym, ap, subst, ◌∙◌, arith}
+use Rattle.std.proofs.Common.{◌≡◌, ◌⊎◌, ⊎_elim, ℕ, suc, ◌+◌, ◌<◌, ◌≤◌, Bool, true, false, cond, ◌||◌, List, [], ◌∷◌, ◌++◌, length, map, reverse, Result, Ok, Err, IsOk, OnOk, nat_le, refl, sym, ap, subst, ◌∙◌, arith}
 use Rattle.std.specs.List.{All, AllByRecursion}
+use Rattle.std.proofs.lemmas.Bool.{false≢true}
 use Rattle.std.proofs.lemmas.Bool.Decides.{nat_tests}
 use Rattle.std.proofs.lemmas.List.{map-append, reverse-append, length-map}
 use Rattle.std.proofs.lemmas.List.Elements.{All-from_recursion}
@@ -14,9 +15,12 @@ use Rattle.reuse_session.specs.declared.reply.Row.{Row}
 use Rattle.reuse_session.specs.declared.reply.Reply.{Reply}
 use Rattle.reuse_session.specs.declared.reply.Reply.TheVariants.{Changed, NothingChanged, Undone, Redone}
 use Rattle.reuse_session.specs.declared.reply.Refusal.{Refusal}
-use Rattle.reuse_session.specs.declared.reply.Refusal.TheVariants.{JournalFull, NothingToUndo, NothingToRedo, Memory, Fault}
+use Rattle.reuse_session.specs.declared.reply.Refusal.TheVariants.{JournalFull, NothingToUndo, NothingToRedo, Moved, Interrupted, Memory, Fault}
 use Rattle.reuse_tree.specs.declared.fault.StoreFault.{StoreFault}
-use Rattle.reuse_session.specs.Answer.{IsNoMemory, IsNoWantOfMemory}
+use Rattle.reuse_tree.specs.declared.fault.StoreFault.TheVariants as faults
+use Rattle.reuse_session.specs.declared.reply.Cause.{Cause}
+use Rattle.reuse_session.specs.declared.reply.Cause.TheVariants as causes
+use Rattle.reuse_session.specs.Answer.{IsNoMemory, IsNoWantOfMemory, IsTestRefusal, IsNoClash}
 use Rattle.reuse_session.specs.Command.{name_of}
 use Rattle.reuse_session.specs.Outcome.{outcome_of}
 use Rattle.reuse_session.specs.Entry.{paths_of, IsEntry, LeadsBy, LeadsAll, CanBeMade}
@@ -25,7 +29,7 @@ use Rattle.reuse_session.specs.Plan.{IsPlan, IsRefusalOf}
 use Rattle.reuse_session.specs.Machine.{Label, Kept, Snapshots, Step, taken, ran, ran_by, is_full, undone, redone, row_of, rows_before, rows_behind, rows_of}
 use Rattle.reuse_session.specs.Journal.{Recorded, Journal, State, IsGoodJournal, Undoes, Redoes, rows_in}
 use Rattle.reuse_session.specs.Session.{Connects, LeadUpTo, LeadOn, Holds}
-use Rattle.reuse_session.proofs.Differ.{changed_by_entry}
+use Rattle.reuse_session.proofs.Differ.{changed_by_entry, changed_by_none}
 use Rattle.reuse_session.proofs.Walk.{leads_once, leads_back, can_lead, none_stuck}
 
 -- as many trees are kept as steps
@@ -196,3 +200,62 @@ pub refusal_given : (outcome : Result Files Refusal) (refusal : Refusal) → IsR
 refusal_given outcome Memory h enough store = absurd enough
 refusal_given outcome (Fault fault) h enough store = absurd (store fault refl)
 refusal_given outcome refusal h enough store = h
+
+-- whether a journal is full
+pub full_by_done : (n u : ℕ) → 4096 ≤ n → is_full n u ≡ true
+full_by_done n u h = grind (arith, nat_tests)
+
+pub full_by_used : (n u : ℕ) → 999_999 ≤ u → is_full n u ≡ true
+full_by_used n u h = grind (arith, nat_tests)
+
+pub room_left : (n u : ℕ) → n < 4096 → u < 999_999 → is_full n u ≡ false
+room_left n u h k = grind (arith, nat_tests)
+
+-- an answer that passes a refusal on
+pub passed_on : {A B : Type 0} (r : Result A Refusal) (s : Result B Refusal) (x y : Refusal) → s ≡ Err x → x ≡ y → r ≡ Err y → IsNoWantOfMemory s → IsNoWantOfMemory r
+passed_on r s x y at same was enough = subst IsNoWantOfMemory (sym was) (subst IsNoMemory same (subst IsNoWantOfMemory at enough))
+
+-- a refusal of the test that is neither memory's nor the store's names a path
+pub names_path : (refusal : Refusal) → IsTestRefusal refusal → IsNoMemory refusal → (refusal ≡ Fault faults.Device → ⊥) → (refusal ≡ Fault faults.Clash → ⊥) → (path : List ℕ) × (refusal ≡ Moved path)
+names_path Memory h enough device clash = absurd enough
+names_path (Moved path) h enough device clash = (path, refl)
+names_path (Fault faults.Device) h enough device clash = absurd (device refl)
+names_path (Fault faults.Clash) h enough device clash = absurd (clash refl)
+names_path (Fault faults.Memory) h enough device clash = absurd h
+names_path refusal h enough device clash = absurd h
+
+-- a walk that can stop for the device and for memory alone, where neither gave way
+pub no_cause : (cause : Cause) → IsNoMemory (Interrupted cause) → (cause ≡ causes.Device → ⊥) → (cause ≡ causes.Moved → ⊥) → (cause ≡ causes.Clash → ⊥) → ⊥
+no_cause causes.Memory enough device moved clash = enough
+no_cause causes.Device enough device moved clash = device refl
+no_cause causes.Moved enough device moved clash = moved refl
+no_cause causes.Clash enough device moved clash = clash refl
+
+pub is_no_clash : (cause : Cause) → (cause ≡ causes.Moved → ⊥) → (cause ≡ causes.Clash → ⊥) → IsNoClash (Interrupted cause)
+is_no_clash causes.Memory moved clash = tt
+is_no_clash causes.Device moved clash = tt
+is_no_clash causes.Moved moved clash = moved refl
+is_no_clash causes.Clash moved clash = clash refl
+
+-- a plan of some changes is an entry
+pub entry_of_plan : (changes : List Change) → 0 < length changes → (changes ≡ []) ⊎ IsEntry changes → IsEntry changes
+entry_of_plan changes some good = ⊎_elim (λ none. absurd (omega (arith, some, ap length none))) (λ entry. entry) good
+
+pub no_changes : (changes : List Change) → length changes ≡ 0 → changes ≡ []
+no_changes [] e = refl
+no_changes (change ∷ changes) e = absurd (omega arith)
+
+-- a run that changes nothing
+pub run_nothing : (held : State) (state : Snapshots) (holds : Holds held state) (command : Command) (when : ℕ) (changes : List Change) (after : Files) → is_full (length held.journal.done) held.journal.used ≡ false
+    → outcome_of command held.tree ≡ Ok after → length changes ≡ 0 → LeadsAll changes held.tree after → ran_by state command when ≡ (Ok NothingChanged, state)
+run_nothing held state holds command when changes after room outcome none leads =
+    run_planned held state holds command when [] after room outcome (changed_by_none held.tree after (subst (λ cs. LeadsAll cs held.tree after) (no_changes changes none) leads))
+
+-- an answer that is no error is one
+pub perform_ok : {A : Type 0} (r : Result A Cause) → ((cause : Cause) → r ≡ Err cause → ⊥) → IsOk r
+perform_ok (Ok x) h = refl
+perform_ok (Err cause) h = absurd (h cause refl)
+
+pub on_ok : {A E P : Type 0} (r : Result A E) → IsOk r → OnOk r P → P
+on_ok (Ok x) is h = h
+on_ok (Err e) is h = absurd (false≢true is)
