@@ -155,7 +155,7 @@ module _ (held : State) (state : Snapshots) (holds : Holds held state) where
   run_follows command when changes after room outcome good leads before_are after_are new tree journal =
       let ran_is = run_planned command when changes after room outcome (changed_by_entry changes held.tree after good leads) ∙ taken_some when (name_of command) after changes good.some in
       let numbered : ◌≡◌ {A = Label} (record { number = state.used + 1; when = when; command = name_of command }) (record { number = held.journal.used + 1; when = when; command = name_of command }) =
-          λ i. record { number = sym holds.used i + 1; when = when; command = name_of command } in
+      λ i. record { number = sym holds.used i + 1; when = when; command = name_of command } in
       subst (λ (step : Step). (Ok (Changed (paths_of changes)) ≡ step.0) × Holds new step.1) (sym ran_is) (
         refl,
         record {
