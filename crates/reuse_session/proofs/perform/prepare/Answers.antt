@@ -1,5 +1,5 @@
-use Rattle.std.proofs.Common.{◌≡◌, ◌↔◌, length, take, drop, ◌+◌, true, false, IsTrue, arith, ap, sym, refl, subst, ◌∙◌}
-use Rattle.std.specs.List.{All, list_any}
+use Rattle.std.proofs.Common.{◌≡◌, ◌↔◌, length, take, drop, ◌+◌, true, IsTrue, arith, ap, sym, subst, ◌∙◌}
+use Rattle.std.specs.List.{All}
 use Rattle.std.specs.FinMap.{keys}
 use Rattle.std.proofs.Math.Seq.{take-length}
 use Rattle.std.proofs.lemmas.Bool.{false≢true}
