@@ -1,0 +1,3 @@
+pub mod FileMaps
+pub mod Parts
+pub mod Turning

@@ -1,0 +1,5 @@
+pub mod Path
+pub mod Files
+pub mod Change
+pub mod Store
+pub mod Calls
