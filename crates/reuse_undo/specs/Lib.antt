@@ -1,0 +1,4 @@
+pub mod Honesty
+pub mod KeptOut
+pub mod HonestFiles
+pub mod Lines
