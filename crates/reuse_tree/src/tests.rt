@@ -86,19 +86,32 @@ fn a_folder_is_no_file(rt: HostRuntime) -> Result<(), Fail> {
 }
 
 #[test]
-fn faults_come_when_due(rt: HostRuntime) -> Result<(), Fail> {
+fn a_fuse_burns_at_its_call(rt: HostRuntime) -> Result<(), Fail> {
     let alloc = rt.alloc();
     let path = PathText::new(alloc, "a")?;
     let mut fuse = FuseStore::new(MemoryStore::new(), 6, false);
     keeps_a_file(&rt, alloc, &mut fuse)?;
     assert!(rt; matches!(fuse.put(alloc, &path, b"x"), Err(StoreFault::Device)));
     assert!(rt; matches!(fuse.list(alloc), Err(StoreFault::Device)));
-    let mut once = OnceStore::new(fuse.into_inner(), 0, true);
+    let mut fuse = FuseStore::new(fuse.into_inner(), 1, true);
+    assert_eq!(rt; fuse.list(alloc)?.len(), 0);
+    assert!(rt; matches!(fuse.put(alloc, &path, b"x"), Err(StoreFault::Device)));
+    assert!(rt; matches!(fuse.remove(alloc, &path), Err(StoreFault::Device)));
+    assert_eq!(rt; fuse.into_inner().list(alloc)?.len(), 1);
+    Ok(())
+}
+
+#[test]
+fn a_fault_comes_once(rt: HostRuntime) -> Result<(), Fail> {
+    let alloc = rt.alloc();
+    let path = PathText::new(alloc, "a")?;
+    let mut once = OnceStore::new(MemoryStore::new(), 1, true);
+    assert_eq!(rt; once.list(alloc)?.len(), 0);
     assert!(rt; matches!(once.put(alloc, &path, b"x"), Err(StoreFault::Device)));
     assert_eq!(rt; once.list(alloc)?.len(), 1);
+    let mut once = OnceStore::new(once.into_inner(), 0, false);
+    assert!(rt; matches!(once.remove(alloc, &path), Err(StoreFault::Device)));
+    assert_eq!(rt; once.list(alloc)?.len(), 1);
     once.remove(alloc, &path)?;
-    keeps_a_file(&rt, alloc, &mut once)?;
-    let mut store = once.into_inner();
-    assert_eq!(rt; store.list(alloc)?.len(), 0);
-    Ok(())
+    keeps_a_file(&rt, alloc, &mut once)
 }
