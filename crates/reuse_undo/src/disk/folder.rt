@@ -1,4 +1,6 @@
 //! A folder of the file system: its regular files by their paths.
+ghost use Rattle.std.specs.Prelude.{◌≡◌, ◌++◌, ◌∷◌, IfOk, string_bytes};
+
 use crate::disk::fault::FolderFault;
 use crate::disk::kept_out::{NEW, is_kept_out};
 use crate::disk::listing::list_below;
@@ -40,7 +42,9 @@ impl<R: Files + AllocGlobal + Clone + Drop> RootFolder<R> {
         }
     }
 
-    fn full(&self, alloc: Global, path: &str) -> Result<FullPath, FolderFault> {
+    fn full(&self, alloc: Global, path: &str) -> Result<FullPath, FolderFault>
+        ensures { IfOk result (λ full. full ≡ string_bytes self.now.root ++ 47 ∷ path.now) }
+    {
         if self.root.is_empty() {
             return Err(FolderFault::Device);
         }

@@ -6,7 +6,6 @@ use odd::OddName;
 use reuse_tree::{PathText, Reading, Store, StoreFault};
 use std::alloc::Global;
 use std::os::unix::fs::{PermissionsExt, symlink};
-use std::process::Abort;
 use std::test::Fail;
 use std::{env, fs};
 
@@ -47,8 +46,11 @@ impl Scratch {
         Ok(())
     }
 
-    fn link(&self, original: &str, link: &str) -> Result<(), Fail> {
-        symlink(&self.rt, original, self.at(link)?.as_str())?;
+    /// Makes links, each by what it leads to and its path.
+    fn links(&self, links: &[(&str, &str)]) -> Result<(), Fail> {
+        for (original, link) in links {
+            symlink(&self.rt, *original, self.at(link)?.as_str())?;
+        }
         Ok(())
     }
 
@@ -68,13 +70,18 @@ impl Scratch {
         Ok(())
     }
 
-    /// The store over a folder of it, or over it itself where that is empty.
-    fn store(&self, folder: &str) -> Result<Asked, Fail> {
-        let store = DiskStore::at(self.rt.clone()?, self.at(folder)?);
-        Ok(Asked {
-            store,
-            alloc: self.rt.alloc(),
-        })
+    /// Asks the store over a folder of it, or over it itself where that is empty: each step is a call,
+    /// a path and what is wanted.
+    fn ask(&self, folder: &str, steps: &[(&str, &str, &str)]) -> Result<(), Fail> {
+        let mut store = DiskStore::at(self.rt.clone()?, self.at(folder)?);
+        for (call, path, wanted) in steps {
+            let found = answer(&mut store, self.rt.alloc(), call, path)?;
+            if found.as_str() != *wanted {
+                let told = format!(in self.rt.alloc(); "{call} {path}: {found}, not {wanted}")?;
+                return Err(told)?;
+            }
+        }
+        Ok(())
     }
 
     fn remove(self) -> Result<(), Fail> {
@@ -83,113 +90,102 @@ impl Scratch {
     }
 }
 
-/// A store that is asked by texts.
-#[derive(Drop)]
-struct Asked {
-    store: DiskStore<HostRuntime>,
-    alloc: Global,
+/// The answer of `list`, `read LIMIT`, `put TEXT` or `remove` as a text.
+fn answer<S: Store>(store: &mut S, alloc: Global, call: &str, path: &str) -> Result<String, Fail> {
+    let (name, argument) = call.split_once(' ').unwrap_or((call, ""));
+    if name == "list" {
+        return listed(store, alloc);
+    }
+    let path = PathText::new(alloc, path)?;
+    let text = match name {
+        "read" => return found(store, alloc, &path, argument.parse()?),
+        "put" => told(store.put(alloc, &path, argument.as_bytes())),
+        _ => told(store.remove(alloc, &path)),
+    };
+    Ok(String::from_str(alloc, text)?)
 }
 
-impl Asked {
-    /// The paths, each with a line end, or the fault.
-    fn list(&mut self) -> Result<String, Fail> {
-        let mut lines = String::new(self.alloc);
-        match self.store.list(self.alloc) {
-            Ok(paths) => {
-                for path in &paths {
-                    lines.push_str(path.text())?;
-                    lines.push('\n')?;
-                }
+/// The paths, a space after each, or the fault.
+fn listed<S: Store>(store: &mut S, alloc: Global) -> Result<String, Fail> {
+    let mut words = String::new(alloc);
+    match store.list(alloc) {
+        Ok(paths) => {
+            for path in &paths {
+                words.push_str(path.text())?;
+                words.push(' ')?;
             }
-            Err(fault) => lines.push_str(name_of(fault))?,
         }
-        Ok(lines)
+        Err(fault) => words.push_str(name_of(fault))?,
     }
+    Ok(words)
+}
 
-    /// The text that a file has, or why there is none.
-    fn read(&mut self, path: &str, limit: usize) -> Result<String, Fail> {
-        let path = PathText::new(self.alloc, path)?;
-        match self.store.read(self.alloc, &path, limit) {
-            Ok(Reading::Found(bytes)) => Ok(bytes.to_string(self.alloc)?),
-            Ok(Reading::Absent) => Ok(String::from_str(self.alloc, "(absent)")?),
-            Ok(Reading::TooLong) => Ok(String::from_str(self.alloc, "(too long)")?),
-            Err(fault) => Ok(String::from_str(self.alloc, name_of(fault))?),
-        }
-    }
-
-    fn put(&mut self, path: &str, text: &str) -> Result<&'static str, Fail> {
-        let path = PathText::new(self.alloc, path)?;
-        Ok(told(self.store.put(self.alloc, &path, text.as_bytes())))
-    }
-
-    fn remove(&mut self, path: &str) -> Result<&'static str, Fail> {
-        let path = PathText::new(self.alloc, path)?;
-        Ok(told(self.store.remove(self.alloc, &path)))
-    }
+/// The text that a file has, or why there is none.
+fn found<S: Store>(
+    store: &mut S,
+    alloc: Global,
+    path: &PathText,
+    limit: usize,
+) -> Result<String, Fail> {
+    let text = match store.read(alloc, path, limit) {
+        Ok(Reading::Found(bytes)) => return Ok(bytes.to_string(alloc)?),
+        Ok(Reading::Absent) => "absent",
+        Ok(Reading::TooLong) => "too long",
+        Err(fault) => name_of(fault),
+    };
+    Ok(String::from_str(alloc, text)?)
 }
 
 fn name_of(fault: StoreFault) -> &'static str {
     match fault {
-        StoreFault::Device => "(device)",
-        StoreFault::Clash => "(clash)",
-        StoreFault::Memory => "(memory)",
+        StoreFault::Device => "device fault",
+        StoreFault::Clash => "clash",
+        StoreFault::Memory => "no memory",
     }
 }
 
-fn told(answer: Result<(), StoreFault>) -> &'static str {
-    match answer {
+fn told(outcome: Result<(), StoreFault>) -> &'static str {
+    match outcome {
         Ok(()) => "done",
         Err(fault) => name_of(fault),
     }
-}
-
-fn check(rt: &impl Abort, found: &str, wanted: &str) {
-    assert_eq!(rt; found, wanted);
 }
 
 #[test]
 fn lists_regular_files_in_byte_order(rt: HostRuntime) -> Result<(), Fail> {
     let scratch = Scratch::new(rt, "lists")?;
     scratch.make_folders(&["a", ".git", "a/.git", ".reuse", ".reuse/undo", "empty"])?;
-    scratch.write(&["a/b", "a.py", "a-b", ".git/HEAD", "a/.git/x"])?;
-    scratch.write(&[
-        ".reuse/undo/new",
-        ".reuse/undo/head.json",
-        "é",
-        "with space.py",
-    ])?;
-    scratch.link("a", "link")?;
-    scratch.link("a.py", "link.py")?;
-    let mut store = scratch.store("")?;
-    let all = ".reuse/undo/head.json\na-b\na.py\na/.git/x\na/b\nwith space.py\né\n";
-    check(&scratch.rt, store.list()?.as_str(), all);
-    scratch.link("a", "root")?;
-    check(&scratch.rt, scratch.store("root")?.list()?.as_str(), "b\n");
+    scratch.write(&["a/b", "a.py", "a-b", "a/.git/x", "é", "b c", ".git/HEAD"])?;
+    scratch.write(&[".reuse/undo/new", ".reuse/undo/head.json"])?;
+    scratch.links(&[("a", "link"), ("a.py", "link.py")])?;
+    let all = ".reuse/undo/head.json a-b a.py a/.git/x a/b b c é ";
+    scratch.ask("", &[("list", "", all)])?;
+    scratch.ask("link", &[("list", "", "b ")])?;
     scratch.remove()
 }
 
 #[test]
 fn reads_puts_and_removes(rt: HostRuntime) -> Result<(), Fail> {
     let scratch = Scratch::new(rt, "puts")?;
-    let mut store = scratch.store("")?;
-    check(&scratch.rt, store.put("a/b c/é.py", "first")?, "done");
-    check(&scratch.rt, store.put("a/b c/é.py", "second")?, "done");
-    check(&scratch.rt, store.put("a/empty", "")?, "done");
-    check(&scratch.rt, store.list()?.as_str(), "a/b c/é.py\na/empty\n");
-    check(&scratch.rt, store.read("a/b c/é.py", 6)?.as_str(), "second");
-    check(
-        &scratch.rt,
-        store.read("a/b c/é.py", 5)?.as_str(),
-        "(too long)",
-    );
-    check(&scratch.rt, store.read("a/empty", 0)?.as_str(), "");
-    check(&scratch.rt, store.read("a/absent", 9)?.as_str(), "(absent)");
-    check(&scratch.rt, store.read("absent/b", 9)?.as_str(), "(absent)");
-    check(&scratch.rt, store.read("a", 9)?.as_str(), "(absent)");
-    check(&scratch.rt, store.remove("a/empty")?, "done");
-    check(&scratch.rt, store.remove("a/empty")?, "done");
-    check(&scratch.rt, store.remove("a")?, "done");
-    check(&scratch.rt, store.list()?.as_str(), "a/b c/é.py\n");
+    scratch.ask(
+        "",
+        &[
+            ("put first", "a/b c/é.py", "done"),
+            ("put second", "a/b c/é.py", "done"),
+            ("put", "a/empty", "done"),
+            ("list", "", "a/b c/é.py a/empty "),
+            ("read 6", "a/b c/é.py", "second"),
+            ("read 5", "a/b c/é.py", "too long"),
+            ("read 0", "a/empty", ""),
+            ("read 9", "a/absent", "absent"),
+            ("read 9", "absent/b", "absent"),
+            ("read 9", "a", "absent"),
+            ("remove", "a/empty", "done"),
+            ("remove", "a/empty", "done"),
+            ("remove", "a", "done"),
+            ("list", "", "a/b c/é.py "),
+        ],
+    )?;
     scratch.remove()
 }
 
@@ -206,17 +202,23 @@ fn clashes_with_files_alone(rt: HostRuntime) -> Result<(), Fail> {
         ".reuse/undo",
     ])?;
     scratch.write(&["a/b/c", ".git/HEAD", ".reuse/undo/new"])?;
-    scratch.link("../a/b/c", "linked/c")?;
-    let mut store = scratch.store("")?;
-    check(&scratch.rt, store.put("a", "y")?, "(clash)");
-    check(&scratch.rt, store.put("a/b/c/d", "y")?, "(clash)");
-    check(&scratch.rt, store.put("a/b/c/d/e", "y")?, "(clash)");
-    for folder in ["empty", "linked", ".git", ".reuse/undo", ".reuse"] {
-        check(&scratch.rt, store.put(folder, "y")?, "(device)");
-    }
-    check(&scratch.rt, store.read("a/b/c/d", 9)?.as_str(), "(absent)");
-    check(&scratch.rt, store.remove("a/b/c/d")?, "done");
-    check(&scratch.rt, store.list()?.as_str(), "a/b/c\n");
+    scratch.links(&[("../a/b/c", "linked/c")])?;
+    scratch.ask(
+        "",
+        &[
+            ("put y", "a", "clash"),
+            ("put y", "a/b/c/d", "clash"),
+            ("put y", "a/b/c/d/e", "clash"),
+            ("put y", "empty", "device fault"),
+            ("put y", "linked", "device fault"),
+            ("put y", ".git", "device fault"),
+            ("put y", ".reuse/undo", "device fault"),
+            ("put y", ".reuse", "device fault"),
+            ("read 9", "a/b/c/d", "absent"),
+            ("remove", "a/b/c/d", "done"),
+            ("list", "", "a/b/c "),
+        ],
+    )?;
     scratch.remove()
 }
 
@@ -225,51 +227,46 @@ fn keeps_out_of_version_control_and_of_the_new_file(rt: HostRuntime) -> Result<(
     let scratch = Scratch::new(rt, "keeps_out")?;
     scratch.make_folders(&[".git", ".reuse", ".reuse/undo"])?;
     scratch.write(&[".git/HEAD", ".reuse/undo/new"])?;
-    let mut store = scratch.store("")?;
     for path in [
         ".git/HEAD",
         ".git/refs/x",
         ".reuse/undo/new",
         ".reuse/undo/new/x",
     ] {
-        check(&scratch.rt, store.read(path, 9)?.as_str(), "(absent)");
-        check(&scratch.rt, store.put(path, "y")?, "(device)");
-        check(&scratch.rt, store.remove(path)?, "done");
+        scratch.ask("", &[("read 9", path, "absent")])?;
+        scratch.ask(
+            "",
+            &[("put y", path, "device fault"), ("remove", path, "done")],
+        )?;
     }
     assert!(scratch.rt; scratch.holds(".git/HEAD", "x")?);
     assert!(scratch.rt; scratch.holds(".reuse/undo/new", "x")?);
-    check(&scratch.rt, store.put("a.py", "y")?, "done");
-    check(&scratch.rt, store.list()?.as_str(), "a.py\n");
+    scratch.ask("", &[("put y", "a.py", "done"), ("list", "", "a.py ")])?;
     scratch.remove()
 }
 
 #[test]
 fn follows_no_link(rt: HostRuntime) -> Result<(), Fail> {
     let scratch = Scratch::new(rt, "links")?;
-    scratch.make_folders(&["out", "out/undo", "in", "in/sub"])?;
+    scratch.make_folders(&["out", "out/undo", "in"])?;
     scratch.write(&["out/a", "in/a"])?;
-    scratch.link("../out/a", "in/file")?;
-    scratch.link("../out", "in/folder")?;
-    scratch.link("nowhere", "in/dangling")?;
-    let mut store = scratch.store("in")?;
-    for path in [
-        "file",
-        "folder",
-        "folder/a",
-        "folder/undo/b",
-        "dangling",
-        "dangling/a",
-    ] {
-        check(&scratch.rt, store.read(path, 9)?.as_str(), "(absent)");
-        check(&scratch.rt, store.put(path, "y")?, "(device)");
-        check(&scratch.rt, store.remove(path)?, "done");
+    scratch.links(&[
+        ("../out/a", "in/file"),
+        ("../out", "in/to"),
+        ("none", "in/dangling"),
+    ])?;
+    for path in ["file", "to", "to/a", "to/undo/b", "dangling", "dangling/a"] {
+        scratch.ask("in", &[("read 9", path, "absent")])?;
+        scratch.ask(
+            "in",
+            &[("put y", path, "device fault"), ("remove", path, "done")],
+        )?;
     }
-    check(&scratch.rt, store.list()?.as_str(), "a\n");
-    scratch.link("../out", "in/.reuse")?;
-    check(&scratch.rt, store.put("a", "y")?, "(device)");
-    check(&scratch.rt, scratch.store("out")?.list()?.as_str(), "a\n");
-    assert!(scratch.rt; scratch.holds("out/a", "x")?);
-    assert!(scratch.rt; scratch.holds("in/a", "x")?);
+    scratch.ask("in", &[("list", "", "a ")])?;
+    scratch.links(&[("../out", "in/.reuse")])?;
+    scratch.ask("in", &[("put y", "a", "device fault")])?;
+    scratch.ask("out", &[("list", "", "a "), ("read 9", "a", "x")])?;
+    scratch.ask("in", &[("list", "", "a "), ("read 9", "a", "x")])?;
     scratch.remove()
 }
 
@@ -278,13 +275,14 @@ fn writes_through_no_link_at_the_new_file(rt: HostRuntime) -> Result<(), Fail> {
     let scratch = Scratch::new(rt, "new_link")?;
     scratch.make_folders(&["in", "in/.reuse", "in/.reuse/undo"])?;
     scratch.write(&["out"])?;
-    scratch.link("../../../out", "in/.reuse/undo/new")?;
-    check(&scratch.rt, scratch.store("in")?.put("a", "y")?, "done");
+    scratch.links(&[("../../../out", "in/.reuse/undo/new")])?;
+    scratch.ask("in", &[("put y", "a", "done")])?;
     assert!(scratch.rt; scratch.holds("out", "x")?);
-    assert!(scratch.rt; scratch.holds("in/a", "y")?);
     scratch.make_folders(&["in/.reuse/undo/new"])?;
-    check(&scratch.rt, scratch.store("in")?.put("a", "z")?, "(device)");
-    assert!(scratch.rt; scratch.holds("in/a", "y")?);
+    scratch.ask(
+        "in",
+        &[("put z", "a", "device fault"), ("read 9", "a", "y")],
+    )?;
     scratch.remove()
 }
 
@@ -294,11 +292,10 @@ fn keeps_permission_bits(rt: HostRuntime) -> Result<(), Fail> {
     scratch.write(&["run.sh", "shared", "locked", "plain"])?;
     for (path, mode) in [("run.sh", 0o755), ("shared", 0o666), ("locked", 0o440)] {
         scratch.set_mode(path, mode)?;
-        check(&scratch.rt, scratch.store("")?.put(path, "y")?, "done");
+        scratch.ask("", &[("put y", path, "done"), ("read 9", path, "y")])?;
         assert_eq!(scratch.rt; scratch.mode(path)?, mode);
-        assert!(scratch.rt; scratch.holds(path, "y")?);
     }
-    check(&scratch.rt, scratch.store("")?.put("made", "y")?, "done");
+    scratch.ask("", &[("put y", "made", "done")])?;
     assert_eq!(scratch.rt; scratch.mode("made")?, scratch.mode("plain")?);
     scratch.remove()
 }
@@ -308,15 +305,14 @@ fn fails_where_the_root_is_no_folder(rt: HostRuntime) -> Result<(), Fail> {
     let scratch = Scratch::new(rt, "roots")?;
     scratch.write(&["file"])?;
     for root in ["file", "absent"] {
-        let mut store = scratch.store(root)?;
-        check(&scratch.rt, store.list()?.as_str(), "(device)");
-        check(&scratch.rt, store.read("a", 9)?.as_str(), "(device)");
-        check(&scratch.rt, store.read("a/b", 9)?.as_str(), "(device)");
-        check(&scratch.rt, store.put("a", "y")?, "(device)");
-        check(&scratch.rt, store.put("a/b", "y")?, "(device)");
-        check(&scratch.rt, store.remove("a")?, "(device)");
+        for call in ["list", "read 9", "put y", "remove"] {
+            scratch.ask(
+                root,
+                &[(call, "a", "device fault"), (call, "a/b", "device fault")],
+            )?;
+        }
     }
-    check(&scratch.rt, scratch.store("")?.list()?.as_str(), "file\n");
+    scratch.ask("", &[("list", "", "file ")])?;
     scratch.remove()
 }
 
@@ -329,15 +325,16 @@ fn fails_where_a_folder_is_closed(rt: HostRuntime) -> Result<(), Fail> {
     scratch.set_mode("in/closed", 0o000)?;
     let file = scratch.at("in/closed/a")?;
     if fs::read(&scratch.rt, file.as_str()).is_err() {
-        let mut store = scratch.store("in")?;
-        check(&scratch.rt, store.list()?.as_str(), "(device)");
-        check(&scratch.rt, store.read("closed/a", 9)?.as_str(), "(device)");
+        scratch.ask("in", &[("list", "", "device fault")])?;
+        scratch.ask("in", &[("read 9", "closed/a", "device fault")])?;
         scratch.set_mode("in/closed", 0o555)?;
-        check(&scratch.rt, store.list()?.as_str(), "closed/a\n");
-        check(&scratch.rt, store.put("closed/a", "y")?, "(device)");
-        check(&scratch.rt, store.put("closed/b", "y")?, "(device)");
-        check(&scratch.rt, store.remove("closed/a")?, "(device)");
-        check(&scratch.rt, store.read("closed/a", 9)?.as_str(), "x");
+        scratch.ask("in", &[("put y", "closed/a", "device fault")])?;
+        scratch.ask("in", &[("put y", "closed/b", "device fault")])?;
+        scratch.ask("in", &[("remove", "closed/a", "device fault")])?;
+        scratch.ask(
+            "in",
+            &[("list", "", "closed/a "), ("read 9", "closed/a", "x")],
+        )?;
     }
     scratch.set_mode("in/closed", 0o755)?;
     scratch.remove()
@@ -346,17 +343,17 @@ fn fails_where_a_folder_is_closed(rt: HostRuntime) -> Result<(), Fail> {
 #[test]
 fn fails_on_odd_names(rt: HostRuntime) -> Result<(), Fail> {
     let scratch = Scratch::new(rt, "names")?;
-    let mut name = String::new(scratch.rt.alloc());
+    let alloc = scratch.rt.alloc();
+    let mut name = String::new(alloc);
     for _ in 0..255u8 {
         name.push('x')?;
     }
-    let mut store = scratch.store("")?;
-    check(&scratch.rt, store.put(name.as_str(), "y")?, "done");
+    scratch.ask("", &[("put y", name.as_str(), "done")])?;
     name.push('x')?;
-    check(&scratch.rt, store.put(name.as_str(), "y")?, "(device)");
-    let alloc = scratch.rt.alloc();
+    scratch.ask("", &[("put y", name.as_str(), "device fault")])?;
     let rt = scratch.rt.clone()?;
     let mut odd = DiskStore::at(OddName { rt }, String::from_str(alloc, "root")?);
-    assert_eq!(scratch.rt; odd.list(alloc).err(), Some(StoreFault::Device));
+    let found = listed(&mut odd, alloc)?;
+    assert_eq!(scratch.rt; found.as_str(), "device fault");
     scratch.remove()
 }
