@@ -18,7 +18,8 @@ cp "$top/HANDLES" "$build/"
 grep -E '^reuse_(text|tree):' "$top/crates.txt" > "$build/crates.txt"
 echo 'reuse_undo: reuse_text reuse_tree thiserror' >> "$build/crates.txt"
 find "$crate/src" -mindepth 1 -maxdepth 1 ! -name disk ! -name disk.rt -exec rm -rf {} +
-rm -rf "$crate/proofs" "$crate/data"
+rm -rf "$crate/proofs" "$crate/data" "$crate/specs/Lines.antt"
+sed -i '/Lines/d' "$crate/specs/Lib.antt"
 cp "$top/bench/disk_speed/main.rt" "$crate/src/"
 (cd "$crate" && rt run -- list /nowhere) > "$build/log" 2>&1 || { tail -20 "$build/log"; exit 1; }
 program=$crate/out/reuse_undo
