@@ -1,7 +1,7 @@
 #!/usr/bin/env bash
 # Lists, reads and rewrites a tree of files through DiskStore, beside `cp -r` of the same tree, on a
 # tmpfs. Prints the least time of five rounds and the ratios to `cp -r`. The program is built in a
-# temporary folder, from the modules of crates/reuse_undo and bench/disk_speed/main.rt.
+# temporary folder, from the modules of crates/reuse_undo and bench/disk_speed/program.txt.
 # usage: bench/disk_speed.sh [FILES]
 set -euo pipefail
 
@@ -20,7 +20,7 @@ echo 'reuse_undo: reuse_text reuse_tree thiserror' >> "$build/crates.txt"
 find "$crate/src" -mindepth 1 -maxdepth 1 ! -name disk ! -name disk.rt -exec rm -rf {} +
 rm -rf "$crate/proofs" "$crate/data" "$crate/specs/Lines.antt"
 sed -i '/Lines/d' "$crate/specs/Lib.antt"
-cp "$top/bench/disk_speed/main.rt" "$crate/src/"
+cp "$top/bench/disk_speed/program.txt" "$crate/src/main.rt"
 (cd "$crate" && rt run -- list /nowhere) > "$build/log" 2>&1 || { tail -20 "$build/log"; exit 1; }
 program=$crate/out/reuse_undo
 
