@@ -1,14 +1,14 @@
 -- Multi-line comments that are not closed: none begins between an opener and the first line behind it that
 -- holds the closer.
-use Rattle.std.proofs.Common.{◌≡◌, ℕ, zero, suc, ◌+◌, ◌-◌, ◌<◌, ◌≤◌, Bool, true, false, List, [], ◌∷◌, length, drop, nat_eq, Option, None, Some, refl, sym, ap, subst, ◌∙◌, inl, inr, arith, length-drop}
-use Rattle.std.specs.Prelude.{not, is_some, if◌then◌else◌, option_and_then, IfNone}
+use Rattle.std.proofs.Common.{◌≡◌, ℕ, zero, suc, ◌+◌, ◌-◌, ◌<◌, ◌≤◌, Bool, true, false, List, [], ◌∷◌, length, drop, nat_eq, Option, None, Some, refl, sym, ap, ◌∙◌, inl, inr, arith, length-drop}
+use Rattle.std.specs.Prelude.{not, is_some, if◌then◌else◌, IfNone}
 use Rattle.std.specs.List.{starts_with, prefix_len}
 use Rattle.std.specs.Option.{option_map}
 use Rattle.std.proofs.lemmas.Bool.{false≢true}
 use Rattle.std.proofs.lemmas.List.{drop-drop}
 use Rattle.reuse_notice.specs.Tags.{all_blank}
 use Rattle.reuse_header.specs.declared.style.Style.{Style}
-use Rattle.reuse_header.specs.Styles.{BlockForm, block_comment_of}
+use Rattle.reuse_header.specs.Styles.{BlockForm}
 use Rattle.reuse_header.specs.Search.{place_of}
 use Rattle.reuse_header.specs.Body.{PlacedLines, is_barrier, open_contents}
 use Rattle.reuse_header.specs.Header.{header_in}

@@ -1,11 +1,10 @@
 -- How many lines a comment block has.
-use Rattle.std.proofs.Common.{◌≡◌, ℕ, zero, suc, ◌+◌, ◌-◌, ◌<◌, ◌≤◌, Bool, true, false, List, [], ◌∷◌, length, drop, Option, None, Some, nat_eq, refl, sym, ap, subst, ◌∙◌, arith}
+use Rattle.std.proofs.Common.{◌≡◌, ℕ, zero, suc, ◌<◌, ◌≤◌, Bool, true, false, List, [], ◌∷◌, length, drop, Option, None, Some, nat_eq, refl, ap, arith}
 use Rattle.std.specs.Prelude.{if◌then◌else◌, option_and_then}
 use Rattle.std.specs.List.{starts_with, prefix_len}
-use Rattle.std.specs.Option.{option_map, option_map_or}
+use Rattle.std.specs.Option.{option_map_or}
 use Rattle.std.proofs.lemmas.List.Sums.{prefix_len-le-length}
 use Rattle.reuse_header.specs.declared.style.Style.{Style}
-use Rattle.reuse_header.specs.declared.style.Form.TheVariants.{Single, Multi}
 use Rattle.reuse_header.specs.declared.blocks.BlockSize.{BlockSize}
 use Rattle.reuse_header.specs.Styles.{LineForm, BlockForm, line_comment_of, block_comment_of}
 use Rattle.reuse_header.specs.Blocks.{ends_block, count_from, count_to_closer, multi_count, multi_lines, marked_lines, block_of, block_at}

@@ -1,20 +1,15 @@
 -- The comment blocks of open lines, and the split of lines at the header block.
 use Rattle.std.proofs.Common.{◌≡◌, ℕ, zero, suc, ◌+◌, ◌-◌, ◌<◌, ◌≤◌, Bool, true, false, List, [], ◌∷◌, ◌++◌, length, take, drop, Option, None, Some, refl, sym, ap, subst, ◌∙◌, inl, inr, ◌⊎◌, arith, length-take}
-use Rattle.std.specs.Prelude.{option_and_then}
-use Rattle.std.specs.List.{list_any}
 use Rattle.std.specs.Option.{option_or, option_map_or}
-use Rattle.std.proofs.lemmas.Bool.{false≢true}
 use Rattle.std.proofs.Math.Seq.{drop-append_seam, take-append_seam}
 use Rattle.std.proofs.lemmas.List.{take-append-drop}
 use Rattle.reuse_text.specs.Text.{TextLine}
-use Rattle.reuse_header.specs.Tagged.{has_tag}
 use Rattle.reuse_header.specs.declared.style.Style.{Style}
 use Rattle.reuse_header.specs.declared.blocks.BlockSize.{BlockSize}
 use Rattle.reuse_header.specs.declared.style.Form.{Form}
-use Rattle.reuse_header.specs.Styles.{punctuation_of}
 use Rattle.reuse_header.specs.Body.{PlacedLines, is_barrier, open_contents}
 use Rattle.reuse_header.specs.Blocks.{block_at, contents_of}
-use Rattle.reuse_header.specs.Header.{Header, tagged, lines_inside, header_in}
+use Rattle.reuse_header.specs.Header.{Header, lines_inside, header_in}
 use Rattle.reuse_header.specs.Split.{AreCommentBlocks, IsSplitBy, IsSplit, begins_in, comment_blocks, is_tagged, size_of}
 use Rattle.reuse_header.proofs.TrimLemmas.{truth}
 use Rattle.reuse_header.proofs.CountLemmas.{block_at-within, block_at-nil}
@@ -81,6 +76,16 @@ inside_in style (c ∷ contents) zero (suc line) (suc earlier) block less is low
 inside_in style (c ∷ contents) (suc inside) (suc line) zero block less is low = absurd (none_is_some block is)
 inside_in style (c ∷ contents) (suc inside) (suc line) (suc earlier) block less is low =
     inside_in style contents inside line earlier block (omega arith) is (omega arith)
+
+-- a comment block is made of open lines, one at least
+pub begins_in-within : (style : Style) (contents : List (List ℕ)) (inside line : ℕ) (block : BlockSize) → begins_in style inside contents line ≡ Some block → (0 < block.count) × (line + block.count ≤ length contents)
+unfolding begins_in
+begins_in-within style [] inside line block is = absurd (none_is_some block (sym (begins_in-nil style inside line) ∙ is))
+begins_in-within style (c ∷ contents) zero zero block is = let h = block_at-within style (c ∷ contents) block is in (h.0, omega (arith, h.1))
+begins_in-within style (c ∷ contents) zero (suc line) block is =
+    let h = begins_in-within style contents (lines_inside (block_at style (c ∷ contents))) line block is in (h.0, omega (arith, h.1))
+begins_in-within style (c ∷ contents) (suc inside) zero block is = absurd (none_is_some block is)
+begins_in-within style (c ∷ contents) (suc inside) (suc line) block is = let h = begins_in-within style contents inside line block is in (h.0, omega (arith, h.1))
 
 pub are_comment_blocks : (style : Style) (contents : List (List ℕ)) → AreCommentBlocks style contents (comment_blocks style contents)
 are_comment_blocks style contents = record {

@@ -1,14 +1,14 @@
 -- The split of a file's lines into those before its header block, the block's, and those after it.
-use Rattle.std.specs.Prelude.{◌≡◌, ℕ, zero, suc, ◌+◌, ◌<◌, ◌≤◌, Bool, true, false, List, [], ◌∷◌, ◌++◌, length, take, drop, flat_map, Option, None, Some}
+use Rattle.std.specs.Prelude.{◌≡◌, ℕ, zero, suc, ◌+◌, ◌<◌, ◌≤◌, Bool, true, false, List, [], ◌∷◌, ◌++◌, length, drop, flat_map, Option, None, Some}
 use Rattle.std.specs.List.{list_any}
-use Rattle.reuse_text.specs.Text.{line_bytes, file_lines, mark_len_of}
+use Rattle.reuse_text.specs.Text.{line_bytes, file_lines}
 use Rattle.reuse_header.specs.Tagged.{has_tag}
 use Rattle.reuse_header.specs.declared.blocks.BlockSize.{BlockSize}
 use Rattle.reuse_header.specs.declared.style.Style.{Style}
 use Rattle.reuse_header.specs.Styles.{punctuation_of}
 use Rattle.reuse_header.specs.Body.{PlacedLines, body_lines, open_contents}
 use Rattle.reuse_header.specs.Blocks.{block_at, contents_of}
-use Rattle.reuse_header.specs.Header.{Header, HeaderSpan, lines_inside, span_in}
+use Rattle.reuse_header.specs.Header.{Header, HeaderSpan, lines_inside}
 
 -- the comment blocks of open lines: at each line the block whose form begins there, unless the line is one
 -- of another block's lines after its first

@@ -3,8 +3,11 @@ ghost use Rattle.std.specs.Prelude.{◌≡◌, ℕ, List, Option, None, Some};
 ghost use Rattle.reuse_header.specs.declared.style.Style.{Style};
 ghost use Rattle.reuse_header.specs.declared.blocks.BlockSize.{BlockSize};
 ghost use Rattle.reuse_header.specs.Body.{PlacedLines};
-ghost use Rattle.reuse_header.specs.Header.{Header, header_in};
-ghost use Rattle.reuse_header.specs.Split.{AreCommentBlocks, comment_blocks, IsSplit};
+ghost use Rattle.std.specs.Option.{option_map};
+ghost use Rattle.reuse_header.specs.Header.{Header, HeaderSpan, header_in, header_of, span_in};
+ghost use Rattle.reuse_header.specs.Split.{AreCommentBlocks, comment_blocks, IsSplit, IsHeaderBlock, HasNoHeader};
+
+use reuse_text::lines_are_one;
 
 /// The comment blocks of open lines are one answer: the block whose form begins at a line, unless the line
 /// is a later line of another block.
@@ -22,3 +25,12 @@ pub fn header_splits_are_one()
     ensures only { (style : Style) (lines before : PlacedLines) (header : Header) → IsSplit style lines before header
         → header_in style 0 lines ≡ Some header }
 {}
+
+/// The span of a header block cuts its file's bytes in three, by the lines before the block, its own, and
+/// those after it. Where the search finds none, the lines have no header split.
+pub fn header_spans_cut_files()
+    ensures found { (style : Style) (file : List ℕ) (span : HeaderSpan) → option_map (span_in file) (header_of style file) ≡ Some span → IsHeaderBlock style file span }
+    ensures none { (style : Style) (file : List ℕ) → header_of style file ≡ None → HasNoHeader style file }
+{
+    lines_are_one();
+}
