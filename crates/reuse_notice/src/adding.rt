@@ -58,10 +58,11 @@ impl From<AllocError> for NoticeRefusal {
 impl Additions {
     ghost use Rattle.reuse_notice.specs.Adding.{refusal_of, additions_of};
     ghost use Rattle.reuse_notice.specs.Refusals.{refusal_view, arguments};
+    ghost use Rattle.reuse_notice.specs.Plain.{ArePlain};
 
     /// What a command with these arguments adds. The notices have the years from the lowest to the
     /// highest of `years`, or else the `current` one, unless they are excluded. Outer spaces of
-    /// arguments are dropped. The first fault is refused, in the order of `NoticeRefusal`.
+    /// arguments are dropped, and no text is empty or holds a control character. The first fault is refused, in the order of `NoticeRefusal`.
     pub fn new(
         alloc: Global,
         copyrights: &[&str],
@@ -75,6 +76,7 @@ impl Additions {
         requires { current ≤ 9999 }
         ensures added { IfOk result (λ additions. let given = arguments copyrights.now licences.now contributors.now years.now exclude current prefix in
             (refusal_of given ≡ None) × (additions ≡ additions_of given)) }
+        ensures plain { IfOk result (λ additions. ArePlain additions) }
         ensures refused { IfErr result (λ e. let given = arguments copyrights.now licences.now contributors.now years.now exclude current prefix in
             IfSome (refusal_view e) (λ refusal. refusal_of given ≡ Some refusal)) }
     {

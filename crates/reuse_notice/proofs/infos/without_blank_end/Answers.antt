@@ -1,4 +1,4 @@
-use Rattle.std.proofs.Common.{◌≡◌, ℕ, arith, sym, ◌∙◌, ap, take, length, get_or, ◌-◌, true, false, []}
+use Rattle.std.proofs.Common.{◌≡◌, arith, sym, ◌∙◌, ap, take}
 use Rattle.reuse_notice.specs.Tags.{drop_end}
 use Rattle.reuse_notice.specs.Contents.{is_blank_content}
 use Rattle.reuse_notice.proofs.BlankLemmas.{drop_end-more, drop_end-stop, drop_end-nil}

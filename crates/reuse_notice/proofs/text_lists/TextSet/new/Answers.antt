@@ -1,4 +1,4 @@
-use Rattle.std.proofs.Common.{◌≡◌, ◌∙◌, sym, subst, nat_eq}
+use Rattle.std.proofs.Common.{◌∙◌, sym, subst, nat_eq}
 use Rattle.std.specs.Cmp.Lexicographic.{pointwise}
 use Rattle.std.proofs.lemmas.List.Filters.{dedup_is}
 use Rattle.reuse_notice.specs.Sets.{IsSorted}
