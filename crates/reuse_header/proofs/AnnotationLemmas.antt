@@ -1,5 +1,5 @@
 -- The refusals of an annotation, and the place of its old block.
-use Rattle.std.proofs.Common.{◌≡◌, ℕ, ◌+◌, ◌≤◌, Bool, true, false, List, ◌++◌, length, length-append, Option, None, Some, refl, sym, ap, ◌∙◌, arith}
+use Rattle.std.proofs.Common.{◌≡◌, ℕ, ◌≤◌, Bool, true, false, List, ◌++◌, length, length-append, Option, None, Some, refl, ap, ◌∙◌, arith}
 use Rattle.std.specs.Prelude.{Err, MatchOption}
 use Rattle.std.specs.Option.{option_map}
 use Rattle.reuse_notice.specs.declared.infos.Info.{Info}
@@ -10,10 +10,9 @@ use Rattle.reuse_header.specs.declared.annotation.How.{How}
 use Rattle.reuse_header.specs.declared.annotation.HeaderRefusal.TheVariants.{NoSuchForm}
 use Rattle.reuse_header.specs.Marks.{LineMarks, marks_of}
 use Rattle.reuse_header.specs.Header.{HeaderSpan, header_of, span_in}
-use Rattle.reuse_header.specs.Split.{IsHeaderAt, IsHeaderBlock, HasNoHeader, bytes_of}
+use Rattle.reuse_header.specs.Split.{IsHeaderBlock, HasNoHeader, bytes_of}
 use Rattle.reuse_header.specs.Found.{block_view}
-use Rattle.reuse_header.specs.Writing.{new_info}
-use Rattle.reuse_header.specs.Annotation.{annotation_of, chosen_form, written_by, replaced_block, old_contents}
+use Rattle.reuse_header.specs.Annotation.{annotation_of, chosen_form, written_by, replaced_block}
 use Rattle.reuse_header.specs.Splices.{answer_of}
 use Rattle.reuse_header.specs.Drafts.{IsWithin}
 

@@ -1,9 +1,8 @@
 -- A text of bounded length, written in parts.
-use Rattle.std.proofs.Common.{◌≡◌, ℕ, ◌+◌, ◌-◌, ◌≤◌, ◌<◌, Bool, true, false, List, [], ◌∷◌, ◌++◌, length, length-append, map, take, drop, subst, slice_index_or, Option, None, Some, refl, sym, ap, ◌∙◌, append_assoc, inl, inr, arith}
-use Rattle.std.specs.Prelude.{◌||◌, nat_le, if◌then◌else◌}
+use Rattle.std.proofs.Common.{◌≡◌, ℕ, ◌-◌, ◌≤◌, Bool, true, false, List, [], ◌∷◌, ◌++◌, length, length-append, map, take, drop, subst, slice_index_or, Option, None, Some, refl, sym, ap, ◌∙◌, append_assoc, inl, inr, arith}
+use Rattle.std.specs.Prelude.{nat_le, if◌then◌else◌}
 use Rattle.std.proofs.lemmas.List.{append-nil, take_rest}
 use Rattle.std.proofs.lemmas.Bool.Decides.{nat_tests}
-use Rattle.reuse_text.specs.Text.{is_empty}
 use Rattle.reuse_header.specs.declared.writer.LineWriter.{LineWriter}
 use Rattle.reuse_header.specs.Writing.{ended_by}
 use Rattle.reuse_header.specs.Bounded.{with_more, written, Writes}

@@ -1,7 +1,7 @@
 -- A draft of an edit, from what is written.
-use Rattle.std.proofs.Common.{◌≡◌, ℕ, ◌+◌, ◌-◌, ◌≤◌, ◌<◌, Bool, true, false, List, [], ◌∷◌, ◌++◌, length, length-append, length-drop, take, drop, Option, None, Some, refl, sym, ap, ◌∙◌, append_assoc, inl, inr, arith, subst}
+use Rattle.std.proofs.Common.{◌≡◌, ℕ, ◌+◌, ◌-◌, ◌≤◌, ◌<◌, Bool, true, false, List, [], ◌∷◌, ◌++◌, length, length-append, length-drop, take, drop, Option, None, Some, refl, sym, ap, ◌∙◌, append_assoc, arith}
 use Rattle.std.specs.Prelude.{◌||◌, nat_le, if◌then◌else◌}
-use Rattle.std.proofs.lemmas.List.{append-nil, length-take-le}
+use Rattle.std.proofs.lemmas.List.{length-take-le}
 use Rattle.std.proofs.lemmas.Bool.Decides.{nat_tests}
 use Rattle.reuse_text.specs.declared.LineKind.{LineKind}
 use Rattle.reuse_text.specs.declared.LineKind.TheVariants.{Lf, Crlf}
@@ -10,10 +10,9 @@ use Rattle.reuse_header.specs.declared.place.Place.{Place}
 use Rattle.reuse_header.specs.declared.writer.LineWriter.{LineWriter}
 use Rattle.reuse_header.specs.declared.writer.Format.{Format}
 use Rattle.reuse_header.specs.Writing.{ended_by}
-use Rattle.reuse_header.specs.Annotation.{ending_if, edited, new_bytes, size_limit}
+use Rattle.reuse_header.specs.Annotation.{ending_if, edited, size_limit}
 use Rattle.reuse_header.specs.Bounded.{with_more, written, Writes}
 use Rattle.reuse_header.specs.Drafts.{edit_at, IsDraft}
-use Rattle.reuse_header.proofs.TrimLemmas.{truth}
 use Rattle.reuse_header.proofs.BoundedLemmas.{writes_more}
 use Rattle.reuse_header.proofs.WritingLemmas.{ended_by-append}
 

@@ -1,6 +1,6 @@
 -- Whether a neighbour file is text.
-use Rattle.std.proofs.Common.{◌≡◌, ℕ, Bool, true, false, List, [], ◌∷◌, inl, inr, refl, sym, ap, ◌∙◌}
-use Rattle.std.specs.Prelude.{◌↔◌, ◌==◌, IsTrue, not, ◌&&◌, Contains}
+use Rattle.std.proofs.Common.{◌≡◌, ℕ, Bool, List, refl}
+use Rattle.std.specs.Prelude.{◌↔◌, ◌==◌, IsTrue, not, Contains}
 use Rattle.std.specs.List.{list_any}
 use Rattle.std.specs.Str.{is_utf8}
 use Rattle.std.specs.Bool.{Decides}

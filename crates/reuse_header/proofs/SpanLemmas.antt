@@ -1,6 +1,6 @@
 -- The places of lines within their file.
-use Rattle.std.proofs.Common.{◌≡◌, ℕ, ◌+◌, ◌≤◌, Bool, true, false, List, [], ◌∷◌, ◌++◌, length, length-append, length-drop, drop, refl, sym, ap, ◌∙◌, subst, inl, inr, arith}
-use Rattle.std.specs.Prelude.{nat_eq, if◌then◌else◌}
+use Rattle.std.proofs.Common.{◌≡◌, ℕ, ◌+◌, ◌≤◌, Bool, true, List, [], ◌∷◌, length, length-append, length-drop, refl, ap, ◌∙◌, inl, inr, arith}
+use Rattle.std.specs.Prelude.{nat_eq}
 use Rattle.std.specs.List.{starts_with}
 use Rattle.std.proofs.lemmas.Bool.{and_parts}
 use Rattle.reuse_text.specs.Text.{TextLine, line_bytes, text_of, lines_of, placed, file_lines, after_mark, mark_len_of, byte_order_mark}

@@ -1,6 +1,5 @@
 -- When an edit makes the file itself.
 use Rattle.std.proofs.Common.{◌≡◌, ℕ, ◌+◌, ◌-◌, Bool, true, false, List, ◌++◌, take, drop, None, Some, refl, sym, ap, ◌∙◌, append_assoc, arith}
-use Rattle.std.specs.Prelude.{if◌then◌else◌}
 use Rattle.std.specs.Str.{bytes_eq}
 use Rattle.std.proofs.lemmas.List.{append_cancel_left, append_cancel_right, take-append-drop, drop-drop}
 use Rattle.std.proofs.lemmas.Bool.Decides.{same_from_decides, Decides-like}

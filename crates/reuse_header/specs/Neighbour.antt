@@ -1,6 +1,6 @@
 -- What annotating makes of a neighbour file, the one that has another's licensing information. All that
 -- stands between its mark and its first barrier line is its block, without marks of a comment.
-use Rattle.std.specs.Prelude.{ℕ, ◌-◌, Bool, true, false, not, ◌&&◌, ◌==◌, nat_le, List, [], ◌∷◌, length, Result, Ok, Err, if◌then◌else◌}
+use Rattle.std.specs.Prelude.{ℕ, Bool, not, ◌&&◌, ◌==◌, nat_le, List, [], ◌∷◌, Result, Err, if◌then◌else◌}
 use Rattle.std.specs.List.{list_any}
 use Rattle.std.specs.Str.{is_utf8}
 use Rattle.reuse_text.specs.Text.{mark_len_of, file_lines}

@@ -1,4 +1,4 @@
-use Rattle.std.proofs.Common.{ap, ◌∙◌, Option, Ok}
+use Rattle.std.proofs.Common.{ap, Option, Ok}
 use Rattle.reuse_header.specs.declared.annotation.Splice.{Splice}
 use Rattle.reuse_header.proofs.SpliceLemmas.{splice_at-none, splice_at-some}
 use Rattle.reuse_header.proofs.annotate.into_splice.Goals as goal

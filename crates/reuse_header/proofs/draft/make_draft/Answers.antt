@@ -1,4 +1,4 @@
-use Rattle.std.proofs.Common.{◌≡◌, ◌∙◌, sym, refl, if◌then◌else◌, [], ◌∷◌}
+use Rattle.std.proofs.Common.{◌∙◌, sym, refl}
 use Rattle.reuse_header.specs.Marks.{marks_view}
 use Rattle.reuse_header.specs.Writing.{block_text, block_lines}
 use Rattle.reuse_header.proofs.DraftLemmas.{Steps, too_long, drafted}
