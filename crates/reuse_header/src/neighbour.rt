@@ -1,13 +1,10 @@
 // The change that adds licensing information to a neighbour file.
-ghost use Rattle.std.specs.Prelude.{◌≡◌, ◌≤◌, IfOk, Some, length, map, if◌then◌else◌};
-ghost use Rattle.reuse_header.specs.Body.{open_contents};
+ghost use Rattle.std.specs.Prelude.{◌≡◌, ◌≤◌, IfOk, length, map};
 ghost use Rattle.reuse_header.specs.Open.{open_left};
 ghost use Rattle.reuse_header.specs.Blocks.{without_returns};
 ghost use Rattle.reuse_header.specs.Annotation.{size_limit};
 ghost use Rattle.reuse_header.specs.Neighbour.{is_text, neighbour_annotation_of, neighbour_stands, neighbour_written, replaced_contents};
 ghost use Rattle.reuse_header.specs.Splices.{IsDue, answer_of};
-ghost use Rattle.reuse_header.specs.Writing.{neighbour_marks};
-ghost use Rattle.reuse_header.specs.Marks.{marks_view};
 
 use crate::annotate::{into_splice, new_info};
 use crate::annotation::{HeaderRefusal, How, Splice};
