@@ -1,20 +1,19 @@
 -- A licence expression has no control character.
-use Rattle.std.proofs.Common.{◌≡◌, ◌≢◌, ℕ, zero, suc, ◌+◌, ◌-◌, ◌<◌, ◌≤◌, Bool, true, false, cond, List, [], ◌∷◌, ◌++◌, length, take, drop, Bor, Option, Some, None, refl, sym, ap, ◌∙◌, arith, inl, inr, nat_eq}
+use Rattle.std.proofs.Common.{◌≡◌, ℕ, zero, suc, ◌+◌, ◌-◌, ◌<◌, Bool, true, false, cond, List, [], ◌∷◌, length, take, drop, Bor, Option, Some, None, refl, sym, ap, ◌∙◌, arith, inl, inr, nat_eq}
 use Rattle.std.specs.Prelude.{All, ◌||◌, ◌&&◌, ◌==◌, codes}
 use Rattle.std.specs.Option.{option_map, option_map_or, option_or}
-use Rattle.std.specs.List.{list_any, prefix_len, starts_with}
+use Rattle.std.specs.List.{list_any, starts_with}
 use Rattle.std.proofs.lemmas.Bool.{eqb-true}
 use Rattle.std.proofs.lemmas.Bool.Decides.{nat_tests}
 use Rattle.std.proofs.lemmas.List.Elements.{All-nil, All-cons}
 use Rattle.reuse_notice.specs.declared.expressions.Token.{Token}
-use Rattle.reuse_notice.specs.declared.expressions.Token.TheVariants.{Open, Close, Operator, With, Identifier, Stray}
+use Rattle.reuse_notice.specs.declared.expressions.Token.TheVariants.{Open, Close, Identifier, Stray}
 use Rattle.reuse_notice.specs.declared.expressions.Phase.TheVariants.{Operand, Licence, Exception, Closed}
 use Rattle.reuse_notice.specs.declared.expressions.State.{State}
 use Rattle.reuse_notice.specs.Texts.{texts_of}
-use Rattle.reuse_notice.specs.Adding.{Refusal, bad_expression, bad_licence, is_space, is_control, without_spaces}
+use Rattle.reuse_notice.specs.Adding.{Refusal, bad_expression, bad_licence, is_control, without_spaces}
 use Rattle.reuse_notice.specs.Expressions.{is_word_byte, word_len, has_plus, word_token, token_at, token_len, tokens_from}
 use Rattle.reuse_notice.specs.ExpressionSteps.{step_at, step_of, fault_from, fault_of, start}
-use Rattle.reuse_notice.specs.Tags.{drop_front, drop_end}
 use Rattle.reuse_notice.specs.Plain.{IsPlain}
 use Rattle.reuse_notice.proofs.BlankLemmas.{truth}
 use Rattle.reuse_notice.proofs.PlainLemmas.{trimmed-twice, or-none, or-parts}
@@ -69,8 +68,8 @@ chosen opens closes none bytes = cond opens Open (cond closes Close (cond none S
 stray : (bytes : List ℕ) (s next : State) → step_of s (token_at bytes) ≡ Some next → (word_len bytes == 0) ≡ true → starts_with nat_eq bytes (codes "(") ≡ false → starts_with nat_eq bytes (codes ")") ≡ false → ⊥
 stray bytes s next steps z o c =
     let is : token_at bytes ≡ Stray =
-        ap (λ t. chosen t (starts_with nat_eq bytes (codes ")")) (word_len bytes == 0) bytes) o
-        ∙ ap (λ t. chosen false t (word_len bytes == 0) bytes) c ∙ ap (λ t. chosen false false t bytes) z in
+    ap (λ t. chosen t (starts_with nat_eq bytes (codes ")")) (word_len bytes == 0) bytes) o
+    ∙ ap (λ t. chosen false t (word_len bytes == 0) bytes) c ∙ ap (λ t. chosen false false t bytes) z in
     let e : None ≡ Some next = sym (no-stray s) ∙ ap (step_of s) (sym is) ∙ steps in cc
 
 -- the bytes of a token that can stand somewhere
@@ -127,7 +126,7 @@ scanned (b ∷ bytes) zero at s end plain fine = elim (truth (b == 32)) [
         let some : 0 < token_len (b ∷ bytes) = token-some (word_len (b ∷ bytes) == 0) (has_plus (b ∷ bytes)) (word_len (b ∷ bytes)) refl in
         let e : token_len (b ∷ bytes) ≡ suc (token_len (b ∷ bytes) - 1) = omega arith in
         let p = or-parts (is_control b) (list_any is_control (take (token_len (b ∷ bytes) - 1) bytes))
-            (ap (λ k. list_any is_control (take k (b ∷ bytes))) (sym e) ∙ token-bytes b bytes s next steps) in
+        (ap (λ k. list_any is_control (take k (b ∷ bytes))) (sym e) ∙ token-bytes b bytes s next steps) in
         or-none _ _ p.0 (more (token_len (b ∷ bytes) - 1) next p.1 fine)
 
 no-licence : (text : List ℕ) → text ≡ [] → fault_of text ≡ None → ⊥

@@ -1,6 +1,6 @@
 -- The texts of additions are plain.
-use Rattle.std.proofs.Common.{◌≡◌, ◌≢◌, ℕ, zero, suc, ◌+◌, ◌-◌, ◌*◌, ◌/◌, ◌%◌, ◌<◌, ◌≤◌, Bool, true, false, cond, List, [], ◌∷◌, ◌++◌, length, take, drop, map, Bor, Option, Some, None, refl, sym, ap, ◌∙◌, subst, arith, inl, inr, append_assoc, length-append}
-use Rattle.std.specs.Prelude.{All, find, fold, filter_map, ◌||◌, ◌&&◌, ◌==◌, nat_lt, not, min, max, codes}
+use Rattle.std.proofs.Common.{◌≡◌, ◌≢◌, ℕ, ◌+◌, ◌-◌, ◌*◌, ◌/◌, ◌%◌, ◌≤◌, Bool, true, false, cond, List, [], ◌∷◌, ◌++◌, length, map, Bor, Option, Some, None, refl, sym, ap, ◌∙◌, subst, arith, inl, inr, append_assoc, length-append}
+use Rattle.std.specs.Prelude.{All, find, fold, filter_map, ◌||◌, ◌&&◌, ◌==◌, min, max, codes}
 use Rattle.std.specs.Char.{is_ascii_digit}
 use Rattle.std.specs.Prelude.{slice_index_or}
 use Rattle.std.proofs.lemmas.Bool.Decides.{nat_tests}
@@ -15,7 +15,7 @@ use Rattle.reuse_notice.specs.declared.tags.Years.{Years}
 use Rattle.reuse_notice.specs.Prefixes.{prefix_text}
 use Rattle.reuse_notice.specs.Tags.{drop_front, drop_end, year_of}
 use Rattle.reuse_notice.specs.Texts.{texts_of}
-use Rattle.reuse_notice.specs.Adding.{is_space, is_control, is_bad_text, is_bad_year, holds, ignore_start, snippet_begin, without_spaces, four_digits, years_text, chosen_years, notice_written}
+use Rattle.reuse_notice.specs.Adding.{is_space, is_control, is_bad_text, holds, ignore_start, snippet_begin, without_spaces, four_digits, years_text, chosen_years, notice_written}
 use Rattle.reuse_notice.specs.Plain.{IsPlain}
 use Rattle.reuse_notice.proofs.BlankLemmas.{truth}
 
@@ -64,7 +64,7 @@ module _ {X : Type 0} (test : X → Bool) where
   drop_end-append [] ys e some = e
   drop_end-append (x ∷ xs) ys e some =
       let f : list_all test (x ∷ (xs ++ ys)) ≡ false =
-          ap (λ b. test x && b) (list_all-append test xs ys ∙ ap (λ b. list_all test xs && b) (all-kept ys e some) ∙ and-false (list_all test xs)) ∙ and-false (test x) in
+      ap (λ b. test x && b) (list_all-append test xs ys ∙ ap (λ b. list_all test xs && b) (all-kept ys e some) ∙ and-false (list_all test xs)) ∙ and-false (test x) in
       rw f (ap (λ zs. x ∷ zs) (drop_end-append xs ys e some))
 
 -- ---- holders and contributors
@@ -159,7 +159,7 @@ front-kept Symbol rest = refl
 plain-behind : (front holder : List ℕ) → drop_front is_space (front ++ 32 ∷ holder) ≡ front ++ 32 ∷ holder → list_any is_control front ≡ false → IsPlain holder → IsPlain (front ++ 32 ∷ holder)
 plain-behind front holder kept printable plain =
     let last : drop_end is_space holder ≡ holder =
-        ap (drop_end is_space) (sym plain.trimmed) ∙ drop_end-twice is_space (drop_front is_space holder) ∙ plain.trimmed in
+    ap (drop_end is_space) (sym plain.trimmed) ∙ drop_end-twice is_space (drop_front is_space holder) ∙ plain.trimmed in
     let space : drop_end is_space (32 ∷ holder) ≡ 32 ∷ holder = drop_end-append is_space (32 ∷ []) holder last plain.some in
     record {
       some = λ e. absurd (omega (arith, ap length e, length-append front (32 ∷ holder)));
