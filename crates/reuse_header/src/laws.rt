@@ -1,10 +1,14 @@
 //! Laws of the definitions that the contracts cite.
-ghost use Rattle.std.specs.Prelude.{◌≡◌, ℕ, List, Option, None, Some};
+ghost use Rattle.std.specs.Prelude.{◌≡◌, ◌+◌, ℕ, List, Option, None, Some, Ok, false, length};
 ghost use Rattle.reuse_header.specs.declared.style.Style.{Style};
 ghost use Rattle.reuse_header.specs.declared.blocks.BlockSize.{BlockSize};
 ghost use Rattle.reuse_header.specs.Body.{PlacedLines};
 ghost use Rattle.std.specs.Option.{option_map};
 ghost use Rattle.reuse_header.specs.Header.{Header, HeaderSpan, header_in, header_of, span_in};
+ghost use Rattle.reuse_notice.specs.declared.adding.Additions.{Additions};
+ghost use Rattle.reuse_header.specs.declared.annotation.How.{How};
+ghost use Rattle.reuse_header.specs.Annotation.{Edit, annotation_of, edited, new_bytes};
+ghost use Rattle.reuse_header.specs.Laws.{part};
 ghost use Rattle.reuse_header.specs.Split.{AreCommentBlocks, comment_blocks, IsSplit, IsHeaderBlock, HasNoHeader};
 
 use reuse_text::lines_are_one;
@@ -31,6 +35,15 @@ pub fn header_splits_are_one()
 pub fn header_spans_cut_files()
     ensures found { (style : Style) (file : List ℕ) (span : HeaderSpan) → option_map (span_in file) (header_of style file) ≡ Some span → IsHeaderBlock style file span }
     ensures none { (style : Style) (file : List ℕ) → header_of style file ≡ None → HasNoHeader style file }
+{
+    lines_are_one();
+}
+
+/// Where the old block is not to be replaced, it stays byte for byte, behind the new one.
+pub fn insertions_keep_blocks()
+    ensures { (style : Style) (how : How) (additions : Additions) (file : List ℕ) (edit : Edit) (span : HeaderSpan) → how.replace ≡ false
+        → annotation_of style how additions file ≡ Ok edit → option_map (span_in file) (header_of style file) ≡ Some span
+        → part (edited file edit) (span.start + length (new_bytes edit)) (span.end + length (new_bytes edit)) ≡ part file span.start span.end }
 {
     lines_are_one();
 }
