@@ -195,7 +195,7 @@ unfolding IsShortYear
 short-sum a b c d true low = let h : (a ≤ 57) × (b ≤ 57) × (c ≤ 57) × (d ≤ 57) = low refl in omega arith
 short-sum a b c d false low = tt
 
-and-parts : (a b : Bool) → (a && b) ≡ true → (a ≡ true) × (b ≡ true)
+pub and-parts : (a b : Bool) → (a && b) ≡ true → (a ≡ true) × (b ≡ true)
 and-parts true b e = (refl, e)
 and-parts false b e = absurd (cc e)
 
