@@ -19,7 +19,7 @@ use Rattle.reuse_header.specs.Annotation.{Edit, new_bytes, edited, text_start, t
 use Rattle.reuse_header.specs.Laws.{part}
 use Rattle.reuse_header.proofs.TrimLemmas.{truth}
 
-error_is_ok : {X : Type 0} (e : HeaderRefusal) (x : X) → Err e ≡ Ok x → ⊥
+pub error_is_ok : {X : Type 0} (e : HeaderRefusal) (x : X) → Err e ≡ Ok x → ⊥
 error_is_ok e x h = cc
 
 pub record IsSettled (made : List ℕ) (first edit : Edit) (is_found : Bool) : Type 0 where

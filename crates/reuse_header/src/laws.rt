@@ -1,16 +1,25 @@
 //! Laws of the definitions that the contracts cite.
-ghost use Rattle.std.specs.Prelude.{◌≡◌, ◌+◌, ℕ, List, Option, None, Some, Ok, false, length};
+ghost use Rattle.std.specs.Prelude.{◌≡◌, ◌+◌, ℕ, List, Option, None, Some, Ok, true, false, length, []};
 ghost use Rattle.reuse_header.specs.declared.style.Style.{Style};
 ghost use Rattle.reuse_header.specs.declared.blocks.BlockSize.{BlockSize};
 ghost use Rattle.reuse_header.specs.Body.{PlacedLines};
 ghost use Rattle.std.specs.Option.{option_map};
-ghost use Rattle.reuse_header.specs.Header.{Header, HeaderSpan, header_in, header_of, span_in};
+ghost use Rattle.reuse_header.specs.Header.{Header, HeaderSpan, header_in, header_of, span_in, neighbour_contents};
 ghost use Rattle.reuse_notice.specs.declared.adding.Additions.{Additions};
 ghost use Rattle.reuse_header.specs.declared.annotation.How.{How};
-ghost use Rattle.reuse_header.specs.Annotation.{Edit, annotation_of, edited, new_bytes};
-ghost use Rattle.reuse_header.specs.Laws.{part};
+ghost use Rattle.reuse_header.specs.Annotation.{Edit, annotation_of, edited, new_bytes, kind_of_file};
+ghost use Rattle.reuse_header.specs.Neighbour.{neighbour_annotation_of, neighbour_end};
+ghost use Rattle.reuse_header.specs.Writing.{block_text, neighbour_marks};
+ghost use Rattle.reuse_header.specs.Marks.{LineMarks};
+ghost use Rattle.reuse_header.specs.Styles.{punctuation_of};
+ghost use Rattle.reuse_header.specs.declared.style.Form.{Form};
+ghost use Rattle.reuse_notice.specs.declared.infos.Info.{Info};
+ghost use Rattle.reuse_notice.specs.Infos.{info_of};
+ghost use Rattle.reuse_text.specs.Text.{mark_len_of};
+ghost use Rattle.reuse_header.specs.Laws.{part, Keeps, IsBlockText};
 ghost use Rattle.reuse_header.specs.Split.{AreCommentBlocks, comment_blocks, IsSplit, IsHeaderBlock, HasNoHeader};
 
+use reuse_notice::{merging_keeps_holders, sets_are_one};
 use reuse_text::lines_are_one;
 
 /// The comment blocks of open lines are one answer: the block whose form begins at a line, unless the line
@@ -41,9 +50,24 @@ pub fn header_spans_cut_files()
 
 /// Where the old block is not to be replaced, it stays byte for byte, behind the new one.
 pub fn insertions_keep_blocks()
-    ensures { (style : Style) (how : How) (additions : Additions) (file : List ℕ) (edit : Edit) (span : HeaderSpan) → how.replace ≡ false
+    ensures files { (style : Style) (how : How) (additions : Additions) (file : List ℕ) (edit : Edit) (span : HeaderSpan) → how.replace ≡ false
         → annotation_of style how additions file ≡ Ok edit → option_map (span_in file) (header_of style file) ≡ Some span
         → part (edited file edit) (span.start + length (new_bytes edit)) (span.end + length (new_bytes edit)) ≡ part file span.start span.end }
+    ensures neighbours { (how : How) (additions : Additions) (file : List ℕ) (edit : Edit) → how.replace ≡ false → neighbour_annotation_of how additions file ≡ Ok edit
+        → part (edited file edit) (mark_len_of file + length (new_bytes edit)) (neighbour_end file + length (new_bytes edit)) ≡ part file (mark_len_of file) (neighbour_end file) }
 {
     lines_are_one();
+}
+
+/// The block that takes an old one's place says what the old one did: each text stands in it, or, where
+/// notices are merged, a notice of the same holder whose years include the old ones.
+pub fn replacements_keep_information()
+    ensures files { (style : Style) (how : How) (additions : Additions) (file : List ℕ) (edit : Edit) (span : HeaderSpan) → how.replace ≡ true
+        → annotation_of style how additions file ≡ Ok edit → option_map (span_in file) (header_of style file) ≡ Some span
+        → (info : Info) × (form : Form) × (marks : LineMarks) × (IsBlockText style (kind_of_file file) info form marks edit.text) × (Keeps how.merge (info_of (punctuation_of style) span.contents) info) }
+    ensures neighbours { (how : How) (additions : Additions) (file : List ℕ) (edit : Edit) → how.replace ≡ true → neighbour_annotation_of how additions file ≡ Ok edit
+        → (info : Info) × (edit.text ≡ block_text neighbour_marks (kind_of_file file) info) × (Keeps how.merge (info_of [] (neighbour_contents file)) info) }
+{
+    sets_are_one();
+    merging_keeps_holders();
 }
