@@ -31,15 +31,15 @@ use Rattle.reuse_header.proofs.WrittenLemmas.{IsWritten, written_ok, kept_behind
 pub annotated_ok : (style : Style) (how : How) (additions : Additions) (file : List ℕ) (found : Option HeaderSpan) (edit : Edit) → option_map (span_in file) (header_of style file) ≡ found
     → annotation_of style how additions file ≡ Ok edit
     → let old = replaced_block how.replace found in
-      (m : LineMarks) × (marks_of style (chosen_form style how.form found) ≡ Some m)
-        × IsWritten style file old (new_info (punctuation_of style) (old_contents old) how.merge additions) m edit
+    (m : LineMarks) × (marks_of style (chosen_form style how.form found) ≡ Some m)
+    × IsWritten style file old (new_info (punctuation_of style) (old_contents old) how.merge additions) m edit
 unfolding annotation_of
 annotated_ok style how additions file found edit is e =
     let found' = option_map (span_in file) (header_of style file) in
     let old' = replaced_block how.replace found' in
     let w = written_ok style file old' (new_info (punctuation_of style) (old_contents old') how.merge additions) (marks_of style (chosen_form style how.form found')) edit e in
     subst (λ (f : Option HeaderSpan). (m : LineMarks) × (marks_of style (chosen_form style how.form f) ≡ Some m)
-      × IsWritten style file (replaced_block how.replace f) (new_info (punctuation_of style) (old_contents (replaced_block how.replace f)) how.merge additions) m edit) is w
+    × IsWritten style file (replaced_block how.replace f) (new_info (punctuation_of style) (old_contents (replaced_block how.replace f)) how.merge additions) m edit) is w
 
 insertion_at : (style : Style) (file text : List ℕ) → (let edit = edit_of style file None text in (edit.old_len ≡ 0) × (edit.start ≡ place_in file (body_lines style (file_lines file))))
 unfolding edit_of
@@ -94,11 +94,13 @@ pub written_block : (style : Style) (how : How) (additions : Additions) (file : 
     → (marks : LineMarks) × IsBlockText style (kind_of_file file) (new_info (punctuation_of style) (old_contents (replaced_block how.replace found)) how.merge additions) (chosen_form style how.form found) marks edit.text
 written_block style how additions file found edit is e =
     let w = annotated_ok style how additions file found edit is e in
-    let info = new_info (punctuation_of style) (old_contents (replaced_block how.replace found)) how.merge additions in
-    (w.0, record {
-      marks_are = w.1;
-      text_is = ap (λ (x : Edit). x.text) w.2.same ∙ text_of_edit style file (block_text w.0 (kind_of_file file) info) (replaced_block how.replace found);
-    })
+    let info = new_info (punctuation_of style) (old_contents (replaced_block how.replace found)) how.merge additions in (
+      w.0,
+      record {
+        marks_are = w.1;
+        text_is = ap (λ (x : Edit). x.text) w.2.same ∙ text_of_edit style file (block_text w.0 (kind_of_file file) info) (replaced_block how.replace found);
+      },
+    )
 
 -- the block that is written says what the old one did
 pub replacing_keeps : ((texts : List (List ℕ)) (text : List ℕ) → (Contains (set_of texts) text) ↔ (Contains texts text))
@@ -109,10 +111,13 @@ pub replacing_keeps : ((texts : List (List ℕ)) (text : List ℕ) → (Contains
 replacing_keeps same keeping style how additions file edit span yes_replace e is =
     let w = written_block style how additions file (Some span) edit is e in
     let old : old_contents (replaced_block how.replace (Some span)) ≡ span.contents = rw yes_replace refl in
-    let info = new_info (punctuation_of style) span.contents how.merge additions in
-    (info, chosen_form style how.form (Some span), w.0,
+    let info = new_info (punctuation_of style) span.contents how.merge additions in (
+      info,
+      chosen_form style how.form (Some span),
+      w.0,
       subst (λ (contents : List (List ℕ)). IsBlockText style (kind_of_file file) (new_info (punctuation_of style) contents how.merge additions) (chosen_form style how.form (Some span)) w.0 edit.text) old w.1,
-      new_keeps same keeping (punctuation_of style) span.contents how.merge additions)
+      new_keeps same keeping (punctuation_of style) span.contents how.merge additions,
+    )
 
 -- ---- neighbour files
 
@@ -165,7 +170,8 @@ pub neighbour_replacing_keeps : ((texts : List (List ℕ)) (text : List ℕ) →
 neighbour_replacing_keeps same keeping how additions file edit yes_replace e =
     let w = neighbour_ok how additions file edit e in
     let old : replaced_contents how.replace file ≡ neighbour_contents file = rw yes_replace refl in
-    let info = new_info [] (neighbour_contents file) how.merge additions in
-    (info,
+    let info = new_info [] (neighbour_contents file) how.merge additions in (
+      info,
       ap (λ (x : Edit). x.text) w.same ∙ neighbour_text how.replace file _ ∙ ap (λ (contents : List (List ℕ)). block_text neighbour_marks (kind_of_file file) (new_info [] contents how.merge additions)) old,
-      new_keeps same keeping [] (neighbour_contents file) how.merge additions)
+      new_keeps same keeping [] (neighbour_contents file) how.merge additions,
+    )

@@ -50,7 +50,7 @@ written_ok style file old info (Some m) edit e = (m, refl, by_closer (holds_clos
   where
     by_closer : (holds : Bool) → holds_closer m info ≡ holds
         → (let first = edit_of style file old (block_text m (kind_of_file file) info) in
-          (if holds then Err HoldsCloser else settled (edited file first) first (stands_at style (edited file first) (text_start first) (text_end first)))) ≡ Ok edit
+        (if holds then Err HoldsCloser else settled (edited file first) first (stands_at style (edited file first) (text_start first) (text_end first)))) ≡ Ok edit
         → IsWritten style file old info m edit
     by_closer true is e = absurd (error_is_ok HoldsCloser edit e)
     by_closer false is e =

@@ -1,5 +1,5 @@
 //! Laws of the definitions that the contracts cite.
-ghost use Rattle.std.specs.Prelude.{◌≡◌, ◌+◌, ℕ, List, Option, None, Some, Ok, true, false, length, []};
+ghost use Rattle.std.specs.Prelude.{◌≡◌, ◌+◌, ◌++◌, ℕ, List, Option, None, Some, Ok, true, false, length, map, []};
 ghost use Rattle.reuse_header.specs.declared.style.Style.{Style};
 ghost use Rattle.reuse_header.specs.declared.blocks.BlockSize.{BlockSize};
 ghost use Rattle.reuse_header.specs.Body.{PlacedLines};
@@ -9,8 +9,10 @@ ghost use Rattle.reuse_notice.specs.declared.adding.Additions.{Additions};
 ghost use Rattle.reuse_header.specs.declared.annotation.How.{How};
 ghost use Rattle.reuse_header.specs.Annotation.{Edit, annotation_of, edited, new_bytes, kind_of_file};
 ghost use Rattle.reuse_header.specs.Neighbour.{neighbour_annotation_of, neighbour_end};
-ghost use Rattle.reuse_header.specs.Writing.{block_text, neighbour_marks};
-ghost use Rattle.reuse_header.specs.Marks.{LineMarks};
+ghost use Rattle.reuse_header.specs.Writing.{block_lines, block_text, neighbour_marks};
+ghost use Rattle.reuse_header.specs.Marks.{LineMarks, marks_of};
+ghost use Rattle.reuse_header.specs.Reading.{IsSayable};
+ghost use Rattle.reuse_header.specs.Blocks.{contents_of, without_returns};
 ghost use Rattle.reuse_header.specs.Styles.{punctuation_of};
 ghost use Rattle.reuse_header.specs.declared.style.Form.{Form};
 ghost use Rattle.reuse_notice.specs.declared.infos.Info.{Info};
@@ -70,4 +72,14 @@ pub fn replacements_keep_information()
 {
     sets_are_one();
     merging_keeps_holders();
+}
+
+/// Reading the block that is written of some information, in any style and form, gives that information
+/// again, where each of its texts reads as what it is.
+pub fn written_blocks_read_back()
+    ensures files { (style : Style) (form : Form) (marks : LineMarks) (info : Info) (rest : List (List ℕ)) → marks_of style form ≡ Some marks → IsSayable (punctuation_of style) info
+        → info_of (punctuation_of style) (contents_of style (record { form = form; count = length (block_lines marks info) }) (block_lines marks info ++ rest)) ≡ info }
+    ensures neighbours { (info : Info) → IsSayable [] info → info_of [] (map without_returns (block_lines neighbour_marks info)) ≡ info }
+{
+    sets_are_one();
 }
