@@ -178,3 +178,12 @@ pub block_within : (style : Style) (file : List ℕ) (span : HeaderSpan) → IsH
 block_within style file span (before, h, front, at) =
     let n = ap length at.bytes ∙ length-append front (bytes_of h.block ++ bytes_of h.after) ∙ ap (λ (k : ℕ). length front + k) (length-append (bytes_of h.block) (bytes_of h.after)) in
     (omega (arith, at.start, at.end), omega (arith, at.start, at.end, n))
+
+pub body_within : (style : Style) (file : List ℕ) → text_of (lines_of (after_mark file)) ≡ after_mark file → place_in file (body_lines style (file_lines file)) ≤ length file
+body_within style file law =
+    let pre = before_body style (file_lines file) in
+    let n = file_size file law in
+    let body = place_behind file (lines_of (after_mark file)) (mark_len_of file) pre.0 (body_lines style (file_lines file)) pre.1 n in
+    let all = sym (bytes_of-placed (lines_of (after_mark file)) (mark_len_of file)) ∙ ap bytes_of pre.1 ∙ bytes_of-append pre.0 (body_lines style (file_lines file)) in
+    let m = ap length all ∙ length-append (bytes_of pre.0) (bytes_of (body_lines style (file_lines file))) in
+    omega (arith, n, body, m)

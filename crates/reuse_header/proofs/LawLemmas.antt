@@ -4,11 +4,12 @@ use Rattle.std.specs.Prelude.{Result, Ok, Err, if◌then◌else◌, Contains, �
 use Rattle.std.proofs.lemmas.Bool.{false≢true}
 use Rattle.std.proofs.lemmas.List.Elements.{Contains-append_left}
 use Rattle.std.specs.Option.{option_map}
-use Rattle.reuse_text.specs.Text.{lines_of, file_lines, after_mark, mark_len_of, text_of, spliced}
+use Rattle.reuse_text.specs.declared.LineKind.{LineKind}
+use Rattle.reuse_text.specs.Text.{TextLine, AreLines, lines_of, file_lines, after_mark, mark_len_of, text_of, spliced}
 use Rattle.reuse_notice.specs.declared.infos.Info.{Info}
 use Rattle.reuse_notice.specs.declared.adding.Additions.{Additions}
 use Rattle.reuse_notice.specs.Infos.{info_of}
-use Rattle.reuse_notice.specs.Sets.{set_of}
+use Rattle.reuse_notice.specs.Sets.{set_of, IsSorted}
 use Rattle.reuse_notice.specs.Merging.{merged}
 use Rattle.reuse_notice.specs.Keeping.{IsKeptBy}
 use Rattle.reuse_header.specs.declared.style.Style.{Style}
@@ -20,11 +21,17 @@ use Rattle.reuse_header.specs.Styles.{punctuation_of}
 use Rattle.reuse_header.specs.Marks.{LineMarks, marks_of}
 use Rattle.reuse_header.specs.Body.{body_lines, place_in}
 use Rattle.reuse_header.specs.Header.{HeaderSpan, span_in, header_of, neighbour_contents}
-use Rattle.reuse_header.specs.Writing.{new_info, block_text, neighbour_marks}
+use Rattle.reuse_header.specs.Writing.{new_info, block_text, block_lines, ended_by, neighbour_marks}
 use Rattle.reuse_header.specs.Annotation.{Edit, new_bytes, edited, text_start, text_end, size_limit, chosen_form, replaced_block, old_contents, edit_of, kind_of_file, stands_at, annotation_of}
 use Rattle.reuse_header.specs.Neighbour.{is_text, neighbour_end, replaced_contents, neighbour_edit, neighbour_stands, neighbour_written, neighbour_annotation_of}
-use Rattle.reuse_header.specs.Laws.{part, Keeps, IsBlockText}
-use Rattle.reuse_header.proofs.CutLemmas.{span_cuts, block_within, body_first, mark_within}
+use Rattle.reuse_header.specs.declared.blocks.BlockSize.{BlockSize}
+use Rattle.reuse_header.specs.Blocks.{contents_of}
+use Rattle.reuse_header.specs.Split.{bytes_of}
+use Rattle.reuse_header.specs.Reading.{IsSayable}
+use Rattle.reuse_header.specs.Laws.{part, Keeps, IsBlockText, ReadsAs, AreContents}
+use Rattle.reuse_header.proofs.ReadingLemmas.{inner_content, the_reader, block_contents, reads_back}
+use Rattle.reuse_header.proofs.AgainLemmas.{stands_there, found_bytes, found_contents, form_again}
+use Rattle.reuse_header.proofs.CutLemmas.{span_cuts, block_within, body_first, body_within, mark_within}
 use Rattle.reuse_header.proofs.WrittenLemmas.{IsWritten, written_ok, kept_behind, error_is_ok, settled_ok}
 
 -- the edit that annotating is, by what was found
@@ -174,4 +181,61 @@ neighbour_replacing_keeps same keeping how additions file edit yes_replace e =
       info,
       ap (λ (x : Edit). x.text) w.same ∙ neighbour_text how.replace file _ ∙ ap (λ (contents : List (List ℕ)). block_text neighbour_marks (kind_of_file file) (new_info [] contents how.merge additions)) old,
       new_keeps same keeping [] (neighbour_contents file) how.merge additions,
+    )
+
+-- ---- the written block is found again, and says what was written
+
+span_within : (style : Style) (file : List ℕ) (span : HeaderSpan) → text_of (lines_of (after_mark file)) ≡ after_mark file → option_map (span_in file) (header_of style file) ≡ Some span → span.start ≤ length file
+span_within style file span law is = let h = block_within style file span (span_cuts style file span law is) in omega (arith, h.0, h.1)
+
+start_of : (style : Style) (file text : List ℕ) (span : HeaderSpan) → (edit_of style file (Some span) text).start ≡ span.start
+unfolding edit_of
+start_of style file text span = refl
+
+start_within : (style : Style) (file text : List ℕ) (found : Option HeaderSpan) (replace : Bool) → text_of (lines_of (after_mark file)) ≡ after_mark file → option_map (span_in file) (header_of style file) ≡ found
+    → (edit_of style file (replaced_block replace found) text).start ≤ length file
+start_within style file text None true law is = let e = (insertion_at style file text).1 in omega (arith, e, body_within style file law)
+start_within style file text None false law is = let e = (insertion_at style file text).1 in omega (arith, e, body_within style file law)
+start_within style file text (Some span) true law is = let e = start_of style file text span in omega (arith, e, span_within style file span law is)
+start_within style file text (Some span) false law is = let e = (insertion_at style file text).1 in omega (arith, e, body_within style file law)
+
+text_lines : (marks : LineMarks) (kind : LineKind) (info : Info) → block_text marks kind info ≡ ended_by kind (block_lines marks info)
+unfolding block_text
+text_lines marks kind info = refl
+
+abbrev a_size : Form → ℕ → BlockSize
+a_size form count = record { form = form; count = count }
+
+pub read_again : ((text : List ℕ) → text_of (lines_of text) ≡ text) → ((text : List ℕ) → AreLines (lines_of text)) → ((text : List ℕ) (lines : List TextLine) → AreLines lines → text_of lines ≡ text → lines ≡ lines_of text)
+    → ((texts other : List (List ℕ)) → IsSorted other → ((text : List ℕ) → (Contains other text) ↔ (Contains texts text)) → other ≡ set_of texts)
+    → (style : Style) (how : How) (additions : Additions) (file : List ℕ) (edit : Edit) (info : Info) (form : Form) (marks : LineMarks)
+    → annotation_of style how additions file ≡ Ok edit → IsBlockText style (kind_of_file file) info form marks edit.text → IsSayable (punctuation_of style) info → AreContents (kind_of_file file) (block_lines marks info)
+    → (span : HeaderSpan) × ReadsAs style (edited file edit) (text_start edit) (text_end edit) form info span
+read_again joined well only sets style how additions file edit info form marks e written sayable lines =
+    let found = option_map (span_in file) (header_of style file) in
+    let w = annotated_ok style how additions file found edit refl e in
+    let made = edited file edit in
+    let there = stands_there style made (text_start edit) (text_end edit) w.2.stands in
+    let span = there.0 in
+    let cut = span_cuts style made span (joined (after_mark made)) there.1 in
+    let before = cut.0 in
+    let h = cut.1 in
+    let at = cut.3 in
+    let low = ap (λ (x : Edit). x.start) w.2.same in
+    let fits = start_within style file (block_text w.0 (kind_of_file file) (new_info (punctuation_of style) (old_contents (replaced_block how.replace found)) how.merge additions)) found how.replace (joined (after_mark file)) refl in
+    let bytes = found_bytes style file edit span before h cut.2 (omega (arith, low, fits)) there.2 there.3 at in
+    let text : bytes_of h.block ≡ ended_by (kind_of_file file) (block_lines marks info) = bytes ∙ written.text_is ∙ text_lines marks (kind_of_file file) info in
+    let c = found_contents well only style made span before h cut.2 (kind_of_file file) (block_lines marks info) at text lines in
+    let same = form_again style form marks info c.0 (record { form = h.form; count = length (block_lines marks info) }) written.marks_are c.1 refl in (
+      span,
+      record {
+        found = there.1;
+        starts = there.2;
+        ends = there.3;
+        same_form = at.form ∙ same;
+        says =
+            ap (info_of (punctuation_of style)) (c.2 ∙ ap (λ (f : Form). contents_of style (a_size f (length (block_lines marks info))) (block_lines marks info ++ c.0)) same)
+            ∙ ap (info_of (punctuation_of style)) (block_contents style form marks info c.0 written.marks_are)
+            ∙ reads_back sets (punctuation_of style) (inner_content style form) marks info (the_reader style form marks written.marks_are) sayable;
+      },
     )

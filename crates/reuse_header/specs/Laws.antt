@@ -1,11 +1,16 @@
 -- Words of the laws.
-use Rattle.std.specs.Prelude.{◌≡◌, ℕ, ◌-◌, Bool, true, false, List, take, drop, Contains, ◌⊎◌, Option, Some}
+use Rattle.std.specs.Prelude.{◌≡◌, ℕ, ◌-◌, Bool, true, false, List, take, drop, Contains, All, ◌⊎◌, Some}
 use Rattle.reuse_text.specs.declared.LineKind.{LineKind}
 use Rattle.reuse_notice.specs.declared.infos.Info.{Info}
 use Rattle.reuse_notice.specs.Keeping.{IsKeptBy}
 use Rattle.reuse_header.specs.declared.style.Style.{Style}
 use Rattle.reuse_header.specs.declared.style.Form.{Form}
 use Rattle.reuse_header.specs.Marks.{LineMarks, marks_of}
+use Rattle.reuse_notice.specs.Infos.{info_of}
+use Rattle.std.specs.Option.{option_map}
+use Rattle.reuse_text.specs.Text.{IsLine}
+use Rattle.reuse_header.specs.Styles.{punctuation_of}
+use Rattle.reuse_header.specs.Header.{HeaderSpan, span_in, header_of}
 use Rattle.reuse_header.specs.Writing.{block_text}
 
 -- the bytes from one place of a file on to another
@@ -28,3 +33,15 @@ pub record Keeps (merge : Bool) (old new : Info) : Type 0 where
 pub record IsBlockText (style : Style) (kind : LineKind) (info : Info) (form : Form) (marks : LineMarks) (text : List ℕ) : Type 0 where
   pub marks_are : marks_of style form ≡ Some marks
   pub text_is : text ≡ block_text marks kind info
+
+-- the header block of a file stands from one place to another, in a form, and says some information
+pub record ReadsAs (style : Style) (file : List ℕ) (start end : ℕ) (form : Form) (info : Info) (span : HeaderSpan) : Type 0 where
+  pub found : option_map (span_in file) (header_of style file) ≡ Some span
+  pub starts : span.start ≡ start
+  pub ends : span.end ≡ end
+  pub same_form : span.form ≡ form
+  pub says : info_of (punctuation_of style) span.contents ≡ info
+
+-- each text is the content of a line with that ending
+abbrev pub AreContents : LineKind → List (List ℕ) → Type 0
+AreContents kind contents = All (λ content. IsLine (record { content = content; ending = Some kind })) contents

@@ -7,7 +7,7 @@ ghost use Rattle.std.specs.Option.{option_map};
 ghost use Rattle.reuse_header.specs.Header.{Header, HeaderSpan, header_in, header_of, span_in, neighbour_contents};
 ghost use Rattle.reuse_notice.specs.declared.adding.Additions.{Additions};
 ghost use Rattle.reuse_header.specs.declared.annotation.How.{How};
-ghost use Rattle.reuse_header.specs.Annotation.{Edit, annotation_of, edited, new_bytes, kind_of_file};
+ghost use Rattle.reuse_header.specs.Annotation.{Edit, annotation_of, edited, new_bytes, kind_of_file, text_start, text_end};
 ghost use Rattle.reuse_header.specs.Neighbour.{neighbour_annotation_of, neighbour_end};
 ghost use Rattle.reuse_header.specs.Writing.{block_lines, block_text, neighbour_marks};
 ghost use Rattle.reuse_header.specs.Marks.{LineMarks, marks_of};
@@ -18,7 +18,7 @@ ghost use Rattle.reuse_header.specs.declared.style.Form.{Form};
 ghost use Rattle.reuse_notice.specs.declared.infos.Info.{Info};
 ghost use Rattle.reuse_notice.specs.Infos.{info_of};
 ghost use Rattle.reuse_text.specs.Text.{mark_len_of};
-ghost use Rattle.reuse_header.specs.Laws.{part, Keeps, IsBlockText};
+ghost use Rattle.reuse_header.specs.Laws.{part, Keeps, IsBlockText, ReadsAs, AreContents};
 ghost use Rattle.reuse_header.specs.Split.{AreCommentBlocks, comment_blocks, IsSplit, IsHeaderBlock, HasNoHeader};
 
 use reuse_notice::{merging_keeps_holders, sets_are_one};
@@ -81,5 +81,16 @@ pub fn written_blocks_read_back()
         → info_of (punctuation_of style) (contents_of style (record { form = form; count = length (block_lines marks info) }) (block_lines marks info ++ rest)) ≡ info }
     ensures neighbours { (info : Info) → IsSayable [] info → info_of [] (map without_returns (block_lines neighbour_marks info)) ≡ info }
 {
+    sets_are_one();
+}
+
+/// The block that annotating writes is the new file's header block, and says what was written.
+pub fn written_blocks_are_found()
+    ensures { (style : Style) (how : How) (additions : Additions) (file : List ℕ) (edit : Edit) (info : Info) (form : Form) (marks : LineMarks)
+        → annotation_of style how additions file ≡ Ok edit → IsBlockText style (kind_of_file file) info form marks edit.text
+        → IsSayable (punctuation_of style) info → AreContents (kind_of_file file) (block_lines marks info)
+        → (span : HeaderSpan) × ReadsAs style (edited file edit) (text_start edit) (text_end edit) form info span }
+{
+    lines_are_one();
     sets_are_one();
 }
