@@ -19,7 +19,7 @@ abbrev pub is_text : List ℕ → Bool
 is_text file = is_utf8 file && not (list_any (λ b. b == 0) file)
 
 -- the lines from the first barrier on
-unfoldable pub closed_lines : PlacedLines → PlacedLines
+abbrev pub closed_lines : PlacedLines → PlacedLines
 closed_lines [] = []
 closed_lines (line ∷ lines) = if is_barrier line.1.content then line ∷ lines else closed_lines lines
 
