@@ -142,3 +142,48 @@ span_cuts style file span law e = by_header (header_of style file) refl e
 
 pub none_cuts : (style : Style) (file : List ℕ) → header_of style file ≡ None → HasNoHeader style file
 none_cuts style file e = λ before h s. (let there = split_only style (body_lines style (file_lines file)) before h s in absurd (let none : ⊥ = cc in none))
+
+-- ---- the place behind the prefix lines
+
+file_size : (file : List ℕ) → text_of (lines_of (after_mark file)) ≡ after_mark file → length file ≡ mark_len_of file + length (text_of (lines_of (after_mark file)))
+file_size file law =
+    let mark = take (mark_len_of file) file in
+    let fits = mark_within file in
+    let marked : length mark ≡ mark_len_of file = simp length-take (omega (arith, fits)) in
+    ap length (sym (take-append-drop (mark_len_of file) file)) ∙ length-append mark (after_mark file) ∙ ap (λ (k : ℕ). k + length (after_mark file)) marked ∙ ap (λ (xs : List ℕ). mark_len_of file + length xs) (sym law)
+
+-- a header block begins no earlier than the lines behind the prefix lines
+pub body_first : (style : Style) (file : List ℕ) (span : HeaderSpan) → text_of (lines_of (after_mark file)) ≡ after_mark file → option_map (span_in file) (header_of style file) ≡ Some span
+    → place_in file (body_lines style (file_lines file)) ≤ span.start
+body_first style file span law e = by_header (header_of style file) refl e
+  where
+    by_header : (header : Option Header) → header_of style file ≡ header → option_map (span_in file) header ≡ Some span → place_in file (body_lines style (file_lines file)) ≤ span.start
+    by_header None is e = absurd (let none : ⊥ = cc in none)
+    by_header (Some h) is e =
+        let there = split_found style (body_lines style (file_lines file)) h is in
+        let same : place_in file h.block ≡ span.start = let e' : span_in file h ≡ span = cc in ap (λ (s : HeaderSpan). s.start) e' in
+        let some = (begins_in-within style (open_contents (body_lines style (file_lines file))) 0 (length there.0) (size_of h) there.1.begins_there).0 in
+        let pre = before_body style (file_lines file) in
+        let n = file_size file law in
+        let body = place_behind file (lines_of (after_mark file)) (mark_len_of file) pre.0 (body_lines style (file_lines file)) pre.1 n in
+        let all : file_lines file ≡ (pre.0 ++ there.0) ++ (h.block ++ h.after) =
+        pre.1 ∙ ap (λ (xs : PlacedLines). pre.0 ++ xs) there.1.joined ∙ sym (append_assoc pre.0 there.0 (h.block ++ h.after)) in
+        let starts = place_behind file (lines_of (after_mark file)) (mark_len_of file) (pre.0 ++ there.0) (h.block ++ h.after) all n in
+        let wide = ap length (bytes_of-append pre.0 there.0) ∙ length-append (bytes_of pre.0) (bytes_of there.0) in
+        let first = place_of_first file h.block h.after some in
+        omega (arith, same, body, starts, wide, first)
+
+-- a header block lies within its file
+pub block_within : (style : Style) (file : List ℕ) (span : HeaderSpan) → IsHeaderBlock style file span → (span.start ≤ span.end) × (span.end ≤ length file)
+block_within style file span (before, h, front, at) =
+    let n = ap length at.bytes ∙ length-append front (bytes_of h.block ++ bytes_of h.after) ∙ ap (λ (k : ℕ). length front + k) (length-append (bytes_of h.block) (bytes_of h.after)) in
+    (omega (arith, at.start, at.end), omega (arith, at.start, at.end, n))
+
+pub body_within : (style : Style) (file : List ℕ) → text_of (lines_of (after_mark file)) ≡ after_mark file → place_in file (body_lines style (file_lines file)) ≤ length file
+body_within style file law =
+    let pre = before_body style (file_lines file) in
+    let n = file_size file law in
+    let body = place_behind file (lines_of (after_mark file)) (mark_len_of file) pre.0 (body_lines style (file_lines file)) pre.1 n in
+    let all = sym (bytes_of-placed (lines_of (after_mark file)) (mark_len_of file)) ∙ ap bytes_of pre.1 ∙ bytes_of-append pre.0 (body_lines style (file_lines file)) in
+    let m = ap length all ∙ length-append (bytes_of pre.0) (bytes_of (body_lines style (file_lines file))) in
+    omega (arith, n, body, m)

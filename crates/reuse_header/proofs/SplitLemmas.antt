@@ -30,7 +30,7 @@ drop-nil (suc n) = refl
 
 -- ---- the comment blocks of open lines
 
-begins_in-nil : (style : Style) (inside line : ℕ) → begins_in style inside [] line ≡ None
+pub begins_in-nil : (style : Style) (inside line : ℕ) → begins_in style inside [] line ≡ None
 unfolding begins_in
 begins_in-nil style zero zero = refl
 begins_in-nil style zero (suc line) = refl

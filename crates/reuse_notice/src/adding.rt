@@ -14,7 +14,7 @@ use reuse_text::Bytes;
 use std::alloc::{AllocError, Global};
 use thiserror::Error;
 
-/// Texts of notices, contributors and licences to be added.
+/// Texts of notices, contributors and licences to be added to a file, in the order of the arguments.
 #[derive(Debug, Drop)]
 pub struct Additions {
     pub(crate) notices: Texts,
@@ -40,6 +40,7 @@ pub enum NoticeRefusal {
     /// A licence is outside the grammar, at this place.
     #[error("bad licence expression at {1}: {0}")]
     BadExpression(Bytes, usize),
+    /// There was no memory.
     #[error("out of memory")]
     Memory(AllocError),
 }
@@ -62,7 +63,8 @@ impl Additions {
 
     /// What a command with these arguments adds. The notices have the years from the lowest to the
     /// highest of `years`, or else the `current` one, unless they are excluded. Outer spaces of
-    /// arguments are dropped, and no text is empty or holds a control character. The first fault is refused, in the order of `NoticeRefusal`.
+    /// arguments are dropped, and no text is empty or holds a control character. The first fault is
+    /// refused, in the order of `NoticeRefusal`.
     pub fn new(
         alloc: Global,
         copyrights: &[&str],
