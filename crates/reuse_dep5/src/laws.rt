@@ -1,0 +1,23 @@
+//! Laws of what the contracts speak of: each holds of the definitions alone.
+ghost use Rattle.std.specs.Prelude.{◌≡◌, ◌↔◌, List, ℕ, true, Some, Ok, Err};
+ghost use Rattle.std.specs.Str.{chars, all_scalars};
+ghost use Rattle.reuse_dep5.specs.SourceText.{NumberedLine};
+ghost use Rattle.reuse_dep5.specs.Dep5.{Dep5Value, paragraphs_of};
+ghost use Rattle.reuse_dep5.specs.Grammar.{IsGrammatical, IsFirstFault};
+ghost use Rattle.reuse_dep5.specs.GlobText.{glob_text, read_glob, glob_literals, HasRunsApart};
+
+use crate::glob::GlobPiece;
+use crate::refusal::{Dep5Cause, Dep5Refusal};
+
+/// Paragraphs are read as a dep5 exactly where they are grammatical, and else refused by their first fault.
+pub fn dep5_is_grammatical()
+    ensures accepted { (ps : List (List NumberedLine)) → ((dep5 : Dep5Value) × (paragraphs_of ps ≡ Ok dep5)) ↔ IsGrammatical ps }
+    ensures refused { (ps : List (List NumberedLine)) (e : Dep5Refusal) → paragraphs_of ps ≡ Err e
+        → (number : ℕ) × (cause : Dep5Cause) × (Dep5Refusal.BadDep5 number cause ≡ e) × IsFirstFault ps number cause }
+{}
+
+/// The text of a glob, read as a glob again, is that glob, where no `*` stands directly before another run.
+pub fn glob_text_is_read_back()
+    ensures { (glob : List GlobPiece) → HasRunsApart glob → all_scalars (glob_literals glob) ≡ true
+        → read_glob (chars (glob_text glob)) ≡ Some glob }
+{}
