@@ -10,7 +10,11 @@ use Rattle.reuse_dep5.specs.GlobText.{read_glob}
 use Rattle.reuse_dep5.specs.Dep5.{FilesValue, Dep5Value}
 use Rattle.reuse_dep5.specs.ReuseTable.{Annotation}
 
--- one passes; none passes
+-- each passes; one does; none does
+abbrev pub EachPasses : {A : Type 0} → (A → Type 0) → List A → Type 0
+EachPasses P [] = Unit {0}
+EachPasses P (x ∷ xs) = P x × EachPasses P xs
+
 abbrev pub SomePasses : {A : Type 0} → (A → Type 0) → List A → Type 0
 SomePasses P [] = ⊥
 SomePasses P (x ∷ xs) = P x ⊎ SomePasses P xs
