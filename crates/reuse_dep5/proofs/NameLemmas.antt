@@ -25,14 +25,6 @@ one_more true false = refl
 one_more false true = refl
 one_more false false = refl
 
-none_more : (b : Bool) → b ≡ (b || false)
-none_more true = refl
-none_more false = refl
-
--- no names
-pub names_none : (names : BTreeSet (List ℕ)) → names.keys ≡ [] → HoldsNames names []
-names_none names e = λ name. ap (list_any (λ (k : List ℕ). is_eq (slice_cmp nat_cmp (str_to_ascii_lowercase name) k))) e
-
 -- the name of a field line more
 pub names_more : (old new : BTreeSet (List ℕ)) (before : List NumberedLine) (line : NumberedLine) → is_field line.content ≡ true → Updates (slice_cmp nat_cmp) old new (str_to_ascii_lowercase (field_name line.content)) true → HoldsNames old before → HoldsNames new (before ++ line ∷ [])
 names_more old new before line field updates holds = λ name.
@@ -43,10 +35,3 @@ names_more old new before line field updates holds = λ name.
     let here : p line ≡ t = ap (λ f. f && bytes_eq key q) field ∙ texts_ties key q in
     updates.0 q ∙ ap (cond t true) (holds name) ∙ one_more t (list_any p before)
     ∙ ap (λ x. list_any p before || (x || false)) (sym here) ∙ sym (list_any-append p before (line ∷ []))
-
--- a line without a name
-pub names_same : (names : BTreeSet (List ℕ)) (before : List NumberedLine) (line : NumberedLine) → is_continuation line.content ≡ true → HoldsNames names before → HoldsNames names (before ++ line ∷ [])
-names_same names before line blank holds = λ name.
-    let p : NumberedLine → Bool = λ l. has_name name l.content in
-    let here : p line ≡ false = ap (λ f. f && bytes_eq (str_to_ascii_lowercase (field_name line.content)) (str_to_ascii_lowercase name)) (continuation_no_field line.content blank) in
-    holds name ∙ none_more (list_any p before) ∙ ap (λ x. list_any p before || (x || false)) (sym here) ∙ sym (list_any-append p before (line ∷ []))
