@@ -1,9 +1,11 @@
 //! Owned bytes: of a file, or of a text that need not be UTF-8.
-ghost use Rattle.std.specs.Prelude.{◌≡◌, ◌++◌, ◌↔◌, [], List, ℕ, IfOk, OnOk, OnErr, IsTrue, length, nat_eq, refl, Some};
+ghost use Rattle.std.specs.Prelude.{◌≡◌, ◌++◌, ◌↔◌, [], List, ℕ, IfOk, OnOk, OnErr, IsTrue, length, nat_eq, refl, Some, encode_utf8_all};
+ghost use Rattle.bstr.specs.Utf8.{lossy_chars};
 ghost use Rattle.std.specs.Ordering.{nat_cmp};
 ghost use Rattle.std.specs.Cmp.{partial_equiv_from_equiv};
 ghost use Rattle.std.specs.Cmp.Lexicographic.{pointwise, slice_cmp, nat_list_eq_equiv, nat_list_cmp_total, texts_po, texts_ties};
 
+use bstr::ByteSlice;
 use std::alloc::{AllocError, Global};
 use std::cmp::Ordering;
 use std::fmt;
@@ -83,13 +85,12 @@ impl Bytes {
     }
 }
 
-/// As text where the bytes are UTF-8, else as a list of numbers.
+/// As text, where a replacement character stands for what is not UTF-8.
 impl fmt::Display for Bytes {
+    ghost output = { λ bytes. Some (encode_utf8_all (lossy_chars bytes)) };
+
     fn fmt<W: fmt::Write>(&self, f: &mut fmt::Formatter<W>) -> fmt::Result {
-        match str::from_utf8(self.as_slice()) {
-            Ok(text) => f.write_str(text),
-            Err(_) => write!(f, "{:?}", self.bytes),
-        }
+        self.as_slice().as_bstr().fmt(f)
     }
 }
 

@@ -1,0 +1,24 @@
+//! Copyright notices, contributors and licences of a file: the tags of a comment, what a command adds,
+//! and their merge, after REUSE Specification 3.3.
+#![tactic(auto)]
+
+mod adding;
+mod blanks;
+mod expressions;
+mod infos;
+mod laws;
+mod merging;
+mod prefixes;
+mod tags;
+mod text_lists;
+
+pub use adding::{Additions, NoticeRefusal};
+pub use expressions::{BadExpression, check_expression};
+pub use infos::Info;
+pub use laws::{longest_prefix_counts, merging_keeps_holders, sets_are_one};
+pub use prefixes::Prefix;
+pub use tags::{Notice, Tag, Years, read_tag};
+pub use text_lists::{TextSet, Texts};
+
+#[cfg(test)]
+mod tests;

@@ -1,0 +1,15 @@
+use Rattle.std.proofs.Common.{arith}
+use Rattle.std.proofs.lemmas.Grind.{common_steps}
+use Rattle.reuse_session.proofs.LastLemmas.{suffix_len-last, suffix_len-no_last, last_below}
+use Rattle.reuse_session.proofs.covered.last_part.Goals as goal
+
+pub returns-in-None : goal.returns-in-None
+returns-in-None c =
+    let e = suffix_len-no_last 47 c.args.path.now c.in-None.ensures in
+    rw e (grind (arith, common_steps))
+
+pub returns-in-Some : goal.returns-in-Some
+returns-in-Some c =
+    let e = suffix_len-last 47 c.args.path.now c.in-Some.slash c.in-Some.ensures in
+    let h = last_below 47 c.args.path.now c.in-Some.slash c.in-Some.ensures in
+    rw e (grind (arith, common_steps))

@@ -1,0 +1,26 @@
+-- The paths of a tree, as its listing has them, and what stands at a path by them.
+use Rattle.std.specs.Prelude.{ℕ, Bool, List}
+use Rattle.std.specs.List.{list_any}
+use Rattle.std.specs.Str.{bytes_eq}
+use Rattle.std.specs.FinMap.{keys}
+use Rattle.std.specs.List.Sorted.{IsStrictlySortedBy}
+use Rattle.std.specs.Ordering.{nat_cmp}
+use Rattle.std.specs.Cmp.Lexicographic.{slice_cmp}
+use Rattle.reuse_tree.specs.Path.{lies_under}
+use Rattle.reuse_tree.specs.Files.{Files}
+
+-- paths in byte order, without repeats
+abbrev pub ArePaths : List (List ℕ) → Type 0
+ArePaths paths = IsStrictlySortedBy (slice_cmp nat_cmp) paths
+
+-- the path is one of these
+abbrev pub is_among : List (List ℕ) → List ℕ → Bool
+is_among paths path = list_any (λ other. bytes_eq path other) paths
+
+-- one of these lies under the path
+abbrev pub is_folder_of : List (List ℕ) → List ℕ → Bool
+is_folder_of paths path = list_any (λ other. lies_under other path) paths
+
+-- some file of the tree lies under the path
+abbrev pub is_folder : Files → List ℕ → Bool
+is_folder tree path = is_folder_of (keys tree) path

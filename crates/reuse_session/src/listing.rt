@@ -1,0 +1,70 @@
+// The paths of a tree, in byte order: what stands at a path.
+ghost use Rattle.std.specs.Prelude.{◌≡◌, ◌<◌, ◌≤◌, IfOk, true, false, length};
+ghost use Rattle.std.specs.Ordering.{nat_cmp, is_lt};
+ghost use Rattle.std.specs.Cmp.Lexicographic.{slice_cmp};
+ghost use Rattle.std.specs.List.Sorted.{IsPartitionPoint};
+ghost use Rattle.std.specs.FinMap.{keys};
+ghost use Rattle.reuse_tree.specs.Files.{tree_of};
+ghost use Rattle.reuse_session.specs.Listing.{ArePaths, is_among, is_folder_of};
+
+use reuse_text::Bytes;
+use reuse_tree::{PathText, Store, StoreFault};
+use std::alloc::{AllocError, Global};
+use std::cmp::Ordering;
+
+/// The paths of the tree that the store has: of all its files but those of the journal.
+pub(crate) fn tree_paths<S: Store>(
+    alloc: Global,
+    store: &mut S,
+) -> Result<Vec<PathText>, StoreFault>
+    ensures paths { S.honest store.new → IfOk result (λ paths. paths.items ≡ keys (tree_of (S.files store.old))) }
+    ensures files { S.honest store.new → S.files store.new ≡ S.files store.old }
+    ensures no_clash { S.honest store.new → result ≡ Err StoreFault.Clash → ⊥ }
+    ensures device { result ≡ Err StoreFault.Device → S.failures store.old < S.failures store.new }
+    ensures failures { S.failures store.old ≤ S.failures store.new }
+    ensures written { S.written store.new ≡ S.written store.old }
+    ensures was_honest { S.honest store.new → S.honest store.old }
+{
+    let mut paths = store.list(alloc)?;
+    paths.retain(|path| !path.is_in_journal());
+    Ok(paths)
+}
+
+// How many of the paths, which are in byte order, are below the target.
+fn lower_bound(paths: &[PathText], target: &[u8]) -> usize
+    ensures within { result ≤ length paths.now }
+    ensures bound { ArePaths paths.now → IsPartitionPoint (λ path. is_lt (slice_cmp nat_cmp path target.now) ≡ true) (λ path. is_lt (slice_cmp nat_cmp path target.now) ≡ false) paths.now result }
+{
+    paths.partition_point(|path| is_below(path, target))
+}
+
+fn is_below(path: &PathText, target: &[u8]) -> bool
+    ensures { result ≡ is_lt (slice_cmp nat_cmp path.now target.now) }
+{
+    match path.as_bytes().cmp(&target) {
+        Ordering::Less => true,
+        _ => false,
+    }
+}
+
+/// Whether the path is one of these, which are in byte order.
+pub(crate) fn is_among(paths: &[PathText], path: &[u8]) -> bool
+    ensures { ArePaths paths.now → result ≡ is_among paths.now path.now }
+{
+    let at = lower_bound(paths, path);
+    at < paths.len() && path == paths[at].as_bytes()
+}
+
+/// Whether one of the paths, which are in byte order, lies under the folder.
+pub(crate) fn is_folder(
+    alloc: Global,
+    paths: &[PathText],
+    folder: &PathText,
+) -> Result<bool, AllocError>
+    ensures { ArePaths paths.now → IfOk result (λ found. found ≡ is_folder_of paths.now folder.now) }
+{
+    let mut first = Bytes::from_slice(alloc, folder.as_bytes())?;
+    first.push_slice(b"/")?;
+    let at = lower_bound(paths, first.as_slice());
+    Ok(at < paths.len() && paths[at].lies_under(folder))
+}

@@ -1,0 +1,36 @@
+-- The calls of a store with their answers.
+use Rattle.std.specs.Prelude.{ℕ, ◌+◌, Bool, List, [], ◌∷◌, Result, Ok, Err}
+use Rattle.reuse_tree.specs.Store.{counted}
+use Rattle.reuse_tree.specs.declared.fault.StoreFault.{StoreFault}
+use Rattle.reuse_tree.specs.declared.fault.StoreFault.TheVariants.{Device, Clash, Memory}
+use Rattle.reuse_tree.specs.declared.store.Reading.{Reading}
+
+-- a call of a store and what it answered; `took` tells of a put or a removal that failed whether it took effect
+pub data Call : Type 0 where
+  ListCall : (answer : Result (List (List ℕ)) StoreFault) → Call
+  ReadCall : (path : List ℕ) (limit : ℕ) (answer : Result Reading StoreFault) → Call
+  PutCall : (path bytes : List ℕ) (answer : Result (Unit {0}) StoreFault) (took : Bool) → Call
+  RemoveCall : (path : List ℕ) (answer : Result (Unit {0}) StoreFault) (took : Bool) → Call
+
+-- one where the call answered a device fault
+abbrev pub failure_of : {T : Type 0} → Result T StoreFault → ℕ
+failure_of (Ok value) = 0
+failure_of (Err Device) = 1
+failure_of (Err Clash) = 0
+failure_of (Err Memory) = 0
+
+-- how often the device failed
+abbrev pub failures_of : List Call → ℕ
+failures_of [] = 0
+failures_of (ListCall answer ∷ calls) = failures_of calls + failure_of answer
+failures_of (ReadCall path limit answer ∷ calls) = failures_of calls + failure_of answer
+failures_of (PutCall path bytes answer took ∷ calls) = failures_of calls + failure_of answer
+failures_of (RemoveCall path answer took ∷ calls) = failures_of calls + failure_of answer
+
+-- how many bytes were handed to `put` for paths under `.reuse/undo/`
+abbrev pub written_of : List Call → ℕ
+written_of [] = 0
+written_of (ListCall answer ∷ calls) = written_of calls
+written_of (ReadCall path limit answer ∷ calls) = written_of calls
+written_of (PutCall path bytes answer took ∷ calls) = written_of calls + counted path bytes
+written_of (RemoveCall path answer took ∷ calls) = written_of calls

@@ -1,0 +1,117 @@
+// The calls of a store, which only contracts see.
+ghost use Rattle.std.specs.Prelude.{◌≡◌, Bool, List, [], ◌∷◌};
+ghost use Rattle.std.specs.Borrow.{ftrue};
+ghost use Rattle.std.specs.FinMap as map;
+ghost use Rattle.std.specs.Coded.{coded_list, coded_ℕ};
+ghost use Rattle.reuse_tree.specs.Files.{Files};
+ghost use Rattle.std.specs.Result.{result_map_both};
+ghost use Rattle.reuse_tree.specs.Calls.{Call};
+ghost use Rattle.reuse_tree.specs.Calls.Call.{ListCall, ReadCall, PutCall, RemoveCall};
+ghost use Rattle.reuse_tree.specs.CallParts.{call_of};
+
+use crate::{PathText, Reading, StoreFault};
+use std::marker::{Model, PhantomData};
+
+// Which call was made, and how it was answered.
+#[derive(Clone, Copy)]
+enum CallKind {
+    Listed,
+    ListFailed(StoreFault),
+    ReadAbsent,
+    ReadFound,
+    ReadTooLong,
+    ReadFailed(StoreFault),
+    Put,
+    PutFailed(StoreFault),
+    Removed,
+    RemoveFailed(StoreFault),
+}
+
+/// The files that a store had at the start, which no contract tells, and the calls since then with
+/// their answers, the newest first. It takes no bytes, and nothing runs.
+#[derive(Drop)]
+pub struct CallRecord {
+    marker: PhantomData<u8>,
+    pub ghost start: { Files } by { map.code (coded_list coded_ℕ) (coded_list coded_ℕ) },
+    pub ghost calls: { List Call },
+}
+
+impl Model for CallRecord {
+    ghost also_owns = { λ _. ftrue };
+}
+
+impl CallRecord {
+    /// A record of no calls.
+    pub fn new() -> CallRecord
+        ensures { result.calls ≡ [] }
+    {
+        CallRecord {
+            marker: PhantomData,
+        }
+    }
+
+    /// Notes a call of `list` and its answer.
+    pub fn note_list(&mut self, answer: &Result<Vec<PathText>, StoreFault>)
+        ensures { self.new ≡ record self.old { calls = ListCall (result_map_both (λ paths. paths.items) (λ fault. fault) answer.now) ∷ self.old.calls } }
+    {
+        match answer {
+            Ok(paths) => self.note(&CallKind::Listed, b"", b"", 0, paths.as_slice()),
+            Err(fault) => self.note(&CallKind::ListFailed(*fault), b"", b"", 0, &[]),
+        }
+    }
+
+    /// Notes a call of `read` and its answer.
+    pub fn note_read(&mut self, path: &PathText, limit: usize, answer: &Result<Reading, StoreFault>)
+        ensures { self.new ≡ record self.old { calls = ReadCall path.now limit answer.now ∷ self.old.calls } }
+    {
+        let path = path.as_bytes();
+        match answer {
+            Ok(Reading::Absent) => self.note(&CallKind::ReadAbsent, path, b"", limit, &[]),
+            Ok(Reading::Found(bytes)) => {
+                self.note(&CallKind::ReadFound, path, bytes.as_slice(), limit, &[])
+            }
+            Ok(Reading::TooLong) => self.note(&CallKind::ReadTooLong, path, b"", limit, &[]),
+            Err(fault) => self.note(&CallKind::ReadFailed(*fault), path, b"", limit, &[]),
+        }
+    }
+
+    /// Notes a call of `put` and its answer. Whether one that failed took effect is left open.
+    pub fn note_put(&mut self, path: &PathText, bytes: &[u8], answer: &Result<(), StoreFault>)
+        ensures { (took : Bool) × (self.new ≡ record self.old { calls = PutCall path.now bytes.now answer.now took ∷ self.old.calls }) }
+    {
+        match answer {
+            Ok(()) => self.note(&CallKind::Put, path.as_bytes(), bytes, 0, &[]),
+            Err(fault) => self.note(&CallKind::PutFailed(*fault), path.as_bytes(), bytes, 0, &[]),
+        }
+    }
+
+    /// Notes a call of `remove` and its answer. Whether one that failed took effect is left open.
+    pub fn note_remove(&mut self, path: &PathText, answer: &Result<(), StoreFault>)
+        ensures { (took : Bool) × (self.new ≡ record self.old { calls = RemoveCall path.now answer.now took ∷ self.old.calls }) }
+    {
+        match answer {
+            Ok(()) => self.note(&CallKind::Removed, path.as_bytes(), b"", 0, &[]),
+            Err(fault) => self.note(
+                &CallKind::RemoveFailed(*fault),
+                path.as_bytes(),
+                b"",
+                0,
+                &[],
+            ),
+        }
+    }
+
+    // Notes a call by the parts that its kind has. Whether a failing one took effect is left open.
+    fn note(
+        &mut self,
+        _kind: &CallKind,
+        _path: &[u8],
+        _bytes: &[u8],
+        _limit: usize,
+        _paths: &[PathText],
+    )
+        ensures { (took : Bool) × (self.new ≡ record self.old {
+          calls = call_of _kind.now _path.now _bytes.now _limit _paths.now took ∷ self.old.calls;
+        }) }
+    {}
+}
