@@ -14,7 +14,7 @@ use reuse_text::Bytes;
 use std::alloc::{AllocError, Global};
 use thiserror::Error;
 
-/// Texts of notices, contributors and licences to be added.
+/// Texts of notices, contributors and licences to be added to a file, in the order of the arguments.
 #[derive(Debug, Drop)]
 pub struct Additions {
     pub(crate) notices: Texts,
@@ -40,6 +40,7 @@ pub enum NoticeRefusal {
     /// A licence is outside the grammar, at this place.
     #[error("bad licence expression at {1}: {0}")]
     BadExpression(Bytes, usize),
+    /// There was no memory.
     #[error("out of memory")]
     Memory(AllocError),
 }
@@ -58,10 +59,12 @@ impl From<AllocError> for NoticeRefusal {
 impl Additions {
     ghost use Rattle.reuse_notice.specs.Adding.{refusal_of, additions_of};
     ghost use Rattle.reuse_notice.specs.Refusals.{refusal_view, arguments};
+    ghost use Rattle.reuse_notice.specs.Plain.{ArePlain};
 
     /// What a command with these arguments adds. The notices have the years from the lowest to the
     /// highest of `years`, or else the `current` one, unless they are excluded. Outer spaces of
-    /// arguments are dropped. The first fault is refused, in the order of `NoticeRefusal`.
+    /// arguments are dropped, and no text is empty or holds a control character. The first fault is
+    /// refused, in the order of `NoticeRefusal`.
     pub fn new(
         alloc: Global,
         copyrights: &[&str],
@@ -75,6 +78,7 @@ impl Additions {
         requires { current ≤ 9999 }
         ensures added { IfOk result (λ additions. let given = arguments copyrights.now licences.now contributors.now years.now exclude current prefix in
             (refusal_of given ≡ None) × (additions ≡ additions_of given)) }
+        ensures plain { IfOk result (λ additions. ArePlain additions) }
         ensures refused { IfErr result (λ e. let given = arguments copyrights.now licences.now contributors.now years.now exclude current prefix in
             IfSome (refusal_view e) (λ refusal. refusal_of given ≡ Some refusal)) }
     {

@@ -1,9 +1,10 @@
 //! The licensing information of a file.
 ghost use Rattle.std.specs.Prelude.{◌≡◌, ◌++◌, IfOk, OnOk, map, filter_map};
-ghost use Rattle.std.specs.Option.{option_to_list};
+ghost use Rattle.std.specs.Option.{option_map, option_to_list};
 ghost use Rattle.reuse_notice.specs.Sets.{IsSorted};
 ghost use Rattle.reuse_notice.specs.Tags.{tag_of, drop_front, drop_end};
-ghost use Rattle.reuse_notice.specs.Contents.{notice_text, contributor_value, licence_value, is_blank_content, untagged, with_free};
+ghost use Rattle.reuse_notice.specs.Contents.{notice_text, contributor_value, licence_value, is_blank_content, untagged, with_content, with_free};
+ghost use Rattle.reuse_notice.specs.TagViews.{tag_view};
 
 use crate::adding::Additions;
 use crate::blanks::is_all_filler;
@@ -126,7 +127,23 @@ impl Found {
         ensures licences { OnOk result (self.new.licences.items ≡ self.old.licences.items ++ option_to_list (licence_value (tag_of punct.now content.now))) }
         ensures free { OnOk result (self.new.free.items ≡ with_free punct.now self.old.free.items content.now) }
     {
-        match read_tag(content, punct) {
+        self.add_tag(alloc, read_tag(content, punct), content, punct)
+    }
+
+    // The same, where the content's tag is known.
+    fn add_tag(
+        &mut self,
+        alloc: Global,
+        tag: Option<Tag<'_>>,
+        content: &[u8],
+        punct: &[u8],
+    ) -> Result<(), AllocError>
+        ensures notices { OnOk result (self.new.notices.items ≡ self.old.notices.items ++ option_to_list (notice_text (option_map tag_view tag.entry))) }
+        ensures contributors { OnOk result (self.new.contributors.items ≡ self.old.contributors.items ++ option_to_list (contributor_value (option_map tag_view tag.entry))) }
+        ensures licences { OnOk result (self.new.licences.items ≡ self.old.licences.items ++ option_to_list (licence_value (option_map tag_view tag.entry))) }
+        ensures free { OnOk result (self.new.free.items ≡ with_content (option_map tag_view tag.entry) punct.now self.old.free.items content.now) }
+    {
+        match tag {
             Some(Tag::Notice(notice)) => {
                 self.notices.push(Bytes::from_slice(alloc, notice.text)?)?;
             }

@@ -15,7 +15,7 @@ mod text_lists;
 pub use adding::{Additions, NoticeRefusal};
 pub use expressions::{BadExpression, check_expression};
 pub use infos::Info;
-pub use laws::{longest_prefix_counts, sets_are_one};
+pub use laws::{longest_prefix_counts, merging_keeps_holders, sets_are_one};
 pub use prefixes::Prefix;
 pub use tags::{Notice, Tag, Years, read_tag};
 pub use text_lists::{TextSet, Texts};

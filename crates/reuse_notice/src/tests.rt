@@ -81,6 +81,16 @@ fn checks_expressions(rt: HostRuntime) {
 }
 
 #[test]
+fn checks_deep_expressions(rt: HostRuntime) -> Result<(), Fail> {
+    let mut text = String::new(rt.alloc());
+    for _ in 0..100_000 {
+        text.push_str("(")?;
+    }
+    assert_eq!(rt; fault(text.as_str()), Some(100_000));
+    Ok(())
+}
+
+#[test]
 fn reads_information(rt: HostRuntime) -> Result<(), Fail> {
     let contents = [
         b"".as_slice(),

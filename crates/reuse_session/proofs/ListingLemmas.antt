@@ -172,11 +172,11 @@ module _ (test : List ℕ → Bool) (target : List ℕ)
     (high : (x y : List ℕ) → is_lt (before x target) ≡ false → before x y ≡ Less → test y ≡ true → test x ≡ true) where
   none_later : (x : List ℕ) (xs : List (List ℕ)) → AllByRecursion (λ y. before x y ≡ Less) xs → is_lt (before x target) ≡ false → test x ≡ false → list_any test xs ≡ false
   none_later x [] each from fails = refl
-  none_later x (y ∷ ys) each from fails = of_test (test y) refl
+  none_later x (y ∷ ys) each from fails = of_test (test y) refl (none_later x ys each.1 from fails)
     where
-      of_test : (b : Bool) → test y ≡ b → (b || list_any test ys) ≡ false
-      of_test true e = absurd (false≢true (sym fails ∙ high x y from each.0 e))
-      of_test false e = none_later x ys each.1 from fails
+      of_test : (b : Bool) → test y ≡ b → list_any test ys ≡ false → (b || list_any test ys) ≡ false
+      of_test true e rest = absurd (false≢true (sym fails ∙ high x y from each.0 e))
+      of_test false e rest = rest
 
   pub any_at : (ks : List (List ℕ)) (i : ℕ) (d : List ℕ) → ArePaths ks → IsPartitionPoint (λ k. is_lt (before k target) ≡ true) (λ k. is_lt (before k target) ≡ false) ks i → list_any test ks ≡ (nat_lt i (length ks) && test (get_or ks i d))
   any_at [] i d sorted point = sym (ap (λ b. b && test (get_or [] i d)) (none_below i 0 (omega arith)))
@@ -208,3 +208,22 @@ pub folder_at : (ks : List (List ℕ)) (folder : List ℕ) (i : ℕ) (d : List �
     → is_folder_of ks folder ≡ (nat_lt i (length ks) && lies_under (get_or ks i d) folder)
 folder_at ks folder i d sorted point =
     any_at (λ other. lies_under other folder) (folder ++ 47 ∷ []) (under_not_below folder) (under_between folder) ks i d sorted point
+
+pub among_found : (ks : List (List ℕ)) (path : List ℕ) (i : ℕ) (d : List ℕ) (r : Bool) → ArePaths ks → IsPartitionPoint (λ k. is_lt (before k path) ≡ true) (λ k. is_lt (before k path) ≡ false) ks i
+    → i < length ks → r ≡ bytes_eq path (get_or ks i d) → r ≡ is_among ks path
+among_found ks path i d r sorted point within e = e ∙ sym (among_at ks path i d sorted point ∙ ap (λ b. b && bytes_eq path (get_or ks i d)) (some_below i (length ks) within))
+
+pub among_none : (ks : List (List ℕ)) (path : List ℕ) (i : ℕ) → ArePaths ks → IsPartitionPoint (λ k. is_lt (before k path) ≡ true) (λ k. is_lt (before k path) ≡ false) ks i
+    → length ks ≤ i → nat_lt i (length ks) ≡ is_among ks path
+among_none ks path i sorted point past =
+    none_below i (length ks) past ∙ sym (among_at ks path i [] sorted point ∙ ap (λ b. b && bytes_eq path (get_or ks i [])) (none_below i (length ks) past))
+
+pub folder_found : (ks : List (List ℕ)) (folder : List ℕ) (i : ℕ) (d : List ℕ) (r : Bool) → ArePaths ks → IsPartitionPoint (λ k. is_lt (before k (folder ++ 47 ∷ [])) ≡ true) (λ k. is_lt (before k (folder ++ 47 ∷ [])) ≡ false) ks i
+    → i < length ks → r ≡ lies_under (get_or ks i d) folder → r ≡ is_folder_of ks folder
+folder_found ks folder i d r sorted point within e =
+    e ∙ sym (folder_at ks folder i d sorted point ∙ ap (λ b. b && lies_under (get_or ks i d) folder) (some_below i (length ks) within))
+
+pub folder_none : (ks : List (List ℕ)) (folder : List ℕ) (i : ℕ) → ArePaths ks → IsPartitionPoint (λ k. is_lt (before k (folder ++ 47 ∷ [])) ≡ true) (λ k. is_lt (before k (folder ++ 47 ∷ [])) ≡ false) ks i
+    → length ks ≤ i → nat_lt i (length ks) ≡ is_folder_of ks folder
+folder_none ks folder i sorted point past =
+    none_below i (length ks) past ∙ sym (folder_at ks folder i [] sorted point ∙ ap (λ b. b && lies_under (get_or ks i []) folder) (none_below i (length ks) past))

@@ -1,6 +1,6 @@
 // The text of a header block that holds additions alone.
 ghost use Rattle.std.specs.Prelude.{◌≡◌, ◌++◌, IfOk, OnOk};
-ghost use Rattle.reuse_session.specs.BlockText.{block_of, comment_line, comment_lines};
+ghost use Rattle.reuse_session.specs.BlockText.{block_of, joined, comment_lines};
 
 use reuse_notice::{Additions, Info};
 use reuse_text::Bytes;
@@ -11,13 +11,23 @@ pub(crate) fn block_of(alloc: Global, additions: &Additions) -> Result<Bytes, Al
     ensures { IfOk result (λ block. block ≡ block_of additions.now) }
 {
     let info = Info::read(alloc, &[], b"#")?.union(alloc, additions)?;
-    let mut block = Bytes::new(alloc);
-    push_lines(&mut block, b"", info.notices())?;
-    push_lines(&mut block, b"SPDX-FileContributor: ", info.contributors())?;
-    if !block.is_empty() && !info.licences().is_empty() {
+    let mut holders = Bytes::new(alloc);
+    push_lines(&mut holders, b"", info.notices())?;
+    push_lines(&mut holders, b"SPDX-FileContributor: ", info.contributors())?;
+    let mut licences = Bytes::new(alloc);
+    push_lines(&mut licences, b"SPDX-License-Identifier: ", info.licences())?;
+    join(holders, &licences)
+}
+
+// The front, an empty comment line, and the back; if one is empty, the other.
+fn join(front: Bytes, back: &Bytes) -> Result<Bytes, AllocError>
+    ensures { IfOk result (λ block. block ≡ joined front back.now) }
+{
+    let mut block = front;
+    if !block.is_empty() && !back.is_empty() {
         block.push_slice(b"#\n")?;
     }
-    push_lines(&mut block, b"SPDX-License-Identifier: ", info.licences())?;
+    block.push_slice(back.as_slice())?;
     Ok(block)
 }
 

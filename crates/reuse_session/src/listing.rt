@@ -10,6 +10,7 @@ ghost use Rattle.reuse_session.specs.Listing.{ArePaths, is_among, is_folder_of};
 use reuse_text::Bytes;
 use reuse_tree::{PathText, Store, StoreFault};
 use std::alloc::{AllocError, Global};
+use std::cmp::Ordering;
 
 /// The paths of the tree that the store has: of all its files but those of the journal.
 pub(crate) fn tree_paths<S: Store>(
@@ -34,7 +35,16 @@ fn lower_bound(paths: &[PathText], target: &[u8]) -> usize
     ensures within { result ≤ length paths.now }
     ensures bound { ArePaths paths.now → IsPartitionPoint (λ path. is_lt (slice_cmp nat_cmp path target.now) ≡ true) (λ path. is_lt (slice_cmp nat_cmp path target.now) ≡ false) paths.now result }
 {
-    paths.partition_point(|path| path.as_bytes() < target)
+    paths.partition_point(|path| is_below(path, target))
+}
+
+fn is_below(path: &PathText, target: &[u8]) -> bool
+    ensures { result ≡ is_lt (slice_cmp nat_cmp path.now target.now) }
+{
+    match path.as_bytes().cmp(&target) {
+        Ordering::Less => true,
+        _ => false,
+    }
 }
 
 /// Whether the path is one of these, which are in byte order.

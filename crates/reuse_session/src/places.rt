@@ -1,7 +1,8 @@
 // The paths of a command, in the order in which they are gone through.
-ghost use Rattle.std.specs.Prelude.{◌≡◌, IfOk};
+ghost use Rattle.std.specs.Prelude.{◌≡◌, ◌++◌, IfOk, OnOk};
+ghost use Rattle.std.specs.Option.{option_to_list};
 ghost use Rattle.reuse_notice.specs.Sets.{set_of};
-ghost use Rattle.reuse_session.specs.Command.{is_root, has_root, paths_among};
+ghost use Rattle.reuse_session.specs.Command.{is_root, has_root, path_in, paths_among};
 
 use crate::command::Place;
 use reuse_tree::PathText;
@@ -38,9 +39,20 @@ fn paths_among(alloc: Global, places: &[Place]) -> Result<Vec<PathText>, AllocEr
 {
     let mut paths = Vec::new(alloc);
     for place in places {
-        if let Place::Path(path) = place {
-            paths.push(path.try_clone(alloc)?)?;
-        }
+        push_path(alloc, &mut paths, place)?;
     }
     Ok(paths)
+}
+
+// Adds the path of a place, if it has one.
+fn push_path(alloc: Global, paths: &mut Vec<PathText>, place: &Place) -> Result<(), AllocError>
+    ensures { OnOk result (paths.new.items ≡ paths.old.items ++ option_to_list (path_in place.now)) }
+{
+    match place {
+        Place::Root => Ok(()),
+        Place::Path(path) => {
+            paths.push(path.try_clone(alloc)?)?;
+            Ok(())
+        }
+    }
 }

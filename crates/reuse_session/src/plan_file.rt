@@ -1,14 +1,14 @@
 // What annotate does with a file, given its bytes.
-ghost use Rattle.std.specs.Prelude.{◌≡◌, ◌≤◌, ◌&&◌, true, not, nat_eq, codes, length, IfOk, IfErr, Some, if◌then◌else◌};
+ghost use Rattle.std.specs.Prelude.{◌≡◌, ◌≤◌, ℕ, List, false, ◌&&◌, true, not, nat_eq, codes, length, IfOk, IfErr, Some};
 ghost use Rattle.reuse_session.specs.Answer.{IsEarly};
 ghost use Rattle.std.specs.List.{ends_with};
 ghost use Rattle.std.specs.FinMap.{get, keys};
 ghost use Rattle.reuse_tree.specs.Files.{Files};
-ghost use Rattle.reuse_session.specs.Listing.{ArePaths, is_among, is_folder_of};
-ghost use Rattle.reuse_session.specs.Outcome.{front_of, front_edit, file_edit, neighbour_of, is_plain};
+ghost use Rattle.reuse_tree.specs.Store.{reading_of};
+ghost use Rattle.reuse_session.specs.Listing.{ArePaths, is_among};
+ghost use Rattle.reuse_session.specs.Outcome.{front_of, front_edit, file_edit, neighbour_of, is_plain, annotated_at};
 ghost use Rattle.reuse_session.specs.Covered.{is_covered};
 ghost use Rattle.reuse_session.specs.Plan.{AnswersEdit};
-ghost use Rattle.reuse_session.specs.declared.command.Place.TheVariants as place;
 ghost use Rattle.reuse_tree.specs.declared.fault.StoreFault.{StoreFault};
 
 use crate::command::Place;
@@ -17,29 +17,51 @@ use crate::listing::{is_among, is_folder};
 use crate::plain::is_plain;
 use crate::reply::Refusal;
 use reuse_text::Bytes;
-use reuse_tree::{Change, PathText};
+use reuse_tree::{Change, PathText, Reading};
 use std::alloc::{AllocError, Global};
 
 const LONGEST_FILE: usize = 16_777_216;
 
-/// Why a path without a file is refused.
-pub(crate) fn absent_refusal(
+/// The refusal of a path without a file. `paths` are those of the tree.
+pub(crate) fn plan_absent(
     alloc: Global,
     paths: &[PathText],
     path: &PathText,
-) -> Result<Refusal, AllocError>
-    ensures { ArePaths paths.now → IfOk result (λ refusal. refusal ≡ (if is_folder_of paths.now path.now then Refusal.IsFolder (place.Path path.now) else Refusal.NoSuchPath path.now)) }
+) -> Result<Option<Change>, Refusal>
+    ensures edit { (block : List ℕ) (tree : Files) → paths.now ≡ keys tree → is_among paths.now path.now ≡ false → AnswersEdit tree (annotated_at block tree path.now) result }
+    ensures early { IfErr result IsEarly }
+    ensures fault { (fault : StoreFault) → result ≡ Err (Refusal.Fault fault) → ⊥ }
 {
     let refused = path.try_clone(alloc)?;
     if is_folder(alloc, paths, path)? {
-        Ok(Refusal::IsFolder(Place::Path(refused)))
+        Err(Refusal::IsFolder(Place::Path(refused)))
     } else {
-        Ok(Refusal::NoSuchPath(refused))
+        Err(Refusal::NoSuchPath(refused))
     }
 }
 
-/// The change of a covered file of the tree, whose paths are given.
-pub(crate) fn plan_file(
+/// The change of a covered path of the tree, by what was read of it. `paths` are those of the tree.
+pub(crate) fn plan_reading(
+    alloc: Global,
+    paths: &[PathText],
+    path: &PathText,
+    block: &[u8],
+    reading: Reading,
+) -> Result<Option<Change>, Refusal>
+    ensures edit { (tree : Files) → paths.now ≡ keys tree → is_among paths.now path.now ≡ true → is_covered path.now ≡ true → reading ≡ reading_of (get tree path.now) 16_777_216
+        → AnswersEdit tree (annotated_at block.now tree path.now) result }
+    ensures early { IfErr result IsEarly }
+    ensures fault { (fault : StoreFault) → result ≡ Err (Refusal.Fault fault) → ⊥ }
+{
+    match reading {
+        Reading::Absent => Err(Refusal::NoSuchPath(path.try_clone(alloc)?)),
+        Reading::TooLong => Err(Refusal::TooLong(path.try_clone(alloc)?)),
+        Reading::Found(bytes) => plan_file(alloc, paths, path, block, bytes.as_slice()),
+    }
+}
+
+// The change of a covered file of the tree, whose paths are given.
+fn plan_file(
     alloc: Global,
     paths: &[PathText],
     path: &PathText,

@@ -1,3 +1,5 @@
 pub mod FileMaps
+pub mod GoodFiles
+pub mod Contents
 pub mod Parts
 pub mod Turning

@@ -3,3 +3,5 @@ pub mod Files
 pub mod Change
 pub mod Store
 pub mod Calls
+pub mod CallParts
+pub mod FileMap

@@ -5,8 +5,9 @@ ghost use Rattle.std.specs.FinMap as map;
 ghost use Rattle.std.specs.Coded.{coded_list, coded_ℕ};
 ghost use Rattle.reuse_tree.specs.Files.{Files};
 ghost use Rattle.std.specs.Result.{result_map_both};
-ghost use Rattle.reuse_tree.specs.Calls.{Call, call_of};
-ghost use Rattle.reuse_tree.specs.Calls.Call.{Lists, Reads, Puts, Removes};
+ghost use Rattle.reuse_tree.specs.Calls.{Call};
+ghost use Rattle.reuse_tree.specs.Calls.Call.{ListCall, ReadCall, PutCall, RemoveCall};
+ghost use Rattle.reuse_tree.specs.CallParts.{call_of};
 
 use crate::{PathText, Reading, StoreFault};
 use std::marker::{Model, PhantomData};
@@ -51,7 +52,7 @@ impl CallRecord {
 
     /// Notes a call of `list` and its answer.
     pub fn note_list(&mut self, answer: &Result<Vec<PathText>, StoreFault>)
-        ensures { self.new ≡ record self.old { calls = Lists (result_map_both (λ paths. paths.items) (λ fault. fault) answer.now) ∷ self.old.calls } }
+        ensures { self.new ≡ record self.old { calls = ListCall (result_map_both (λ paths. paths.items) (λ fault. fault) answer.now) ∷ self.old.calls } }
     {
         match answer {
             Ok(paths) => self.note(&CallKind::Listed, b"", b"", 0, paths.as_slice()),
@@ -61,7 +62,7 @@ impl CallRecord {
 
     /// Notes a call of `read` and its answer.
     pub fn note_read(&mut self, path: &PathText, limit: usize, answer: &Result<Reading, StoreFault>)
-        ensures { self.new ≡ record self.old { calls = Reads path.now limit answer.now ∷ self.old.calls } }
+        ensures { self.new ≡ record self.old { calls = ReadCall path.now limit answer.now ∷ self.old.calls } }
     {
         let path = path.as_bytes();
         match answer {
@@ -76,7 +77,7 @@ impl CallRecord {
 
     /// Notes a call of `put` and its answer. Whether one that failed took effect is left open.
     pub fn note_put(&mut self, path: &PathText, bytes: &[u8], answer: &Result<(), StoreFault>)
-        ensures { (took : Bool) × (self.new ≡ record self.old { calls = Puts path.now bytes.now answer.now took ∷ self.old.calls }) }
+        ensures { (took : Bool) × (self.new ≡ record self.old { calls = PutCall path.now bytes.now answer.now took ∷ self.old.calls }) }
     {
         match answer {
             Ok(()) => self.note(&CallKind::Put, path.as_bytes(), bytes, 0, &[]),
@@ -86,7 +87,7 @@ impl CallRecord {
 
     /// Notes a call of `remove` and its answer. Whether one that failed took effect is left open.
     pub fn note_remove(&mut self, path: &PathText, answer: &Result<(), StoreFault>)
-        ensures { (took : Bool) × (self.new ≡ record self.old { calls = Removes path.now answer.now took ∷ self.old.calls }) }
+        ensures { (took : Bool) × (self.new ≡ record self.old { calls = RemoveCall path.now answer.now took ∷ self.old.calls }) }
     {
         match answer {
             Ok(()) => self.note(&CallKind::Removed, path.as_bytes(), b"", 0, &[]),

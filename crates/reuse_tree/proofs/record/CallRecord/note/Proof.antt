@@ -17,7 +17,7 @@ use denote.Signature.{plain, types_at}
 use denote.Slice.{shr_slice_vals, shr_slice_Tells}
 use denote.Steps.{opens, closes}
 use denote.Triple.Walked.{says, Stays, stay_ref, stay_none_ref, stay_none_slice, stay_none, Goes-ref, Goes-none_ref, Goes-none_slice, Goes-none, walk_of, ends_at}
-use Rattle.reuse_tree.specs.Calls.{call_of}
+use Rattle.reuse_tree.specs.CallParts.{call_of}
 use Rattle.reuse_tree.specs.declared.record.CallRecord.{CallRecord}
 use Rattle.reuse_tree.specs.contracts.record.CallRecord.{the_row as R}
 use Rattle.reuse_tree.specs.contracts.record.CallKind.{the_row as K}

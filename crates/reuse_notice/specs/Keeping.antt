@@ -1,0 +1,19 @@
+-- What a merge keeps of a notice.
+use Rattle.std.specs.Prelude.{◌≡◌, ◌≤◌, ℕ, List, Option, None, Some}
+use Rattle.reuse_notice.specs.declared.tags.Years.{Years}
+use Rattle.reuse_notice.specs.Tags.{NoticeText, notice_of}
+
+-- the first years include the second, if there are some
+abbrev pub Include : Option Years → Option Years → Type 0
+Include years None = Unit {0}
+Include None (Some own) = ⊥
+Include (Some years) (Some own) = (years.low ≤ own.low) × (own.high ≤ years.high)
+
+-- the other text is a notice of the same holder, whose years include those of the text
+pub record IsKeptBy (text other : List ℕ) : Type 0 where
+  pub was : NoticeText
+  pub is : NoticeText
+  pub read_was : notice_of text ≡ Some was
+  pub read_is : notice_of other ≡ Some is
+  pub holder : is.holder ≡ was.holder
+  pub years : Include is.years was.years

@@ -1,0 +1,17 @@
+-- Texts that a line of a comment can hold.
+use Rattle.std.specs.Prelude.{◌≡◌, ◌≢◌, ℕ, false, List, [], All}
+use Rattle.std.specs.List.{list_any}
+use Rattle.reuse_notice.specs.declared.adding.Additions.{Additions}
+use Rattle.reuse_notice.specs.Adding.{is_control, without_spaces}
+
+-- at least one byte, none below 20 hex and no 7F, and no space at either end
+pub record IsPlain (text : List ℕ) : Type 0 where
+  pub some : text ≢ []
+  pub printable : list_any is_control text ≡ false
+  pub trimmed : without_spaces text ≡ text
+
+-- each text of the additions is plain
+pub record ArePlain (additions : Additions) : Type 0 where
+  pub notices : All IsPlain additions.notices
+  pub contributors : All IsPlain additions.contributors
+  pub licences : All IsPlain additions.licences

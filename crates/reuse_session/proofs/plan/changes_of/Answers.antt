@@ -1,0 +1,11 @@
+use Rattle.std.proofs.Common.{sym, subst}
+use Rattle.reuse_tree.specs.Files.{tree_of}
+use Rattle.reuse_session.specs.Outcome.{edits_of, annotation_edits}
+use Rattle.reuse_session.specs.Plan.{AnswersEdits}
+use Rattle.reuse_session.proofs.plan.changes_of.Goals as goal
+
+pub returns-in-Annotate-clause-edits : goal.returns-in-Annotate-clause-edits
+returns-in-Annotate-clause-edits g c honest =
+    subst (λ k. AnswersEdits (tree_of (g.S.Store.files c.args.store.now)) (edits_of k (tree_of (g.S.Store.files c.args.store.now))) c.plan_annotation.result) (sym c.in-Annotate.is)
+    (subst (λ ps. AnswersEdits (tree_of (g.S.Store.files c.args.store.now)) (annotation_edits ps c.in-Annotate.additions (tree_of (g.S.Store.files c.args.store.now))) c.plan_annotation.result) c.as_slice.ensures
+    (c.plan_annotation.ensures.edits honest))

@@ -1,0 +1,20 @@
+-- How a record of calls is told of one.
+use Rattle.std.specs.Prelude.{ℕ, Bool, List, Ok, Err}
+use Rattle.reuse_tree.specs.Calls.Call.{ListCall, ReadCall, PutCall, RemoveCall}
+use Rattle.reuse_tree.specs.Calls.{Call}
+use Rattle.reuse_tree.specs.declared.store.Reading.TheVariants.{Absent, Found, TooLong}
+use Rattle.reuse_tree.specs.declared.record.CallKind.{CallKind}
+use Rattle.reuse_tree.specs.declared.record.CallKind.TheVariants.{Listed, ListFailed, ReadAbsent, ReadFound, ReadTooLong, ReadFailed, Put, PutFailed, Removed, RemoveFailed}
+
+-- a call by its kind and the parts that this kind has
+abbrev pub call_of : CallKind → List ℕ → List ℕ → ℕ → List (List ℕ) → Bool → Call
+call_of Listed path bytes limit paths took = ListCall (Ok paths)
+call_of (ListFailed fault) path bytes limit paths took = ListCall (Err fault)
+call_of ReadAbsent path bytes limit paths took = ReadCall path limit (Ok Absent)
+call_of ReadFound path bytes limit paths took = ReadCall path limit (Ok (Found bytes))
+call_of ReadTooLong path bytes limit paths took = ReadCall path limit (Ok TooLong)
+call_of (ReadFailed fault) path bytes limit paths took = ReadCall path limit (Err fault)
+call_of Put path bytes limit paths took = PutCall path bytes (Ok tt) took
+call_of (PutFailed fault) path bytes limit paths took = PutCall path bytes (Err fault) took
+call_of Removed path bytes limit paths took = RemoveCall path (Ok tt) took
+call_of (RemoveFailed fault) path bytes limit paths took = RemoveCall path (Err fault) took

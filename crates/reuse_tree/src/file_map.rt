@@ -1,0 +1,104 @@
+// Files in a map by their paths, none of which is a folder of another.
+ghost use Rattle.std.specs.Prelude.{◌≡◌, ◌≢◌, ◌||◌, IfOk, IfErr, OnOk, IsErrOf};
+ghost use Rattle.std.specs.FinMap as map;
+ghost use Rattle.std.specs.List.{list_any};
+ghost use Rattle.std.specs.BTreeMap.{keys, IsOrdered};
+ghost use Rattle.std.specs.Cmp.Lexicographic.{slice_cmp};
+ghost use Rattle.std.specs.Ordering.{nat_cmp};
+ghost use Rattle.reuse_tree.specs.Path.{lies_under};
+ghost use Rattle.reuse_tree.specs.Files.{AreFiles};
+
+use crate::{PathText, Reading, StoreFault};
+use reuse_text::Bytes;
+use std::alloc::{AllocError, Global};
+use std::collections::BTreeMap;
+
+/// Files by their paths, none of which is a folder of another.
+#[derive(Drop)]
+pub(crate) struct FileMap {
+    contents: BTreeMap<PathText, Bytes>,
+    ghost are_files: { AreFiles (map.from_entries contents.entries) },
+}
+
+impl FileMap {
+    ghost use Rattle.reuse_tree.specs.FileMap.{files_of};
+    ghost use Rattle.reuse_tree.specs.Store.{reading_of, Puts, PutFails};
+
+    /// No files.
+    pub(crate) fn new(alloc: Global) -> FileMap
+        ensures { files_of result ≡ map.empty }
+    {
+        FileMap {
+            contents: BTreeMap::new(alloc),
+        }
+    }
+
+    /// All paths, in byte order.
+    pub(crate) fn list(&self, alloc: Global) -> Result<Vec<PathText>, AllocError>
+        ensures { IfOk result (λ paths. paths.items ≡ map.keys (files_of self.now)) }
+    {
+        let mut paths = Vec::with_capacity(alloc, self.contents.len())?;
+        for path in self.contents.keys() {
+            paths.push(path.try_clone(alloc)?)?;
+        }
+        Ok(paths)
+    }
+
+    /// What the path holds, if it is no longer than the limit.
+    pub(crate) fn read(
+        &self,
+        alloc: Global,
+        path: &PathText,
+        limit: usize,
+    ) -> Result<Reading, AllocError>
+        ensures { IfOk result (λ reading. reading ≡ reading_of (map.get (files_of self.now) path.now) limit) }
+    {
+        match self.contents.get(path) {
+            None => Ok(Reading::Absent),
+            Some(bytes) => {
+                if bytes.len() <= limit {
+                    Ok(Reading::Found(bytes.try_clone(alloc)?))
+                } else {
+                    Ok(Reading::TooLong)
+                }
+            }
+        }
+    }
+
+    /// Makes the path's file these bytes. An `Err` changes nothing.
+    pub(crate) fn put(
+        &mut self,
+        alloc: Global,
+        path: &PathText,
+        bytes: &[u8],
+    ) -> Result<(), StoreFault>
+        ensures ok { OnOk result (Puts path.now bytes.now (files_of self.old) (files_of self.new)) }
+        ensures err { IfErr result (λ fault. PutFails fault path.now bytes.now (files_of self.old) (files_of self.new)) }
+        ensures no_device { result ≢ Err StoreFault.Device }
+    {
+        if self.clashes(path) {
+            return Err(StoreFault::Clash);
+        }
+        let path = path.try_clone(alloc)?;
+        let bytes = Bytes::from_slice(alloc, bytes)?;
+        self.contents.insert(path, bytes)?;
+        Ok(())
+    }
+
+    /// Removes the path's file, if there is one.
+    pub(crate) fn remove(&mut self, path: &PathText)
+        ensures { files_of self.new ≡ map.remove (files_of self.old) path.now }
+    {
+        self.contents.remove(path);
+    }
+
+    // Whether no file can be made at the path.
+    fn clashes(&self, path: &PathText) -> bool
+        ensures nested { result ≡ list_any (λ other. lies_under other path.now || lies_under path.now other) (keys self.now.contents) }
+        ensures ordered { IsOrdered (slice_cmp nat_cmp) self.now.contents }
+    {
+        self.contents
+            .keys()
+            .any(|other| other.lies_under(path) || path.lies_under(other))
+    }
+}

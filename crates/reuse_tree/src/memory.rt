@@ -1,0 +1,85 @@
+// A store in memory.
+ghost use Rattle.std.specs.Prelude.{◌≡◌, ⊤};
+ghost use Rattle.std.specs.FinMap as map;
+
+use crate::file_map::FileMap;
+use crate::{CallRecord, PathText, Reading, Store, StoreFault};
+use std::alloc::Global;
+
+/// Files in memory, which nobody else writes. It never fails but for memory.
+#[derive(Drop)]
+pub struct MemoryStore {
+    // Made with the first file, so that no memory is taken before.
+    files: Option<FileMap>,
+    calls: CallRecord,
+}
+
+impl MemoryStore {
+    /// No files, and nothing written.
+    pub fn new() -> MemoryStore
+        ensures files { ⟦<MemoryStore as Store>⟧.files result ≡ map.empty }
+        ensures failures { ⟦<MemoryStore as Store>⟧.failures result ≡ 0 }
+        ensures written { ⟦<MemoryStore as Store>⟧.written result ≡ 0 }
+        ensures honest { ⟦<MemoryStore as Store>⟧.honest result }
+    {
+        MemoryStore {
+            files: None,
+            calls: CallRecord::new(),
+        }
+    }
+}
+
+impl Store for MemoryStore {
+    ghost use Rattle.reuse_tree.specs.FileMap.{files_in, files_in_are_files};
+    ghost use Rattle.reuse_tree.specs.Calls.{written_of};
+
+    ghost files = { λ store. files_in store.files };
+
+    ghost failures = { λ _. 0 };
+
+    ghost written = { λ store. written_of store.calls.calls };
+
+    ghost honest = { λ _. ⊤ };
+
+    fn list(&mut self, alloc: Global) -> Result<Vec<PathText>, StoreFault> {
+        match &self.files {
+            None => Ok(Vec::new(alloc)),
+            Some(files) => Ok(files.list(alloc)?),
+        }
+    }
+
+    fn read(
+        &mut self,
+        alloc: Global,
+        path: &PathText,
+        limit: usize,
+    ) -> Result<Reading, StoreFault> {
+        match &self.files {
+            None => Ok(Reading::Absent),
+            Some(files) => Ok(files.read(alloc, path, limit)?),
+        }
+    }
+
+    fn put(&mut self, alloc: Global, path: &PathText, bytes: &[u8]) -> Result<(), StoreFault> {
+        let answer = match &mut self.files {
+            Some(files) => files.put(alloc, path, bytes),
+            None => {
+                let mut files = FileMap::new(alloc);
+                let answer = files.put(alloc, path, bytes);
+                self.files = Some(files);
+                answer
+            }
+        };
+        self.calls.note_put(path, bytes, &answer);
+        answer
+    }
+
+    fn remove(&mut self, alloc: Global, path: &PathText) -> Result<(), StoreFault> {
+        if let Some(files) = &mut self.files {
+            files.remove(path);
+        }
+        Ok(())
+    }
+
+    ghost are_files = { λ store _. files_in_are_files store.files };
+}

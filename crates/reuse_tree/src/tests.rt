@@ -1,0 +1,117 @@
+// Single calls with their answers, each call at least once.
+use crate::{
+    Change, ChangeState, FuseStore, MemoryStore, OnceStore, PathError, PathText, Reading, Store,
+    StoreFault,
+};
+use reuse_text::Bytes;
+use std::alloc::Global;
+use std::process::Abort;
+use std::test::Fail;
+
+fn splice(alloc: Global, at: usize, old: &[u8], new: &[u8], rest: usize) -> Result<Change, Fail> {
+    Ok(Change::Splice {
+        path: PathText::new(alloc, "a")?,
+        at,
+        old: Bytes::from_slice(alloc, old)?,
+        new: Bytes::from_slice(alloc, new)?,
+        rest,
+    })
+}
+
+#[test]
+fn paths_have_good_parts(rt: HostRuntime) -> Result<(), Fail> {
+    let alloc = rt.alloc();
+    assert!(rt; matches!(PathText::new(alloc, "a/../b"), Err(PathError::BadPath)));
+    let path = PathText::new(alloc, "a/b")?;
+    assert_eq!(rt; path.text(), "a/b");
+    assert!(rt; path.lies_under(&PathText::new(alloc, "a")?));
+    assert!(rt; !path.is_in_journal());
+    assert!(rt; PathText::new(alloc, ".reuse/undo/head.json")?.is_in_journal());
+    assert!(rt; path == path.try_clone(alloc)?);
+    assert!(rt; path < PathText::new(alloc, "a0")?);
+    Ok(())
+}
+
+#[test]
+fn a_splice_has_two_ends(rt: HostRuntime) -> Result<(), Fail> {
+    let alloc = rt.alloc();
+    let change = splice(alloc, 0, b"", b"ab", 2)?;
+    assert!(rt; change.state(Some(b"ab".as_slice())) == ChangeState::Before);
+    assert!(rt; change.state(Some(b"abab".as_slice())) == ChangeState::After);
+    assert!(rt; change.state(Some(b"aba".as_slice())) == ChangeState::Neither);
+    let change = splice(alloc, 1, b"b", b"XY", 1)?;
+    assert!(rt; change.state(Some(b"aXYc".as_slice())) == ChangeState::After);
+    assert!(rt; change.state(Some(b"abcd".as_slice())) == ChangeState::Neither);
+    assert_eq!(rt; change.path().text(), "a");
+    let file = b"abc".as_slice();
+    if let ChangeState::Before = change.state(Some(file)) {
+        let after = change.apply(alloc, Some(file))?.ok_or("absent")?;
+        assert_eq!(rt; after.as_slice(), b"aXYc".as_slice());
+    } else {
+        return Err("not before")?;
+    }
+    let back = change.try_clone(alloc)?.inverse();
+    assert!(rt; back.state(Some(b"aXYc".as_slice())) == ChangeState::Before);
+    Ok(())
+}
+
+// Each call once, by the trait.
+fn keeps_a_file<S: Store>(rt: &impl Abort, alloc: Global, store: &mut S) -> Result<(), Fail> {
+    let path = PathText::new(alloc, "a/b")?;
+    store.put(alloc, &path, b"x")?;
+    assert!(rt; matches!(store.read(alloc, &path, 0)?, Reading::TooLong));
+    let Reading::Found(bytes) = store.read(alloc, &path, 1)? else {
+        return Err("not found")?;
+    };
+    assert_eq!(rt; bytes.as_slice(), b"x".as_slice());
+    assert_eq!(rt; store.list(alloc)?.len(), 1);
+    store.remove(alloc, &path)?;
+    assert!(rt; matches!(store.read(alloc, &path, 1)?, Reading::Absent));
+    Ok(())
+}
+
+#[test]
+fn a_folder_is_no_file(rt: HostRuntime) -> Result<(), Fail> {
+    let alloc = rt.alloc();
+    let mut store = MemoryStore::new();
+    assert_eq!(rt; store.list(alloc)?.len(), 0);
+    keeps_a_file(&rt, alloc, &mut store)?;
+    store.put(alloc, &PathText::new(alloc, "a/b")?, b"x")?;
+    let answer = store.put(alloc, &PathText::new(alloc, "a")?, b"y");
+    assert!(rt; matches!(answer, Err(StoreFault::Clash)));
+    let paths = store.list(alloc)?;
+    assert_eq!(rt; paths.len(), 1);
+    assert_eq!(rt; paths[0].text(), "a/b");
+    Ok(())
+}
+
+#[test]
+fn a_fuse_burns_at_its_call(rt: HostRuntime) -> Result<(), Fail> {
+    let alloc = rt.alloc();
+    let path = PathText::new(alloc, "a")?;
+    let mut fuse = FuseStore::new(MemoryStore::new(), 6, false);
+    keeps_a_file(&rt, alloc, &mut fuse)?;
+    assert!(rt; matches!(fuse.put(alloc, &path, b"x"), Err(StoreFault::Device)));
+    assert!(rt; matches!(fuse.list(alloc), Err(StoreFault::Device)));
+    let mut fuse = FuseStore::new(fuse.into_inner(), 1, true);
+    assert_eq!(rt; fuse.list(alloc)?.len(), 0);
+    assert!(rt; matches!(fuse.put(alloc, &path, b"x"), Err(StoreFault::Device)));
+    assert!(rt; matches!(fuse.remove(alloc, &path), Err(StoreFault::Device)));
+    assert_eq!(rt; fuse.into_inner().list(alloc)?.len(), 1);
+    Ok(())
+}
+
+#[test]
+fn a_fault_comes_once(rt: HostRuntime) -> Result<(), Fail> {
+    let alloc = rt.alloc();
+    let path = PathText::new(alloc, "a")?;
+    let mut once = OnceStore::new(MemoryStore::new(), 1, true);
+    assert_eq!(rt; once.list(alloc)?.len(), 0);
+    assert!(rt; matches!(once.put(alloc, &path, b"x"), Err(StoreFault::Device)));
+    assert_eq!(rt; once.list(alloc)?.len(), 1);
+    let mut once = OnceStore::new(once.into_inner(), 0, false);
+    assert!(rt; matches!(once.remove(alloc, &path), Err(StoreFault::Device)));
+    assert_eq!(rt; once.list(alloc)?.len(), 1);
+    once.remove(alloc, &path)?;
+    keeps_a_file(&rt, alloc, &mut once)
+}
