@@ -34,13 +34,14 @@ use Rattle.reuse_session.specs.Plan.{IsPlan, IsRefusalOf, Makes, MakesEdit, Answ
 use Rattle.reuse_session.proofs.ListingLemmas.{under_from_test}
 use Rattle.reuse_session.proofs.TreeLemmas.{among_keys}
 use Rattle.reuse_session.proofs.Planning.{paths_at, IsRewrite, AreEdits, rewrites_are_edits, same_many, plan_of_edits}
+use Rattle.reuse_session.proofs.Downloading.{download_fits}
 use Rattle.reuse_notice.specs.Sets.{set_of}
 use Rattle.reuse_notice.proofs.SetLemmas.{sorted-set_of}
 use Rattle.reuse_session.specs.BlockText.{block_of}
 use Rattle.reuse_session.specs.Command.{has_root, paths_among}
 use Rattle.reuse_session.specs.Entry.{entry_size}
 use Rattle.reuse_session.specs.declared.command.Command.{Command}
-use Rattle.reuse_session.specs.declared.command.Command.TheVariants.{Annotate, ConvertDep5}
+use Rattle.reuse_session.specs.declared.command.Command.TheVariants.{Annotate, ConvertDep5, Download}
 
 -- ---- refusals
 
@@ -388,6 +389,7 @@ command_fits (Annotate places additions) tree are edits h =
     annotation_fits (block_of additions) tree (set_of (paths_among places)) edits are (sorted-set_of (paths_among places))
     (if_not (has_root places) (refusals.IsFolder place.Root) (edits_at (annotated_at (block_of additions) tree) (set_of (paths_among places))) edits h)
 command_fits ConvertDep5 tree are edits h = absurd (both_err (is_none (get tree dep5_path)) refusals.NoDep5 (refusals.NotYet dep5_path) edits h)
+command_fits (Download ids texts) tree are edits h = download_fits ids texts tree edits h
 
 -- ---- what was read of a path
 

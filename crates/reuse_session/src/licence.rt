@@ -1,39 +1,8 @@
-//! Licences by their ids, and the texts that were found for them.
-ghost use Rattle.std.specs.Prelude.{◌≡◌, List, ℕ};
-ghost use Rattle.std.specs.Option.{option_copied};
-ghost use Rattle.std.specs.List.{list_all};
-ghost use Rattle.reuse_session.specs.Downloads.{is_id, is_id_byte, text_for};
+//! What a download is given: ids of licences, and the texts that were found for them.
+ghost use Rattle.std.specs.Prelude.{◌≡◌};
 
 use reuse_text::Bytes;
 use std::marker::Model;
-
-const LONGEST_ID: usize = 200;
-
-/// Whether a text is a licence's id: 1 to 200 ASCII letters, digits, `.` and `-`.
-pub fn is_id(text: &str) -> bool
-    ensures { result ≡ is_id text.now }
-{
-    is_id_text(text.as_bytes())
-}
-
-/// The same of bytes.
-pub(crate) fn is_id_text(text: &[u8]) -> bool
-    ensures { result ≡ is_id text.now }
-{
-    0 < text.len() && text.len() <= LONGEST_ID && has_id_bytes(text)
-}
-
-fn has_id_bytes(text: &[u8]) -> bool
-    ensures { result ≡ list_all is_id_byte text.now }
-{
-    text.iter().all(|byte| is_id_byte(*byte))
-}
-
-fn is_id_byte(byte: u8) -> bool
-    ensures { result ≡ is_id_byte byte }
-{
-    byte.is_ascii_alphanumeric() || byte == b'.' || byte == b'-'
-}
 
 /// What was found for the id of a licence: its text, or none.
 #[derive(Debug, Drop)]
@@ -42,25 +11,14 @@ pub struct LicenceText {
     pub text: Option<Bytes>,
 }
 
-/// The text that was found for an id: the first that is given for it counts.
-pub(crate) fn text_for<'a>(texts: &'a [LicenceText], id: &[u8]) -> Option<&'a Bytes>
-    ensures { option_copied result ≡ text_for texts.now id.now }
-{
-    for given in texts {
-        if given.id.as_slice() == id {
-            return given.text.as_ref();
-        }
-    }
-    None
-}
-
-/// What was found for licences, in any order.
+/// What was found for licences, in any order. The first that is given for an id counts.
 #[derive(Debug, Drop)]
 pub struct LicenceTexts {
     texts: Vec<LicenceText>,
 }
 
 impl Model for LicenceTexts {
+    ghost use Rattle.std.specs.Prelude.{List};
     ghost use Rattle.reuse_session.specs.declared.licence.LicenceText.{LicenceText};
 
     ghost Value = { List LicenceText };
@@ -91,6 +49,8 @@ pub struct Ids {
 }
 
 impl Model for Ids {
+    ghost use Rattle.std.specs.Prelude.{List, ℕ};
+
     ghost Value = { List (List ℕ) };
 
     ghost view = { λ i. i.ids.items };
