@@ -24,7 +24,7 @@ use Rattle.reuse_session.specs.Plan.{Makes, MakesEach, MakesEdits, IsRefusalOf}
 use Rattle.reuse_session.specs.declared.licence.LicenceText.{LicenceText}
 use Rattle.reuse_session.specs.declared.reply.Refusal.{Refusal}
 use Rattle.reuse_session.specs.declared.reply.Refusal.TheVariants as refusals
-use Rattle.reuse_session.proofs.ClashLemmas.{no_clash}
+use Rattle.reuse_session.proofs.Testing.{clashes_keys}
 use Rattle.reuse_session.proofs.LicenceLemmas.{id_of_path, id_bytes, path_is_good, path_of_tree, paths_apart}
 use Rattle.reuse_session.proofs.TreeLemmas.{among_keys}
 use Rattle.reuse_session.proofs.Planning.{paths_at, IsFit, AreEdits}
@@ -136,7 +136,7 @@ module _ (tree : Files) (texts : List LicenceText) where
   fits path made = record {
     of_tree = ap is_of_tree made.here ∙ path_of_tree made.id;
     good_path = ap is_path made.here ∙ path_is_good made.id made.good;
-    free = λ none some. no_clash tree path made.free;
+    free = λ none some clash. false≢true (sym made.free ∙ (clashes_keys tree path).1 clash);
   }
 
   fit_each : (paths : List (List ℕ)) → AreMade tree texts paths → AllByRecursion (IsFit tree) (map (licence_edit texts) paths)
