@@ -1,10 +1,10 @@
-use Rattle.std.proofs.Common.{◌≡◌, ◌∙◌, ℕ, List, Bool, true, false, Option, Some, None, is_some, is_none, Result, Ok, Err, cond, refl, sym, ap, subst}
+use Rattle.std.proofs.Common.{◌≡◌, ◌∙◌, ℕ, List, Bool, true, false, Option, Some, None, is_some, is_none, Err, cond, refl, sym, ap, subst}
 use Rattle.std.specs.FinMap.{get, keys}
 use Rattle.reuse_tree.specs.Files.{Files, tree_of}
 use Rattle.std.proofs.lemmas.Bool.{false≢true}
 use Rattle.reuse_session.specs.declared.reply.Refusal.TheVariants as refusals
 use Rattle.reuse_session.specs.Listing.{ArePaths, is_among}
-use Rattle.reuse_session.specs.Outcome.{Edit, conversion_edits, dep5_path}
+use Rattle.reuse_session.specs.Outcome.{conversion_edits, dep5_path}
 use Rattle.reuse_session.proofs.TreeLemmas.{keys_ascend, among_keys}
 use Rattle.reuse_session.proofs.plan.plan_conversion.Goals as goal
 
