@@ -13,7 +13,7 @@ cp -r "$top/crates/reuse_text" "$top/crates/reuse_notice" "$build/crates/"
 cp "$top/HANDLES" "$build/"
 grep -E '^reuse_(text|notice):' "$top/crates.txt" > "$build/crates.txt"
 echo 'notice_speed: reuse_text reuse_notice anyhow' >> "$build/crates.txt"
-cp "$top/bench/notice_speed/main.rt" "$build/crates/notice_speed/src/"
+cp "$top/bench/notice_speed/program.txt" "$build/crates/notice_speed/src/main.rt"
 (cd "$build/crates/notice_speed" && rt run -- 1) > "$build/log" 2>&1 || { tail -20 "$build/log"; exit 1; }
 
 "$build/crates/notice_speed/out/notice_speed" 100000 200000 400000 |
