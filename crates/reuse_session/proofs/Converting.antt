@@ -65,8 +65,7 @@ both_are_edits tree bytes text free = record {
   apart = λ path other h k. two_apart path other (one_of_both path h) (one_of_both other k);
   each = (
     record { of_tree = refl; good_path = refl; free = λ none some. absurd (false≢true some) },
-    record { of_tree = refl; good_path = refl; free = λ none some clash. false≢true (sym free ∙ (clashes_keys tree toml_path).1 clash) },
-    tt,
+    (record { of_tree = refl; good_path = refl; free = λ none some clash. false≢true (sym free ∙ (clashes_keys tree toml_path).1 clash) }, tt),
   );
 }
 
@@ -157,7 +156,6 @@ module _ (tree : Files) (paths : List (List ℕ)) (bytes : List ℕ) (are : path
       replaced ∙ refused_by _ false (refusals.Clash toml_path) (ok_edits (dropped dep5_path bytes ∷ made toml_path text ∷ [])) e,
       (
         record { path = refl; removed = refl; written = refl; proper = tt; small = short; turns = (here, refl) },
-        record { path = refl; removed = refl; written = refl; proper = tt; small = fits; turns = (no_file (get tree toml_path) (there false absent), refl) },
-        tt,
+        (record { path = refl; removed = refl; written = refl; proper = tt; small = fits; turns = (no_file (get tree toml_path) (there false absent), refl) }, tt),
       ),
     )
