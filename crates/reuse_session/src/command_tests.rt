@@ -103,7 +103,10 @@ fn texts_of_licences_become_files(rt: HostRuntime) -> Result<(), Fail> {
     commands.push(download(alloc, &["MIT"])?)?;
     commands.push(download(alloc, &["MIT", "GPL-2.0+"])?)?;
     let (mut store, lines) = run_on(alloc, &[], commands)?;
-    assert_eq!(rt; lines.as_str(), "ok\nno text: Foo\nLICENSES/MIT.txt \nLICENSES/MIT.txt: exists\nbad id: GPL-2.0+\n");
+    assert_eq!(rt;
+        lines.as_str(),
+        "ok\nno text: Foo\nLICENSES/MIT.txt \nLICENSES/MIT.txt: exists\nbad id: GPL-2.0+\n"
+    );
     assert!(rt; holds(alloc, &mut store, "LICENSES/MIT.txt", b"text\n")?);
     Ok(())
 }
@@ -111,12 +114,28 @@ fn texts_of_licences_become_files(rt: HostRuntime) -> Result<(), Fail> {
 #[test]
 fn a_dep5_becomes_a_reuse_toml(rt: HostRuntime) -> Result<(), Fail> {
     let alloc = rt.alloc();
-    let question = "Format: x\nUpstream-Name: y\nSource: z\nComment: w\n\nFiles: a?.c\nCopyright: J\nLicense: MIT\n";
+    let question =
+        "Format: x\nUpstream-Name: y\nSource: z\nComment: w\n\nFiles: a?.c\nCopyright: J\nLicense: MIT\n";
     for (path, text, other, expected) in [
         ("a", "", "b", "ok\n.reuse/dep5: absent\n"),
-        (".reuse/dep5", question, "b", "ok\n.reuse/dep5:6: question mark\n"),
-        (".reuse/dep5", DEP5, "REUSE.toml", "ok\nREUSE.toml: exists\n"),
-        (".reuse/dep5", DEP5, "REUSE.toml/x", "ok\nREUSE.toml: clash\n"),
+        (
+            ".reuse/dep5",
+            question,
+            "b",
+            "ok\n.reuse/dep5:6: question mark\n",
+        ),
+        (
+            ".reuse/dep5",
+            DEP5,
+            "REUSE.toml",
+            "ok\nREUSE.toml: exists\n",
+        ),
+        (
+            ".reuse/dep5",
+            DEP5,
+            "REUSE.toml/x",
+            "ok\nREUSE.toml: clash\n",
+        ),
         (".reuse/dep5", DEP5, "b", "ok\n.reuse/dep5 REUSE.toml \n"),
     ] {
         let mut commands = Vec::new(alloc);

@@ -125,7 +125,13 @@ fn made_path(
     ensures no_fault { IfErr result IsNoFault }
 {
     match as_id(id.as_slice()) {
-        Some(name) => path_for(alloc, paths, id, licence_path(alloc, name)?, text_for(texts, id.as_slice())),
+        Some(name) => path_for(
+            alloc,
+            paths,
+            id,
+            licence_path(alloc, name)?,
+            text_for(texts, id.as_slice()),
+        ),
         None => Err(Refusal::BadId(id.try_clone(alloc)?)),
     }
 }

@@ -23,7 +23,9 @@ returns-then-branch-clause-refused c tree are here =
 pub returns-clause-made : goal.returns-clause-made
 returns-clause-made c tree are here =
     let sorted : ArePaths c.args.paths.now = subst ArePaths (sym are) (keys_ascend tree) in
-    let short : length c.in-Some.text.now ≤ 16_777_216 = omega (arith, c.len.ensures, c.if-len-gt-LONGEST_FILE.false) in
-    (refl, made_answer tree c.args.id.now c.args.path c.in-Some.text.now c.args.paths.now (option_copied c.args.found) are here (ap option_copied c.in-Some.is) short
-    (sym (c.is_among.ensures sorted ∙ ap (is_among c.args.paths.now) c.as_bytes.ensures.bytes) ∙ c.if-is_among.false)
-    (sym (c.in_ok-is_clash.ensures sorted) ∙ c.if-branch.false))
+    let short : length c.in-Some.text.now ≤ 16_777_216 = omega (arith, c.len.ensures, c.if-len-gt-LONGEST_FILE.false) in (
+      refl,
+      made_answer tree c.args.id.now c.args.path c.in-Some.text.now c.args.paths.now (option_copied c.args.found) are here (ap option_copied c.in-Some.is) short
+          (sym (c.is_among.ensures sorted ∙ ap (is_among c.args.paths.now) c.as_bytes.ensures.bytes) ∙ c.if-is_among.false)
+          (sym (c.in_ok-is_clash.ensures sorted) ∙ c.if-branch.false),
+    )
