@@ -29,18 +29,21 @@ use Rattle.reuse_session.specs.declared.command.Place.TheVariants as place
 use Rattle.reuse_session.specs.Tree.{is_of_tree}
 use Rattle.reuse_session.specs.Covered.{is_in, is_covered}
 use Rattle.reuse_session.specs.Listing.{ArePaths, is_among, is_folder, is_folder_of}
-use Rattle.reuse_session.specs.Outcome.{Edit, with_edit, or_first, edits_at, annotated_where, annotated_at, file_edit, front_edit, front_of, neighbour_of, is_treated, is_plain, is_text, edited, tree_after, edits_of, dep5_path}
+use Rattle.reuse_session.specs.Outcome.{Edit, with_edit, or_first, edits_at, annotated_where, annotated_at, file_edit, front_edit, front_of, neighbour_of, is_treated, is_plain, is_text, edited, tree_after, edits_of}
 use Rattle.reuse_session.specs.Plan.{IsPlan, IsRefusalOf, Makes, MakesEdit, AnswersEdit, MakesEach, MakesEdits}
 use Rattle.reuse_session.proofs.ListingLemmas.{under_from_test}
 use Rattle.reuse_session.proofs.TreeLemmas.{among_keys}
 use Rattle.reuse_session.proofs.Planning.{paths_at, IsRewrite, AreEdits, rewrites_are_edits, same_many, plan_of_edits}
+use Rattle.reuse_session.proofs.Converting.{conversion_fits}
+use Rattle.reuse_session.proofs.Downloading.{download_fits}
+use Rattle.reuse_session.proofs.ReadingLemmas.{absent_is, long_is, found_is}
 use Rattle.reuse_notice.specs.Sets.{set_of}
 use Rattle.reuse_notice.proofs.SetLemmas.{sorted-set_of}
 use Rattle.reuse_session.specs.BlockText.{block_of}
 use Rattle.reuse_session.specs.Command.{has_root, paths_among}
 use Rattle.reuse_session.specs.Entry.{entry_size}
 use Rattle.reuse_session.specs.declared.command.Command.{Command}
-use Rattle.reuse_session.specs.declared.command.Command.TheVariants.{Annotate, ConvertDep5}
+use Rattle.reuse_session.specs.declared.command.Command.TheVariants.{Annotate, ConvertDep5, Download}
 
 -- ---- refusals
 
@@ -386,39 +389,10 @@ pub command_fits : (command : Command) (tree : Files) → AreFiles tree → (edi
 command_fits (Annotate places additions) tree are edits h =
     annotation_fits (block_of additions) tree (set_of (paths_among places)) edits are (sorted-set_of (paths_among places))
     (if_not (has_root places) (refusals.IsFolder place.Root) (edits_at (annotated_at (block_of additions) tree) (set_of (paths_among places))) edits h)
-command_fits ConvertDep5 tree are edits h = absurd (both_err (is_none (get tree dep5_path)) refusals.NoDep5 (refusals.NotYet dep5_path) edits h)
+command_fits ConvertDep5 tree are edits h = conversion_fits tree edits h
+command_fits (Download ids texts) tree are edits h = download_fits ids texts tree edits h
 
 -- ---- what was read of a path
-
-absent_is : (file : Option (List ℕ)) (limit : ℕ) → Absent ≡ reading_of file limit → file ≡ None
-absent_is None limit e = refl
-absent_is (Some bytes) limit e = absurd (by_test (nat_le (length bytes) limit) e)
-  where
-    by_test : (b : Bool) → Absent ≡ cond b (Found bytes) TooLong → ⊥
-    by_test true e = absurd (cc)
-    by_test false e = absurd (cc)
-
-pub long_is : (file : Option (List ℕ)) (limit : ℕ) → TooLong ≡ reading_of file limit → (bytes : List ℕ) × (file ≡ Some bytes) × (limit < length bytes)
-long_is None limit e = absurd (cc)
-long_is (Some bytes) limit e = (bytes, refl, by_test (nat_le (length bytes) limit) refl e)
-  where
-    by_test : (b : Bool) → nat_le (length bytes) limit ≡ b → TooLong ≡ cond b (Found bytes) TooLong → limit < length bytes
-    by_test true t e = absurd (cc)
-    by_test false t e = past (length bytes) t
-      where
-        past : (n : ℕ) → nat_le n limit ≡ false → limit < n
-        past n t = grind (arith, nat_tests)
-
-pub found_is : (file : Option (List ℕ)) (limit : ℕ) (bytes : List ℕ) → Found bytes ≡ reading_of file limit → (file ≡ Some bytes) × (length bytes ≤ limit)
-found_is None limit bytes e = absurd (cc)
-found_is (Some other) limit bytes e = by_test (nat_le (length other) limit) refl e
-  where
-    by_test : (b : Bool) → nat_le (length other) limit ≡ b → Found bytes ≡ cond b (Found other) TooLong → (Some other ≡ Some bytes) × (length bytes ≤ limit)
-    by_test true t e = let same : other ≡ bytes = cc in (ap (λ x. Some x) same, subst (λ x. length x ≤ limit) same (small (length other) t))
-      where
-        small : (n : ℕ) → nat_le n limit ≡ true → n ≤ limit
-        small n t = grind (arith, nat_tests)
-    by_test false t e = absurd (cc)
 
 module _ (block : List ℕ) (tree : Files) (path : List ℕ) (paths : List (List ℕ)) (are : paths ≡ keys tree) (there : is_among paths path ≡ true) where
   pub not_absent : Absent ≡ reading_of (get tree path) 16_777_216 → ⊥

@@ -1,18 +1,15 @@
 -- A path that clashes: what the look-ups of the parts above it answer.
-use Rattle.std.proofs.Common.{◌≡◌, ℕ, ◌+◌, ◌<◌, ◌≤◌, Bool, true, false, ◌&&◌, ◌||◌, nat_eq, List, [], ◌∷◌, ◌++◌, length, take, drop, get_or, IsSome, IsTrue, is_some, refl, sym, ap, ◌∙◌, subst, arith}
+use Rattle.std.proofs.Common.{◌≡◌, ℕ, ◌+◌, ◌<◌, Bool, true, false, ◌||◌, List, [], ◌∷◌, ◌++◌, length, take, drop, get_or, refl, sym, ap, ◌∙◌, subst, arith}
 use Rattle.std.specs.List.{list_any}
 use Rattle.std.specs.Str.{bytes_eq}
-use Rattle.std.specs.FinMap.{get, keys}
 use Rattle.std.proofs.lemmas.Bool.{false≢true}
 use Rattle.std.proofs.lemmas.List.{drop_more, take-append-drop}
 use Rattle.std.proofs.lemmas.Slice.Eq.{bytes_eq-Decides}
 use Rattle.std.proofs.Math.Seq.{take-append_seam}
 use Rattle.reuse_tree.specs.Path.{lies_under}
-use Rattle.reuse_tree.specs.Files.{Files, Clashes}
-use Rattle.reuse_session.specs.Clash.{is_clash, is_clash_of}
+use Rattle.reuse_session.specs.Clash.{is_clash_of}
 use Rattle.reuse_session.specs.Listing.{is_among, is_folder_of}
 use Rattle.reuse_session.proofs.ListingLemmas.{under_from_test, test_from_under}
-use Rattle.reuse_session.proofs.TreeLemmas.{among_keys}
 
 or_parts : (a b : Bool) → (a || b) ≡ false → (a ≡ false) × (b ≡ false)
 or_parts true b e = absurd (false≢true (sym e))
@@ -86,18 +83,3 @@ no_part (other ∷ paths) path none = of_test (lies_under path other) refl (no_p
         let differs = (or_parts (bytes_eq (take (length other) path) other) (is_among paths (take (length other) path))
         (none (length other) (subst (λ p. length other < length p) (sym under.1) (length_of_front other under.0)) (ap (λ p. get_or p (length other) 0) under.1 ∙ slash_after other under.0))).0 in
         absurd (false≢true (sym differs ∙ (bytes_eq-Decides (take (length other) path) other).1 front))
-
--- ---- clashes of a tree
-
-none_among : (test : List ℕ → Bool) (paths : List (List ℕ)) (path : List ℕ) → list_any test paths ≡ false → is_among paths path ≡ true → test path ≡ false
-none_among test [] path none among = absurd (false≢true among)
-none_among test (other ∷ paths) path none among = of_test (bytes_eq path other) refl among (none_among test paths path (or_parts (test other) (list_any test paths) none).1)
-  where
-    of_test : (b : Bool) → bytes_eq path other ≡ b → (b || is_among paths path) ≡ true → (is_among paths path ≡ true → test path ≡ false) → test path ≡ false
-    of_test true e h rest = ap test ((bytes_eq-Decides path other).0 e) ∙ (or_parts (test other) (list_any test paths) none).0
-    of_test false e h rest = rest h
-
--- where the test fails, a file can be made
-pub no_clash : (tree : Files) (path : List ℕ) → is_clash tree path ≡ false → ¬ (Clashes tree path)
-no_clash tree path free clash =
-    false≢true (sym (none_among (λ other. lies_under other path || lies_under path other) (keys tree) clash.other free (among_keys tree clash.other ∙ clash.is_file)) ∙ clash.nested)

@@ -1,7 +1,7 @@
 use Rattle.std.proofs.Common.{◌≡◌, [], ◌∷◌, ◌++◌, codes, ◌∙◌, ap, rules}
 use Rattle.std.proofs.lemmas.Result.{IfOk-weaker}
 use Rattle.reuse_notice.specs.Infos.{info_of, union_of}
-use Rattle.reuse_session.specs.BlockText.{comment_lines, block_of}
+use Rattle.reuse_session.specs.BlockText.{comment_lines}
 use Rattle.reuse_session.proofs.BlockLemmas.{block_is}
 use Rattle.reuse_session.proofs.block.block_of.Goals as goal
 
