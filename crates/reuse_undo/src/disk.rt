@@ -1,6 +1,7 @@
 //! A folder of the file system as a store of files.
 ghost use Rattle.std.specs.Prelude.{◌≡◌};
-ghost use Rattle.reuse_tree.specs.Calls.{failures_of, written_of};
+ghost use Rattle.reuse_tree.specs.Calls.{Start, failures_of, written_of};
+ghost use Rattle.reuse_tree.specs.Files.{AreFiles};
 ghost use Rattle.reuse_undo.specs.HonestFiles.{honest_are_files};
 ghost use Rattle.reuse_undo.specs.Honesty.{files_of, IsHonest};
 
@@ -19,7 +20,9 @@ use std::alloc::Global;
 use std::rt::Files;
 
 /// The files of a folder. It is honest as long as each call was answered as a folder answers that
-/// nobody else writes; no contract says that a folder is.
+/// held the files of the start and that nobody else writes. No contract says that a folder is: proved are
+/// the counts of failures and of bytes written, and that each answer is noted as it was given. That a
+/// method makes the call that it notes, and what the folder holds then, is tested.
 #[derive(Drop)]
 pub struct DiskStore<R: Files + AllocGlobal + Clone + Drop> {
     folder: RootFolder<R>,
@@ -27,8 +30,12 @@ pub struct DiskStore<R: Files + AllocGlobal + Clone + Drop> {
 }
 
 impl<R: Files + AllocGlobal + Clone + Drop> DiskStore<R> {
-    /// The folder at this path. Nothing is asked of the system yet.
+    /// The folder at this path. Nothing is asked of the system yet, so what the folder holds is unknown:
+    /// for any files the contract gives a store that holds these, and the answers then fit or don't.
     pub fn at(rt: R, root: String) -> DiskStore<R>
+        ghost start: { Start }
+        ensures files { ⟦<DiskStore<R> as Store>⟧.files result ≡ start.files }
+        ensures honest { AreFiles start.files → ⟦<DiskStore<R> as Store>⟧.honest result }
         ensures failures { ⟦<DiskStore<R> as Store>⟧.failures result ≡ 0 }
         ensures written { ⟦<DiskStore<R> as Store>⟧.written result ≡ 0 }
     {

@@ -1,5 +1,6 @@
 //! A folder of the file system: its regular files by their paths.
-ghost use Rattle.std.specs.Prelude.{◌≡◌, ◌++◌, ◌∷◌, IfOk, string_bytes};
+ghost use Rattle.std.specs.Prelude.{◌≡◌, ◌++◌, ◌∷◌, IfOk, IsTrue, string_bytes};
+ghost use Rattle.reuse_tree.specs.Path.{is_path};
 
 use crate::disk::fault::FolderFault;
 use crate::disk::kept_out::{NEW, is_kept_out};
@@ -107,7 +108,9 @@ impl<R: Files + AllocGlobal + Clone + Drop> RootFolder<R> {
     }
 
     /// Makes the bytes the file at the path, as a whole or not at all, and folders as needed.
-    pub fn put(&mut self, alloc: Global, path: &PathText, bytes: &[u8]) -> Result<(), FolderFault> {
+    pub fn put(&mut self, alloc: Global, path: &PathText, bytes: &[u8]) -> Result<(), FolderFault>
+        ensures { IsTrue (is_path path.now) }
+    {
         let full = self.full(alloc, path.text())?;
         match self.look(&full)? {
             Place::Nothing => {
