@@ -7,9 +7,8 @@ trap 'rm -rf "$folder"' EXIT
 cp "$top"/crates/reuse_undo/data/* "$folder/"
 cd "$top/crates/reuse_undo"
 [ -x out/reuse_undo ] || echo "proving and building, which takes some minutes the first time .." >&2
-rt check > "$folder/.log" 2>&1 && rt run > "$folder/.log" 2>&1 || true
-[ -x out/reuse_undo ] || { tail -n 20 "$folder/.log"; exit 1; }
-rm -f "$folder/.log"
+# This folder has no a.py, so here the program changes nothing and says so.
+log=$(rt run 2>&1) || [ -x out/reuse_undo ] || { tail -n 20 <<< "$log"; exit 1; }
 cd "$folder"
 "$top/crates/reuse_undo/out/reuse_undo"
 for file in *; do echo "--- $file"; cat "$file"; done
