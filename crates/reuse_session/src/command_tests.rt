@@ -1,4 +1,4 @@
-// The worked rows of download and convert-dep5, over a store in memory.
+// Downloads and conversions over a store in memory, with worked values.
 use crate::{Answer, Command, Event, Ids, LicenceText, LicenceTexts, Moment, Reply, drive, is_id};
 use reuse_text::Bytes;
 use reuse_tree::{MemoryStore, PathText, Reading, Store};

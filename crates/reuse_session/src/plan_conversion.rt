@@ -5,7 +5,7 @@ ghost use Rattle.reuse_tree.specs.Files.{Files, tree_of};
 ghost use Rattle.reuse_tree.specs.Store.{reading_of};
 ghost use Rattle.reuse_tree.specs.declared.fault.StoreFault.TheVariants as faults;
 ghost use Rattle.reuse_tree.specs.declared.change.Change.TheVariants.{Drop, Make};
-ghost use Rattle.reuse_session.specs.Answer.{IsEarly};
+ghost use Rattle.reuse_session.specs.Answer.{IsOfPlan};
 ghost use Rattle.reuse_session.specs.Refused.{IsNoFault, dep5_refusal};
 ghost use Rattle.reuse_session.specs.Listing.{is_among};
 ghost use Rattle.reuse_session.specs.Conversion.{dep5_path, toml_path, conversion_edits};
@@ -35,7 +35,7 @@ pub(crate) fn plan_conversion<S: Store>(
     ensures failures { S.failures store.old ≤ S.failures store.new }
     ensures written { S.written store.new ≡ S.written store.old }
     ensures was_honest { S.honest store.new → S.honest store.old }
-    ensures early { IfErr result IsEarly }
+    ensures planned { IfErr result IsOfPlan }
 {
     let dep5 = known_path(alloc, ".reuse/dep5")?;
     let paths = tree_paths(alloc, store)?;

@@ -5,7 +5,7 @@ ghost use Rattle.std.specs.FinMap.{keys};
 ghost use Rattle.reuse_notice.specs.Sets.{set_of};
 ghost use Rattle.reuse_tree.specs.Files.{Files, tree_of};
 ghost use Rattle.reuse_tree.specs.declared.fault.StoreFault.TheVariants as faults;
-ghost use Rattle.reuse_session.specs.Answer.{IsEarly};
+ghost use Rattle.reuse_session.specs.Answer.{IsOfPlan};
 ghost use Rattle.reuse_session.specs.Refused.{IsNoFault, IsRefused};
 ghost use Rattle.reuse_session.specs.Licence.{licence_path};
 ghost use Rattle.reuse_session.specs.Downloads.{text_for, refusal_of_found, id_refusal, ids_refusal, download_edits};
@@ -39,7 +39,7 @@ pub(crate) fn plan_download<S: Store>(
     ensures failures { S.failures store.old ≤ S.failures store.new }
     ensures written { S.written store.new ≡ S.written store.old }
     ensures was_honest { S.honest store.new → S.honest store.old }
-    ensures early { IfErr result IsEarly }
+    ensures planned { IfErr result IsOfPlan }
 {
     let paths = tree_paths(alloc, store)?;
     download_changes(alloc, &paths, ids, texts)

@@ -1,6 +1,6 @@
 // What annotate does with a file, given its bytes.
 ghost use Rattle.std.specs.Prelude.{◌≡◌, ◌≤◌, ℕ, List, false, ◌&&◌, true, not, nat_eq, codes, length, IfOk, IfErr, Some};
-ghost use Rattle.reuse_session.specs.Answer.{IsEarly};
+ghost use Rattle.reuse_session.specs.Answer.{IsOfPlan};
 ghost use Rattle.std.specs.List.{ends_with};
 ghost use Rattle.std.specs.FinMap.{get, keys};
 ghost use Rattle.reuse_tree.specs.Files.{Files};
@@ -29,7 +29,7 @@ pub(crate) fn plan_absent(
     path: &PathText,
 ) -> Result<Option<Change>, Refusal>
     ensures edit { (block : List ℕ) (tree : Files) → paths.now ≡ keys tree → is_among paths.now path.now ≡ false → AnswersEdit tree (annotated_at block tree path.now) result }
-    ensures early { IfErr result IsEarly }
+    ensures planned { IfErr result IsOfPlan }
     ensures fault { (fault : StoreFault) → result ≡ Err (Refusal.Fault fault) → ⊥ }
 {
     let refused = path.try_clone(alloc)?;
@@ -50,7 +50,7 @@ pub(crate) fn plan_reading(
 ) -> Result<Option<Change>, Refusal>
     ensures edit { (tree : Files) → paths.now ≡ keys tree → is_among paths.now path.now ≡ true → is_covered path.now ≡ true → reading ≡ reading_of (get tree path.now) 16_777_216
         → AnswersEdit tree (annotated_at block.now tree path.now) result }
-    ensures early { IfErr result IsEarly }
+    ensures planned { IfErr result IsOfPlan }
     ensures fault { (fault : StoreFault) → result ≡ Err (Refusal.Fault fault) → ⊥ }
 {
     match reading {
@@ -70,7 +70,7 @@ fn plan_file(
 ) -> Result<Option<Change>, Refusal>
     ensures edit { (tree : Files) → paths.now ≡ keys tree → get tree path.now ≡ Some bytes.now → is_covered path.now ≡ true → length bytes.now ≤ 16_777_216
         → AnswersEdit tree (file_edit block.now tree path.now bytes.now) result }
-    ensures early { IfErr result IsEarly }
+    ensures planned { IfErr result IsOfPlan }
     ensures fault { (fault : StoreFault) → result ≡ Err (Refusal.Fault fault) → ⊥ }
 {
     if !is_treated(alloc, paths, path, bytes)? {
@@ -117,7 +117,7 @@ fn plan_front(
     bytes: &[u8],
 ) -> Result<Option<Change>, Refusal>
     ensures edit { (tree : Files) → get tree path.now ≡ Some bytes.now → length bytes.now ≤ 16_777_216 → AnswersEdit tree (front_edit path.now front bytes.now) result }
-    ensures early { IfErr result IsEarly }
+    ensures planned { IfErr result IsOfPlan }
     ensures fault { (fault : StoreFault) → result ≡ Err (Refusal.Fault fault) → ⊥ }
 {
     if bytes.len() > LONGEST_FILE || front.len() > LONGEST_FILE - bytes.len() {
