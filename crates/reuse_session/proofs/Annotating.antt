@@ -322,8 +322,7 @@ module _ (tree : Files) (path front bytes : List ℕ) where
       → MakesEdit tree (front_edit path front bytes) (Some (Splice p 0 old front (length bytes)))
   front_makes p old here fits some e f =
       subst (λ q. MakesEdit tree (front_edit path front bytes) (Some (Splice q 0 old front (length bytes)))) (sym e)
-      (subst (λ o. MakesEdit tree (front_edit path front bytes) (Some (Splice path 0 o front (length bytes)))) (sym f)
-      (
+      (subst (λ o. MakesEdit tree (front_edit path front bytes) (Some (Splice path 0 o front (length bytes)))) (sym f) (
         record { path = path; removed = []; written = front; file = Some (front ++ bytes) },
         front_conds false false (not_less 16_777_216 (length front + length bytes) fits) (not_zero (length front) some),
         record {

@@ -1,6 +1,6 @@
 -- The entries of a session on either side of its cursor, as steps of a journal.
 use Rattle.std.proofs.Common.{◌≡◌, ℕ, suc, ◌+◌, ◌-◌, ◌<◌, ◌≤◌, true, false, List, [], ◌∷◌, ◌++◌, length, map, take, drop, reverse, get_or, refl, sym, ap, ◌∙◌, arith, drop-cons}
-use Rattle.std.proofs.lemmas.List.{take_more, length-take, length-append, reverse-append, reverse-reverse, length-map, length-reverse, map-append}
+use Rattle.std.proofs.lemmas.List.{take_more, length-take, length-drop, length-append, reverse-append, reverse-reverse, length-map, length-reverse, map-append}
 use Rattle.std.proofs.Math.Seq.{take-length, drop-length}
 use Rattle.reuse_session.specs.declared.entry.Entry.{Entry}
 use Rattle.reuse_session.specs.declared.session.Session.{Session}
@@ -83,3 +83,8 @@ no_steps (step ∷ steps) e = absurd (omega arith)
 
 pub some_steps : (steps : List Recorded) → 0 < length steps → steps ≡ [] → ⊥
 some_steps steps some e = omega (arith, some, ap length e)
+
+pub rest_whole : (entries : List Entry) (done : ℕ) → done ≤ length entries → take (length entries - done) (drop done entries) ≡ drop done entries
+rest_whole entries done within =
+    let n : length entries - done ≡ length (drop done entries) = omega (arith, length-drop done entries) in
+    ap (λ k. take k (drop done entries)) n ∙ take-length (drop done entries)

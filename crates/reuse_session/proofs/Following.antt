@@ -1,6 +1,6 @@
 -- A tree and a journal follow the machine of whole trees.
-use Rattle.std.proofs.Common.{◌≡◌, ◌⊎◌, ⊎_elim, ℕ, suc, ◌+◌, ◌<◌, ◌≤◌, Bool, true, false, cond, ◌||◌, List, [], ◌∷◌, ◌++◌, length, map, reverse, Result, Ok, Err, IsOk, OnOk, nat_le, refl, sym, ap, subst, ◌∙◌, arith}
-use Rattle.std.specs.List.{All, AllByRecursion}
+use Rattle.std.proofs.Common.{◌≡◌, ◌⊎◌, ⊎_elim, ℕ, suc, ◌+◌, ◌<◌, ◌≤◌, true, false, cond, List, [], ◌∷◌, ◌++◌, length, map, reverse, Result, Ok, Err, IsOk, OnOk, refl, sym, ap, subst, ◌∙◌, arith}
+use Rattle.std.specs.List.{AllByRecursion}
 use Rattle.std.proofs.lemmas.Bool.{false≢true}
 use Rattle.std.proofs.lemmas.Bool.Decides.{nat_tests}
 use Rattle.std.proofs.lemmas.List.{map-append, reverse-append, length-map}
@@ -11,11 +11,10 @@ use Rattle.reuse_tree.specs.Change.{path_of}
 use Rattle.reuse_session.specs.declared.entry.Way.TheVariants as way
 use Rattle.reuse_session.specs.declared.command.Command.{Command}
 use Rattle.reuse_session.specs.declared.command.CommandName.{CommandName}
-use Rattle.reuse_session.specs.declared.reply.Row.{Row}
 use Rattle.reuse_session.specs.declared.reply.Reply.{Reply}
 use Rattle.reuse_session.specs.declared.reply.Reply.TheVariants.{Changed, NothingChanged, Undone, Redone}
 use Rattle.reuse_session.specs.declared.reply.Refusal.{Refusal}
-use Rattle.reuse_session.specs.declared.reply.Refusal.TheVariants.{JournalFull, NothingToUndo, NothingToRedo, Moved, Interrupted, Memory, Fault}
+use Rattle.reuse_session.specs.declared.reply.Refusal.TheVariants.{JournalFull, Moved, Interrupted, Memory, Fault}
 use Rattle.reuse_tree.specs.declared.fault.StoreFault.{StoreFault}
 use Rattle.reuse_tree.specs.declared.fault.StoreFault.TheVariants as faults
 use Rattle.reuse_session.specs.declared.reply.Cause.{Cause}
@@ -23,12 +22,12 @@ use Rattle.reuse_session.specs.declared.reply.Cause.TheVariants as causes
 use Rattle.reuse_session.specs.Answer.{IsNoMemory, IsNoWantOfMemory, IsTestRefusal, IsNoClash}
 use Rattle.reuse_session.specs.Command.{name_of}
 use Rattle.reuse_session.specs.Outcome.{outcome_of}
-use Rattle.reuse_session.specs.Entry.{paths_of, IsEntry, LeadsBy, LeadsAll, CanBeMade}
+use Rattle.reuse_session.specs.Entry.{paths_of, IsEntry, LeadsBy, LeadsAll}
 use Rattle.reuse_session.specs.Tree.{changed_paths}
-use Rattle.reuse_session.specs.Plan.{IsPlan, IsRefusalOf}
+use Rattle.reuse_session.specs.Plan.{IsRefusalOf}
 use Rattle.reuse_session.specs.Machine.{Label, Kept, Snapshots, Step, taken, ran, ran_by, is_full, undone, redone, row_of, rows_before, rows_behind, rows_of}
-use Rattle.reuse_session.specs.Journal.{Recorded, Journal, State, IsGoodJournal, Undoes, Redoes, rows_in}
-use Rattle.reuse_session.specs.Session.{Connects, LeadUpTo, LeadOn, Holds}
+use Rattle.reuse_session.specs.Journal.{Recorded, State, IsGoodJournal, Undoes, Redoes, rows_in}
+use Rattle.reuse_session.specs.Session.{LeadUpTo, LeadOn, Holds}
 use Rattle.reuse_session.proofs.Differ.{changed_by_entry, changed_by_none}
 use Rattle.reuse_session.proofs.Walk.{leads_once, leads_back, can_lead, none_stuck}
 
@@ -155,7 +154,7 @@ module _ (held : State) (state : Snapshots) (holds : Holds held state) where
   run_follows command when changes after room outcome good leads before_are after_are new tree journal =
       let ran_is = run_planned command when changes after room outcome (changed_by_entry changes held.tree after good leads) ∙ taken_some when (name_of command) after changes good.some in
       let numbered : ◌≡◌ {A = Label} (record { number = state.used + 1; when = when; command = name_of command }) (record { number = held.journal.used + 1; when = when; command = name_of command }) =
-          λ i. record { number = sym holds.used i + 1; when = when; command = name_of command } in
+      λ i. record { number = sym holds.used i + 1; when = when; command = name_of command } in
       subst (λ (step : Step). (Ok (Changed (paths_of changes)) ≡ step.0) × Holds new step.1) (sym ran_is) (
         refl,
         record {

@@ -1,8 +1,8 @@
 -- The test whether a change can be made.
-use Rattle.std.proofs.Common.{◌≡◌, ◌↔◌, ℕ, suc, ◌+◌, ◌<◌, Bool, true, false, not, ◌||◌, List, [], ◌∷◌, ◌++◌, length, take, drop, get_or, IsTrue, is_some, refl, sym, ap, subst, ◌∙◌, arith, drop-cons}
+use Rattle.std.proofs.Common.{◌≡◌, ◌↔◌, ℕ, suc, ◌+◌, ◌<◌, Bool, true, false, not, ◌||◌, List, ◌∷◌, ◌++◌, length, take, drop, get_or, IsTrue, refl, sym, ap, subst, ◌∙◌, arith, drop-cons}
 use Rattle.std.specs.Ordering.{nat_cmp, eq_by_cmp}
 use Rattle.std.specs.Cmp.Lexicographic.{slice_cmp}
-use Rattle.std.specs.List.{All, list_any}
+use Rattle.std.specs.List.{list_any}
 use Rattle.std.specs.FinMap.{get, keys, contains_key-keys}
 use Rattle.std.proofs.lemmas.Bool.{false≢true}
 use Rattle.std.proofs.lemmas.List.{take-append-drop}
@@ -14,7 +14,7 @@ use Rattle.reuse_tree.specs.Change.{path_of}
 use Rattle.reuse_tree.proofs.FileMaps.{tied, ties}
 use Rattle.reuse_session.specs.declared.entry.Way.{Way}
 use Rattle.reuse_session.specs.Tree.{is_of_tree}
-use Rattle.reuse_session.specs.Entry.{IsReady, CanBeMade, IsFirstStuck, makes}
+use Rattle.reuse_session.specs.Entry.{IsReady, CanBeMade, makes}
 use Rattle.reuse_session.proofs.OfTree.{tree_at, clash_in_tree, clash_in_files}
 
 -- the test over the paths of files says whether a path clashes with them

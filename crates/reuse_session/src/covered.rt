@@ -46,7 +46,10 @@ fn is_outside(path: &[u8]) -> bool
 fn has_stem(stem: &[u8], name: &[u8]) -> bool
     ensures { result ≡ has_stem stem.now name.now }
 {
-    name.starts_with(stem) && (name.len() == stem.len() || byte_at(name, stem.len()) == b'.' || byte_at(name, stem.len()) == b'-')
+    name.starts_with(stem)
+        && (name.len() == stem.len()
+            || byte_at(name, stem.len()) == b'.'
+            || byte_at(name, stem.len()) == b'-')
 }
 
 fn is_outer_name(name: &[u8]) -> bool

@@ -2,7 +2,6 @@
 ghost use Rattle.std.specs.Prelude.{◌≡◌};
 ghost use Rattle.reuse_session.specs.Outcome.{is_text, is_plain, has_hash_line};
 
-
 // Whether the bytes are UTF-8 without NUL.
 fn is_text(bytes: &[u8]) -> bool
     ensures { result ≡ is_text bytes.now }
@@ -14,7 +13,9 @@ fn is_text(bytes: &[u8]) -> bool
 fn has_hash_line(bytes: &[u8]) -> bool
     ensures { result ≡ has_hash_line bytes.now }
 {
-    bytes.split(|byte| *byte == b'\n').any(|line| line.starts_with(b"#"))
+    bytes
+        .split(|byte| *byte == b'\n')
+        .any(|line| line.starts_with(b"#"))
 }
 
 /// Whether a file is a text without a mark, a CR and a line that begins with `#`.

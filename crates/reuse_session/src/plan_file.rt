@@ -91,7 +91,11 @@ fn is_treated(
 {
     let mut neighbour = Bytes::from_slice(alloc, path.as_bytes())?;
     neighbour.push_slice(b".license")?;
-    Ok(path.as_bytes().ends_with(b".py") && !is_among(paths, neighbour.as_slice()) && is_plain(bytes))
+    Ok(
+        path.as_bytes().ends_with(b".py")
+            && !is_among(paths, neighbour.as_slice())
+            && is_plain(bytes),
+    )
 }
 
 // What is put in front of the file.

@@ -144,7 +144,14 @@ fn turn_from<S: Store>(
     if !is_ready(change, way, file) {
         return Err(Cause::Moved);
     }
-    let Change::Splice { path, at, old, new, .. } = change else {
+    let Change::Splice {
+        path,
+        at,
+        old,
+        new,
+        ..
+    } = change
+    else {
         return put_or_remove(alloc, store, change.path(), whole_after(change, way));
     };
     let Some(file) = file else {
@@ -157,12 +164,7 @@ fn turn_from<S: Store>(
 }
 
 /// Makes the change this way, by one read and one put or removal.
-pub fn turn<S: Store>(
-    alloc: Global,
-    store: &mut S,
-    change: &Change,
-    way: Way,
-) -> Result<(), Cause>
+pub fn turn<S: Store>(alloc: Global, store: &mut S, change: &Change, way: Way) -> Result<(), Cause>
     ensures ok { S.honest store.new → OnOk result (Steps way change.now (S.files store.old) (S.files store.new)) }
     // A call that fails leaves the file as it was, or as the change makes it.
     ensures err { S.honest store.new → OnErr result ((S.files store.new ≡ S.files store.old) ⊎ Steps way change.now (S.files store.old) (S.files store.new)) }

@@ -1,6 +1,4 @@
-use Rattle.std.proofs.Common.{◌≡◌, ◌↔◌, true, not, IsTrue, ap, sym, subst, ◌∙◌}
-use Rattle.std.specs.List.{list_any}
-use Rattle.reuse_tree.specs.Path.{lies_under}
+use Rattle.std.proofs.Common.{sym, ◌∙◌}
 use Rattle.reuse_session.proofs.Testing.{not_ready, makes_none, makes_one}
 use Rattle.reuse_session.proofs.perform.can_be_made.Goals as goal
 

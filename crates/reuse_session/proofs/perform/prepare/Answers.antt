@@ -1,5 +1,5 @@
-use Rattle.std.proofs.Common.{◌≡◌, ◌↔◌, length, take, drop, ◌+◌, true, false, IsTrue, arith, ap, sym, refl, subst, ◌∙◌}
-use Rattle.std.specs.List.{All, list_any}
+use Rattle.std.proofs.Common.{◌≡◌, ◌↔◌, length, take, drop, ◌+◌, true, IsTrue, arith, ap, sym, subst, ◌∙◌}
+use Rattle.std.specs.List.{All}
 use Rattle.std.specs.FinMap.{keys}
 use Rattle.std.proofs.Math.Seq.{take-length}
 use Rattle.std.proofs.lemmas.Bool.{false≢true}
@@ -25,8 +25,8 @@ returns-then-not-branch-clause-moved g c honest good path e =
     let small = subst IsSmall (sym c.change-item.is) (good.small i change lt) in
     let of_tree = subst (λ x. is_of_tree (path_of x) ≡ true) (sym c.change-item.is) (good.of_tree i change lt) in
     let can : IsTrue c.in_ok-can_be_made.field-0 ↔ CanBeMade c.args.way (tree_of (store.files c.loop-change.store)) change =
-        c.in_ok-can_be_made.ensures.ok honest proper small of_tree
-        (λ made. c.deref.ensures.value ∙ kept.heeded before (list_any_at (makes c.args.way) c.args.changes.now i change lt (subst (λ x. makes c.args.way x ≡ true) c.change-item.is made)) ∙ ap keys (sym (kept.files before))) in
+    c.in_ok-can_be_made.ensures.ok honest proper small of_tree
+    (λ made. c.deref.ensures.value ∙ kept.heeded before (list_any_at (makes c.args.way) c.args.changes.now i change lt (subst (λ x. makes c.args.way x ≡ true) c.change-item.is made)) ∙ ap keys (sym (kept.files before))) in
     let here : path ≡ path_of change = let a = c.path.ensures in let b = c.in_ok-try_clone.ensures in cc in
     record {
       before = take i c.args.changes.now;
@@ -57,8 +57,8 @@ loop-change-preserved g c =
           let small = subst IsSmall (sym c.change-item.is) (good.small i change lt) in
           let of_tree = subst (λ x. is_of_tree (path_of x) ≡ true) (sym c.change-item.is) (good.of_tree i change lt) in
           let can : IsTrue c.in_ok-can_be_made.field-0 ↔ CanBeMade c.args.way (tree_of (store.files c.loop-change.store)) change =
-              c.in_ok-can_be_made.ensures.ok honest proper small of_tree
-              (λ made. c.deref.ensures.value ∙ kept.heeded before (list_any_at (makes c.args.way) c.args.changes.now i change lt (subst (λ x. makes c.args.way x ≡ true) c.change-item.is made)) ∙ ap keys (sym (kept.files before))) in
+          c.in_ok-can_be_made.ensures.ok honest proper small of_tree
+          (λ made. c.deref.ensures.value ∙ kept.heeded before (list_any_at (makes c.args.way) c.args.changes.now i change lt (subst (λ x. makes c.args.way x ≡ true) c.change-item.is made)) ∙ ap keys (sym (kept.files before))) in
           let here : CanBeMade c.args.way start change = subst (λ files. CanBeMade c.args.way (tree_of files) change) (kept.files before) (can.0 c.if-not-branch.false) in
           All-more (CanBeMade c.args.way start) c.args.changes.now i change lt (kept.ready before good) (subst (CanBeMade c.args.way start) c.change-item.is here);
     }
