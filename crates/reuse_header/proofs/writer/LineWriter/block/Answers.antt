@@ -1,0 +1,12 @@
+use Rattle.std.proofs.Common.{refl}
+use Rattle.std.proofs.lemmas.Result.{on_ok_weaker}
+use Rattle.reuse_header.specs.Writing.{block_lines, inner_lines}
+use Rattle.reuse_header.proofs.BoundedLemmas.{writes_more, writes_same}
+use Rattle.reuse_header.proofs.writer.LineWriter.block.Goals as goal
+
+pub returns : goal.returns
+unfolding block_lines inner_lines
+returns c =
+    on_ok_weaker c.optional_line-2.result
+    (λ last. writes_same _ (writes_more (writes_more c.in_ok-optional_line.ensures (writes_more c.in_ok-tags.ensures c.in_ok-free.ensures)) last) refl)
+    c.optional_line-2.ensures

@@ -1,0 +1,59 @@
+// The edit that writes a header block, before it is seen whether the block would be found again.
+ghost use Rattle.std.specs.Prelude.{◌+◌, ◌≤◌, length};
+ghost use Rattle.reuse_header.specs.Marks.{marks_view};
+ghost use Rattle.reuse_header.specs.Writing.{block_text};
+ghost use Rattle.reuse_header.specs.Annotation.{size_limit};
+ghost use Rattle.reuse_header.specs.Drafts.{edit_at, Drafts};
+
+use crate::annotation::HeaderRefusal;
+use crate::place::Place;
+use crate::writer::{Format, LineWriter, Marks};
+use reuse_notice::Info;
+use reuse_text::{Bytes, LineKind};
+use std::alloc::Global;
+
+// The longest file, 16 MiB.
+const SIZE_LIMIT: usize = 16_777_216;
+
+// The bytes that take the place of others, and where the block's text stands in the new file.
+#[derive(Debug, Drop)]
+pub(crate) struct Draft {
+    pub(crate) start: usize,
+    pub(crate) old_len: usize,
+    pub(crate) new: Bytes,
+    pub(crate) text_start: usize,
+    pub(crate) text_end: usize,
+}
+
+// The edit that writes a block into a place, unless it makes the file too long.
+pub(crate) fn make_draft(
+    alloc: Global,
+    file: &[u8],
+    place: Place,
+    kind: LineKind,
+    marks: Marks,
+    info: &Info,
+) -> Result<Draft, HeaderRefusal>
+    requires within { place.start + place.old_len ≤ length file.now }
+    requires short { length file.now ≤ size_limit }
+    ensures { Drafts file.now (edit_at place kind (block_text (marks_view marks) kind info.now)) result }
+{
+    let room = SIZE_LIMIT - (file.len() - place.old_len);
+    let mut writer = LineWriter::new(alloc, Format { kind, room });
+    writer.empty_line_if(place.ends_line)?;
+    writer.empty_line_if(place.empty_before)?;
+    let text_start = place.start + writer.len();
+    writer.block(marks, info)?;
+    let text_end = place.start + writer.len();
+    writer.empty_line_if(place.empty_behind)?;
+    match writer.into_text() {
+        None => Err(HeaderRefusal::TooLong),
+        Some(new) => Ok(Draft {
+            start: place.start,
+            old_len: place.old_len,
+            new,
+            text_start,
+            text_end,
+        }),
+    }
+}

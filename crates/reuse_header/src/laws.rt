@@ -1,0 +1,96 @@
+//! Laws of the definitions that the contracts cite.
+ghost use Rattle.std.specs.Prelude.{◌≡◌, ◌+◌, ◌++◌, ℕ, List, Option, None, Some, Ok, true, false, length, map, []};
+ghost use Rattle.reuse_header.specs.declared.style.Style.{Style};
+ghost use Rattle.reuse_header.specs.declared.blocks.BlockSize.{BlockSize};
+ghost use Rattle.reuse_header.specs.Body.{PlacedLines};
+ghost use Rattle.std.specs.Option.{option_map};
+ghost use Rattle.reuse_header.specs.Header.{Header, HeaderSpan, header_in, header_of, span_in, neighbour_contents};
+ghost use Rattle.reuse_notice.specs.declared.adding.Additions.{Additions};
+ghost use Rattle.reuse_header.specs.declared.annotation.How.{How};
+ghost use Rattle.reuse_header.specs.Annotation.{Edit, annotation_of, edited, new_bytes, kind_of_file, text_start, text_end};
+ghost use Rattle.reuse_header.specs.Neighbour.{neighbour_annotation_of, neighbour_end};
+ghost use Rattle.reuse_header.specs.Writing.{block_lines, block_text, neighbour_marks};
+ghost use Rattle.reuse_header.specs.Marks.{LineMarks, marks_of};
+ghost use Rattle.reuse_header.specs.Reading.{IsSayable};
+ghost use Rattle.reuse_header.specs.Blocks.{contents_of, without_returns};
+ghost use Rattle.reuse_header.specs.Styles.{punctuation_of};
+ghost use Rattle.reuse_header.specs.declared.style.Form.{Form};
+ghost use Rattle.reuse_notice.specs.declared.infos.Info.{Info};
+ghost use Rattle.reuse_notice.specs.Infos.{info_of};
+ghost use Rattle.reuse_text.specs.Text.{mark_len_of};
+ghost use Rattle.reuse_header.specs.Laws.{part, Keeps, IsBlockText, ReadsAs, AreContents};
+ghost use Rattle.reuse_header.specs.Split.{AreCommentBlocks, comment_blocks, IsSplit, IsHeaderBlock, HasNoHeader};
+
+use reuse_notice::{merging_keeps_holders, sets_are_one};
+use reuse_text::lines_are_one;
+
+/// The comment blocks of open lines are one answer: the block whose form begins at a line, unless the line
+/// is a later line of another block.
+pub fn comment_blocks_are_one()
+    ensures are { (style : Style) (contents : List (List ℕ)) → AreCommentBlocks style contents (comment_blocks style contents) }
+    ensures only { (style : Style) (contents : List (List ℕ)) (begins : ℕ → Option BlockSize) → AreCommentBlocks style contents begins
+        → (line : ℕ) → begins line ≡ comment_blocks style contents line }
+{}
+
+/// Lines have at most one header split, which the search for the header block finds, and none where that
+/// finds none.
+pub fn header_splits_are_one()
+    ensures found { (style : Style) (lines : PlacedLines) (header : Header) → header_in style 0 lines ≡ Some header
+        → (before : PlacedLines) × IsSplit style lines before header }
+    ensures only { (style : Style) (lines before : PlacedLines) (header : Header) → IsSplit style lines before header
+        → header_in style 0 lines ≡ Some header }
+{}
+
+/// The span of a header block cuts its file's bytes in three, by the lines before the block, its own, and
+/// those after it. Where the search finds none, the lines have no header split.
+pub fn header_spans_cut_files()
+    ensures found { (style : Style) (file : List ℕ) (span : HeaderSpan) → option_map (span_in file) (header_of style file) ≡ Some span → IsHeaderBlock style file span }
+    ensures none { (style : Style) (file : List ℕ) → header_of style file ≡ None → HasNoHeader style file }
+{
+    lines_are_one();
+}
+
+/// Where the old block is not to be replaced, it stays byte for byte, behind the new one.
+pub fn insertions_keep_blocks()
+    ensures files { (style : Style) (how : How) (additions : Additions) (file : List ℕ) (edit : Edit) (span : HeaderSpan) → how.replace ≡ false
+        → annotation_of style how additions file ≡ Ok edit → option_map (span_in file) (header_of style file) ≡ Some span
+        → part (edited file edit) (span.start + length (new_bytes edit)) (span.end + length (new_bytes edit)) ≡ part file span.start span.end }
+    ensures neighbours { (how : How) (additions : Additions) (file : List ℕ) (edit : Edit) → how.replace ≡ false → neighbour_annotation_of how additions file ≡ Ok edit
+        → part (edited file edit) (mark_len_of file + length (new_bytes edit)) (neighbour_end file + length (new_bytes edit)) ≡ part file (mark_len_of file) (neighbour_end file) }
+{
+    lines_are_one();
+}
+
+/// The block that takes an old one's place says what the old one did: each text stands in it, or, where
+/// notices are merged, a notice of the same holder whose years include the old ones.
+pub fn replacements_keep_information()
+    ensures files { (style : Style) (how : How) (additions : Additions) (file : List ℕ) (edit : Edit) (span : HeaderSpan) → how.replace ≡ true
+        → annotation_of style how additions file ≡ Ok edit → option_map (span_in file) (header_of style file) ≡ Some span
+        → (info : Info) × (form : Form) × (marks : LineMarks) × (IsBlockText style (kind_of_file file) info form marks edit.text) × (Keeps how.merge (info_of (punctuation_of style) span.contents) info) }
+    ensures neighbours { (how : How) (additions : Additions) (file : List ℕ) (edit : Edit) → how.replace ≡ true → neighbour_annotation_of how additions file ≡ Ok edit
+        → (info : Info) × (edit.text ≡ block_text neighbour_marks (kind_of_file file) info) × (Keeps how.merge (info_of [] (neighbour_contents file)) info) }
+{
+    sets_are_one();
+    merging_keeps_holders();
+}
+
+/// Reading the block that is written of some information, in any style and form, gives that information
+/// again, where each of its texts reads as what it is.
+pub fn written_blocks_read_back()
+    ensures files { (style : Style) (form : Form) (marks : LineMarks) (info : Info) (rest : List (List ℕ)) → marks_of style form ≡ Some marks → IsSayable (punctuation_of style) info
+        → info_of (punctuation_of style) (contents_of style (record { form = form; count = length (block_lines marks info) }) (block_lines marks info ++ rest)) ≡ info }
+    ensures neighbours { (info : Info) → IsSayable [] info → info_of [] (map without_returns (block_lines neighbour_marks info)) ≡ info }
+{
+    sets_are_one();
+}
+
+/// The block that annotating writes is the new file's header block, and says what was written.
+pub fn written_blocks_are_found()
+    ensures { (style : Style) (how : How) (additions : Additions) (file : List ℕ) (edit : Edit) (info : Info) (form : Form) (marks : LineMarks)
+        → annotation_of style how additions file ≡ Ok edit → IsBlockText style (kind_of_file file) info form marks edit.text
+        → IsSayable (punctuation_of style) info → AreContents (kind_of_file file) (block_lines marks info)
+        → (span : HeaderSpan) × ReadsAs style (edited file edit) (text_start edit) (text_end edit) form info span }
+{
+    lines_are_one();
+    sets_are_one();
+}

@@ -1,0 +1,125 @@
+// The change that adds licensing information to a neighbour file.
+ghost use Rattle.std.specs.Prelude.{◌≡◌, ◌≤◌, IfOk, length, map};
+ghost use Rattle.reuse_header.specs.Open.{open_left};
+ghost use Rattle.reuse_header.specs.Blocks.{without_returns};
+ghost use Rattle.reuse_header.specs.Annotation.{size_limit};
+ghost use Rattle.reuse_header.specs.Neighbour.{is_text, neighbour_annotation_of, neighbour_stands, neighbour_written, replaced_contents};
+ghost use Rattle.reuse_header.specs.Splices.{IsDue, answer_of};
+
+use crate::annotate::{into_splice, new_info};
+use crate::annotation::{HeaderRefusal, How, Splice};
+use crate::body::OpenContents;
+use crate::draft::make_draft;
+use crate::place::{neighbour_end, neighbour_place};
+use crate::search::trim_returns;
+use crate::writer::Marks;
+use reuse_notice::{Additions, Info};
+use reuse_text::{Lines, is_text, line_kind, mark_len, splice};
+use std::alloc::{AllocError, Global};
+
+// A neighbour file has no marks of a comment.
+const NEIGHBOUR_MARKS: Marks = Marks {
+    lead: b"",
+    mark: b"",
+    first: None,
+    last: None,
+    closer: None,
+};
+
+/// The change that adds licensing information to a neighbour file of at most 16 MiB, one that has
+/// another's licensing information (`NAME.license`). None is the answer where no byte changes. A
+/// neighbour that is made is what comes of an empty one.
+///
+/// All that stands between the mark and the first barrier line is the block, whose lines are its
+/// contents. It is replaced, or the new block is inserted in front of it.
+#[tactic(auto, unfolding(crate::specs::Neighbour::neighbour_annotation_of))]
+pub fn annotate_neighbour(
+    alloc: Global,
+    file: &[u8],
+    additions: &Additions,
+    how: &How,
+) -> Result<Option<Splice>, HeaderRefusal>
+    requires { length file.now ≤ size_limit }
+    ensures { IsDue (answer_of file.now (neighbour_annotation_of how.now additions.now file.now)) result }
+{
+    if !is_text_file(file) {
+        return Err(HeaderRefusal::NotText);
+    }
+    let contents = replaced_contents(alloc, file, how.replace)?;
+    let info = new_info(alloc, contents.as_slice(), b"", how.merge, additions)?;
+    write_neighbour(alloc, file, how.replace, &info)
+}
+
+// Whether a file is UTF-8 without a NUL byte.
+fn is_text_file(file: &[u8]) -> bool
+    ensures { result ≡ is_text file.now }
+{
+    is_text(file)
+}
+
+// The change that writes the block of a neighbour file.
+#[tactic(auto, unfolding(crate::specs::Neighbour::neighbour_written))]
+fn write_neighbour(
+    alloc: Global,
+    file: &[u8],
+    replace: bool,
+    info: &Info,
+) -> Result<Option<Splice>, HeaderRefusal>
+    requires { length file.now ≤ size_limit }
+    ensures { IsDue (answer_of file.now (neighbour_written replace file.now info.now)) result }
+{
+    let place = neighbour_place(file, replace);
+    let draft = make_draft(alloc, file, place, line_kind(file), NEIGHBOUR_MARKS, info)?;
+    let made = splice(
+        alloc,
+        file,
+        draft.start,
+        draft.old_len,
+        draft.new.as_slice(),
+    )?;
+    if !neighbour_stands(replace, made.as_slice(), draft.text_start, draft.text_end) {
+        return Err(HeaderRefusal::Unsettled);
+    }
+    into_splice(alloc, file, draft)
+}
+
+// Whether the block of a neighbour file is what stands from one place to another, or, for an insertion,
+// begins with it.
+fn neighbour_stands(replace: bool, file: &[u8], start: usize, end: usize) -> bool
+    ensures { result ≡ neighbour_stands replace file.now start end }
+{
+    let block_end = neighbour_end(file);
+    mark_len(file) == start
+        && if replace {
+            block_end == end
+        } else {
+            end <= block_end
+        }
+}
+
+// The contents of a neighbour file's block, if that is replaced.
+fn replaced_contents<'a>(
+    alloc: Global,
+    file: &'a [u8],
+    replace: bool,
+) -> Result<Vec<&'a [u8]>, AllocError>
+    ensures { IfOk result (λ list. map (λ content. content.now) list.items ≡ replaced_contents replace file.now) }
+{
+    if !replace {
+        return Ok(Vec::new(alloc));
+    }
+    let lines = Lines::new(file);
+    collected(alloc, OpenContents { lines })
+}
+
+// The contents that are left, without CR bytes at their ends.
+fn collected<'a>(alloc: Global, contents: OpenContents<'a>) -> Result<Vec<&'a [u8]>, AllocError>
+    ensures { IfOk result (λ list. map (λ content. content.now) list.items ≡ map without_returns (open_left contents.entry)) }
+{
+    let mut list = Vec::new(alloc);
+    let mut rest = contents;
+    while let Some(content) = rest.next() {
+        list.push(trim_returns(content))?;
+    }
+    Ok(list)
+}
