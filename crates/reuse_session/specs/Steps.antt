@@ -1,5 +1,6 @@
 -- What is known of a file's change once the file was read.
-use Rattle.std.specs.Prelude.{◌≡◌, ℕ, List, Result, Ok, Err}
+use Rattle.std.specs.Prelude.{◌≡◌, ℕ, List, Option, Result, Ok, Err}
+use Rattle.reuse_session.specs.Edit.{Edit}
 use Rattle.reuse_notice.specs.declared.adding.Additions.{Additions}
 use Rattle.reuse_header.specs.declared.annotation.How.{How}
 use Rattle.reuse_tree.specs.Files.{Files}
@@ -16,3 +17,9 @@ abbrev pub StepsTo : Files → How → Scope → Additions → List ℕ → List
 StepsTo tree how scope additions path bytes (Ok (Done change)) = MakesEdit tree (edit_target how scope additions tree path bytes (target_by_bytes scope path bytes)) change
 StepsTo tree how scope additions path bytes (Ok Beside) = target_by_bytes scope path bytes ≡ Ok target.Beside
 StepsTo tree how scope additions path bytes (Err refusal) = IsRefusalOf (edit_target how scope additions tree path bytes (target_by_bytes scope path bytes)) refusal
+
+-- the change of an edit, or its refusal
+abbrev pub StepsBy : Files → Result (Option Edit) Refusal → Result Step Refusal → Type 0
+StepsBy tree given (Ok (Done change)) = MakesEdit tree given change
+StepsBy tree given (Ok Beside) = ⊥
+StepsBy tree given (Err refusal) = IsRefusalOf given refusal

@@ -11,7 +11,7 @@ ghost use Rattle.reuse_session.specs.Annotate.{neighbour_of, annotated_at, targe
 ghost use Rattle.reuse_session.specs.Covered.{is_covered};
 ghost use Rattle.reuse_session.specs.Listing.{is_among};
 ghost use Rattle.reuse_session.specs.Plan.{AnswersEdit};
-ghost use Rattle.reuse_session.specs.Steps.{StepsTo};
+ghost use Rattle.reuse_session.specs.Steps.{StepsTo, StepsBy};
 ghost use Rattle.reuse_session.specs.declared.command.Scope.{Scope};
 
 use crate::clash::is_clash;
@@ -108,6 +108,7 @@ fn plan_inside(
     scope: &Scope,
 ) -> Result<Step, Refusal>
     requires { length bytes.now ≤ 16_777_216 }
+    ensures step { (tree : Files) → get tree path.now ≡ Some bytes.now → StepsBy tree (edit_inside how.now scope.now additions.now path.now bytes.now style) result }
     ensures early { IfErr result IsEarly }
     ensures fault { (fault : StoreFault) → result ≡ Err (Refusal.Fault fault) → ⊥ }
 {
