@@ -25,6 +25,8 @@ use reuse_notice::Additions;
 use reuse_tree::{Change, PathError, PathText, Reading};
 use std::alloc::Global;
 
+const LONGEST_FILE: usize = 16_777_216;
+
 /// What is known of a file's change once the file was read.
 #[derive(Debug, Drop)]
 pub(crate) enum Step {
@@ -87,6 +89,9 @@ pub(crate) fn plan_reading(
         Reading::TooLong => return Err(Refusal::TooLong(path.try_clone(alloc)?)),
         Reading::Found(bytes) => bytes,
     };
+    if bytes.len() > LONGEST_FILE {
+        return Err(Refusal::TooLong(path.try_clone(alloc)?));
+    }
     match target_by_bytes(alloc, path, bytes.as_slice(), scope) {
         Ok(Target::Inside(style)) => {
             plan_inside(alloc, path, bytes.as_slice(), style, additions, how, scope)
@@ -142,6 +147,9 @@ pub(crate) fn plan_neighbour(
         Reading::TooLong => return Err(Refusal::TooLong(path.try_clone(alloc)?)),
         Reading::Found(bytes) => bytes,
     };
+    if bytes.len() > LONGEST_FILE {
+        return Err(Refusal::TooLong(path.try_clone(alloc)?));
+    }
     if scope.skip_existing && neighbour_has_tag(bytes.as_slice()) {
         return Ok(None);
     }
