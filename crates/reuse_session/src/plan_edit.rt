@@ -1,5 +1,5 @@
 // The change of a place, by what an annotation makes of its bytes.
-ghost use Rattle.std.specs.Prelude.{◌≡◌, [], ℕ, List, IfOk, IfErr, Some, None, length};
+ghost use Rattle.std.specs.Prelude.{◌≡◌, ◌≤◌, [], ℕ, List, IfOk, IfErr, Some, None, length};
 ghost use Rattle.std.specs.FinMap.{get};
 ghost use Rattle.reuse_header.specs.Splices.{IsDue, answer_of};
 ghost use Rattle.reuse_tree.specs.Files.{Files};
@@ -25,7 +25,7 @@ pub(crate) fn change_by(
     len: usize,
     made: Result<Option<Splice>, HeaderRefusal>,
 ) -> Result<Option<Change>, Refusal>
-    ensures edit { (tree : Files) (bytes : List ℕ) (due : Due) → get tree at.now ≡ Some bytes → length bytes ≡ len → Fits bytes due → IsDue (answer_of bytes due) made
+    ensures edit { (tree : Files) (bytes : List ℕ) (due : Due) → get tree at.now ≡ Some bytes → length bytes ≡ len → length bytes ≤ 16_777_216 → Fits bytes due → IsDue (answer_of bytes due) made
         → AnswersEdit tree (edit_by path.now at.now bytes due) result }
     ensures early { IfErr result IsEarly }
     ensures fault { (fault : StoreFault) → result ≡ Err (Refusal.Fault fault) → ⊥ }

@@ -20,7 +20,7 @@ use crate::listing::is_folder;
 use crate::plan_edit::{change_by, making_by};
 use crate::plan_target::{Target, neighbour_of, target_by_bytes};
 use crate::reply::Refusal;
-use reuse_header::{How, Style, annotate_file, annotate_neighbour, find, neighbour_has_tag};
+use reuse_header::{How, Style, annotate_file, annotate_neighbour, annotations_fit, find, neighbour_has_tag};
 use reuse_notice::Additions;
 use reuse_tree::{Change, PathError, PathText, Reading};
 use std::alloc::Global;
@@ -59,6 +59,7 @@ pub(crate) fn neighbour_path(alloc: Global, path: &PathText) -> Result<Option<Pa
     ensures path { IfOk result (λ found. IfSome found (λ neighbour. neighbour ≡ neighbour_of path.now)) }
     ensures long { IfOk result (λ found. IfNone found (nat_lt 4096 (length (neighbour_of path.now)) ≡ true)) }
     ensures short { IfOk result (λ found. IfSome found (λ neighbour. nat_lt 4096 (length (neighbour_of path.now)) ≡ false)) }
+    ensures memory { IfErr result (λ refusal. refusal ≡ Refusal.Memory) }
     ensures early { IfErr result IsEarly }
     ensures fault { (fault : StoreFault) → result ≡ Err (Refusal.Fault fault) → ⊥ }
 {
@@ -120,6 +121,8 @@ fn plan_inside(
     if scope.skip_existing && find(bytes, style).block.is_some() {
         return Ok(Step::Done(None));
     }
+    // That the edit lies within the file, and makes none that is too long.
+    annotations_fit();
     let made = annotate_file(alloc, bytes, style, additions, how);
     match change_by(alloc, path, path, bytes.len(), made) {
         Ok(change) => Ok(Step::Done(change)),
@@ -153,6 +156,8 @@ pub(crate) fn plan_neighbour(
     if scope.skip_existing && neighbour_has_tag(bytes.as_slice()) {
         return Ok(None);
     }
+    // That the edit lies within the file, and makes none that is too long.
+    annotations_fit();
     let made = annotate_neighbour(alloc, bytes.as_slice(), additions, how);
     change_by(alloc, path, neighbour, bytes.len(), made)
 }
@@ -174,6 +179,8 @@ pub(crate) fn plan_new_neighbour(
     if is_clash(alloc, paths, &neighbour)? {
         return Err(Refusal::Clash(neighbour));
     }
+    // That what is made isn't too long.
+    annotations_fit();
     let made = annotate_neighbour(alloc, b"", additions, how);
     making_by(alloc, path, &neighbour, made)
 }
