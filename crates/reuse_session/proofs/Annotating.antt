@@ -76,7 +76,7 @@ some_or : (b : Bool) (edit e : Edit) → cond b no_edit (some_edit edit) ≡ som
 some_or true edit e h = absurd (cc)
 some_or false edit e h = cc
 
-both_err : {A : Type 0} (b : Bool) (r s : Refusal) (x : A) → cond b (Err r) (Err s) ≡ Ok x → ⊥
+pub both_err : {A : Type 0} (b : Bool) (r s : Refusal) (x : A) → cond b (Err r) (Err s) ≡ Ok x → ⊥
 both_err true r s x e = absurd (cc)
 both_err false r s x e = absurd (cc)
 
@@ -86,7 +86,7 @@ is_true false e = absurd (false≢true (sym e))
 
 -- ---- covered paths are of the tree
 
-starts_reuse : (path : List ℕ) → is_covered path ≡ true → is_in (codes ".reuse") path ≡ false
+pub starts_reuse : (path : List ℕ) → is_covered path ≡ true → is_in (codes ".reuse") path ≡ false
 starts_reuse path h = of_tests (is_in (codes "LICENSES") path) (is_in (codes ".reuse") path) (is_in (codes ".git") path) _ h
   where
     of_tests : (a b c d : Bool) → (not (a || b || c) && d) ≡ true → b ≡ false
@@ -98,13 +98,13 @@ or_true : (b : Bool) → (b || true) ≡ true
 or_true true = refl
 or_true false = refl
 
-and_all : (a b c : Bool) → a ≡ false → b ≡ false → c ≡ false → (not a && not b && not c) ≡ true
+pub and_all : (a b c : Bool) → a ≡ false → b ≡ false → c ≡ false → (not a && not b && not c) ≡ true
 and_all false false false e f g = refl
 and_all true b c e f g = absurd (false≢true (sym e))
 and_all false true c e f g = absurd (false≢true (sym f))
 and_all false false true e f g = absurd (false≢true (sym g))
 
-refuted : (b : Bool) → (b ≡ true → ⊥) → b ≡ false
+pub refuted : (b : Bool) → (b ≡ true → ⊥) → b ≡ false
 refuted true h = absurd (h refl)
 refuted false h = refl
 
@@ -118,7 +118,7 @@ covered_of_tree path h =
 
 -- ---- the paths in order
 
-first_is : (r : Result (Option Edit) Refusal) (rest : Result (List Edit) Refusal) (edits : List Edit) → or_first r rest ≡ Ok edits
+pub first_is : (r : Result (Option Edit) Refusal) (rest : Result (List Edit) Refusal) (edits : List Edit) → or_first r rest ≡ Ok edits
     → ((r ≡ Ok None) × (rest ≡ Ok edits)) ⊎ ((e : Edit) × (more : List Edit) × (r ≡ Ok (Some e)) × (rest ≡ Ok more) × (edits ≡ e ∷ more))
 first_is (Err refusal) rest edits h = absurd (cc)
 first_is (Ok None) (Err refusal) edits h = absurd (cc)
@@ -126,7 +126,7 @@ first_is (Ok None) (Ok more) edits h = inl (refl, h)
 first_is (Ok (Some e)) (Err refusal) edits h = absurd (cc)
 first_is (Ok (Some e)) (Ok more) edits h = inr (e, more, refl, refl, cc)
 
-no_edits : (edits : List Edit) → ok_edits [] ≡ ok_edits edits → edits ≡ []
+pub no_edits : (edits : List Edit) → ok_edits [] ≡ ok_edits edits → edits ≡ []
 no_edits edits h = cc
 
 sorted_cons : (x : List ℕ) (xs : List (List ℕ)) → AllByRecursion (λ y. slice_cmp nat_cmp x y ≡ Less) xs → ArePaths xs → ArePaths (x ∷ xs)
@@ -267,7 +267,7 @@ a_plan tree given changes are made fit few =
     subst (λ r. IsPlan (tree_after tree r) tree changes) (sym made.1)
     (plan_of_edits tree made.0 are (fit made.0 made.1) (sym (same_many tree changes made.0 made.2) ∙ few) changes made.2)
 
-if_not : {A : Type 0} (b : Bool) (r : Refusal) (rest : Result A Refusal) (x : A) → cond b (Err r) rest ≡ Ok x → rest ≡ Ok x
+pub if_not : {A : Type 0} (b : Bool) (r : Refusal) (rest : Result A Refusal) (x : A) → cond b (Err r) rest ≡ Ok x → rest ≡ Ok x
 if_not true r rest x e = absurd (cc)
 if_not false r rest x e = e
 
