@@ -71,7 +71,7 @@ change_made tree path at clone bytes (Ok edit) splice rest here short fits answe
       it,
       refl,
       subst (λ (p : List ℕ). Makes tree (change.Splice p splice.at splice.old splice.new rest) it) (sym same)
-      (subst (λ (s : Splice). rest ≡ length bytes - s.at - length s.old → Makes tree (change.Splice at s.at s.old s.new rest) it) (same_splice made splice h) (makes e) is),
+          (subst (λ (s : Splice). rest ≡ length bytes - s.at - length s.old → Makes tree (change.Splice at s.at s.old s.new rest) it) (same_splice made splice h) (makes e) is),
     )
 
 take_none : (n : ℕ) → take {A = ℕ} n [] ≡ []

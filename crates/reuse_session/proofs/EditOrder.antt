@@ -119,9 +119,10 @@ still_has files path file (e ∷ edits) others each =
 
 each_has : (tree : Files) (edits : List Edit) → AreDistinct edits → EachHas (edited tree edits) edits
 each_has tree [] distinct = tt
-each_has tree (e ∷ edits) distinct =
-    (with_same (edited tree edits) e.path e.file,
-    still_has (edited tree edits) e.path e.file edits (distinct_head e.path (paths_at edits) distinct) (each_has tree edits (distinct_tail e.path (paths_at edits) distinct)))
+each_has tree (e ∷ edits) distinct = (
+  with_same (edited tree edits) e.path e.file,
+  still_has (edited tree edits) e.path e.file edits (distinct_head e.path (paths_at edits) distinct) (each_has tree edits (distinct_tail e.path (paths_at edits) distinct)),
+)
 
 has_at : (files : Files) (edits : List Edit) → EachHas files edits → (k : ℕ) (e : Edit) → k < length edits → get_or edits k e ≡ e → get files e.path ≡ e.file
 has_at files [] each k e low is = absurd (omega arith)

@@ -185,8 +185,7 @@ module _ (how : How) (scope : Scope) (additions : Additions) (tree : Files) (pat
       let h = after_err (is_clash tree (neighbour_of path)) (refusals.Clash (neighbour_of path)) _ edit e in
       (edit_at path (neighbour_of path) [] (neighbour_annotation_of how additions []) edit h.1, λ none. h.0)
   neighbour_at (Some bytes) e =
-      let h = after_err (nat_lt 16_777_216 (length bytes)) (refusals.TooLong path) _ edit e in
-      (
+      let h = after_err (nat_lt 16_777_216 (length bytes)) (refusals.TooLong path) _ edit e in (
         edit_at path (neighbour_of path) bytes (neighbour_annotation_of how additions bytes) edit (after_skip (scope.skip_existing && neighbour_is_tagged bytes) _ edit h.1),
         λ none. absurd (some_is_none bytes none),
       )
@@ -194,8 +193,7 @@ module _ (how : How) (scope : Scope) (additions : Additions) (tree : Files) (pat
   beside_at : edit_beside how scope additions tree path ≡ some_edit edit → (edit.path ≡ path ++ ending) × (length edit.path ≤ 4096) × (get tree edit.path ≡ None → is_clash tree edit.path ≡ false)
   beside_at e =
       let h = after_err (nat_lt 4096 (length (neighbour_of path))) (refusals.TooLong path) _ edit e in
-      let n = neighbour_at (get tree (neighbour_of path)) h.1 in
-      (
+      let n = neighbour_at (get tree (neighbour_of path)) h.1 in (
         n.0,
         subst (λ p. length p ≤ 4096) (sym n.0) (not_over 4096 (length (neighbour_of path)) h.0),
         subst (λ p. get tree p ≡ None → is_clash tree p ≡ false) (sym n.0) n.1,

@@ -98,4 +98,3 @@ same_tests false true f g = g refl
 
 pub text_test : (bytes : List ℕ) (r : Bool) → IsTrue r ↔ IsText bytes → r ≡ is_text bytes
 text_test bytes r h = same_tests r (is_text bytes) (λ e. text_made bytes (h.0 e)) (λ e. h.1 (text_is bytes e))
-

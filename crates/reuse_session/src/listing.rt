@@ -84,11 +84,7 @@ pub(crate) fn paths_beneath<'a>(
 }
 
 // How many of the paths, which are in byte order, are below the folder with a slash behind it.
-fn first_beneath(
-    alloc: Global,
-    paths: &[PathText],
-    folder: &PathText,
-) -> Result<usize, AllocError>
+fn first_beneath(alloc: Global, paths: &[PathText], folder: &PathText) -> Result<usize, AllocError>
     ensures within { IfOk result (λ at. at ≤ length paths.now) }
     ensures bound { ArePaths paths.now → IfOk result (IsPartitionPoint (λ path. is_lt (slice_cmp nat_cmp path (folder.now ++ 47 ∷ [])) ≡ true) (λ path. is_lt (slice_cmp nat_cmp path (folder.now ++ 47 ∷ [])) ≡ false) paths.now) }
 {

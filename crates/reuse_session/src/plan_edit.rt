@@ -34,7 +34,9 @@ pub(crate) fn change_by(
         Err(refusal) => Err(refused_by(alloc, path, refusal)?),
         Ok(None) => Ok(None),
         Ok(Some(splice)) => {
-            let rest = len.saturating_sub(splice.at).saturating_sub(splice.old.len());
+            let rest = len
+                .saturating_sub(splice.at)
+                .saturating_sub(splice.old.len());
             Ok(Some(Change::Splice {
                 path: at.try_clone(alloc)?,
                 at: splice.at,

@@ -47,9 +47,11 @@ pub(crate) fn goes_beside(
     ensures { (tree : Files) → paths.now ≡ keys tree → IfOk result (λ beside. beside ≡ goes_beside scope.now tree path.now) }
 {
     let neighbour = neighbour_of(alloc, path)?;
-    Ok(scope.force_dot_license
-        || is_among(paths, neighbour.as_slice())
-        || (scope.style.is_none() && is_uncommentable(style_of(path.text()))))
+    Ok(
+        scope.force_dot_license
+            || is_among(paths, neighbour.as_slice())
+            || (scope.style.is_none() && is_uncommentable(style_of(path.text()))),
+    )
 }
 
 fn is_uncommentable(kind: Kind) -> bool

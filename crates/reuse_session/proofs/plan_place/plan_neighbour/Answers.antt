@@ -25,9 +25,9 @@ returns-clause-edit c tree bytes is here reading =
     let short : length bytes ≤ 16_777_216 = omega (arith, size, c.len.ensures, c.if-len-gt-LONGEST_FILE.false) in
     let due = neighbour_annotation_of c.args.how.now c.args.additions.now bytes in
     let kept : (c.args.scope.now.skip_existing && neighbour_is_tagged bytes) ≡ false = elim c.else-scope.branch [
-    | else-scope-via-then-scope+else-neighbour_has_tag w ↦
-        ap (λ b. b && neighbour_is_tagged bytes) w.if-scope.true ∙ ap neighbour_is_tagged (same ∙ sym w.as_slice.ensures) ∙ sym w.neighbour_has_tag.ensures ∙ w.if-neighbour_has_tag.false
-    | else-scope-via-else-scope w ↦ ap (λ b. b && neighbour_is_tagged bytes) w.if-scope.false
+      | else-scope-via-then-scope+else-neighbour_has_tag w ↦
+          ap (λ b. b && neighbour_is_tagged bytes) w.if-scope.true ∙ ap neighbour_is_tagged (same ∙ sym w.as_slice.ensures) ∙ sym w.neighbour_has_tag.ensures ∙ w.if-neighbour_has_tag.false
+      | else-scope-via-else-scope w ↦ ap (λ b. b && neighbour_is_tagged bytes) w.if-scope.false
     ] in
     subst (λ r. AnswersEdit tree r c.change_by.result) (sym (neighbour_is c.args.how.now c.args.scope.now c.args.additions.now tree c.args.path.now bytes (not_over (length bytes) short) kept))
     (subst (λ n. AnswersEdit tree (edit_by c.args.path.now n bytes (neighbour_annotation_of c.args.how.now c.args.additions.now bytes)) c.change_by.result) is

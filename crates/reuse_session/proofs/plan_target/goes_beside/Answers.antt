@@ -27,21 +27,21 @@ returns c tree are =
     let among = is_among c.args.paths.now (neighbour_of c.args.path.now) in
     let unnamed = is_uncommentable (kind_of_name c.args.path.now) in
     let first : c.if-scope.value ≡ (c.args.scope.now.force_dot_license || is_among c.args.paths.now (neighbour_of c.args.path.now)) = elim c.if-scope.branch [
-    | then-scope w ↦ w.value-is ∙ w.if-scope.true ∙ ap (λ b. b || is_among c.args.paths.now (neighbour_of c.args.path.now)) (sym w.if-scope.true)
-    | else-scope w ↦
-        w.value-is ∙ w.is_among.ensures sorted ∙ ap (is_among c.args.paths.now) (w.as_slice.ensures ∙ c.in_ok-neighbour.ensures)
-        ∙ ap (λ b. b || is_among c.args.paths.now (neighbour_of c.args.path.now)) (sym w.if-scope.false)
+      | then-scope w ↦ w.value-is ∙ w.if-scope.true ∙ ap (λ b. b || is_among c.args.paths.now (neighbour_of c.args.path.now)) (sym w.if-scope.true)
+      | else-scope w ↦
+          w.value-is ∙ w.is_among.ensures sorted ∙ ap (is_among c.args.paths.now) (w.as_slice.ensures ∙ c.in_ok-neighbour.ensures)
+          ∙ ap (λ b. b || is_among c.args.paths.now (neighbour_of c.args.path.now)) (sym w.if-scope.false)
     ] in
     let second : c.if-is_among.result ≡ (c.if-scope.value || (is_none c.args.scope.now.style && is_uncommentable (kind_of_name c.args.path.now))) = elim c.if-is_among.branch [
-    | then-is_among w ↦ w.result-is ∙ w.if-is_among.true ∙ ap (λ b. b || (is_none c.args.scope.now.style && is_uncommentable (kind_of_name c.args.path.now))) (sym w.if-is_among.true)
-    | else-is_among+then-is_none w ↦
-        w.result-is ∙ w.is_uncommentable.ensures ∙ ap is_uncommentable (w.style_of.ensures ∙ ap kind_of_name w.text.ensures.text)
-        ∙ ap (λ b. b && is_uncommentable (kind_of_name c.args.path.now)) (sym (none_by c.args.scope.now.style w.is_none.result w.is_none.ensures ∙ w.if-is_none.true))
-        ∙ ap (λ b. b || (is_none c.args.scope.now.style && is_uncommentable (kind_of_name c.args.path.now))) (sym w.if-is_among.false)
-    | else-is_among+else-is_none w ↦
-        w.result-is ∙ w.if-is_none.false
-        ∙ ap (λ b. b && is_uncommentable (kind_of_name c.args.path.now)) (sym (none_by c.args.scope.now.style w.is_none.result w.is_none.ensures ∙ w.if-is_none.false))
-        ∙ ap (λ b. b || (is_none c.args.scope.now.style && is_uncommentable (kind_of_name c.args.path.now))) (sym w.if-is_among.false)
+      | then-is_among w ↦ w.result-is ∙ w.if-is_among.true ∙ ap (λ b. b || (is_none c.args.scope.now.style && is_uncommentable (kind_of_name c.args.path.now))) (sym w.if-is_among.true)
+      | else-is_among+then-is_none w ↦
+          w.result-is ∙ w.is_uncommentable.ensures ∙ ap is_uncommentable (w.style_of.ensures ∙ ap kind_of_name w.text.ensures.text)
+          ∙ ap (λ b. b && is_uncommentable (kind_of_name c.args.path.now)) (sym (none_by c.args.scope.now.style w.is_none.result w.is_none.ensures ∙ w.if-is_none.true))
+          ∙ ap (λ b. b || (is_none c.args.scope.now.style && is_uncommentable (kind_of_name c.args.path.now))) (sym w.if-is_among.false)
+      | else-is_among+else-is_none w ↦
+          w.result-is ∙ w.if-is_none.false
+          ∙ ap (λ b. b && is_uncommentable (kind_of_name c.args.path.now)) (sym (none_by c.args.scope.now.style w.is_none.result w.is_none.ensures ∙ w.if-is_none.false))
+          ∙ ap (λ b. b || (is_none c.args.scope.now.style && is_uncommentable (kind_of_name c.args.path.now))) (sym w.if-is_among.false)
     ] in
     beside_by tree c.args.paths.now c.args.path.now c.args.scope.now c.if-is_among.result are
     (second ∙ ap (λ b. b || (is_none c.args.scope.now.style && is_uncommentable (kind_of_name c.args.path.now))) first
