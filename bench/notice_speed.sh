@@ -1,22 +1,11 @@
 #!/usr/bin/env bash
 # Reads the tags of header blocks of 4, 8 and 16 MiB, and merges their 100,000, 200,000 and 400,000 notices. Prints seconds and the ratios, which
-# are near 2 where the work is linear (but for the sorts). The program is built in a temporary folder.
+# are near 2 where the work is linear (but for the sorts).
 # usage: bench/notice_speed.sh
 set -euo pipefail
+. "$(dirname "$0")/build.sh" notice_speed reuse_text reuse_notice
 
-top=$(cd "$(dirname "$0")/.." && pwd)
-build=$(mktemp -d)
-trap 'rm -rf "$build"' EXIT
-
-mkdir -p "$build/crates/notice_speed/src"
-cp -r "$top/crates/reuse_text" "$top/crates/reuse_notice" "$build/crates/"
-cp "$top/HANDLES" "$build/"
-grep -E '^reuse_(text|notice):' "$top/crates.txt" > "$build/crates.txt"
-echo 'notice_speed: reuse_text reuse_notice anyhow' >> "$build/crates.txt"
-cp "$top/bench/notice_speed/main.rt" "$build/crates/notice_speed/src/"
-(cd "$build/crates/notice_speed" && rt run -- 1) > "$build/log" 2>&1 || { tail -20 "$build/log"; exit 1; }
-
-"$build/crates/notice_speed/out/notice_speed" 100000 200000 400000 |
+"$program" 100000 200000 400000 |
   awk '{ print $1 " notices, " $2 " bytes: read " $4 " s, merged to " $3 " in " $5 " s"; read[NR] = $4; merge[NR] = $5 }
     NR > 1 && read[NR - 1] > 0 && merge[NR - 1] > 0 {
       printf "twice as many: read %.2f times as long, merge %.2f times\n", read[NR] / read[NR - 1], merge[NR] / merge[NR - 1] }'

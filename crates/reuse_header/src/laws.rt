@@ -1,5 +1,5 @@
 //! Laws of the definitions that the contracts cite.
-ghost use Rattle.std.specs.Prelude.{◌≡◌, ◌≤◌, ◌+◌, ◌++◌, ℕ, List, Option, None, Some, Ok, true, false, length, map, []};
+ghost use Rattle.std.specs.Prelude.{◌≡◌, ◌≤◌, ◌+◌, ◌++◌, ℕ, List, Option, None, Some, Ok, true, false, length, map, [], All};
 ghost use Rattle.reuse_header.specs.declared.style.Style.{Style};
 ghost use Rattle.reuse_header.specs.declared.blocks.BlockSize.{BlockSize};
 ghost use Rattle.reuse_header.specs.Body.{PlacedLines};
@@ -11,17 +11,20 @@ ghost use Rattle.reuse_header.specs.Annotation.{Edit, size_limit, annotation_of,
 ghost use Rattle.reuse_header.specs.Neighbour.{neighbour_annotation_of, neighbour_end};
 ghost use Rattle.reuse_header.specs.Writing.{block_lines, block_text, neighbour_marks};
 ghost use Rattle.reuse_header.specs.Marks.{LineMarks, marks_of};
-ghost use Rattle.reuse_header.specs.Reading.{IsSayable};
+ghost use Rattle.reuse_header.specs.Reading.{IsSayable, AreSayable};
+ghost use Rattle.reuse_notice.specs.Tags.{is_filler};
+ghost use Rattle.reuse_notice.specs.Adding.{Arguments, additions_of};
+ghost use Rattle.reuse_notice.specs.Plain.{ArePlain};
 ghost use Rattle.reuse_header.specs.Blocks.{contents_of, without_returns};
 ghost use Rattle.reuse_header.specs.Styles.{punctuation_of};
 ghost use Rattle.reuse_header.specs.declared.style.Form.{Form};
 ghost use Rattle.reuse_notice.specs.declared.infos.Info.{Info};
-ghost use Rattle.reuse_notice.specs.Infos.{info_of};
+ghost use Rattle.reuse_notice.specs.Infos.{info_of, union_of};
 ghost use Rattle.reuse_text.specs.Text.{mark_len_of};
 ghost use Rattle.reuse_header.specs.Laws.{part, Keeps, IsBlockText, ReadsAs, AreContents};
 ghost use Rattle.reuse_header.specs.Split.{AreCommentBlocks, comment_blocks, IsSplit, IsHeaderBlock, HasNoHeader};
 
-use reuse_notice::{merging_keeps_holders, sets_are_one};
+use reuse_notice::{longest_prefix_counts, merging_keeps_holders, sets_are_one};
 use reuse_text::lines_are_one;
 
 /// The comment blocks of open lines are one answer: the block whose form begins at a line, unless the line
@@ -102,5 +105,21 @@ pub fn written_blocks_are_found()
         → (span : HeaderSpan) × ReadsAs style (edited file edit) (text_start edit) (text_end edit) form info span }
 {
     lines_are_one();
+    sets_are_one();
+}
+
+/// What is read from a header block's or a neighbour's contents reads back, also joined with additions that do, where `S`, the
+/// first letter of the tags, is no punctuation.
+pub fn information_is_sayable()
+    ensures read { (punct : List ℕ) (contents : List (List ℕ)) → is_filler punct 83 ≡ false → All (λ content. without_returns content ≡ content) contents
+        → IsSayable punct (info_of punct contents) }
+    ensures found { (style : Style) (file : List ℕ) (span : HeaderSpan) → option_map (span_in file) (header_of style file) ≡ Some span
+        → IsSayable (punctuation_of style) (info_of (punctuation_of style) span.contents) }
+    ensures neighbours { (file : List ℕ) → IsSayable [] (info_of [] (neighbour_contents file)) }
+    ensures joined { (punct : List ℕ) (info : Info) (additions : Additions) → IsSayable punct info → AreSayable punct additions → IsSayable punct (union_of info additions) }
+    ensures added { (style : Style) (arguments : Arguments) → ArePlain (additions_of arguments)
+        → AreSayable (punctuation_of style) (additions_of arguments) × AreSayable [] (additions_of arguments) }
+{
+    longest_prefix_counts();
     sets_are_one();
 }

@@ -44,7 +44,7 @@ use Rattle.reuse_notice.proofs.SetLemmas.{sorted-set_of}
 use Rattle.reuse_session.specs.Command.{has_root, paths_among}
 use Rattle.reuse_session.specs.Entry.{entry_size}
 use Rattle.reuse_session.specs.declared.command.Command.{Command}
-use Rattle.reuse_session.specs.declared.command.Command.TheVariants.{Annotate, ConvertDep5}
+use Rattle.reuse_session.specs.declared.command.Command.TheVariants.{Annotate, ConvertDep5, Download}
 
 -- ---- refusals
 
@@ -270,38 +270,6 @@ a_plan tree given changes are made fit few =
 pub if_not : {A : Type 0} (b : Bool) (r : Refusal) (rest : Result A Refusal) (x : A) → cond b (Err r) rest ≡ Ok x → rest ≡ Ok x
 if_not true r rest x e = absurd (cc)
 if_not false r rest x e = e
-
--- ---- what was read of a path
-
-absent_is : (file : Option (List ℕ)) (limit : ℕ) → Absent ≡ reading_of file limit → file ≡ None
-absent_is None limit e = refl
-absent_is (Some bytes) limit e = absurd (by_test (nat_le (length bytes) limit) e)
-  where
-    by_test : (b : Bool) → Absent ≡ cond b (Found bytes) TooLong → ⊥
-    by_test true e = absurd (cc)
-    by_test false e = absurd (cc)
-
-pub long_is : (file : Option (List ℕ)) (limit : ℕ) → TooLong ≡ reading_of file limit → (bytes : List ℕ) × (file ≡ Some bytes) × (limit < length bytes)
-long_is None limit e = absurd (cc)
-long_is (Some bytes) limit e = (bytes, refl, by_test (nat_le (length bytes) limit) refl e)
-  where
-    by_test : (b : Bool) → nat_le (length bytes) limit ≡ b → TooLong ≡ cond b (Found bytes) TooLong → limit < length bytes
-    by_test true t e = absurd (cc)
-    by_test false t e = past (length bytes) t
-      where
-        past : (n : ℕ) → nat_le n limit ≡ false → limit < n
-        past n t = grind (arith, nat_tests)
-
-pub found_is : (file : Option (List ℕ)) (limit : ℕ) (bytes : List ℕ) → Found bytes ≡ reading_of file limit → (file ≡ Some bytes) × (length bytes ≤ limit)
-found_is None limit bytes e = absurd (cc)
-found_is (Some other) limit bytes e = by_test (nat_le (length other) limit) refl e
-  where
-    by_test : (b : Bool) → nat_le (length other) limit ≡ b → Found bytes ≡ cond b (Found other) TooLong → (Some other ≡ Some bytes) × (length bytes ≤ limit)
-    by_test true t e = let same : other ≡ bytes = cc in (ap (λ x. Some x) same, subst (λ x. length x ≤ limit) same (small (length other) t))
-      where
-        small : (n : ℕ) → nat_le n limit ≡ true → n ≤ limit
-        small n t = grind (arith, nat_tests)
-    by_test false t e = absurd (cc)
 
 pub some_length : (n : ℕ) → (n ≡ 0 → ⊥) → 0 < n
 some_length zero h = absurd (h refl)

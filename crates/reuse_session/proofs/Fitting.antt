@@ -1,5 +1,5 @@
 -- The edits of an annotation: each at a file of the tree or its neighbour, of distinct paths, none a folder of another.
-use Rattle.std.proofs.Common.{◌≡◌, ◌≢◌, ◌⊎◌, inl, inr, ℕ, ◌+◌, ◌-◌, ◌<◌, ◌≤◌, Bool, true, false, cond, not, ◌||◌, ◌&&◌, ◌==◌, nat_eq, nat_lt, List, [], ◌∷◌, ◌++◌, codes, length, reverse, take, drop, Less, Option, Some, None, IsSome, is_some, is_none, Result, Ok, Err, refl, sym, ap, ap₂, subst, ◌∙◌, arith, length-append, length-drop, drop_at}
+use Rattle.std.proofs.Common.{◌≡◌, ◌≢◌, ◌⊎◌, inl, inr, ℕ, ◌+◌, ◌-◌, ◌<◌, ◌≤◌, Bool, true, false, cond, not, ◌||◌, ◌&&◌, ◌==◌, nat_eq, nat_lt, List, [], ◌∷◌, ◌++◌, codes, length, reverse, take, drop, Less, Option, Some, None, IsSome, is_some, Result, Ok, Err, refl, sym, ap, ap₂, subst, ◌∙◌, arith, length-append, length-drop, drop_at}
 use Rattle.std.specs.Ordering.{nat_cmp}
 use Rattle.std.specs.Cmp.Lexicographic.{slice_cmp, pointwise, nat_list_cmp_total}
 use Rattle.std.specs.List.{AllByRecursion, IsDistinct, list_any, ends_with, suffix_len, prefix_len}
@@ -12,7 +12,8 @@ use Rattle.std.proofs.lemmas.Bool.Decides.{nat_tests}
 use Rattle.std.proofs.lemmas.Cmp.{tied_itself}
 use Rattle.std.proofs.lemmas.List.{drop-drop, reverse-append}
 use Rattle.std.proofs.lemmas.List.Sums.{suffix_len-le-length}
-use Rattle.std.proofs.lemmas.Map.Keys.{IsDistinct-cons, sorted_head, sorted_tail}
+use Rattle.std.proofs.lemmas.Map.Keys.{IsDistinct-cons, IsDistinct-from_sorted, sorted_head, sorted_tail}
+use Rattle.std.proofs.lemmas.Map.Text.{is_eq-slice_cmp}
 use Rattle.std.proofs.lemmas.Slice.Eq.{bytes_eq-Decides}
 use Rattle.reuse_notice.specs.declared.adding.Additions.{Additions}
 use Rattle.reuse_notice.proofs.SetLemmas.{sorted-set_of}
@@ -30,11 +31,11 @@ use Rattle.reuse_session.specs.Clash.{is_clash}
 use Rattle.reuse_session.specs.Command.{has_root, paths_among}
 use Rattle.reuse_session.specs.Covered.{last_part, is_in, is_outside, is_outer_name, has_stem, is_covered}
 use Rattle.reuse_session.specs.Listing.{ArePaths, is_among, is_folder}
-use Rattle.reuse_session.specs.Outcome.{edits_at, edits_of, dep5_path}
+use Rattle.reuse_session.specs.Outcome.{edits_at, edits_of}
 use Rattle.reuse_session.specs.Tree.{is_of_tree}
 use Rattle.reuse_session.specs.Worked.{expanded, worked_paths}
 use Rattle.reuse_session.specs.declared.command.Command.{Command}
-use Rattle.reuse_session.specs.declared.command.Command.TheVariants.{Annotate, ConvertDep5}
+use Rattle.reuse_session.specs.declared.command.Command.TheVariants.{Annotate, ConvertDep5, Download}
 use Rattle.reuse_session.specs.declared.command.Place.TheVariants as place
 use Rattle.reuse_session.specs.declared.command.Scope.{Scope}
 use Rattle.reuse_session.specs.declared.plan_target.Target.{Target}
@@ -42,10 +43,12 @@ use Rattle.reuse_session.specs.declared.plan_target.Target.TheVariants.{Inside, 
 use Rattle.reuse_session.specs.declared.reply.Refusal.{Refusal}
 use Rattle.reuse_session.specs.declared.reply.Refusal.TheVariants as refusals
 use Rattle.reuse_session.proofs.Annotating.{starts_reuse, and_all, refuted, covered_of_tree, first_is, no_edits, all_edits, both_err, if_not}
+use Rattle.reuse_session.proofs.Converting.{conversion_fits}
+use Rattle.reuse_session.proofs.Downloading.{download_fits}
 use Rattle.reuse_session.proofs.EditOrder.{AreDistinct, AreFit}
 use Rattle.reuse_session.proofs.ListingLemmas.{under_from_test, test_from_under}
 use Rattle.reuse_session.proofs.NeighbourLemmas.{good_neighbour}
-use Rattle.reuse_session.proofs.Planning.{paths_at, IsFit}
+use Rattle.reuse_session.proofs.Planning.{paths_at, IsFit, AreEdits}
 use Rattle.reuse_session.proofs.Testing.{clashes_keys}
 
 -- ---- names of neighbours
@@ -340,10 +343,18 @@ module _ (how : How) (scope : Scope) (additions : Additions) (tree : Files) wher
         each = all_edits at (IsFit tree) (λ p e k. is_fit tree are p e (is_placed how scope additions tree p e k)) ps edits h;
       }
 
+-- edits in byte order are of distinct paths
+distinct_of : (paths : List (List ℕ)) → ArePaths paths → IsDistinct bytes_eq paths
+distinct_of paths sorted = subst (λ e. IsDistinct e paths) (λ i x y. is_eq-slice_cmp x y i) (IsDistinct-from_sorted (slice_cmp nat_cmp) paths sorted)
+
+fit_of : (tree : Files) (edits : List Edit) → AreEdits tree edits → AreFit tree edits
+fit_of tree edits are = record { distinct = distinct_of (paths_at edits) are.ascending; apart = are.apart; each = are.each }
+
 -- the edits of a command
 pub command_fits : (command : Command) (tree : Files) → AreFiles tree → (edits : List Edit) → edits_of command tree ≡ Ok edits → AreFit tree edits
 command_fits (Annotate places additions how scope) tree are edits h =
     edits_fit how scope additions tree are (worked_paths scope.recursive places tree) edits
     (if_not (not scope.recursive && has_root places) (refusals.IsFolder place.Root) (edits_at (annotated_at how scope additions tree) (worked_paths scope.recursive places tree)) edits h)
     (sorted-set_of (cond scope.recursive (flat_map (expanded tree) places) (paths_among places)))
-command_fits ConvertDep5 tree are edits h = absurd (both_err (is_none (get tree dep5_path)) refusals.NoDep5 (refusals.NotYet dep5_path) edits h)
+command_fits ConvertDep5 tree are edits h = fit_of tree edits (conversion_fits tree edits h)
+command_fits (Download ids texts) tree are edits h = fit_of tree edits (download_fits ids texts tree edits h)

@@ -1,5 +1,5 @@
 -- A tree and a journal follow the machine of whole trees.
-use Rattle.std.proofs.Common.{◌≡◌, ◌⊎◌, ⊎_elim, ℕ, suc, ◌+◌, ◌<◌, ◌≤◌, true, false, cond, List, [], ◌∷◌, ◌++◌, length, map, reverse, Result, Ok, Err, IsOk, OnOk, refl, sym, ap, subst, ◌∙◌, arith}
+use Rattle.std.proofs.Common.{◌≡◌, ◌⊎◌, ⊎_elim, ℕ, suc, ◌+◌, ◌<◌, ◌≤◌, true, false, cond, List, [], ◌∷◌, ◌++◌, length, map, reverse, Result, Ok, Err, IsOk, OnOk, IfErr, refl, sym, ap, subst, ◌∙◌, arith}
 use Rattle.std.specs.List.{AllByRecursion}
 use Rattle.std.proofs.lemmas.Bool.{false≢true}
 use Rattle.std.proofs.lemmas.Bool.Decides.{nat_tests}
@@ -19,7 +19,7 @@ use Rattle.reuse_tree.specs.declared.fault.StoreFault.{StoreFault}
 use Rattle.reuse_tree.specs.declared.fault.StoreFault.TheVariants as faults
 use Rattle.reuse_session.specs.declared.reply.Cause.{Cause}
 use Rattle.reuse_session.specs.declared.reply.Cause.TheVariants as causes
-use Rattle.reuse_session.specs.Answer.{IsNoMemory, IsNoWantOfMemory, IsTestRefusal, IsNoClash}
+use Rattle.reuse_session.specs.Answer.{IsNoMemory, IsNoWantOfMemory, IsNoFailure, TellsNoFailure, HasCause, IsTestRefusal, IsNoClash}
 use Rattle.reuse_session.specs.Command.{name_of}
 use Rattle.reuse_session.specs.Outcome.{outcome_of}
 use Rattle.reuse_session.specs.Entry.{paths_of, IsEntry, LeadsBy, LeadsAll}
@@ -224,6 +224,30 @@ names_path (Fault faults.Memory) h enough device clash = absurd h
 names_path refusal h enough device clash = absurd h
 
 -- a walk that can stop for the device and for memory alone, where neither gave way
+pub no_device : (cause : Cause) → IsNoFailure (Interrupted cause) → cause ≡ causes.Device → ⊥
+no_device causes.Device told e = told
+no_device causes.Memory told e = cc
+no_device causes.Moved told e = cc
+no_device causes.Clash told e = cc
+
+pub no_failure : (refusal : Refusal) → IsNoFailure refusal → refusal ≡ Fault faults.Device → ⊥
+no_failure refusal told e = subst IsNoFailure e told
+
+no_rise : (before after : ℕ) (refusal : Refusal) → HasCause (before < after) refusal → after ≡ before → IsNoFailure refusal
+no_rise before after (Fault faults.Device) cause same = omega arith
+no_rise before after (Fault faults.Clash) cause same = tt
+no_rise before after (Fault faults.Memory) cause same = tt
+no_rise before after (Interrupted causes.Device) cause same = omega arith
+no_rise before after (Interrupted causes.Clash) cause same = tt
+no_rise before after (Interrupted causes.Memory) cause same = tt
+no_rise before after (Interrupted causes.Moved) cause same = tt
+no_rise before after _ cause same = tt
+
+-- where the failures stay, no answer tells of one
+pub still_no_failure : {A : Type 0} (before after : ℕ) (result : Result A Refusal) → IfErr result (HasCause (before < after)) → after ≡ before → TellsNoFailure result
+still_no_failure before after (Ok reply) cause same = tt
+still_no_failure before after (Err refusal) cause same = no_rise before after refusal cause same
+
 pub no_cause : (cause : Cause) → IsNoMemory (Interrupted cause) → (cause ≡ causes.Device → ⊥) → (cause ≡ causes.Moved → ⊥) → (cause ≡ causes.Clash → ⊥) → ⊥
 no_cause causes.Memory enough device moved clash = enough
 no_cause causes.Device enough device moved clash = device refl

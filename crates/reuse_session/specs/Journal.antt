@@ -34,7 +34,8 @@ pub record State : Type 0 where
   pub tree : Files
   pub journal : Journal
 
--- Each change of the step can be made this way, and they are made. Or the first that can't be names the refusal, and nothing changes.
+-- Each change of the step can be made this way, and they are made. Or the first that can't be names the refusal, and
+-- nothing changes.
 abbrev pub Goes : Way → Recorded → (List (List ℕ) → Reply) → Journal → State → Result Reply Refusal → State → Type 0
 Goes way step reply moved old (Ok given) new =
     (given ≡ reply (paths_of step.changes)) × All (CanBeMade way old.tree) step.changes × LeadsBy way step.changes old.tree new.tree × (new.journal ≡ moved)

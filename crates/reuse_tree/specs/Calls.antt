@@ -1,5 +1,6 @@
 -- The calls of a store with their answers.
-use Rattle.std.specs.Prelude.{ℕ, ◌+◌, Bool, List, [], ◌∷◌, Result, Ok, Err}
+use Rattle.std.specs.Prelude.{ℕ, zero, suc, ◌+◌, Bool, false, List, [], ◌∷◌, length, Result, Ok, Err}
+use Rattle.reuse_tree.specs.Files.{Files}
 use Rattle.reuse_tree.specs.Store.{counted}
 use Rattle.reuse_tree.specs.declared.fault.StoreFault.{StoreFault}
 use Rattle.reuse_tree.specs.declared.fault.StoreFault.TheVariants.{Device, Clash, Memory}
@@ -11,6 +12,21 @@ pub data Call : Type 0 where
   ReadCall : (path : List ℕ) (limit : ℕ) (answer : Result Reading StoreFault) → Call
   PutCall : (path bytes : List ℕ) (answer : Result (Unit {0}) StoreFault) (took : Bool) → Call
   RemoveCall : (path : List ℕ) (answer : Result (Unit {0}) StoreFault) (took : Bool) → Call
+
+-- what nobody can know of a store at its start: its files, and of each call that is to come whether it takes effect
+-- if it is a put or a removal that fails; a call behind the end of the list doesn't
+pub record Start : Type 0 where
+  pub files : Files
+  pub fates : List Bool
+
+abbrev fate_at : List Bool → ℕ → Bool
+fate_at [] n = false
+fate_at (fate ∷ fates) zero = fate
+fate_at (fate ∷ fates) (suc n) = fate_at fates n
+
+-- the fate of the call that comes after these
+abbrev pub took_effect : List Bool → List Call → Bool
+took_effect fates calls = fate_at fates (length calls)
 
 -- one where the call answered a device fault
 abbrev pub failure_of : {T : Type 0} → Result T StoreFault → ℕ

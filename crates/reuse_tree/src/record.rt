@@ -2,10 +2,10 @@
 ghost use Rattle.std.specs.Prelude.{◌≡◌, Bool, List, [], ◌∷◌};
 ghost use Rattle.std.specs.Borrow.{ftrue};
 ghost use Rattle.std.specs.FinMap as map;
-ghost use Rattle.std.specs.Coded.{coded_list, coded_ℕ};
+ghost use Rattle.std.specs.Coded.{coded_list, coded_ℕ, coded_bool};
 ghost use Rattle.reuse_tree.specs.Files.{Files};
 ghost use Rattle.std.specs.Result.{result_map_both};
-ghost use Rattle.reuse_tree.specs.Calls.{Call};
+ghost use Rattle.reuse_tree.specs.Calls.{Call, Start, took_effect};
 ghost use Rattle.reuse_tree.specs.Calls.Call.{ListCall, ReadCall, PutCall, RemoveCall};
 ghost use Rattle.reuse_tree.specs.CallParts.{call_of};
 
@@ -27,12 +27,14 @@ enum CallKind {
     RemoveFailed(StoreFault),
 }
 
-/// The files that a store had at the start, which no contract tells, and the calls since then with
-/// their answers, the newest first. It takes no bytes, and nothing runs.
+/// The files that a store had at the start, which of the calls that fail take effect, and the calls
+/// since then with their answers, the newest first. It takes no bytes, and nothing runs. No code can know
+/// the first two: they are given as ghost values, and the contract holds at every one.
 #[derive(Drop)]
 pub struct CallRecord {
     marker: PhantomData<u8>,
     pub ghost start: { Files } by { map.code (coded_list coded_ℕ) (coded_list coded_ℕ) },
+    pub ghost fates: { List Bool } by { coded_list coded_bool },
     pub ghost calls: { List Call },
 }
 
@@ -41,9 +43,10 @@ impl Model for CallRecord {
 }
 
 impl CallRecord {
-    /// A record of no calls.
+    /// A record of no calls, with any files at the start and any fates of the calls that will fail.
     pub fn new() -> CallRecord
-        ensures { result.calls ≡ [] }
+        ghost start: { Start }
+        ensures { (result.start ≡ start.files) × (result.fates ≡ start.fates) × (result.calls ≡ []) }
     {
         CallRecord {
             marker: PhantomData,
@@ -75,9 +78,9 @@ impl CallRecord {
         }
     }
 
-    /// Notes a call of `put` and its answer. Whether one that failed took effect is left open.
+    /// Notes a call of `put` and its answer. Whether one that failed took effect is its fate.
     pub fn note_put(&mut self, path: &PathText, bytes: &[u8], answer: &Result<(), StoreFault>)
-        ensures { (took : Bool) × (self.new ≡ record self.old { calls = PutCall path.now bytes.now answer.now took ∷ self.old.calls }) }
+        ensures { self.new ≡ record self.old { calls = PutCall path.now bytes.now answer.now (took_effect self.old.fates self.old.calls) ∷ self.old.calls } }
     {
         match answer {
             Ok(()) => self.note(&CallKind::Put, path.as_bytes(), bytes, 0, &[]),
@@ -85,9 +88,9 @@ impl CallRecord {
         }
     }
 
-    /// Notes a call of `remove` and its answer. Whether one that failed took effect is left open.
+    /// Notes a call of `remove` and its answer. Whether one that failed took effect is its fate.
     pub fn note_remove(&mut self, path: &PathText, answer: &Result<(), StoreFault>)
-        ensures { (took : Bool) × (self.new ≡ record self.old { calls = RemoveCall path.now answer.now took ∷ self.old.calls }) }
+        ensures { self.new ≡ record self.old { calls = RemoveCall path.now answer.now (took_effect self.old.fates self.old.calls) ∷ self.old.calls } }
     {
         match answer {
             Ok(()) => self.note(&CallKind::Removed, path.as_bytes(), b"", 0, &[]),
@@ -101,7 +104,7 @@ impl CallRecord {
         }
     }
 
-    // Notes a call by the parts that its kind has. Whether a failing one took effect is left open.
+    // Notes a call by the parts that its kind has.
     fn note(
         &mut self,
         _kind: &CallKind,
@@ -110,8 +113,8 @@ impl CallRecord {
         _limit: usize,
         _paths: &[PathText],
     )
-        ensures { (took : Bool) × (self.new ≡ record self.old {
-          calls = call_of _kind.now _path.now _bytes.now _limit _paths.now took ∷ self.old.calls;
-        }) }
+        ensures { self.new ≡ record self.old {
+          calls = call_of _kind.now _path.now _bytes.now _limit _paths.now (took_effect self.old.fates self.old.calls) ∷ self.old.calls;
+        } }
     {}
 }

@@ -1,7 +1,7 @@
 // A store of files, as the code above asks it, path by path.
-ghost use Rattle.std.specs.Prelude.{◌≡◌, ◌≢◌, ℕ, ◌+◌, ◌<◌, ◌≤◌, IfOk, IfErr, OnOk, IsErrOf};
+ghost use Rattle.std.specs.Prelude.{◌≡◌, ◌≢◌, ℕ, ◌+◌, ◌<◌, ◌≤◌, MatchResult, IfOk, IfErr, OnOk, IsErrOf};
 ghost use Rattle.std.specs.FinMap as map;
-ghost use Rattle.reuse_tree.specs.Files.{Files, AreFiles};
+ghost use Rattle.reuse_tree.specs.Files.{Files, Clashes, AreFiles};
 
 use crate::{PathText, StoreFault};
 use reuse_text::Bytes;
@@ -33,12 +33,14 @@ pub trait Store {
     ghost written: { Self → ℕ };
 
     /// So far nobody else has written the files, and what was read is what was written. A call can
-    /// lose this, and never gain it.
+    /// lose this, and never gain it; one that is answered as these files ask keeps it. A put or a
+    /// removal that the device or want of memory failed may have lost it.
     ghost honest: { Self → Type 0 };
 
     /// All paths, in byte order.
     fn list(&mut self, alloc: Global) -> Result<Vec<PathText>, StoreFault>
         ensures was_honest { honest self.new → honest self.old }
+        ensures kept { honest self.old → MatchResult result (λ paths. paths.items ≡ map.keys (files self.old) → honest self.new) (λ fault. fault ≢ StoreFault.Clash → honest self.new) }
         ensures paths { honest self.new → IfOk result (λ paths. paths.items ≡ map.keys (files self.old)) }
         ensures files { honest self.new → files self.new ≡ files self.old }
         ensures no_clash { honest self.new → result ≢ Err StoreFault.Clash }
@@ -49,6 +51,7 @@ pub trait Store {
     /// What the path holds, if it is no longer than the limit in bytes.
     fn read(&mut self, alloc: Global, path: &PathText, limit: usize) -> Result<Reading, StoreFault>
         ensures was_honest { honest self.new → honest self.old }
+        ensures kept { honest self.old → MatchResult result (λ reading. reading ≡ reading_of (map.get (files self.old) path.now) limit → honest self.new) (λ fault. fault ≢ StoreFault.Clash → honest self.new) }
         ensures reading { honest self.new → IfOk result (λ reading. reading ≡ reading_of (map.get (files self.old) path.now) limit) }
         ensures files { honest self.new → files self.new ≡ files self.old }
         ensures no_clash { honest self.new → result ≢ Err StoreFault.Clash }
@@ -59,6 +62,7 @@ pub trait Store {
     /// Makes the path's file these bytes, and folders as needed.
     fn put(&mut self, alloc: Global, path: &PathText, bytes: &[u8]) -> Result<(), StoreFault>
         ensures was_honest { honest self.new → honest self.old }
+        ensures kept { honest self.old → MatchResult result (λ _. ¬ (Clashes (files self.old) path.now) → honest self.new) (λ fault. fault ≡ StoreFault.Clash → Clashes (files self.old) path.now → honest self.new) }
         ensures ok { honest self.new → OnOk result (Puts path.now bytes.now (files self.old) (files self.new)) }
         ensures err { honest self.new → IfErr result (λ fault. PutFails fault path.now bytes.now (files self.old) (files self.new)) }
         ensures device { IsErrOf result StoreFault.Device → failures self.old < failures self.new }
@@ -68,6 +72,7 @@ pub trait Store {
     /// Removes the path's file, if there is one.
     fn remove(&mut self, alloc: Global, path: &PathText) -> Result<(), StoreFault>
         ensures was_honest { honest self.new → honest self.old }
+        ensures kept { honest self.old → OnOk result (honest self.new) }
         ensures ok { honest self.new → OnOk result (files self.new ≡ map.remove (files self.old) path.now) }
         ensures err { honest self.new → IfErr result (λ fault. RemoveFails fault path.now (files self.old) (files self.new)) }
         ensures device { IsErrOf result StoreFault.Device → failures self.old < failures self.new }

@@ -4,7 +4,7 @@ use Rattle.reuse_header.specs.Neighbour.{neighbour_annotation_of}
 use Rattle.reuse_header.specs.Splices.{IsDue, answer_of}
 use Rattle.reuse_session.specs.Annotate.{neighbour_is_tagged, edit_by}
 use Rattle.reuse_session.specs.Plan.{AnswersEdit}
-use Rattle.reuse_session.proofs.Annotating.{found_is}
+use Rattle.reuse_session.proofs.ReadingLemmas.{found_is}
 use Rattle.reuse_session.proofs.EditLemmas.{fits_by, neighbour_is}
 use Rattle.reuse_session.proofs.plan_place.plan_neighbour.Goals as goal
 use Rattle.reuse_session.proofs.plan_place.plan_neighbour.Goals.{else-scope-via-then-scope+else-neighbour_has_tag, else-scope-via-else-scope}

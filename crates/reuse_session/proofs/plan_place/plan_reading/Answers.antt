@@ -11,7 +11,7 @@ use Rattle.reuse_session.specs.declared.plan_target.Target.TheVariants.{Inside}
 use Rattle.reuse_session.specs.declared.plan_place.Step.{Step}
 use Rattle.reuse_session.specs.declared.plan_place.Step.TheVariants.{Done, Beside}
 use Rattle.reuse_session.specs.declared.reply.Refusal.{Refusal}
-use Rattle.reuse_session.proofs.Annotating.{found_is}
+use Rattle.reuse_session.proofs.ReadingLemmas.{found_is}
 use Rattle.reuse_session.proofs.plan_place.plan_reading.Goals as goal
 
 some_is : (x y : List ℕ) → Some x ≡ Some y → x ≡ y

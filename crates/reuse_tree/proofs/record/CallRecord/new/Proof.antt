@@ -1,7 +1,6 @@
--- A struct of no bytes is made, with no files and no calls as its ghost values.
+-- A struct of no bytes is made, with the start and no calls as its ghost values.
 use Rattle.std.proofs.Common.{[], ◌∷◌, refl}
 use Rattle.std.proofs.raw_atomic.Walks.{proved}
-use Rattle.std.specs.FinMap.{empty}
 use mir.Val.{Val, vstruct, vcons, vnil}
 use types.Kit.{raw, ◌$◌, ◌∵◌, !, qed, drop, join, suffices, done}
 use types.Run.{enter, no_more, and_then, returns}
@@ -11,14 +10,15 @@ use denote.Shadow.{pure_i}
 use denote.Steps.{nothing}
 use denote.Triple.Entry.{on_entry}
 use denote.Triple.Walked.{says, ends_at}
+use Rattle.reuse_tree.specs.Calls.{Start}
 use Rattle.reuse_tree.specs.declared.record.CallRecord.{CallRecord}
 use Rattle.reuse_tree.specs.contracts.record.CallRecord.{the_row as R}
 use Rattle.reuse_tree.specs.contracts.record.CallRecord.new as f
 use Rattle.reuse_tree.proofs.record.CallRecord.new.Statement.{statement}
 use Rattle.reuse_tree.proofs.record.CallRecord.new.Code as code
 
-abbrev made : CallRecord
-made = record { marker = record {}; start = empty; calls = [] }
+abbrev made : Start → CallRecord
+made start = record { marker = record {}; start = start.files; fates = start.fates; calls = [] }
 
 abbrev stored : Val
 stored = vstruct (vcons (vstruct vnil) vnil)
@@ -33,6 +33,6 @@ new_spec 𝓤 𝓛 𝓜 𝓡 wired =
     enter ! _ _ _ _ _ $ alloc_all ! (λ l. pass_all ! refl tt $
     sets ! (agg ! (no_more !)) refl (tt, tt) $ sets ! (agg ! (and_then ! (get ! refl) (no_more !))) refl (tt, (tt, tt)) $
     returns ! (look_at ! 0 refl) $ free_all ! refl $
-    pure_i ! (R.own_val made (stored ∷ [])) ((λ vss. (tt, ((λ uss. (tt, tt)), tt))), tt) (((vstruct vnil ∷ [], tt), (refl, ((tt, (refl, tt)), tt))), tt) $
-    suffices ! _ (ends_at 𝓛 f.ended tt c ((κs, qs, bounds, a, tt), g) stored made tt tt) $ says ! refl $
+    pure_i ! (R.own_val (made g) (stored ∷ [])) ((λ vss. (tt, ((λ uss. (tt, tt)), tt))), tt) (((vstruct vnil ∷ [], tt), (refl, ((tt, (refl, tt)), tt))), tt) $
+    suffices ! _ (ends_at 𝓛 f.ended tt c ((κs, qs, bounds, a, tt), g) stored (made g) tt tt) $ says ! (refl, refl, refl) $
     nothing ! $ join ! $ nothing ! $ done !))

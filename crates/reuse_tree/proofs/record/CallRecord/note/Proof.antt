@@ -1,5 +1,5 @@
 -- An empty body: the borrow is opened, and closed at the record with one call more.
-use Rattle.std.proofs.Common.{List, [], ◌∷◌, false, refl}
+use Rattle.std.proofs.Common.{List, [], ◌∷◌, refl}
 use Rattle.std.proofs.raw_atomic.Walks.{proved}
 use mir.Syntax.{named, w64}
 use mir.Val.{Val, vunit, vptr}
@@ -17,6 +17,7 @@ use denote.Signature.{plain, types_at}
 use denote.Slice.{shr_slice_vals, shr_slice_Tells}
 use denote.Steps.{opens, closes}
 use denote.Triple.Walked.{says, Stays, stay_ref, stay_none_ref, stay_none_slice, stay_none, Goes-ref, Goes-none_ref, Goes-none_slice, Goes-none, walk_of, ends_at}
+use Rattle.reuse_tree.specs.Calls.{took_effect}
 use Rattle.reuse_tree.specs.CallParts.{call_of}
 use Rattle.reuse_tree.specs.declared.record.CallRecord.{CallRecord}
 use Rattle.reuse_tree.specs.contracts.record.CallRecord.{the_row as R}
@@ -57,7 +58,7 @@ note_spec 𝓤 𝓛 𝓜 𝓡 wired =
     (λ κs. (mut_Tells (named 0) κs.0 R, (shr_Tells (named 1) κs.1.0 K, (shr_slice_Tells (named 2) κs.1.1.0 u8, (shr_slice_Tells (named 3) κs.1.1.1.0 u8, (uint_Tells w64, (shr_slice_Tells (named 4) κs.1.1.1.1.0 P, tt)))))))
     (λ κs qs bounds a _ are.
     let b = a.0.ref_ptr.0 in let o = a.0.ref_ptr.1 in let h = a.0.now in
-    let noted : CallRecord = record h { calls = call_of a.1.0.now a.1.1.0.now a.1.1.1.0.now a.1.1.1.1.0 a.1.1.1.1.1.0.now false ∷ h.calls } in
+    let noted : CallRecord = record h { calls = call_of a.1.0.now a.1.1.0.now a.1.1.1.0.now a.1.1.1.1.0 a.1.1.1.1.1.0.now (took_effect h.fates h.calls) ∷ h.calls } in
     let y : W.Ghost = ((κs, qs, bounds, a, (mut_vals a.0, (shr_vals a.1.0, (shr_slice_vals a.1.1.0, (shr_slice_vals a.1.1.1.0, (uint_vals w64 a.1.1.1.1.0, (shr_slice_vals a.1.1.1.1.1.0, tt))))))), tt) in
     let others : Item 𝓤 = ‵ (flft κs.1.0 qs.1.0) ⊛ (‵ (flft κs.1.1.0 qs.1.1.0) ⊛ (‵ (flft κs.1.1.1.0 qs.1.1.1.0) ⊛ (‵ (flft κs.1.1.1.1.0 qs.1.1.1.1.0) ⊛ ‵ ftrue))) in
     qed 𝓛 (((‵ (flft κs.0 qs.0) ⊛ others) ⊛ ‵ (owns (types_at f.signature.params κs) a y.0.4)) ∷ ‵ ftrue ∷ []) ∵
@@ -70,6 +71,6 @@ note_spec 𝓤 𝓛 𝓜 𝓡 wired =
     move ! (1 ∷ []) $ use1 𝓛 (‵ (R.own_val noted vs)) (id⊢ 𝓤 _) $ move ! (1 ∷ 0 ∷ []) $ closes ! tt R noted vs b o $
     returns ! (look_at ! 0 refl) $ free_all ! refl $ keep ! (0 ∷ 1 ∷ 2 ∷ 3 ∷ 4 ∷ []) $
     suffices ! _ (ends_at 𝓛 f.ended stayed c y vunit tt (noted, (tt, (tt, (tt, (tt, (tt, tt)))))) (tt, (tt, (tt, (tt, (tt, (tt, tt))))))) $
-    says ! (false, refl) $
+    says ! refl $
     move ! (2 ∷ 4 ∷ []) $ join ! $ frame ! $ feq_i ! (List Val) (vptr b o ∷ []) (vptr b o ∷ []) refl $ fjoin3 ! $ fjoin ! $
     feq_i ! (List Val) (vunit ∷ []) (vunit ∷ []) refl $ move ! (1 ∷ 0 ∷ []) $ done !)))

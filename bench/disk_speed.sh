@@ -1,0 +1,58 @@
+#!/usr/bin/env bash
+# Lists, reads and rewrites a tree of files through DiskStore, beside `cp -r` of the same tree, on a
+# tmpfs. Prints the least time of five rounds and the ratios to `cp -r`. The program is built in a
+# temporary folder, from the modules of crates/reuse_undo and bench/disk_speed/program.txt.
+# usage: bench/disk_speed.sh [FILES]
+set -euo pipefail
+
+top=$(cd "$(dirname "$0")/.." && pwd)
+files=${1:-20000}
+build=$(mktemp -d)
+tree=$(mktemp -d /dev/shm/disk_speed.XXXXXX)
+trap 'rm -rf "$build" "$tree"' EXIT
+
+crate=$build/crates/reuse_undo
+mkdir -p "$build/crates"
+cp -r "$top/crates/reuse_text" "$top/crates/reuse_tree" "$top/crates/reuse_undo" "$build/crates/"
+cp "$top/HANDLES" "$build/"
+grep -E '^reuse_(text|tree):' "$top/crates.txt" > "$build/crates.txt"
+echo 'reuse_undo: reuse_text reuse_tree thiserror' >> "$build/crates.txt"
+find "$crate/src" -mindepth 1 -maxdepth 1 ! -name disk ! -name disk.rt -exec rm -rf {} +
+rm -rf "$crate/proofs" "$crate/data" "$crate/specs/Lines.antt"
+sed -i '/Lines/d' "$crate/specs/Lib.antt"
+cp "$top/bench/disk_speed/program.txt" "$crate/src/main.rt"
+(cd "$crate" && rt run -- list /nowhere) > "$build/log" 2>&1 || { tail -20 "$build/log"; exit 1; }
+program=$crate/out/reuse_undo
+
+# 100 files a folder, of 0.4 to 7 kB
+text=
+for size in {1..16}; do
+  for line in {1..16}; do text+="line = $size  # number $line"$'\n'; done
+  texts[size]=$text
+done
+for ((k = 0; k < files; k++)); do
+  folder=$tree/in/package$((k / 1000))/module$((k / 100 % 10))
+  ((k % 100)) || mkdir -p "$folder"
+  printf %s "${texts[k % 16 + 1]}" > "$folder/file$((k % 100)).py"
+done
+
+declare -A least
+measure() {
+  local name=$1 start end
+  shift
+  start=${EPOCHREALTIME/./}
+  "$@" > /dev/null
+  end=${EPOCHREALTIME/./}
+  if [[ -z ${least[$name]:-} || $((end - start)) -lt ${least[$name]} ]]; then least[$name]=$((end - start)); fi
+}
+for round in {1..5}; do
+  rm -rf "$tree/out"
+  measure cp cp -r "$tree/in" "$tree/out"
+  for what in list read rewrite; do measure $what "$program" $what "$tree/in"; done
+done
+
+echo "$files files, $(du -sm --apparent-size "$tree/in" | cut -f1) MB"
+for name in cp list read rewrite; do
+  awk -v name=$name -v time="${least[$name]}" -v copy="${least[cp]}" \
+    'BEGIN { printf "%-8s %.3f s  %.2f of cp -r\n", name, time / 1e6, time / copy }'
+done

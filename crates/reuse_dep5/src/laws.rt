@@ -1,0 +1,55 @@
+//! Laws of what the contracts speak of: each holds of the definitions alone.
+ghost use Rattle.std.specs.Prelude.{◌≡◌, ◌≢◌, ◌↔◌, ◌⊎◌, ◌≤◌, List, ℕ, length, true, Some, Ok, Err};
+ghost use Rattle.std.specs.Str.{chars, all_scalars, IsUtf8};
+ghost use Rattle.reuse_dep5.specs.SourceText.{NumberedLine, dep5_lines, paragraphs};
+ghost use Rattle.reuse_dep5.specs.Fields.{value_of};
+ghost use Rattle.reuse_dep5.specs.PatternText.{words_of};
+ghost use Rattle.reuse_dep5.specs.LastMatch.{EachPasses};
+ghost use Rattle.toml.specs.Data.{Members};
+ghost use Rattle.reuse_dep5.specs.Dep5.{Dep5Value, paragraphs_of, dep5_of};
+ghost use Rattle.reuse_dep5.specs.Grammar.{IsGrammatical, IsFirstFault};
+ghost use Rattle.reuse_dep5.specs.GlobText.{glob_text, read_glob, glob_literals, HasRunsApart};
+ghost use Rattle.reuse_dep5.specs.ReadBack.{table_of};
+ghost use Rattle.reuse_dep5.specs.ReuseToml.{IsReuseToml, IsTomlRefusal};
+ghost use Rattle.reuse_dep5.specs.SameData.{same_members};
+ghost use Rattle.reuse_dep5.specs.Conversion.{converted};
+
+use crate::glob::GlobPiece;
+use crate::refusal::{Dep5Cause, Dep5Refusal};
+
+/// Paragraphs are read as a dep5 exactly where they are grammatical, and else refused by their first fault.
+pub fn dep5_is_grammatical()
+    ensures accepted { (ps : List (List NumberedLine)) → ((dep5 : Dep5Value) × (paragraphs_of ps ≡ Ok dep5)) ↔ IsGrammatical ps }
+    ensures refused { (ps : List (List NumberedLine)) (e : Dep5Refusal) → paragraphs_of ps ≡ Err e
+        → (number : ℕ) × (cause : Dep5Cause) × (Dep5Refusal.BadDep5 number cause ≡ e) × IsFirstFault ps number cause }
+{}
+
+/// Each line of each value of a UTF-8 text, and each word of it, is UTF-8. So a word is refused for a backslash alone.
+pub fn values_are_text()
+    ensures lines { (bytes : List ℕ) → IsUtf8 bytes
+        → EachPasses (λ (p : List NumberedLine). (name : List ℕ) → EachPasses (λ (l : NumberedLine). IsUtf8 l.content) (value_of name p)) (paragraphs (dep5_lines bytes)) }
+    ensures words { (bytes : List ℕ) → IsUtf8 bytes
+        → EachPasses (λ (p : List NumberedLine). (name : List ℕ) → EachPasses (λ (w : NumberedLine). IsUtf8 w.content) (words_of (value_of name p))) (paragraphs (dep5_lines bytes)) }
+{
+    reuse_text::lines_are_one();
+}
+
+/// The text of a glob, read as a glob again, is that glob, where no `*` stands directly before another run.
+pub fn glob_text_is_read_back()
+    ensures { (glob : List GlobPiece) → HasRunsApart glob → all_scalars (glob_literals glob) ≡ true
+        → read_glob (chars (glob_text glob)) ≡ Some glob }
+{}
+
+/// A table passes the test against the stated table of a dep5 exactly where it is that table.
+pub fn stated_tables_are_known()
+    ensures { (members : Members) (dep5 : Dep5Value) → (same_members members (table_of dep5) ≡ true) ↔ (members ≡ table_of dep5) }
+{}
+
+/// Bytes convert to a text exactly where they are a dep5 and the text is its `REUSE.toml`, which has at most 16 MiB. They are
+/// refused exactly as the dep5 or its text is, and never for want of memory.
+pub fn conversions_are_stated()
+    ensures text { (bytes text : List ℕ) → (converted bytes ≡ Ok text) ↔ ((dep5 : Dep5Value) × (dep5_of bytes ≡ Ok dep5) × IsReuseToml dep5 text) }
+    ensures fits { (bytes text : List ℕ) → converted bytes ≡ Ok text → length text ≤ 16_777_216 }
+    ensures refused { (bytes : List ℕ) (e : Dep5Refusal) → (converted bytes ≡ Err e)
+        ↔ ((e ≢ Dep5Refusal.Memory) × ((dep5_of bytes ≡ Err e) ⊎ ((dep5 : Dep5Value) × (dep5_of bytes ≡ Ok dep5) × IsTomlRefusal dep5 e))) }
+{}

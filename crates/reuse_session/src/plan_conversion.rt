@@ -1,0 +1,138 @@
+// Plans a conversion: a `REUSE.toml` in the place of `.reuse/dep5`.
+ghost use Rattle.std.specs.Prelude.{◌≡◌, ◌<◌, ◌≤◌, IfOk, IfErr, Ok, Some, false, length, [], ◌∷◌};
+ghost use Rattle.std.specs.FinMap.{get, keys};
+ghost use Rattle.reuse_tree.specs.Files.{Files, tree_of};
+ghost use Rattle.reuse_tree.specs.Store.{reading_of};
+ghost use Rattle.reuse_tree.specs.declared.fault.StoreFault.TheVariants as faults;
+ghost use Rattle.reuse_tree.specs.declared.change.Change.TheVariants.{Drop, Make};
+ghost use Rattle.reuse_session.specs.Answer.{IsEarly};
+ghost use Rattle.reuse_session.specs.Refused.{IsNoFault, dep5_refusal};
+ghost use Rattle.reuse_session.specs.Listing.{is_among};
+ghost use Rattle.reuse_session.specs.Conversion.{dep5_path, toml_path, conversion_edits};
+ghost use Rattle.reuse_dep5.specs.Conversion.{converted};
+ghost use Rattle.reuse_session.specs.Plan.{AnswersEdits};
+
+use crate::clash::is_clash;
+use crate::listing::{is_among, tree_paths};
+use crate::reply::Refusal;
+use reuse_dep5::{Dep5Refusal, convert_dep5};
+use reuse_text::Bytes;
+use reuse_tree::{Change, PathText, Reading, Store};
+use std::alloc::{AllocError, Global};
+
+const LONGEST_FILE: usize = 16_777_216;
+
+/// The changes of a conversion, or its first refusal.
+pub(crate) fn plan_conversion<S: Store>(
+    alloc: Global,
+    store: &mut S,
+) -> Result<Vec<Change>, Refusal>
+    ensures edits { S.honest store.new → AnswersEdits (tree_of (S.files store.old)) (conversion_edits (tree_of (S.files store.old))) result }
+    ensures files { S.honest store.new → S.files store.new ≡ S.files store.old }
+    ensures device { result ≡ Err (Refusal.Fault faults.Device) → S.failures store.old < S.failures store.new }
+    ensures clash { S.honest store.new → result ≡ Err (Refusal.Fault faults.Clash) → ⊥ }
+    ensures memory { result ≡ Err (Refusal.Fault faults.Memory) → ⊥ }
+    ensures failures { S.failures store.old ≤ S.failures store.new }
+    ensures written { S.written store.new ≡ S.written store.old }
+    ensures was_honest { S.honest store.new → S.honest store.old }
+    ensures early { IfErr result IsEarly }
+{
+    let dep5 = known_path(alloc, ".reuse/dep5")?;
+    let paths = tree_paths(alloc, store)?;
+    let reading = store.read(alloc, &dep5, LONGEST_FILE)?;
+    conversion_of(alloc, &paths, dep5, reading)
+}
+
+// A path that is known to be a good one.
+fn known_path(alloc: Global, text: &str) -> Result<PathText, AllocError>
+    ensures { IfOk result (λ path. path ≡ text.now) }
+{
+    match PathText::new(alloc, text) {
+        Ok(path) => Ok(path),
+        Err(_) => Err(AllocError),
+    }
+}
+
+// The changes of a conversion, given what was read of the dep5, on the tree that has these paths.
+fn conversion_of(
+    alloc: Global,
+    paths: &[PathText],
+    dep5: PathText,
+    reading: Reading,
+) -> Result<Vec<Change>, Refusal>
+    ensures edits { (tree : Files) → paths.now ≡ keys tree → dep5 ≡ dep5_path → reading ≡ reading_of (get tree dep5_path) 16_777_216
+        → AnswersEdits tree (conversion_edits tree) result }
+    ensures no_fault { IfErr result IsNoFault }
+{
+    match reading {
+        Reading::Absent => Err(Refusal::NoDep5),
+        Reading::TooLong => Err(Refusal::TooLong(dep5)),
+        Reading::Found(bytes) => replacement(alloc, paths, dep5, bytes),
+    }
+}
+
+// The changes that put a `REUSE.toml` in the place of the dep5 of these bytes.
+fn replacement(
+    alloc: Global,
+    paths: &[PathText],
+    dep5: PathText,
+    bytes: Bytes,
+) -> Result<Vec<Change>, Refusal>
+    ensures edits { (tree : Files) → paths.now ≡ keys tree → dep5 ≡ dep5_path → get tree dep5_path ≡ Some bytes → length bytes ≤ 16_777_216
+        → AnswersEdits tree (conversion_edits tree) result }
+    ensures no_fault { IfErr result IsNoFault }
+{
+    let toml = known_path(alloc, "REUSE.toml")?;
+    if is_among(paths, toml.as_bytes()) {
+        return Err(Refusal::Exists(toml));
+    }
+    let converted = convert_dep5(alloc, bytes.as_slice());
+    match converted {
+        Ok(text) => changes_to(alloc, paths, dep5, bytes, toml, Bytes::from_vec(text)),
+        Err(refusal) => Err(of_dep5(refusal)),
+    }
+}
+
+// The changes that put this text in the place of the dep5.
+fn changes_to(
+    alloc: Global,
+    paths: &[PathText],
+    dep5: PathText,
+    old: Bytes,
+    toml: PathText,
+    new: Bytes,
+) -> Result<Vec<Change>, Refusal>
+    ensures edits { (tree : Files) → paths.now ≡ keys tree → dep5 ≡ dep5_path → toml ≡ toml_path → get tree dep5_path ≡ Some old → length old ≤ 16_777_216
+        → is_among paths.now toml_path ≡ false → converted old ≡ Ok new → length new ≤ 16_777_216 → AnswersEdits tree (conversion_edits tree) result }
+    ensures no_fault { IfErr result IsNoFault }
+{
+    if is_clash(alloc, paths, &toml)? {
+        return Err(Refusal::Clash(toml));
+    }
+    Ok(both_changes(alloc, dep5, old, toml, new)?)
+}
+
+// A refusal of the dep5 as one of the command.
+fn of_dep5(refusal: Dep5Refusal) -> Refusal
+    ensures { result ≡ dep5_refusal refusal }
+{
+    match refusal {
+        Dep5Refusal::Memory => Refusal::Memory,
+        refusal => Refusal::Dep5(refusal),
+    }
+}
+
+fn both_changes(
+    alloc: Global,
+    dep5: PathText,
+    old: Bytes,
+    toml: PathText,
+    new: Bytes,
+) -> Result<Vec<Change>, AllocError>
+    ensures { IfOk result (λ changes. changes.items ≡ Drop dep5 old ∷ Make toml new ∷ []) }
+{
+    let mut changes = Vec::with_capacity(alloc, 2)?;
+    changes.push(Change::Drop { path: dep5, old })?;
+    changes.push(Change::Make { path: toml, new })?;
+    Ok(changes)
+}

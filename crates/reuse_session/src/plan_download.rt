@@ -1,0 +1,190 @@
+// Plans a download: a file for each licence's text.
+ghost use Rattle.std.specs.Prelude.{◌≡◌, ◌<◌, ◌≤◌, IfOk, IfErr, map, None, unwrap_or, []};
+ghost use Rattle.std.specs.Option.{option_copied};
+ghost use Rattle.std.specs.FinMap.{keys};
+ghost use Rattle.reuse_notice.specs.Sets.{set_of};
+ghost use Rattle.reuse_tree.specs.Files.{Files, tree_of};
+ghost use Rattle.reuse_tree.specs.declared.fault.StoreFault.TheVariants as faults;
+ghost use Rattle.reuse_session.specs.Answer.{IsEarly};
+ghost use Rattle.reuse_session.specs.Refused.{IsNoFault, IsRefused};
+ghost use Rattle.reuse_session.specs.Licence.{licence_path};
+ghost use Rattle.reuse_session.specs.Downloads.{text_for, refusal_of_found, id_refusal, ids_refusal, download_edits};
+ghost use Rattle.reuse_session.specs.DownloadPlan.{made_at};
+ghost use Rattle.reuse_session.specs.Plan.{AnswersEdits};
+
+use crate::clash::is_clash;
+use crate::licence::LicenceText;
+use crate::licence_file::{licence_id, licence_path, text_for};
+use crate::licence_id::as_id;
+use crate::listing::{is_among, tree_paths};
+use crate::reply::Refusal;
+use reuse_text::Bytes;
+use reuse_tree::{Change, PathText, Store};
+use std::alloc::{AllocError, Global};
+
+const LONGEST_FILE: usize = 16_777_216;
+
+/// The changes of a download, or its first refusal.
+pub(crate) fn plan_download<S: Store>(
+    alloc: Global,
+    store: &mut S,
+    ids: &[Bytes],
+    texts: &[LicenceText],
+) -> Result<Vec<Change>, Refusal>
+    ensures edits { S.honest store.new → AnswersEdits (tree_of (S.files store.old)) (download_edits ids.now texts.now (tree_of (S.files store.old))) result }
+    ensures files { S.honest store.new → S.files store.new ≡ S.files store.old }
+    ensures device { result ≡ Err (Refusal.Fault faults.Device) → S.failures store.old < S.failures store.new }
+    ensures clash { S.honest store.new → result ≡ Err (Refusal.Fault faults.Clash) → ⊥ }
+    ensures memory { result ≡ Err (Refusal.Fault faults.Memory) → ⊥ }
+    ensures failures { S.failures store.old ≤ S.failures store.new }
+    ensures written { S.written store.new ≡ S.written store.old }
+    ensures was_honest { S.honest store.new → S.honest store.old }
+    ensures early { IfErr result IsEarly }
+{
+    let paths = tree_paths(alloc, store)?;
+    download_changes(alloc, &paths, ids, texts)
+}
+
+// The changes of a download on the tree that has these paths, or its first refusal.
+fn download_changes(
+    alloc: Global,
+    paths: &[PathText],
+    ids: &[Bytes],
+    texts: &[LicenceText],
+) -> Result<Vec<Change>, Refusal>
+    ensures edits { (tree : Files) → paths.now ≡ keys tree → AnswersEdits tree (download_edits ids.now texts.now tree) result }
+    ensures no_fault { IfErr result IsNoFault }
+{
+    let ids = sorted_ids(alloc, ids)?;
+    match made_paths(alloc, paths, &ids, texts) {
+        Ok(made) => Ok(made_files(alloc, texts, sorted_paths(made))?),
+        Err(refusal) => Err(refusal),
+    }
+}
+
+// The ids in byte order, without repeats.
+fn sorted_ids(alloc: Global, ids: &[Bytes]) -> Result<Vec<Bytes>, AllocError>
+    ensures { IfOk result (λ sorted. sorted.items ≡ set_of ids.now) }
+{
+    let mut sorted = copied_ids(alloc, ids)?;
+    sorted.sort_unstable();
+    sorted.dedup();
+    Ok(sorted)
+}
+
+fn copied_ids(alloc: Global, ids: &[Bytes]) -> Result<Vec<Bytes>, AllocError>
+    ensures { IfOk result (λ copied. copied.items ≡ ids.now) }
+{
+    let mut copied = Vec::new(alloc);
+    for id in ids {
+        copied.push(id.try_clone(alloc)?)?;
+    }
+    Ok(copied)
+}
+
+// The paths in byte order, without repeats.
+fn sorted_paths(paths: Vec<PathText>) -> Vec<PathText>
+    ensures { result.items ≡ set_of paths.items }
+{
+    let mut sorted = paths;
+    sorted.sort_unstable();
+    sorted.dedup();
+    sorted
+}
+
+// The paths of the files that are made of the ids' texts, or the first refusal. `paths` are those of the tree.
+fn made_paths(
+    alloc: Global,
+    paths: &[PathText],
+    ids: &[Bytes],
+    texts: &[LicenceText],
+) -> Result<Vec<PathText>, Refusal>
+    ensures made { (tree : Files) → paths.now ≡ keys tree → IfOk result (λ made. (made.items ≡ map licence_path ids.now) × (ids_refusal tree texts.now ids.now ≡ None)) }
+    ensures refused { (tree : Files) → paths.now ≡ keys tree → IfErr result (IsRefused (ids_refusal tree texts.now ids.now)) }
+    ensures no_fault { IfErr result IsNoFault }
+{
+    let mut made = Vec::new(alloc);
+    for id in ids {
+        match made_path(alloc, paths, id, texts) {
+            Ok(path) => made.push(path)?,
+            Err(refusal) => return Err(refusal),
+        }
+    }
+    Ok(made)
+}
+
+// The path of the file that is made of an id's text, or why none is.
+fn made_path(
+    alloc: Global,
+    paths: &[PathText],
+    id: &Bytes,
+    texts: &[LicenceText],
+) -> Result<PathText, Refusal>
+    ensures made { (tree : Files) → paths.now ≡ keys tree → IfOk result (λ path. (path ≡ licence_path id.now) × (id_refusal tree texts.now id.now ≡ None)) }
+    ensures refused { (tree : Files) → paths.now ≡ keys tree → IfErr result (IsRefused (id_refusal tree texts.now id.now)) }
+    ensures no_fault { IfErr result IsNoFault }
+{
+    match as_id(id.as_slice()) {
+        Some(name) => path_for(
+            alloc,
+            paths,
+            id,
+            licence_path(alloc, name)?,
+            text_for(texts, id.as_slice()),
+        ),
+        None => Err(Refusal::BadId(id.try_clone(alloc)?)),
+    }
+}
+
+// The path at which what was found for an id is made a file, or why it isn't.
+fn path_for(
+    alloc: Global,
+    paths: &[PathText],
+    id: &Bytes,
+    path: PathText,
+    found: Option<&Bytes>,
+) -> Result<PathText, Refusal>
+    ensures made { (tree : Files) → paths.now ≡ keys tree → path ≡ licence_path id.now → IfOk result (λ made. (made ≡ path) × (refusal_of_found tree id.now (option_copied found.entry) ≡ None)) }
+    ensures refused { (tree : Files) → paths.now ≡ keys tree → path ≡ licence_path id.now → IfErr result (IsRefused (refusal_of_found tree id.now (option_copied found.entry))) }
+    ensures no_fault { IfErr result IsNoFault }
+{
+    let Some(text) = found else {
+        return Err(Refusal::NoText(id.try_clone(alloc)?));
+    };
+    if text.len() > LONGEST_FILE {
+        return Err(Refusal::TooLong(path));
+    }
+    if is_among(paths, path.as_bytes()) {
+        return Err(Refusal::Exists(path));
+    }
+    if is_clash(alloc, paths, &path)? {
+        return Err(Refusal::Clash(path));
+    }
+    Ok(path)
+}
+
+// A file made of the licence's text at each path.
+fn made_files(
+    alloc: Global,
+    texts: &[LicenceText],
+    paths: Vec<PathText>,
+) -> Result<Vec<Change>, AllocError>
+    ensures { IfOk result (λ changes. changes.items ≡ map (made_at texts.now) paths.items) }
+{
+    let mut changes = Vec::with_capacity(alloc, paths.len())?;
+    for path in paths {
+        let new = copied_text(alloc, texts, licence_id(path.as_bytes()))?;
+        changes.push(Change::Make { path, new })?;
+    }
+    Ok(changes)
+}
+
+// A copy of the text that was found for an id, or no bytes.
+fn copied_text(alloc: Global, texts: &[LicenceText], id: &[u8]) -> Result<Bytes, AllocError>
+    ensures { IfOk result (λ copy. copy ≡ unwrap_or (text_for texts.now id.now) []) }
+{
+    match text_for(texts, id) {
+        Some(text) => text.try_clone(alloc),
+        None => Ok(Bytes::new(alloc)),
+    }
+}

@@ -1,0 +1,20 @@
+use Rattle.std.proofs.Common.{◌≡◌, sym, subst}
+use Rattle.std.specs.Result.{MatchResult}
+use Rattle.reuse_tree.specs.Calls.{took_effect}
+use Rattle.reuse_tree.specs.Files.{Clashes}
+use Rattle.reuse_tree.specs.declared.fault.StoreFault.TheVariants.{Clash}
+use Rattle.reuse_tree.specs.declared.record.CallRecord.{CallRecord}
+use Rattle.reuse_undo.specs.Honesty.{files_of, IsHonest}
+use Rattle.reuse_undo.proofs.PutKept.{put_kept}
+use Rattle.reuse_undo.proofs.disk.DiskStoreStore.put.Goals as goal
+
+pub returns-clause-kept : goal.returns-clause-kept
+returns-clause-kept g c honest =
+    let was = c.args.self.now.calls in
+    let path = c.args.path.now in
+    let files = files_of was.start was.calls in
+    subst (λ (noted : CallRecord). MatchResult c.map_err-answer.result
+    (λ _. ¬ (Clashes files path) → IsHonest noted.start noted.calls)
+    (λ fault. fault ≡ Clash → Clashes files path → IsHonest noted.start noted.calls))
+    (sym c.note_put.ensures)
+    (put_kept was.start was.calls path c.args.bytes.now c.map_err-answer.result (took_effect was.fates was.calls) honest c.put.ensures)

@@ -1,0 +1,94 @@
+//! A folder of the file system as a store of files.
+ghost use Rattle.std.specs.Prelude.{◌≡◌};
+ghost use Rattle.reuse_tree.specs.Calls.{Start, failures_of, written_of};
+ghost use Rattle.reuse_tree.specs.Files.{AreFiles};
+ghost use Rattle.reuse_undo.specs.HonestFiles.{honest_are_files};
+ghost use Rattle.reuse_undo.specs.Honesty.{files_of, IsHonest};
+
+mod fault;
+mod folder;
+mod kept_out;
+mod listing;
+mod new_file;
+mod place;
+#[cfg(test)]
+mod tests;
+
+use folder::RootFolder;
+use reuse_tree::{CallRecord, PathText, Reading, Store, StoreFault};
+use std::alloc::Global;
+use std::rt::Files;
+
+/// The files of a folder. It is honest as long as each call was answered as a folder answers that
+/// held the files of the start and that nobody else writes. No contract says that a folder is: proved are
+/// the counts of failures and of bytes written, and that each answer is noted as it was given. That a
+/// method makes the call that it notes, and what the folder holds then, is tested.
+#[derive(Drop)]
+pub struct DiskStore<R: Files + AllocGlobal + Clone + Drop> {
+    folder: RootFolder<R>,
+    calls: CallRecord,
+}
+
+impl<R: Files + AllocGlobal + Clone + Drop> DiskStore<R> {
+    /// The folder at this path. Nothing is asked of the system yet, so what the folder holds is unknown:
+    /// for any files the contract gives a store that holds these, and the answers then fit or don't.
+    pub fn at(rt: R, root: String) -> DiskStore<R>
+        ghost start: { Start }
+        ensures files { ⟦<DiskStore<R> as Store>⟧.files result ≡ start.files }
+        ensures honest { AreFiles start.files → ⟦<DiskStore<R> as Store>⟧.honest result }
+        ensures failures { ⟦<DiskStore<R> as Store>⟧.failures result ≡ 0 }
+        ensures written { ⟦<DiskStore<R> as Store>⟧.written result ≡ 0 }
+    {
+        DiskStore {
+            folder: RootFolder::new(rt, root),
+            calls: CallRecord::new(),
+        }
+    }
+}
+
+impl<R: Files + AllocGlobal + Clone + Drop> Store for DiskStore<R> {
+    ghost files = { λ store. files_of store.calls.start store.calls.calls };
+
+    ghost failures = { λ store. failures_of store.calls.calls };
+
+    ghost written = { λ store. written_of store.calls.calls };
+
+    ghost honest = { λ store. IsHonest store.calls.start store.calls.calls };
+
+    fn list(&mut self, alloc: Global) -> Result<Vec<PathText>, StoreFault> {
+        let answer = self.folder.list(alloc).map_err(StoreFault::from);
+        self.calls.note_list(&answer);
+        answer
+    }
+
+    fn read(
+        &mut self,
+        alloc: Global,
+        path: &PathText,
+        limit: usize,
+    ) -> Result<Reading, StoreFault> {
+        let answer = self
+            .folder
+            .read(alloc, path, limit)
+            .map_err(StoreFault::from);
+        self.calls.note_read(path, limit, &answer);
+        answer
+    }
+
+    fn put(&mut self, alloc: Global, path: &PathText, bytes: &[u8]) -> Result<(), StoreFault> {
+        let answer = self
+            .folder
+            .put(alloc, path, bytes)
+            .map_err(StoreFault::from);
+        self.calls.note_put(path, bytes, &answer);
+        answer
+    }
+
+    fn remove(&mut self, alloc: Global, path: &PathText) -> Result<(), StoreFault> {
+        let answer = self.folder.remove(alloc, path).map_err(StoreFault::from);
+        self.calls.note_remove(path, &answer);
+        answer
+    }
+
+    ghost are_files = { λ store honest. honest_are_files store.calls.start store.calls.calls honest };
+}

@@ -1,0 +1,185 @@
+//! A folder of the file system: its regular files by their paths.
+ghost use Rattle.std.specs.Prelude.{◌≡◌, ◌++◌, ◌∷◌, IfOk, IsTrue, string_bytes};
+ghost use Rattle.reuse_tree.specs.Path.{is_path};
+
+use crate::disk::fault::FolderFault;
+use crate::disk::kept_out::{NEW, is_kept_out};
+use crate::disk::listing::list_below;
+use crate::disk::new_file::write_file;
+use crate::disk::place::{FullPath, Place, check_root};
+use reuse_text::Bytes;
+use reuse_tree::{PathText, Reading};
+use std::alloc::Global;
+use std::fs;
+use std::io::Read;
+use std::os::unix::fs::PermissionsExt;
+use std::rt::Files;
+
+/// The bits of a file's mode that a rewritten file keeps: who may read, write and run it.
+const KEPT_BITS: u32 = 0o777;
+
+/// The folder that a tree of files lies in. Nothing outside of it is read or written: no link below it
+/// is followed.
+#[derive(Drop)]
+pub struct RootFolder<R: Files + AllocGlobal + Clone + Drop> {
+    rt: R,
+    root: String,
+    /// A folder that was looked at, with all that is above it, since the last listing: a file beside the
+    /// last one needs no second look.
+    seen: String,
+    /// Whether the folder of the new file was looked at since the last listing or fault.
+    has_new_folder: bool,
+}
+
+impl<R: Files + AllocGlobal + Clone + Drop> RootFolder<R> {
+    /// The folder at this path.
+    pub fn new(rt: R, root: String) -> RootFolder<R> {
+        let seen = String::new(rt.alloc());
+        RootFolder {
+            rt,
+            root,
+            seen,
+            has_new_folder: false,
+        }
+    }
+
+    fn full(&self, alloc: Global, path: &str) -> Result<FullPath, FolderFault>
+        ensures { IfOk result (λ full. full ≡ string_bytes self.now.root ++ 47 ∷ path.now) }
+    {
+        if self.root.is_empty() {
+            return Err(FolderFault::Device);
+        }
+        Ok(FullPath::new(alloc, self.root.as_str(), path)?)
+    }
+
+    /// Nothing, or a fault where the root is no folder.
+    fn nothing(&self) -> Result<Place, FolderFault> {
+        check_root(&self.rt, self.root.as_str())?;
+        Ok(Place::Nothing)
+    }
+
+    /// What stands at the path.
+    fn look(&mut self, full: &FullPath) -> Result<Place, FolderFault> {
+        if is_kept_out(full.path()) {
+            return Ok(Place::Other);
+        }
+        if self.seen.as_str() != full.folder() {
+            match full.look_above(&self.rt)? {
+                Place::Folder => {
+                    self.seen.clear();
+                    self.seen.push_str(full.folder())?;
+                }
+                Place::Nothing => return self.nothing(),
+                above => return Ok(above),
+            }
+        }
+        match full.look(&self.rt)? {
+            Place::Nothing => self.nothing(),
+            place => Ok(place),
+        }
+    }
+
+    /// The paths of all regular files, in byte order.
+    pub fn list(&mut self, alloc: Global) -> Result<Vec<PathText>, FolderFault> {
+        if self.root.is_empty() {
+            return Err(FolderFault::Device);
+        }
+        self.seen.clear();
+        self.has_new_folder = false;
+        list_below(&self.rt, alloc, self.root.as_str(), "")
+    }
+
+    /// The bytes of the regular file at the path, where they are at most `limit`.
+    pub fn read(
+        &mut self,
+        alloc: Global,
+        path: &PathText,
+        limit: usize,
+    ) -> Result<Reading, FolderFault> {
+        let full = self.full(alloc, path.text())?;
+        match self.look(&full)? {
+            Place::File(metadata) => {
+                read_file(&self.rt, alloc, full.text(), metadata.len(), limit)
+            }
+            Place::Nothing | Place::BelowFile | Place::Folder | Place::Other => {
+                Ok(Reading::Absent)
+            }
+        }
+    }
+
+    /// Makes the bytes the file at the path, as a whole or not at all, and folders as needed.
+    pub fn put(&mut self, alloc: Global, path: &PathText, bytes: &[u8]) -> Result<(), FolderFault>
+        ensures { IsTrue (is_path path.now) }
+    {
+        let full = self.full(alloc, path.text())?;
+        match self.look(&full)? {
+            Place::Nothing => {
+                full.make_folders(&self.rt)?;
+                self.write(alloc, &full, None, bytes)
+            }
+            Place::File(metadata) => {
+                let mode = metadata.permissions().mode() & KEPT_BITS;
+                self.write(alloc, &full, Some(mode), bytes)
+            }
+            Place::BelowFile => Err(FolderFault::Clash),
+            Place::Folder => self.refuse_folder(alloc, path),
+            Place::Other => Err(FolderFault::Device),
+        }
+    }
+
+    fn write(
+        &mut self,
+        alloc: Global,
+        full: &FullPath,
+        mode: Option<u32>,
+        bytes: &[u8],
+    ) -> Result<(), FolderFault> {
+        let new = self.full(alloc, NEW)?;
+        if !self.has_new_folder {
+            new.make_folders(&self.rt)?;
+        }
+        let written = write_file(&self.rt, new.text(), full.text(), mode, bytes);
+        self.has_new_folder = written.is_ok();
+        Ok(written?)
+    }
+
+    /// Why no file can take the place of this folder: one without files is no clash.
+    fn refuse_folder(&mut self, alloc: Global, path: &PathText) -> Result<(), FolderFault> {
+        let files = list_below(&self.rt, alloc, self.root.as_str(), path.text())?;
+        if files.is_empty() {
+            Err(FolderFault::Device)
+        } else {
+            Err(FolderFault::Clash)
+        }
+    }
+
+    /// Removes the regular file at the path, if there is one, and no folder.
+    pub fn remove(&mut self, alloc: Global, path: &PathText) -> Result<(), FolderFault> {
+        let full = self.full(alloc, path.text())?;
+        match self.look(&full)? {
+            Place::File(_) => Ok(fs::remove_file(&self.rt, full.text())?),
+            Place::Nothing | Place::BelowFile | Place::Folder | Place::Other => Ok(()),
+        }
+    }
+}
+
+/// The bytes of a regular file of this length, where they are at most `limit`.
+fn read_file(
+    rt: &impl Files,
+    alloc: Global,
+    full: &str,
+    len: u64,
+    limit: usize,
+) -> Result<Reading, FolderFault> {
+    let most = u64::try_from(limit).unwrap_or(u64::MAX).saturating_add(1);
+    if len >= most {
+        return Ok(Reading::TooLong);
+    }
+    let room = usize::try_from(len).unwrap_or(0).saturating_add(1);
+    let mut bytes = Vec::with_capacity(alloc, room)?;
+    fs::open(rt, full)?.take(most).read_to_end(&mut bytes)?;
+    if bytes.len() > limit {
+        return Ok(Reading::TooLong);
+    }
+    Ok(Reading::Found(Bytes::from_vec(bytes)))
+}

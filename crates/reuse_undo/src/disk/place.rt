@@ -1,0 +1,128 @@
+//! What stands at a path below a root. No link is followed but the root itself.
+ghost use Rattle.std.specs.Prelude.{◌≡◌, ◌++◌, ◌∷◌, List, ℕ, IfOk, string_bytes};
+
+use crate::disk::fault::FolderFault;
+use std::alloc::{AllocError, Global};
+use std::fs::{self, Metadata};
+use std::io::ErrorKind;
+use std::marker::Model;
+use std::rt::Files;
+
+/// What stands at a path.
+#[derive(Drop)]
+pub enum Place {
+    /// Nothing; folders above it may be missing too.
+    Nothing,
+    /// Nothing, since a part above the path is a regular file.
+    BelowFile,
+    /// A regular file.
+    File(Metadata),
+    /// A folder.
+    Folder,
+    /// A link, a device or a pipe stands there or above it.
+    Other,
+}
+
+/// A path below a root as the system takes it: the root, a slash and the path.
+#[derive(Drop)]
+pub struct FullPath {
+    text: String,
+    start: usize,
+}
+
+impl Model for FullPath {
+    ghost Value = { List ℕ };
+
+    ghost view = { λ full. string_bytes full.text };
+}
+
+impl FullPath {
+    /// The path below the root; an empty path is the root itself.
+    pub fn new(alloc: Global, root: &str, path: &str) -> Result<FullPath, AllocError>
+        ensures { IfOk result (λ full. full ≡ root.now ++ 47 ∷ path.now) }
+    {
+        let mut text = String::from_str(alloc, root)?;
+        text.push('/')?;
+        let start = text.len();
+        text.push_str(path)?;
+        Ok(FullPath { text, start })
+    }
+
+    /// The whole text.
+    pub fn text(&self) -> &str
+        ensures { result.now ≡ self.now }
+    {
+        self.text.as_str()
+    }
+
+    /// The path below the root.
+    pub fn path(&self) -> &str {
+        self.text().get(self.start..).unwrap_or("")
+    }
+
+    /// The folder that the path lies in, which is empty for the root.
+    pub fn folder(&self) -> &str {
+        match self.path().rsplit_once('/') {
+            Some((folder, _)) => folder,
+            None => "",
+        }
+    }
+
+    /// The whole text up to this byte of the path.
+    fn up_to(&self, end: usize) -> &str {
+        let end = self.start.saturating_add(end);
+        self.text().get(..end).unwrap_or("")
+    }
+
+    /// What stands at the path, where what is above it is known to be folders.
+    pub fn look(&self, rt: &impl Files) -> Result<Place, FolderFault> {
+        look_at(rt, self.text())
+    }
+
+    /// `Folder` where the parts above the path are folders, else what stands at the path.
+    pub fn look_above(&self, rt: &impl Files) -> Result<Place, FolderFault> {
+        for (end, _) in self.path().match_indices('/') {
+            match look_at(rt, self.up_to(end))? {
+                Place::Folder => {}
+                Place::Nothing => return Ok(Place::Nothing),
+                Place::File(_) | Place::BelowFile => return Ok(Place::BelowFile),
+                Place::Other => return Ok(Place::Other),
+            }
+        }
+        Ok(Place::Folder)
+    }
+
+    /// Makes the folders above the path that are missing, but not the root.
+    pub fn make_folders(&self, rt: &impl Files) -> Result<(), FolderFault> {
+        for (end, _) in self.path().match_indices('/') {
+            match look_at(rt, self.up_to(end))? {
+                Place::Folder => {}
+                Place::Nothing => fs::create_dir(rt, self.up_to(end))?,
+                Place::File(_) | Place::BelowFile | Place::Other => {
+                    return Err(FolderFault::Device);
+                }
+            }
+        }
+        Ok(())
+    }
+}
+
+/// What this place is, whatever is above it.
+fn look_at(rt: &impl Files, full: &str) -> Result<Place, FolderFault> {
+    match fs::symlink_metadata(rt, full) {
+        Ok(metadata) if metadata.is_file() => Ok(Place::File(metadata)),
+        Ok(metadata) if metadata.is_dir() => Ok(Place::Folder),
+        Ok(_) => Ok(Place::Other),
+        Err(error) if error.kind() == ErrorKind::NotFound => Ok(Place::Nothing),
+        Err(error) => Err(error.into()),
+    }
+}
+
+/// Fails where the root is no folder. A root that is a link to a folder will do.
+pub fn check_root(rt: &impl Files, root: &str) -> Result<(), FolderFault> {
+    if fs::metadata(rt, root)?.is_dir() {
+        Ok(())
+    } else {
+        Err(FolderFault::Device)
+    }
+}

@@ -1,0 +1,359 @@
+//! `DiskStore` on folders that each test makes below the folder for temporary files.
+mod odd;
+
+use crate::disk::DiskStore;
+use odd::OddName;
+use reuse_tree::{PathText, Reading, Store, StoreFault};
+use std::alloc::Global;
+use std::os::unix::fs::{PermissionsExt, symlink};
+use std::test::Fail;
+use std::{env, fs};
+
+/// A folder of one test.
+#[derive(Drop)]
+struct Scratch {
+    rt: HostRuntime,
+    root: String,
+}
+
+impl Scratch {
+    /// A new empty folder of this name.
+    fn new(rt: HostRuntime, name: &str) -> Result<Scratch, Fail> {
+        let temporary = env::temp_dir(&rt)?;
+        let root = format!(in rt.alloc(); "{}/reuse_undo_{name}", temporary.as_str())?;
+        let _ = fs::remove_dir_all(&rt, root.as_str());
+        fs::create_dir(&rt, root.as_str())?;
+        Ok(Scratch { rt, root })
+    }
+
+    /// The place of a path below the folder.
+    fn at(&self, path: &str) -> Result<String, Fail> {
+        Ok(format!(in self.rt.alloc(); "{}/{path}", self.root.as_str())?)
+    }
+
+    fn make_folders(&self, paths: &[&str]) -> Result<(), Fail> {
+        for path in paths {
+            fs::create_dir(&self.rt, self.at(path)?.as_str())?;
+        }
+        Ok(())
+    }
+
+    /// Writes files that hold an `x`.
+    fn write(&self, paths: &[&str]) -> Result<(), Fail> {
+        for path in paths {
+            fs::write(&self.rt, self.at(path)?.as_str(), "x")?;
+        }
+        Ok(())
+    }
+
+    /// Makes links, each by what it leads to and its path.
+    fn links(&self, links: &[(&str, &str)]) -> Result<(), Fail> {
+        for (original, link) in links {
+            symlink(&self.rt, *original, self.at(link)?.as_str())?;
+        }
+        Ok(())
+    }
+
+    fn holds(&self, path: &str, text: &str) -> Result<bool, Fail> {
+        let found = fs::read_to_string(&self.rt, self.at(path)?.as_str())?;
+        Ok(found.as_str() == text)
+    }
+
+    fn mode(&self, path: &str) -> Result<u32, Fail> {
+        let metadata = fs::symlink_metadata(&self.rt, self.at(path)?.as_str())?;
+        Ok(metadata.permissions().mode() & 0o777)
+    }
+
+    fn set_mode(&self, path: &str, mode: u32) -> Result<(), Fail> {
+        let permissions = fs::Permissions::from_mode(mode);
+        fs::set_permissions(&self.rt, self.at(path)?.as_str(), permissions)?;
+        Ok(())
+    }
+
+    /// Asks the store over a folder of it, or over it itself where that is empty: each step is a call,
+    /// a path and what is wanted.
+    fn ask(&self, folder: &str, steps: &[(&str, &str, &str)]) -> Result<(), Fail> {
+        let mut store = DiskStore::at(self.rt.clone()?, self.at(folder)?);
+        for (call, path, wanted) in steps {
+            let found = answer(&mut store, self.rt.alloc(), call, path)?;
+            if found.as_str() != *wanted {
+                let told = format!(in self.rt.alloc(); "{call} {path}: {found}, not {wanted}")?;
+                return Err(told)?;
+            }
+        }
+        Ok(())
+    }
+
+    fn remove(self) -> Result<(), Fail> {
+        fs::remove_dir_all(&self.rt, self.root.as_str())?;
+        Ok(())
+    }
+}
+
+/// The answer of `list`, `read LIMIT`, `put TEXT` or `remove` as a text.
+fn answer<S: Store>(store: &mut S, alloc: Global, call: &str, path: &str) -> Result<String, Fail> {
+    let (name, argument) = call.split_once(' ').unwrap_or((call, ""));
+    if name == "list" {
+        return listed(store, alloc);
+    }
+    let path = PathText::new(alloc, path)?;
+    let text = match name {
+        "read" => return found(store, alloc, &path, argument.parse()?),
+        "put" => told(store.put(alloc, &path, argument.as_bytes())),
+        _ => told(store.remove(alloc, &path)),
+    };
+    Ok(String::from_str(alloc, text)?)
+}
+
+/// The paths, a space after each, or the fault.
+fn listed<S: Store>(store: &mut S, alloc: Global) -> Result<String, Fail> {
+    let mut words = String::new(alloc);
+    match store.list(alloc) {
+        Ok(paths) => {
+            for path in &paths {
+                words.push_str(path.text())?;
+                words.push(' ')?;
+            }
+        }
+        Err(fault) => words.push_str(name_of(fault))?,
+    }
+    Ok(words)
+}
+
+/// The text that a file has, or why there is none.
+fn found<S: Store>(
+    store: &mut S,
+    alloc: Global,
+    path: &PathText,
+    limit: usize,
+) -> Result<String, Fail> {
+    let text = match store.read(alloc, path, limit) {
+        Ok(Reading::Found(bytes)) => return Ok(bytes.to_string(alloc)?),
+        Ok(Reading::Absent) => "absent",
+        Ok(Reading::TooLong) => "too long",
+        Err(fault) => name_of(fault),
+    };
+    Ok(String::from_str(alloc, text)?)
+}
+
+fn name_of(fault: StoreFault) -> &'static str {
+    match fault {
+        StoreFault::Device => "device fault",
+        StoreFault::Clash => "clash",
+        StoreFault::Memory => "no memory",
+    }
+}
+
+fn told(outcome: Result<(), StoreFault>) -> &'static str {
+    match outcome {
+        Ok(()) => "done",
+        Err(fault) => name_of(fault),
+    }
+}
+
+#[test]
+fn lists_regular_files_in_byte_order(rt: HostRuntime) -> Result<(), Fail> {
+    let scratch = Scratch::new(rt, "lists")?;
+    scratch.make_folders(&["a", ".git", "a/.git", ".reuse", ".reuse/undo", "empty"])?;
+    scratch.write(&["a/b", "a.py", "a-b", "a/.git/x", "é", "b c", ".git/HEAD"])?;
+    scratch.write(&[".reuse/undo/new", ".reuse/undo/head.json"])?;
+    scratch.links(&[("a", "link"), ("a.py", "link.py")])?;
+    let all = ".reuse/undo/head.json a-b a.py a/.git/x a/b b c é ";
+    scratch.ask("", &[("list", "", all)])?;
+    scratch.ask("link", &[("list", "", "b ")])?;
+    scratch.remove()
+}
+
+#[test]
+fn reads_puts_and_removes(rt: HostRuntime) -> Result<(), Fail> {
+    let scratch = Scratch::new(rt, "puts")?;
+    scratch.ask(
+        "",
+        &[
+            ("put first", "a/b c/é.py", "done"),
+            ("put second", "a/b c/é.py", "done"),
+            ("put", "a/empty", "done"),
+            ("list", "", "a/b c/é.py a/empty "),
+            ("read 6", "a/b c/é.py", "second"),
+            ("read 5", "a/b c/é.py", "too long"),
+            ("read 0", "a/empty", ""),
+            ("read 9", "a/absent", "absent"),
+            ("read 9", "absent/b", "absent"),
+            ("read 9", "a", "absent"),
+            ("remove", "a/empty", "done"),
+            ("remove", "a/empty", "done"),
+            ("remove", "a", "done"),
+            ("list", "", "a/b c/é.py "),
+        ],
+    )?;
+    scratch.remove()
+}
+
+#[test]
+fn clashes_with_files_alone(rt: HostRuntime) -> Result<(), Fail> {
+    let scratch = Scratch::new(rt, "clashes")?;
+    scratch.make_folders(&[
+        "a",
+        "a/b",
+        "empty",
+        "linked",
+        ".git",
+        ".reuse",
+        ".reuse/undo",
+    ])?;
+    scratch.write(&["a/b/c", ".git/HEAD", ".reuse/undo/new"])?;
+    scratch.links(&[("../a/b/c", "linked/c")])?;
+    scratch.ask(
+        "",
+        &[
+            ("put y", "a", "clash"),
+            ("put y", "a/b/c/d", "clash"),
+            ("put y", "a/b/c/d/e", "clash"),
+            ("put y", "empty", "device fault"),
+            ("put y", "linked", "device fault"),
+            ("put y", ".git", "device fault"),
+            ("put y", ".reuse/undo", "device fault"),
+            ("put y", ".reuse", "device fault"),
+            ("read 9", "a/b/c/d", "absent"),
+            ("remove", "a/b/c/d", "done"),
+            ("list", "", "a/b/c "),
+        ],
+    )?;
+    scratch.remove()
+}
+
+#[test]
+fn keeps_out_of_version_control_and_of_the_new_file(rt: HostRuntime) -> Result<(), Fail> {
+    let scratch = Scratch::new(rt, "keeps_out")?;
+    scratch.make_folders(&[".git", ".reuse", ".reuse/undo"])?;
+    scratch.write(&[".git/HEAD", ".reuse/undo/new"])?;
+    for path in [
+        ".git/HEAD",
+        ".git/refs/x",
+        ".reuse/undo/new",
+        ".reuse/undo/new/x",
+    ] {
+        scratch.ask("", &[("read 9", path, "absent")])?;
+        scratch.ask(
+            "",
+            &[("put y", path, "device fault"), ("remove", path, "done")],
+        )?;
+    }
+    assert!(scratch.rt; scratch.holds(".git/HEAD", "x")?);
+    assert!(scratch.rt; scratch.holds(".reuse/undo/new", "x")?);
+    scratch.ask("", &[("put y", "a.py", "done"), ("list", "", "a.py ")])?;
+    scratch.remove()
+}
+
+#[test]
+fn follows_no_link(rt: HostRuntime) -> Result<(), Fail> {
+    let scratch = Scratch::new(rt, "links")?;
+    scratch.make_folders(&["out", "out/undo", "in"])?;
+    scratch.write(&["out/a", "in/a"])?;
+    scratch.links(&[
+        ("../out/a", "in/file"),
+        ("../out", "in/to"),
+        ("none", "in/dangling"),
+    ])?;
+    for path in ["file", "to", "to/a", "to/undo/b", "dangling", "dangling/a"] {
+        scratch.ask("in", &[("read 9", path, "absent")])?;
+        scratch.ask(
+            "in",
+            &[("put y", path, "device fault"), ("remove", path, "done")],
+        )?;
+    }
+    scratch.ask("in", &[("list", "", "a ")])?;
+    scratch.links(&[("../out", "in/.reuse")])?;
+    scratch.ask("in", &[("put y", "a", "device fault")])?;
+    scratch.ask("out", &[("list", "", "a "), ("read 9", "a", "x")])?;
+    scratch.ask("in", &[("list", "", "a "), ("read 9", "a", "x")])?;
+    scratch.remove()
+}
+
+#[test]
+fn writes_through_no_link_at_the_new_file(rt: HostRuntime) -> Result<(), Fail> {
+    let scratch = Scratch::new(rt, "new_link")?;
+    scratch.make_folders(&["in", "in/.reuse", "in/.reuse/undo"])?;
+    scratch.write(&["out"])?;
+    scratch.links(&[("../../../out", "in/.reuse/undo/new")])?;
+    scratch.ask("in", &[("put y", "a", "done")])?;
+    assert!(scratch.rt; scratch.holds("out", "x")?);
+    scratch.make_folders(&["in/.reuse/undo/new"])?;
+    scratch.ask(
+        "in",
+        &[("put z", "a", "device fault"), ("read 9", "a", "y")],
+    )?;
+    scratch.remove()
+}
+
+#[test]
+fn keeps_permission_bits(rt: HostRuntime) -> Result<(), Fail> {
+    let scratch = Scratch::new(rt, "modes")?;
+    scratch.write(&["run.sh", "shared", "locked", "plain"])?;
+    for (path, mode) in [("run.sh", 0o755), ("shared", 0o666), ("locked", 0o440)] {
+        scratch.set_mode(path, mode)?;
+        scratch.ask("", &[("put y", path, "done"), ("read 9", path, "y")])?;
+        assert_eq!(scratch.rt; scratch.mode(path)?, mode);
+    }
+    scratch.ask("", &[("put y", "made", "done")])?;
+    assert_eq!(scratch.rt; scratch.mode("made")?, scratch.mode("plain")?);
+    scratch.remove()
+}
+
+#[test]
+fn fails_where_the_root_is_no_folder(rt: HostRuntime) -> Result<(), Fail> {
+    let scratch = Scratch::new(rt, "roots")?;
+    scratch.write(&["file"])?;
+    for root in ["file", "absent"] {
+        for call in ["list", "read 9", "put y", "remove"] {
+            scratch.ask(
+                root,
+                &[(call, "a", "device fault"), (call, "a/b", "device fault")],
+            )?;
+        }
+    }
+    scratch.ask("", &[("list", "", "file ")])?;
+    scratch.remove()
+}
+
+/// Root may read and write any folder, so that what is forbidden is tried first.
+#[test]
+fn fails_where_a_folder_is_closed(rt: HostRuntime) -> Result<(), Fail> {
+    let scratch = Scratch::new(rt, "closed")?;
+    scratch.make_folders(&["in", "in/closed"])?;
+    scratch.write(&["in/closed/a"])?;
+    scratch.set_mode("in/closed", 0o000)?;
+    let file = scratch.at("in/closed/a")?;
+    if fs::read(&scratch.rt, file.as_str()).is_err() {
+        scratch.ask("in", &[("list", "", "device fault")])?;
+        scratch.ask("in", &[("read 9", "closed/a", "device fault")])?;
+        scratch.set_mode("in/closed", 0o555)?;
+        scratch.ask("in", &[("put y", "closed/a", "device fault")])?;
+        scratch.ask("in", &[("put y", "closed/b", "device fault")])?;
+        scratch.ask("in", &[("remove", "closed/a", "device fault")])?;
+        scratch.ask(
+            "in",
+            &[("list", "", "closed/a "), ("read 9", "closed/a", "x")],
+        )?;
+    }
+    scratch.set_mode("in/closed", 0o755)?;
+    scratch.remove()
+}
+
+#[test]
+fn fails_on_odd_names(rt: HostRuntime) -> Result<(), Fail> {
+    let scratch = Scratch::new(rt, "names")?;
+    let alloc = scratch.rt.alloc();
+    let mut name = String::new(alloc);
+    for _ in 0..255u8 {
+        name.push('x')?;
+    }
+    scratch.ask("", &[("put y", name.as_str(), "done")])?;
+    name.push('x')?;
+    scratch.ask("", &[("put y", name.as_str(), "device fault")])?;
+    let rt = scratch.rt.clone()?;
+    let mut odd = DiskStore::at(OddName { rt }, String::from_str(alloc, "root")?);
+    let found = listed(&mut odd, alloc)?;
+    assert_eq!(scratch.rt; found.as_str(), "device fault");
+    scratch.remove()
+}
