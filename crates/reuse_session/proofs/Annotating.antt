@@ -1,50 +1,37 @@
 -- What annotate does at the paths of its list, one after the other.
-use Rattle.std.proofs.Common.{◌≡◌, ◌≢◌, ◌⊎◌, inl, inr, ℕ, zero, suc, ◌+◌, ◌<◌, ◌≤◌, Bool, true, false, cond, not, ◌||◌, ◌&&◌, ◌==◌, nat_eq, nat_lt, nat_le, is_none, List, [], ◌∷◌, ◌++◌, codes, length, Less, Option, Some, None, IsSome, is_some, Result, Ok, Err, take, get_or, refl, sym, ap, subst, ◌∙◌, arith, append_assoc}
+use Rattle.std.proofs.Common.{◌≡◌, ◌⊎◌, inl, inr, ℕ, zero, suc, ◌+◌, ◌<◌, Bool, true, false, cond, not, ◌||◌, ◌&&◌, nat_lt, List, [], ◌∷◌, ◌++◌, codes, length, Less, Option, Some, None, IsSome, is_some, Result, Ok, Err, take, get_or, refl, sym, ap, subst, ◌∙◌, arith, append_assoc}
 use Rattle.std.specs.Ordering.{nat_cmp}
 use Rattle.std.specs.Cmp.Lexicographic.{slice_cmp}
-use Rattle.std.specs.List.{AllByRecursion, list_any, ends_with, cons_option}
+use Rattle.std.specs.List.{AllByRecursion, cons_option}
 use Rattle.std.specs.List.Sorted.{IsStrictlySortedBy}
-use Rattle.std.specs.Str.{bytes_eq, is_utf8}
-use Rattle.std.specs.Prelude.{Contains, ◌↔◌, IsTrue, filter_map}
+use Rattle.std.specs.Str.{bytes_eq}
+use Rattle.std.specs.Prelude.{filter_map}
 use Rattle.std.specs.Option.{option_to_list}
 use Rattle.std.proofs.lemmas.List.{take_more}
 use Rattle.std.proofs.lemmas.List.Elements.{filter_map-append}
-use Rattle.reuse_text.specs.Text.{IsText}
 use Rattle.std.specs.FinMap.{get, keys}
 use Rattle.std.proofs.lemmas.Bool.{false≢true}
-use Rattle.std.proofs.lemmas.Bool.Decides.{nat_tests}
-use Rattle.std.proofs.lemmas.Str.{IsUtf8-from_is_utf8, is_utf8-from_IsUtf8}
 use Rattle.std.proofs.lemmas.Map.Keys.{sorted_head, sorted_tail}
 use Rattle.std.proofs.lemmas.Slice.Eq.{bytes_eq-Decides}
 use Rattle.reuse_tree.specs.Path.{lies_under, journal_folder}
 use Rattle.reuse_tree.specs.Files.{Files, AreFiles}
 use Rattle.reuse_tree.specs.declared.change.Change.{Change}
-use Rattle.reuse_tree.specs.declared.change.Change.TheVariants.{Splice}
-use Rattle.reuse_tree.specs.declared.store.Reading.TheVariants.{Absent, Found, TooLong}
-use Rattle.reuse_tree.specs.Store.{reading_of}
-use Rattle.reuse_session.specs.declared.header_fault.HeaderFault.TheVariants as header
 use Rattle.reuse_session.specs.declared.reply.Refusal.{Refusal}
 use Rattle.reuse_session.specs.declared.reply.Refusal.TheVariants as refusals
 use Rattle.reuse_session.specs.declared.command.Place.TheVariants as place
 use Rattle.reuse_session.specs.Tree.{is_of_tree}
 use Rattle.reuse_session.specs.Covered.{is_in, is_covered}
-use Rattle.reuse_session.specs.Listing.{ArePaths, is_among, is_folder, is_folder_of}
+use Rattle.reuse_session.specs.Listing.{ArePaths, is_among, is_folder_of}
 use Rattle.reuse_session.specs.Outcome.{Edit, with_edit, or_first, edits_at, edited, tree_after}
 use Rattle.reuse_session.specs.Annotate.{annotated_where, annotated_at}
 use Rattle.reuse_header.specs.declared.annotation.How.{How}
 use Rattle.reuse_notice.specs.declared.adding.Additions.{Additions}
 use Rattle.reuse_session.specs.declared.command.Scope.{Scope}
-use Rattle.reuse_session.specs.Plan.{IsPlan, IsRefusalOf, Makes, MakesEdit, AnswersEdit, MakesEach, MakesEdits}
+use Rattle.reuse_session.specs.Plan.{IsPlan, IsRefusalOf, Makes, MakesEdit, MakesEach, MakesEdits}
 use Rattle.reuse_session.proofs.ListingLemmas.{under_from_test}
 use Rattle.reuse_session.proofs.TreeLemmas.{among_keys}
-use Rattle.reuse_session.proofs.Planning.{paths_at, IsRewrite, AreEdits, rewrites_are_edits, same_many, plan_of_edits}
-use Rattle.std.specs.Prelude.{flat_map}
-use Rattle.reuse_session.specs.Worked.{expanded, worked_paths}
-use Rattle.reuse_notice.proofs.SetLemmas.{sorted-set_of}
-use Rattle.reuse_session.specs.Command.{has_root, paths_among}
+use Rattle.reuse_session.proofs.Planning.{paths_at, AreEdits, same_many, plan_of_edits}
 use Rattle.reuse_session.specs.Entry.{entry_size}
-use Rattle.reuse_session.specs.declared.command.Command.{Command}
-use Rattle.reuse_session.specs.declared.command.Command.TheVariants.{Annotate, ConvertDep5, Download}
 
 -- ---- refusals
 

@@ -1,12 +1,11 @@
 -- The edits of an annotation: each at a file of the tree or its neighbour, of distinct paths, none a folder of another.
-use Rattle.std.proofs.Common.{◌≡◌, ◌≢◌, ◌⊎◌, inl, inr, ℕ, ◌+◌, ◌-◌, ◌<◌, ◌≤◌, Bool, true, false, cond, not, ◌||◌, ◌&&◌, ◌==◌, nat_eq, nat_lt, List, [], ◌∷◌, ◌++◌, codes, length, reverse, take, drop, Less, Option, Some, None, IsSome, is_some, Result, Ok, Err, refl, sym, ap, ap₂, subst, ◌∙◌, arith, length-append, length-drop, drop_at}
+use Rattle.std.proofs.Common.{◌≡◌, ◌⊎◌, inl, inr, ℕ, ◌+◌, ◌-◌, ◌≤◌, Bool, true, false, cond, not, ◌||◌, ◌&&◌, ◌==◌, nat_eq, nat_lt, List, [], ◌∷◌, ◌++◌, codes, length, reverse, take, drop, Less, Option, Some, None, IsSome, is_some, Result, Ok, Err, refl, sym, ap, ap₂, subst, ◌∙◌, arith, length-append, length-drop, drop_at}
 use Rattle.std.specs.Ordering.{nat_cmp}
 use Rattle.std.specs.Cmp.Lexicographic.{slice_cmp, pointwise, nat_list_cmp_total}
 use Rattle.std.specs.List.{AllByRecursion, IsDistinct, list_any, ends_with, suffix_len, prefix_len}
-use Rattle.std.specs.List.Sorted.{IsStrictlySortedBy}
 use Rattle.std.specs.Prelude.{flat_map}
 use Rattle.std.specs.Str.{bytes_eq}
-use Rattle.std.specs.FinMap.{get, keys}
+use Rattle.std.specs.FinMap.{get}
 use Rattle.std.proofs.lemmas.Bool.{false≢true}
 use Rattle.std.proofs.lemmas.Bool.Decides.{nat_tests}
 use Rattle.std.proofs.lemmas.Cmp.{tied_itself}
@@ -23,13 +22,13 @@ use Rattle.reuse_header.specs.Annotation as header
 use Rattle.reuse_header.specs.Header.{header_of}
 use Rattle.reuse_header.specs.Neighbour.{neighbour_annotation_of}
 use Rattle.reuse_tree.specs.Path.{is_path, lies_under, journal_folder}
-use Rattle.reuse_tree.specs.Files.{Files, AreFiles, Clashes}
+use Rattle.reuse_tree.specs.Files.{Files, AreFiles}
 use Rattle.reuse_session.specs.Edit.{Edit}
 use Rattle.reuse_session.specs.Annotate.{neighbour_of, neighbour_is_tagged, target_of, edit_by, edit_inside, edit_neighbour, edit_beside, edit_target, annotated_where, annotated_at}
 use Rattle.reuse_session.specs.Annotations.{Due}
 use Rattle.reuse_session.specs.Clash.{is_clash}
 use Rattle.reuse_session.specs.Command.{has_root, paths_among}
-use Rattle.reuse_session.specs.Covered.{last_part, is_in, is_outside, is_outer_name, has_stem, is_covered}
+use Rattle.reuse_session.specs.Covered.{last_part, is_in, is_outside, has_stem, is_covered}
 use Rattle.reuse_session.specs.Listing.{ArePaths, is_among, is_folder}
 use Rattle.reuse_session.specs.Outcome.{edits_at, edits_of}
 use Rattle.reuse_session.specs.Tree.{is_of_tree}

@@ -1,22 +1,19 @@
 -- A look-up among paths in byte order, and the folders above them.
-use Rattle.std.proofs.Common.{◌≡◌, ◌≢◌, ℕ, zero, suc, ◌+◌, ◌-◌, ◌<◌, ◌≤◌, Bool, true, false, cond, not, ◌&&◌, ◌||◌, List, [], ◌∷◌, ◌++◌, length, get_or, drop, take, Less, Equal, Greater, Ordering, nat_cmp, nat_lt, nat_eq, refl, sym, ap, ap₂, ◌∙◌, subst, arith, length-append, append_assoc, ◌⊎◌, inl, inr, IsTrue, ◌↔◌, Option, Some, None, is_some, filter, map, eqb}
-use Rattle.std.specs.Ordering.{ordering_then, ordering_reverse, MatchOrdering, is_lt, is_eq, eq_by_cmp}
+use Rattle.std.proofs.Common.{◌≡◌, ℕ, zero, suc, ◌+◌, ◌<◌, ◌≤◌, Bool, true, false, cond, ◌&&◌, ◌||◌, List, [], ◌∷◌, ◌++◌, length, get_or, drop, Less, Equal, Greater, Ordering, nat_cmp, nat_lt, nat_eq, refl, sym, ap, ap₂, ◌∙◌, arith, append_assoc, ◌⊎◌, inl, inr, filter}
+use Rattle.std.specs.Ordering.{ordering_then, ordering_reverse, MatchOrdering, is_lt, is_eq}
 use Rattle.std.specs.Cmp.Lexicographic.{slice_cmp}
 use Rattle.std.specs.List.{AllByRecursion, starts_with, list_any, take_while}
 use Rattle.std.proofs.lemmas.List.Sums.{take_while-cons}
-use Rattle.std.specs.List.Sorted.{IsStrictlySortedBy, IsPartitionPoint, IsPartitionedBy}
+use Rattle.std.specs.List.Sorted.{IsPartitionPoint, IsPartitionedBy}
 use Rattle.std.specs.Str.{bytes_eq}
-use Rattle.std.specs.FinMap.{get, keys, entries, retain_keys, entries_sorted, contains_key-keys, get-retain_keys, slice_cmp-IsAntisymmetric, nat_cmp-IsAntisymmetric}
 use Rattle.std.proofs.lemmas.Bool.{false≢true}
 use Rattle.std.proofs.lemmas.Bool.Decides.{nat_tests, Decides-eqb}
 use Rattle.std.proofs.lemmas.Cmp.{nat_list_cmp_total, nat_cmp_total, ranked, tied_itself}
-use Rattle.std.proofs.lemmas.List.{drop_more, get_or_past}
-use Rattle.std.proofs.lemmas.List.Kept.{IsStrictlySortedBy-filter}
+use Rattle.std.proofs.lemmas.List.{drop_more}
 use Rattle.std.proofs.lemmas.Map.Text.{is_eq-slice_cmp}
 use Rattle.std.proofs.lemmas.Map.Keys.{sorted_head, sorted_tail}
 use Rattle.std.proofs.lemmas.Slice.Eq.{starts_is, bytes_eq-Decides}
-use Rattle.reuse_tree.specs.Path.{lies_under, journal_folder}
-use Rattle.reuse_tree.specs.Files.{Files, tree_of}
+use Rattle.reuse_tree.specs.Path.{lies_under}
 use Rattle.reuse_session.specs.Listing.{ArePaths, is_among, is_folder_of}
 
 abbrev before : List ℕ → List ℕ → Ordering

@@ -1,6 +1,5 @@
-use Rattle.std.proofs.Common.{◌≡◌, [], ◌∷◌, ◌++◌, filter, length, sym, ap, subst, ◌∙◌}
+use Rattle.std.proofs.Common.{[], ◌∷◌, ◌++◌, filter, sym, ap, subst, ◌∙◌}
 use Rattle.std.proofs.lemmas.Result.{MatchResult-weaker}
-use Rattle.std.specs.FinMap.{keys}
 use Rattle.reuse_tree.specs.Path.{lies_under}
 use Rattle.reuse_session.specs.Listing.{ArePaths}
 use Rattle.reuse_session.proofs.TreeLemmas.{keys_ascend}

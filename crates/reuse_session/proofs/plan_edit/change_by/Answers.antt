@@ -1,4 +1,4 @@
-use Rattle.std.proofs.Common.{◌≡◌, ◌≤◌, ◌-◌, ℕ, length, Ok, subst, sym, ap, ◌∙◌, arith}
+use Rattle.std.proofs.Common.{◌≡◌, ◌-◌, length, Ok, subst, ap, ◌∙◌, arith}
 use Rattle.reuse_header.specs.Splices.{IsDue, answer_of}
 use Rattle.reuse_session.proofs.EditLemmas.{change_made}
 use Rattle.reuse_session.proofs.plan_edit.change_by.Goals as goal

@@ -1,4 +1,4 @@
-use Rattle.std.proofs.Common.{◌≡◌, ◌∙◌, true, false, ◌&&◌, is_some, sym, ap, refl, subst}
+use Rattle.std.proofs.Common.{◌≡◌, ◌∙◌, false, ◌&&◌, is_some, sym, ap, refl, subst}
 use Rattle.reuse_header.specs.Annotation.{annotation_of}
 use Rattle.reuse_header.specs.Found.{block_view}
 use Rattle.reuse_header.specs.Header.{header_of, span_in}

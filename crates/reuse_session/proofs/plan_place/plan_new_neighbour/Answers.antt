@@ -1,7 +1,7 @@
-use Rattle.std.proofs.Common.{◌≡◌, ◌∙◌, true, false, [], Err, sym, ap, subst}
+use Rattle.std.proofs.Common.{◌∙◌, [], Err, sym, ap, subst}
 use Rattle.std.specs.FinMap.{keys}
 use Rattle.reuse_header.specs.Neighbour.{neighbour_annotation_of}
-use Rattle.reuse_session.specs.Annotate.{neighbour_of, edit_by}
+use Rattle.reuse_session.specs.Annotate.{edit_by}
 use Rattle.reuse_session.specs.Clash.{is_clash_of}
 use Rattle.reuse_session.specs.Listing.{ArePaths}
 use Rattle.reuse_session.specs.Plan.{AnswersEdit}
