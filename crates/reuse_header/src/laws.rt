@@ -1,5 +1,5 @@
 //! Laws of the definitions that the contracts cite.
-ghost use Rattle.std.specs.Prelude.{◌≡◌, ◌+◌, ◌++◌, ℕ, List, Option, None, Some, Ok, true, false, length, map, [], All};
+ghost use Rattle.std.specs.Prelude.{◌≡◌, ◌≤◌, ◌+◌, ◌++◌, ℕ, List, Option, None, Some, Ok, true, false, length, map, [], All};
 ghost use Rattle.reuse_header.specs.declared.style.Style.{Style};
 ghost use Rattle.reuse_header.specs.declared.blocks.BlockSize.{BlockSize};
 ghost use Rattle.reuse_header.specs.Body.{PlacedLines};
@@ -7,7 +7,7 @@ ghost use Rattle.std.specs.Option.{option_map};
 ghost use Rattle.reuse_header.specs.Header.{Header, HeaderSpan, header_in, header_of, span_in, neighbour_contents};
 ghost use Rattle.reuse_notice.specs.declared.adding.Additions.{Additions};
 ghost use Rattle.reuse_header.specs.declared.annotation.How.{How};
-ghost use Rattle.reuse_header.specs.Annotation.{Edit, annotation_of, edited, new_bytes, kind_of_file, text_start, text_end};
+ghost use Rattle.reuse_header.specs.Annotation.{Edit, size_limit, annotation_of, edited, new_bytes, kind_of_file, text_start, text_end};
 ghost use Rattle.reuse_header.specs.Neighbour.{neighbour_annotation_of, neighbour_end};
 ghost use Rattle.reuse_header.specs.Writing.{block_lines, block_text, neighbour_marks};
 ghost use Rattle.reuse_header.specs.Marks.{LineMarks, marks_of};
@@ -49,6 +49,16 @@ pub fn header_splits_are_one()
 pub fn header_spans_cut_files()
     ensures found { (style : Style) (file : List ℕ) (span : HeaderSpan) → option_map (span_in file) (header_of style file) ≡ Some span → IsHeaderBlock style file span }
     ensures none { (style : Style) (file : List ℕ) → header_of style file ≡ None → HasNoHeader style file }
+{
+    lines_are_one();
+}
+
+/// The edit that annotating is lies within its file, and the file that it makes has at most 16 MiB.
+pub fn annotations_fit()
+    ensures files { (style : Style) (how : How) (additions : Additions) (file : List ℕ) (edit : Edit) → annotation_of style how additions file ≡ Ok edit
+        → (edit.start + edit.old_len ≤ length file) × (length (edited file edit) ≤ size_limit) }
+    ensures neighbours { (how : How) (additions : Additions) (file : List ℕ) (edit : Edit) → neighbour_annotation_of how additions file ≡ Ok edit
+        → (edit.start + edit.old_len ≤ length file) × (length (edited file edit) ≤ size_limit) }
 {
     lines_are_one();
 }

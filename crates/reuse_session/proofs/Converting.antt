@@ -1,7 +1,5 @@
 -- A conversion: its two edits, and what is answered to what was read.
-use Rattle.std.proofs.Common.{◌≡◌, ◌⊎◌, inl, inr, ⊎_elim, ℕ, ◌<◌, ◌≤◌, Bool, true, false, cond, ◌||◌, nat_lt, nat_le, List, [], ◌∷◌, length, Less, Option, Some, None, IsSome, is_some, Result, Ok, Err, refl, sym, ap, ap₂, ◌∙◌, subst, arith}
-use Rattle.std.specs.Ordering.{nat_cmp}
-use Rattle.std.specs.Cmp.Lexicographic.{slice_cmp}
+use Rattle.std.proofs.Common.{◌≡◌, ◌⊎◌, inl, inr, ℕ, ◌<◌, ◌≤◌, Bool, true, false, cond, ◌||◌, nat_lt, List, [], ◌∷◌, length, Option, Some, None, is_some, Result, Ok, Err, refl, sym, ap, ap₂, ◌∙◌, subst, arith}
 use Rattle.std.specs.List.Sorted.{IsStrictlySortedBy}
 use Rattle.std.specs.Str.{bytes_eq}
 use Rattle.std.specs.FinMap.{get, keys}
@@ -28,7 +26,7 @@ use Rattle.reuse_session.specs.Plan.{IsRefusalOf, MakesEdits}
 use Rattle.reuse_session.proofs.ReadingLemmas.{absent_is, long_is}
 use Rattle.reuse_session.proofs.Testing.{clashes_keys}
 use Rattle.reuse_session.proofs.TreeLemmas.{among_keys}
-use Rattle.reuse_session.proofs.Planning.{paths_at, IsFit, AreEdits}
+use Rattle.reuse_session.proofs.Planning.{AreEdits}
 
 abbrev ok_edits : List Edit → Result (List Edit) Refusal
 ok_edits edits = Ok edits

@@ -1,8 +1,9 @@
 -- A look-up among paths in byte order, and the folders above them.
-use Rattle.std.proofs.Common.{◌≡◌, ℕ, zero, suc, ◌+◌, ◌<◌, ◌≤◌, Bool, true, false, ◌&&◌, ◌||◌, List, [], ◌∷◌, ◌++◌, length, get_or, drop, Less, Equal, Greater, Ordering, nat_cmp, nat_lt, nat_eq, refl, sym, ap, ap₂, ◌∙◌, arith, append_assoc, ◌⊎◌, inl, inr}
+use Rattle.std.proofs.Common.{◌≡◌, ℕ, zero, suc, ◌+◌, ◌<◌, ◌≤◌, Bool, true, false, cond, ◌&&◌, ◌||◌, List, [], ◌∷◌, ◌++◌, length, get_or, drop, Less, Equal, Greater, Ordering, nat_cmp, nat_lt, nat_eq, refl, sym, ap, ap₂, ◌∙◌, arith, append_assoc, ◌⊎◌, inl, inr, filter}
 use Rattle.std.specs.Ordering.{ordering_then, ordering_reverse, MatchOrdering, is_lt, is_eq}
 use Rattle.std.specs.Cmp.Lexicographic.{slice_cmp}
-use Rattle.std.specs.List.{AllByRecursion, starts_with, list_any}
+use Rattle.std.specs.List.{AllByRecursion, starts_with, list_any, take_while}
+use Rattle.std.proofs.lemmas.List.Sums.{take_while-cons}
 use Rattle.std.specs.List.Sorted.{IsPartitionPoint, IsPartitionedBy}
 use Rattle.std.specs.Str.{bytes_eq}
 use Rattle.std.proofs.lemmas.Bool.{false≢true}
@@ -224,3 +225,35 @@ pub folder_none : (ks : List (List ℕ)) (folder : List ℕ) (i : ℕ) → ArePa
     → length ks ≤ i → nat_lt i (length ks) ≡ is_folder_of ks folder
 folder_none ks folder i sorted point past =
     none_below i (length ks) past ∙ sym (folder_at ks folder i [] sorted point ∙ ap (λ b. b && lies_under (get_or ks i []) folder) (none_below i (length ks) past))
+
+-- ---- the paths beneath a folder
+
+module _ (test : List ℕ → Bool) (target : List ℕ)
+    (low : (x : List ℕ) → before x target ≡ Less → test x ≡ false)
+    (high : (x y : List ℕ) → is_lt (before x target) ≡ false → before x y ≡ Less → test y ≡ true → test x ≡ true) where
+  none_kept : (x : List ℕ) (xs : List (List ℕ)) → AllByRecursion (λ y. before x y ≡ Less) xs → is_lt (before x target) ≡ false → test x ≡ false → filter test xs ≡ []
+  none_kept x [] each from fails = refl
+  none_kept x (y ∷ ys) each from fails = of_test (test y) refl (none_kept x ys each.1 from fails)
+    where
+      of_test : (b : Bool) → test y ≡ b → filter test ys ≡ [] → cond b (y ∷ filter test ys) (filter test ys) ≡ []
+      of_test true e rest = absurd (false≢true (sym fails ∙ high x y from each.0 e))
+      of_test false e rest = rest
+
+  pub filter_at : (ks : List (List ℕ)) (i : ℕ) → ArePaths ks → IsPartitionPoint (λ k. is_lt (before k target) ≡ true) (λ k. is_lt (before k target) ≡ false) ks i → filter test ks ≡ take_while test (drop i ks)
+  filter_at [] zero sorted point = refl
+  filter_at [] (suc i) sorted point = refl
+  filter_at (x ∷ xs) zero sorted point =
+      of_test (test x) refl (filter_at xs zero (sorted_tail before x xs sorted) (λ k e from to. absurd (omega arith), λ k e from to. point.1 (suc k) e (omega arith) (omega arith)))
+    where
+      of_test : (b : Bool) → test x ≡ b → filter test xs ≡ take_while test xs → cond (test x) (x ∷ filter test xs) (filter test xs) ≡ take_while test (x ∷ xs)
+      of_test true e rest = ap (λ b. cond b (x ∷ filter test xs) (filter test xs)) e ∙ ap (λ ys. x ∷ ys) rest ∙ sym (take_while-cons test x xs ∙ ap (λ b. cond b (x ∷ take_while test xs) []) e)
+      of_test false e rest =
+          ap (λ b. cond b (x ∷ filter test xs) (filter test xs)) e ∙ none_kept x xs (sorted_head before x xs sorted) (point.1 0 x (omega arith) (omega arith)) e
+          ∙ sym (take_while-cons test x xs ∙ ap (λ b. cond b (x ∷ take_while test xs) []) e)
+  filter_at (x ∷ xs) (suc i) sorted point =
+      ap (λ b. cond b (x ∷ filter test xs) (filter test xs)) (low x (is_less _ (point.0 0 x (omega arith) (omega arith))))
+      ∙ filter_at xs i (sorted_tail before x xs sorted) (λ k e from to. point.0 (suc k) e (omega arith) (omega arith), λ k e from to. point.1 (suc k) e (omega arith) (omega arith))
+
+pub beneath_at : (ks : List (List ℕ)) (folder : List ℕ) (i : ℕ) → ArePaths ks → IsPartitionPoint (λ k. is_lt (before k (folder ++ 47 ∷ [])) ≡ true) (λ k. is_lt (before k (folder ++ 47 ∷ [])) ≡ false) ks i
+    → filter (λ other. lies_under other folder) ks ≡ take_while (λ other. lies_under other folder) (drop i ks)
+beneath_at ks folder i sorted point = filter_at (λ other. lies_under other folder) (folder ++ 47 ∷ []) (under_not_below folder) (under_between folder) ks i sorted point

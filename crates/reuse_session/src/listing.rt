@@ -1,5 +1,7 @@
 // The paths of a tree, in byte order: what stands at a path.
-ghost use Rattle.std.specs.Prelude.{◌≡◌, ◌<◌, ◌≤◌, IfOk, true, false, length};
+ghost use Rattle.std.specs.Prelude.{◌≡◌, ◌<◌, ◌≤◌, [], ◌∷◌, ◌++◌, IfOk, true, false, length, filter};
+ghost use Rattle.std.specs.List.{prefix_len};
+ghost use Rattle.reuse_tree.specs.Path.{lies_under};
 ghost use Rattle.std.specs.Ordering.{nat_cmp, is_lt};
 ghost use Rattle.std.specs.Cmp.Lexicographic.{slice_cmp};
 ghost use Rattle.std.specs.List.Sorted.{IsPartitionPoint};
@@ -63,8 +65,42 @@ pub(crate) fn is_folder(
 ) -> Result<bool, AllocError>
     ensures { ArePaths paths.now → IfOk result (λ found. found ≡ is_folder_of paths.now folder.now) }
 {
+    let at = first_beneath(alloc, paths, folder)?;
+    Ok(at < paths.len() && paths[at].lies_under(folder))
+}
+
+/// The paths, which are in byte order, that lie under the folder.
+pub(crate) fn paths_beneath<'a>(
+    alloc: Global,
+    paths: &'a [PathText],
+    folder: &PathText,
+) -> Result<&'a [PathText], AllocError>
+    ensures { ArePaths paths.now → IfOk result (λ beneath. beneath.now ≡ filter (λ path. lies_under path folder.now) paths.now) }
+{
+    let at = first_beneath(alloc, paths, folder)?;
+    let rest = &paths[at..];
+    let count = count_beneath(rest, folder);
+    Ok(&rest[..count])
+}
+
+// How many of the paths, which are in byte order, are below the folder with a slash behind it.
+fn first_beneath(alloc: Global, paths: &[PathText], folder: &PathText) -> Result<usize, AllocError>
+    ensures within { IfOk result (λ at. at ≤ length paths.now) }
+    ensures bound { ArePaths paths.now → IfOk result (IsPartitionPoint (λ path. is_lt (slice_cmp nat_cmp path (folder.now ++ 47 ∷ [])) ≡ true) (λ path. is_lt (slice_cmp nat_cmp path (folder.now ++ 47 ∷ [])) ≡ false) paths.now) }
+{
     let mut first = Bytes::from_slice(alloc, folder.as_bytes())?;
     first.push_slice(b"/")?;
-    let at = lower_bound(paths, first.as_slice());
-    Ok(at < paths.len() && paths[at].lies_under(folder))
+    Ok(lower_bound(paths, first.as_slice()))
+}
+
+// How many of the paths lie under the folder, up to the first that doesn't.
+fn count_beneath(paths: &[PathText], folder: &PathText) -> usize
+    ensures { result ≡ prefix_len (λ path. lies_under path folder.now) paths.now }
+{
+    for (count, path) in paths.iter().enumerate() {
+        if !path.lies_under(folder) {
+            return count;
+        }
+    }
+    paths.len()
 }

@@ -1,10 +1,17 @@
 // The paths of a command, in the order in which they are gone through.
-ghost use Rattle.std.specs.Prelude.{◌≡◌, ◌++◌, IfOk, OnOk};
+ghost use Rattle.std.specs.Prelude.{◌≡◌, ◌++◌, [], ◌∷◌, IfOk, OnOk, filter, flat_map};
+ghost use Rattle.std.specs.FinMap.{keys};
+ghost use Rattle.reuse_tree.specs.Files.{Files};
+ghost use Rattle.reuse_session.specs.Covered.{is_covered};
+ghost use Rattle.reuse_session.specs.Worked.{expanded, worked_paths};
+ghost use Rattle.reuse_session.specs.declared.command.Place.TheVariants as place;
 ghost use Rattle.std.specs.Option.{option_to_list};
 ghost use Rattle.reuse_notice.specs.Sets.{set_of};
 ghost use Rattle.reuse_session.specs.Command.{is_root, has_root, path_in, paths_among};
 
 use crate::command::Place;
+use crate::covered::is_covered;
+use crate::listing::paths_beneath;
 use reuse_tree::PathText;
 use std::alloc::{AllocError, Global};
 
@@ -24,14 +31,106 @@ fn is_root(place: &Place) -> bool
     }
 }
 
-/// The paths among the places, in byte order and without repeats.
-pub(crate) fn worked_paths(alloc: Global, places: &[Place]) -> Result<Vec<PathText>, AllocError>
-    ensures { IfOk result (λ paths. paths.items ≡ set_of (paths_among places.now)) }
+/// The paths that a command goes through, in byte order and without repeats: those among the places, and, where folders are gone
+/// through, the covered files beneath a folder in its place. `paths` are those of the tree.
+pub(crate) fn worked_paths(
+    alloc: Global,
+    paths: &[PathText],
+    places: &[Place],
+    recursive: bool,
+) -> Result<Vec<PathText>, AllocError>
+    ensures { (tree : Files) → paths.now ≡ keys tree → IfOk result (λ worked. worked.items ≡ worked_paths recursive places.now tree) }
 {
-    let mut paths = paths_among(alloc, places)?;
+    let worked = if recursive {
+        expanded(alloc, paths, places)?
+    } else {
+        paths_among(alloc, places)?
+    };
+    Ok(sorted(worked))
+}
+
+// The set of the paths, in byte order.
+fn sorted(paths: Vec<PathText>) -> Vec<PathText>
+    ensures { result.items ≡ set_of paths.items }
+{
+    let mut paths = paths;
     paths.sort_unstable();
     paths.dedup();
-    Ok(paths)
+    paths
+}
+
+// The paths among the places, with the covered files beneath a folder in its place.
+fn expanded(
+    alloc: Global,
+    paths: &[PathText],
+    places: &[Place],
+) -> Result<Vec<PathText>, AllocError>
+    ensures { (tree : Files) → paths.now ≡ keys tree → IfOk result (λ found. found.items ≡ flat_map (expanded tree) places.now) }
+{
+    let mut found = Vec::new(alloc);
+    for place in places {
+        push_expanded(alloc, &mut found, paths, place)?;
+    }
+    Ok(found)
+}
+
+// Adds what stands in the place of a place.
+fn push_expanded(
+    alloc: Global,
+    found: &mut Vec<PathText>,
+    paths: &[PathText],
+    place: &Place,
+) -> Result<(), AllocError>
+    ensures { (tree : Files) → paths.now ≡ keys tree → OnOk result (found.new.items ≡ found.old.items ++ expanded tree place.now) }
+{
+    match place {
+        Place::Root => push_covered(alloc, found, paths),
+        Place::Path(path) => push_beneath(alloc, found, paths, path),
+    }
+}
+
+// Adds a path, or the covered files beneath it where it is a folder.
+fn push_beneath(
+    alloc: Global,
+    found: &mut Vec<PathText>,
+    paths: &[PathText],
+    path: &PathText,
+) -> Result<(), AllocError>
+    ensures { (tree : Files) → paths.now ≡ keys tree → OnOk result (found.new.items ≡ found.old.items ++ expanded tree (place.Path path.now)) }
+{
+    let beneath = paths_beneath(alloc, paths, path)?;
+    if beneath.is_empty() {
+        found.push(path.try_clone(alloc)?)?;
+        return Ok(());
+    }
+    push_covered(alloc, found, beneath)
+}
+
+// Adds the covered ones of some paths.
+fn push_covered(
+    alloc: Global,
+    found: &mut Vec<PathText>,
+    paths: &[PathText],
+) -> Result<(), AllocError>
+    ensures { OnOk result (found.new.items ≡ found.old.items ++ filter is_covered paths.now) }
+{
+    for path in paths {
+        push_if_covered(alloc, found, path)?;
+    }
+    Ok(())
+}
+
+fn push_if_covered(
+    alloc: Global,
+    found: &mut Vec<PathText>,
+    path: &PathText,
+) -> Result<(), AllocError>
+    ensures { OnOk result (found.new.items ≡ found.old.items ++ filter is_covered (path.now ∷ [])) }
+{
+    if is_covered(path.as_bytes()) {
+        found.push(path.try_clone(alloc)?)?;
+    }
+    Ok(())
 }
 
 fn paths_among(alloc: Global, places: &[Place]) -> Result<Vec<PathText>, AllocError>

@@ -8,8 +8,9 @@ mod lines;
 use disk::DiskStore;
 use fault::Fault;
 use lines::print_reply;
+use reuse_header::How;
 use reuse_notice::{Additions, Prefix};
-use reuse_session::{Command, Moment, Place, Places, Session};
+use reuse_session::{Command, Moment, Place, Places, Scope, Session, Unknown};
 use reuse_tree::{PathText, Store};
 use std::alloc::Global;
 use std::io::{self, BufWriter, Write};
@@ -33,6 +34,18 @@ fn annotate_one(alloc: Global) -> Result<Command, Fault> {
     Ok(Command::Annotate {
         places: Places::new(places),
         additions,
+        how: How {
+            form: None,
+            merge: false,
+            replace: true,
+        },
+        scope: Scope {
+            recursive: false,
+            style: None,
+            force_dot_license: false,
+            unknown: Unknown::Refuse,
+            skip_existing: false,
+        },
     })
 }
 

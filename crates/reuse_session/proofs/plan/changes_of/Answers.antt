@@ -8,7 +8,7 @@ use Rattle.reuse_session.proofs.plan.changes_of.Goals as goal
 pub returns-in-Annotate-clause-edits : goal.returns-in-Annotate-clause-edits
 returns-in-Annotate-clause-edits g c honest =
     subst (λ k. AnswersEdits (tree_of (g.S.Store.files c.args.store.now)) (edits_of k (tree_of (g.S.Store.files c.args.store.now))) c.plan_annotation.result) (sym c.in-Annotate.is)
-    (subst (λ ps. AnswersEdits (tree_of (g.S.Store.files c.args.store.now)) (annotation_edits ps c.in-Annotate.additions (tree_of (g.S.Store.files c.args.store.now))) c.plan_annotation.result) c.as_slice.ensures
+    (subst (λ ps. AnswersEdits (tree_of (g.S.Store.files c.args.store.now)) (annotation_edits ps c.in-Annotate.additions c.in-Annotate.how c.in-Annotate.scope (tree_of (g.S.Store.files c.args.store.now))) c.plan_annotation.result) c.as_slice.ensures
     (c.plan_annotation.ensures.edits honest))
 
 pub returns-in-Download-clause-edits : goal.returns-in-Download-clause-edits

@@ -1,7 +1,7 @@
 use Rattle.std.proofs.Common.{◌≡◌, ◌≤◌, drop}
 use Rattle.std.specs.FinMap.{keys}
 use Rattle.reuse_tree.specs.Files.{tree_of}
-use Rattle.reuse_session.specs.Outcome.{annotated_at}
+use Rattle.reuse_session.specs.Annotate.{annotated_at}
 use Rattle.reuse_session.proofs.Annotating.{SoFar}
 use Rattle.reuse_session.proofs.plan.plan_paths.Given as goal
 
@@ -13,5 +13,5 @@ invariant-loop-path g l = record {
   failures : g.S.Store.failures l.initial.store ≤ g.S.Store.failures l.store;
   written : g.S.Store.written l.store ≡ g.S.Store.written l.initial.store;
   so_far : g.S.Store.honest l.store → l.paths ≡ keys (tree_of (g.S.Store.files l.initial.store))
-      → SoFar (annotated_at l.block (tree_of (g.S.Store.files l.initial.store))) (tree_of (g.S.Store.files l.initial.store)) l.worked (drop l.path-index l.worked) l.changes.items;
+      → SoFar (annotated_at l.how l.scope l.additions (tree_of (g.S.Store.files l.initial.store))) (tree_of (g.S.Store.files l.initial.store)) l.worked (drop l.path-index l.worked) l.changes.items;
 }

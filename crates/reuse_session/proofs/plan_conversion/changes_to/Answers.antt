@@ -1,4 +1,4 @@
-use Rattle.std.proofs.Common.{◌≡◌, ◌∙◌, [], ◌∷◌, sym, ap, ap₂, subst, Err}
+use Rattle.std.proofs.Common.{◌∙◌, [], ◌∷◌, sym, ap, ap₂, subst, Err}
 use Rattle.reuse_tree.specs.declared.change.Change.TheVariants.{Make, Drop}
 use Rattle.reuse_session.specs.Clash.{is_clash_of}
 use Rattle.reuse_session.specs.Conversion.{conversion_edits}

@@ -1,7 +1,7 @@
-use Rattle.std.proofs.Common.{◌≡◌, ◌≤◌, ◌∙◌, length, sym, ap, subst, Ok, Err}
+use Rattle.std.proofs.Common.{◌≤◌, ◌∙◌, length, sym, ap, subst, Ok, Err}
 use Rattle.reuse_dep5.specs.Answers as answers
 use Rattle.reuse_dep5.specs.Conversion.{converted}
-use Rattle.reuse_session.specs.Conversion.{conversion_edits, toml_path}
+use Rattle.reuse_session.specs.Conversion.{conversion_edits}
 use Rattle.reuse_session.specs.Listing.{ArePaths, is_among}
 use Rattle.reuse_session.specs.Plan.{IsRefusalOf}
 use Rattle.reuse_session.specs.declared.reply.Refusal.TheVariants as refusals

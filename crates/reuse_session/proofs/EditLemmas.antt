@@ -1,0 +1,181 @@
+-- The change of a place, by what an annotation makes of its bytes.
+use Rattle.std.proofs.Common.{◌≡◌, ℕ, zero, suc, ◌+◌, ◌-◌, ◌≤◌, Bool, true, false, cond, not, ◌&&◌, List, [], ◌∷◌, ◌++◌, length, take, drop, Option, Some, None, IsSome, is_some, nat_lt, Result, Ok, Err, refl, sym, ap, ap₂, subst, ◌∙◌}
+use Rattle.std.specs.Option.{option_map}
+use Rattle.std.specs.Str.{bytes_eq}
+use Rattle.std.specs.FinMap.{get}
+use Rattle.std.proofs.lemmas.Bool.{false≢true}
+use Rattle.reuse_notice.specs.declared.adding.Additions.{Additions}
+use Rattle.reuse_header.specs.declared.style.Style.{Style}
+use Rattle.reuse_header.specs.declared.annotation.How.{How}
+use Rattle.reuse_header.specs.declared.annotation.HeaderRefusal.{HeaderRefusal}
+use Rattle.reuse_header.specs.declared.annotation.Splice.{Splice}
+use Rattle.reuse_header.specs.Annotation as header
+use Rattle.reuse_header.specs.Header.{header_of}
+use Rattle.reuse_header.specs.Splices.{answer_of}
+use Rattle.reuse_tree.specs.Files.{Files}
+use Rattle.reuse_tree.specs.declared.change.Change.TheVariants as change
+use Rattle.reuse_session.specs.Edit.{Edit}
+use Rattle.reuse_header.specs.Neighbour.{neighbour_annotation_of}
+use Rattle.reuse_session.specs.Annotate.{neighbour_of, neighbour_is_tagged, goes_beside, target_by_bytes, target_of, edit_by, edit_inside, edit_neighbour, edit_beside, edit_target, annotated_where, annotated_at}
+use Rattle.reuse_session.specs.Clash.{is_clash}
+use Rattle.reuse_session.specs.Covered.{is_covered}
+use Rattle.reuse_session.specs.declared.reply.Refusal.TheVariants as refusals
+use Rattle.reuse_session.specs.declared.plan_target.Target.{Target}
+use Rattle.reuse_session.specs.declared.plan_target.Target.TheVariants.{Beside}
+use Rattle.reuse_session.specs.Annotations.{Due, Fits}
+use Rattle.reuse_session.specs.Plan.{Makes, MakesEdit}
+use Rattle.reuse_session.specs.declared.command.Scope.{Scope}
+use Rattle.reuse_session.specs.declared.reply.Refusal.{Refusal}
+use Rattle.reuse_session.proofs.SpliceLemmas.{rest_len, makes_splice}
+
+-- what is known of each edit is known of an annotation
+pub fits_by : (bytes : List ℕ) (due : Due) → ((edit : header.Edit) → due ≡ Ok edit → (edit.start + edit.old_len ≤ length bytes) × (length (header.edited bytes edit) ≤ 16_777_216)) → Fits bytes due
+fits_by bytes (Ok edit) each = each edit refl
+fits_by bytes (Err refusal) each = tt
+
+abbrev answered : Option Splice → Result (Option Splice) HeaderRefusal
+answered splice = Ok splice
+
+abbrev edited_to : Option Edit → Result (Option Edit) Refusal
+edited_to edit = Ok edit
+
+refused_is_none : (refusal : HeaderRefusal) (splice : Splice) → Err refusal ≡ answered (Some splice) → ⊥
+refused_is_none refusal splice e = cc
+
+none_is_some : (splice : Splice) → answered None ≡ answered (Some splice) → ⊥
+none_is_some splice e = cc
+
+same_splice : (one other : Splice) → answered (Some one) ≡ answered (Some other) → one ≡ other
+same_splice one other e = cc
+
+-- the change of a file that is there
+pub change_made : (tree : Files) (path at clone bytes : List ℕ) (due : Due) (splice : Splice) (rest : ℕ) → get tree at ≡ Some bytes → length bytes ≤ 16_777_216 → Fits bytes due
+    → answer_of bytes due ≡ answered (Some splice) → clone ≡ at → rest ≡ length bytes - splice.at - length splice.old
+    → MakesEdit tree (edit_by path at bytes due) (Some (change.Splice clone splice.at splice.old splice.new rest))
+change_made tree path at clone bytes (Err refusal) splice rest here short fits answer same is = absurd (refused_is_none refusal splice answer)
+change_made tree path at clone bytes (Ok edit) splice rest here short fits answer same is = by_test (bytes_eq (header.edited bytes edit) bytes) refl answer
+  where
+    it : Edit
+    it = record { path = at; removed = take edit.old_len (drop edit.start bytes); written = header.new_bytes edit; file = Some (header.edited bytes edit) }
+
+    made : Splice
+    made = record { at = edit.start; old = take edit.old_len (drop edit.start bytes); new = header.new_bytes edit }
+
+    makes : bytes_eq (header.edited bytes edit) bytes ≡ false → rest ≡ length bytes - edit.start - length (take edit.old_len (drop edit.start bytes)) → Makes tree (change.Splice at edit.start (take edit.old_len (drop edit.start bytes)) (header.new_bytes edit) rest) it
+    makes e r = makes_splice bytes edit.start edit.old_len fits.0 tree at (header.new_bytes edit) here short fits.1 e rest (r ∙ rest_len bytes edit.start edit.old_len fits.0)
+
+    by_test : (b : Bool) → bytes_eq (header.edited bytes edit) bytes ≡ b → answered (cond b None (Some made)) ≡ answered (Some splice)
+        → (x : Edit) × (cond b (edited_to None) (edited_to (Some it)) ≡ edited_to (Some x)) × Makes tree (change.Splice clone splice.at splice.old splice.new rest) x
+    by_test true e h = absurd (none_is_some splice h)
+    by_test false e h = (
+      it,
+      refl,
+      subst (λ (p : List ℕ). Makes tree (change.Splice p splice.at splice.old splice.new rest) it) (sym same)
+          (subst (λ (s : Splice). rest ≡ length bytes - s.at - length s.old → Makes tree (change.Splice at s.at s.old s.new rest) it) (same_splice made splice h) (makes e) is),
+    )
+
+take_none : (n : ℕ) → take {A = ℕ} n [] ≡ []
+take_none zero = refl
+take_none (suc n) = refl
+
+drop_none : (n : ℕ) → drop {A = ℕ} n [] ≡ []
+drop_none zero = refl
+drop_none (suc n) = refl
+
+append_none : (xs : List ℕ) → xs ++ [] ≡ xs
+append_none [] = refl
+append_none (x ∷ xs) = ap (λ ys. x ∷ ys) (append_none xs)
+
+-- the change that makes a file
+pub making_made : (tree : Files) (path at clone : List ℕ) (due : Due) (splice : Splice) → get tree at ≡ None → Fits [] due → answer_of [] due ≡ answered (Some splice) → clone ≡ at
+    → MakesEdit tree (edit_by path at [] due) (Some (change.Make clone splice.new))
+making_made tree path at clone (Err refusal) splice here fits answer same = absurd (refused_is_none refusal splice answer)
+making_made tree path at clone (Ok edit) splice here fits answer same = by_test (bytes_eq (header.edited [] edit) []) answer
+  where
+    it : Edit
+    it = record { path = at; removed = take edit.old_len (drop edit.start []); written = header.new_bytes edit; file = Some (header.edited [] edit) }
+
+    made : Splice
+    made = record { at = edit.start; old = take edit.old_len (drop edit.start []); new = header.new_bytes edit }
+
+    around : header.edited [] edit ≡ header.new_bytes edit
+    around = ap₂ (λ x y. x ++ header.new_bytes edit ++ y) (take_none edit.start) (drop_none (edit.start + edit.old_len)) ∙ append_none (header.new_bytes edit)
+
+    makes : Makes tree (change.Make at (header.new_bytes edit)) it
+    makes = record {
+      path = refl;
+      removed = sym (ap (take edit.old_len) (drop_none edit.start) ∙ take_none edit.old_len);
+      written = refl;
+      proper = tt;
+      small = subst (λ xs. length xs ≤ 16_777_216) around fits.1;
+      turns = (here, ap (λ xs. Some xs) around);
+    }
+
+    by_test : (b : Bool) → answered (cond b None (Some made)) ≡ answered (Some splice)
+        → (x : Edit) × (cond b (edited_to None) (edited_to (Some it)) ≡ edited_to (Some x)) × Makes tree (change.Make clone splice.new) x
+    by_test true h = absurd (none_is_some splice h)
+    by_test false h = (
+      it,
+      refl,
+      subst (λ (p : List ℕ). Makes tree (change.Make p splice.new) it) (sym same) (subst (λ (s : Splice). Makes tree (change.Make at s.new) it) (same_splice made splice h) makes),
+    )
+
+-- ---- files that are not skipped
+
+and_false : (a b : Bool) → b ≡ false → (a && b) ≡ false
+and_false true b e = e
+and_false false b e = refl
+
+pub same_some : {X Y Z : Type 0} (f : X → Z) (g : Y → Z) (x : Option X) (y : Option Y) → option_map f x ≡ option_map g y → is_some x ≡ is_some y
+same_some f g None None e = refl
+same_some f g (Some x) (Some y) e = refl
+same_some f g None (Some y) e = absurd (cc)
+same_some f g (Some x) None e = absurd (cc)
+
+pub inside_is : (how : How) (scope : Scope) (additions : Additions) (path bytes : List ℕ) (style : Style) → (scope.skip_existing && is_some (header_of style bytes)) ≡ false
+    → edit_inside how scope additions path bytes style ≡ edit_by path path bytes (header.annotation_of style how additions bytes)
+inside_is how scope additions path bytes style e = ap (λ b. cond b (edited_to None) (edit_by path path bytes (header.annotation_of style how additions bytes))) e
+
+-- ---- the edit of a neighbour, and of a file, by the tests of the code
+
+abbrev refused : Refusal → Result (Option Edit) Refusal
+refused refusal = Err refusal
+
+abbrev aimed : Target → Result Target Refusal
+aimed target = Ok target
+
+pub some_bytes : (file : Option (List ℕ)) → IsSome file → (bytes : List ℕ) × (file ≡ Some bytes)
+some_bytes (Some bytes) some = (bytes, refl)
+some_bytes None some = absurd (false≢true some)
+
+module _ (how : How) (scope : Scope) (additions : Additions) (tree : Files) (path : List ℕ) where
+  abbrev by_neighbour : List ℕ → Result (Option Edit) Refusal
+  by_neighbour bytes = edit_by path (neighbour_of path) bytes (neighbour_annotation_of how additions bytes)
+
+  pub neighbour_is : (bytes : List ℕ) → nat_lt 16_777_216 (length bytes) ≡ false → (scope.skip_existing && neighbour_is_tagged bytes) ≡ false
+      → edit_neighbour how scope additions tree path (Some bytes) ≡ edit_by path (neighbour_of path) bytes (neighbour_annotation_of how additions bytes)
+  neighbour_is bytes short kept =
+      ap (λ b. cond b (refused (refusals.TooLong path)) (cond (scope.skip_existing && neighbour_is_tagged bytes) (edited_to None) (by_neighbour bytes))) short
+      ∙ ap (λ b. cond b (edited_to None) (by_neighbour bytes)) kept
+
+  pub new_clashes : is_clash tree (neighbour_of path) ≡ true → edit_neighbour how scope additions tree path None ≡ refused (refusals.Clash (neighbour_of path))
+  new_clashes e = ap (λ b. cond b (refused (refusals.Clash (neighbour_of path))) (by_neighbour [])) e
+
+  pub new_is : is_clash tree (neighbour_of path) ≡ false → edit_neighbour how scope additions tree path None ≡ edit_by path (neighbour_of path) [] (neighbour_annotation_of how additions [])
+  new_is e = ap (λ b. cond b (refused (refusals.Clash (neighbour_of path))) (by_neighbour [])) e
+
+  pub beside_is : (file : Option (List ℕ)) → nat_lt 4096 (length (neighbour_of path)) ≡ false → get tree (neighbour_of path) ≡ file → edit_beside how scope additions tree path ≡ edit_neighbour how scope additions tree path file
+  beside_is file short is =
+      ap (λ b. cond b (refused (refusals.TooLong path)) (edit_neighbour how scope additions tree path (get tree (neighbour_of path)))) short ∙ ap (edit_neighbour how scope additions tree path) is
+
+  pub uncovered_is : (file : Option (List ℕ)) → IsSome file → is_covered path ≡ false → annotated_where how scope additions tree path file ≡ refused (refusals.NotCovered path)
+  uncovered_is None some e = absurd (false≢true some)
+  uncovered_is (Some bytes) some e =
+      ap (λ b. cond (not b) (refused (refusals.NotCovered path)) (edit_target how scope additions tree path bytes (target_of scope tree path bytes))) e
+
+  pub covered_is : (bytes : List ℕ) (b : Bool) → get tree path ≡ Some bytes → is_covered path ≡ true → goes_beside scope tree path ≡ b
+      → annotated_at how scope additions tree path ≡ edit_target how scope additions tree path bytes (cond b (aimed Beside) (target_by_bytes scope path bytes))
+  covered_is bytes b here covered beside =
+      ap (annotated_where how scope additions tree path) here
+      ∙ ap (λ t. cond (not t) (refused (refusals.NotCovered path)) (edit_target how scope additions tree path bytes (target_of scope tree path bytes))) covered
+      ∙ ap (λ t. edit_target how scope additions tree path bytes (cond t (aimed Beside) (target_by_bytes scope path bytes))) beside

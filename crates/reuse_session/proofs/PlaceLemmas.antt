@@ -1,0 +1,69 @@
+-- The paths that a command goes through, one place after the other.
+use Rattle.std.proofs.Common.{◌≡◌, ℕ, ◌+◌, ◌<◌, Bool, true, false, cond, ◌||◌, List, [], ◌∷◌, ◌++◌, length, take, get_or, filter, ◌==◌, refl, sym, ap, ◌∙◌, arith, append_assoc}
+use Rattle.std.specs.Prelude.{flat_map}
+use Rattle.std.specs.List.{list_any}
+use Rattle.std.specs.FinMap.{keys}
+use Rattle.std.proofs.lemmas.Bool.Decides.{nat_tests}
+use Rattle.std.proofs.lemmas.List.{take_more}
+use Rattle.std.proofs.lemmas.List.Concat.{flat_map-append}
+use Rattle.std.proofs.lemmas.List.Elements.{filter-append}
+use Rattle.reuse_tree.specs.Path.{lies_under}
+use Rattle.reuse_tree.specs.Files.{Files}
+use Rattle.reuse_session.specs.Covered.{is_covered}
+use Rattle.reuse_session.specs.Worked.{expanded}
+use Rattle.reuse_session.specs.declared.command.Place.{Place}
+use Rattle.reuse_session.specs.declared.command.Place.TheVariants.{Path}
+
+-- what is kept of one more
+pub kept_more : (test : List ℕ → Bool) (xs : List (List ℕ)) (i : ℕ) (d : List ℕ) (start old new : List (List ℕ)) → i < length xs → old ≡ start ++ filter test (take i xs)
+    → new ≡ old ++ filter test (get_or xs i d ∷ []) → new ≡ start ++ filter test (take (i + 1) xs)
+kept_more test xs i d start old new low so is =
+    is ∙ ap (λ ys. ys ++ filter test (get_or xs i d ∷ [])) so ∙ append_assoc start (filter test (take i xs)) (filter test (get_or xs i d ∷ []))
+    ∙ ap (λ ys. start ++ ys) (sym (filter-append test (take i xs) (get_or xs i d ∷ [])) ∙ ap (filter test) (sym (take_more xs i d low)))
+
+append_nil : (xs : List (List ℕ)) → xs ++ [] ≡ xs
+append_nil [] = refl
+append_nil (x ∷ xs) = ap (λ ys. x ∷ ys) (append_nil xs)
+
+-- what stands for one more
+pub expanded_more : (tree : Files) (places : List Place) (i : ℕ) (d : Place) (old new : List (List ℕ)) → i < length places → old ≡ flat_map (expanded tree) (take i places)
+    → new ≡ old ++ expanded tree (get_or places i d) → new ≡ flat_map (expanded tree) (take (i + 1) places)
+expanded_more tree places i d old new low so is =
+    is ∙ ap (λ ys. ys ++ expanded tree (get_or places i d)) so
+    ∙ ap (λ ys. flat_map (expanded tree) (take i places) ++ ys) (sym (append_nil (expanded tree (get_or places i d))))
+    ∙ sym (flat_map-append (expanded tree) (take i places) (get_or places i d ∷ [])) ∙ ap (flat_map (expanded tree)) (sym (take_more places i d low))
+
+-- where nothing is kept, nothing passes
+none_passes : (test : List ℕ → Bool) (ks : List (List ℕ)) → length (filter test ks) ≡ 0 → list_any test ks ≡ false
+none_passes test [] h = refl
+none_passes test (k ∷ ks) h = of_test (test k) h (none_passes test ks)
+  where
+    of_test : (b : Bool) → length (cond b (k ∷ filter test ks) (filter test ks)) ≡ 0 → (length (filter test ks) ≡ 0 → list_any test ks ≡ false) → (b || list_any test ks) ≡ false
+    of_test true h rest = absurd (omega (arith, h))
+    of_test false h rest = rest h
+
+one_passes : (test : List ℕ → Bool) (ks : List (List ℕ)) → (length (filter test ks) ≡ 0 → ⊥) → list_any test ks ≡ true
+one_passes test [] h = absurd (h refl)
+one_passes test (k ∷ ks) h = of_test (test k) h (one_passes test ks)
+  where
+    of_test : (b : Bool) → (length (cond b (k ∷ filter test ks) (filter test ks)) ≡ 0 → ⊥) → ((length (filter test ks) ≡ 0 → ⊥) → list_any test ks ≡ true) → (b || list_any test ks) ≡ true
+    of_test true h rest = refl
+    of_test false h rest = rest h
+
+module _ (tree : Files) (path : List ℕ) (beneath : List (List ℕ)) (are : beneath ≡ filter (λ other. lies_under other path) (keys tree)) where
+  -- a path that is no folder
+  pub stands_alone : length beneath ≡ 0 → expanded tree (Path path) ≡ path ∷ []
+  stands_alone h =
+      ap (λ b. cond b (filter is_covered (filter (λ other. lies_under other path) (keys tree))) (path ∷ [])) (none_passes (λ other. lies_under other path) (keys tree) (ap length (sym are) ∙ h))
+
+  -- a folder
+  pub stands_for : (length beneath ≡ 0 → ⊥) → expanded tree (Path path) ≡ filter is_covered beneath
+  stands_for h =
+      ap (λ b. cond b (filter is_covered (filter (λ other. lies_under other path) (keys tree))) (path ∷ [])) (one_passes (λ other. lies_under other path) (keys tree) (λ e. h (ap length are ∙ e)))
+      ∙ ap (filter is_covered) (sym are)
+
+pub is_zero : (n : ℕ) → (n == 0) ≡ true → n ≡ 0
+is_zero n h = grind (arith, nat_tests)
+
+pub not_zero : (n : ℕ) → (n == 0) ≡ false → n ≡ 0 → ⊥
+not_zero n h e = absurd (grind (arith, nat_tests))

@@ -1,0 +1,36 @@
+use Rattle.std.proofs.Common.{◌≡◌, ◌≤◌, ◌∙◌, ℕ, false, ◌&&◌, nat_lt, List, length, Some, sym, ap, subst, arith}
+use Rattle.std.proofs.lemmas.Bool.Decides.{nat_tests}
+use Rattle.reuse_header.specs.Neighbour.{neighbour_annotation_of}
+use Rattle.reuse_header.specs.Splices.{IsDue, answer_of}
+use Rattle.reuse_session.specs.Annotate.{neighbour_is_tagged, edit_by}
+use Rattle.reuse_session.specs.Plan.{AnswersEdit}
+use Rattle.reuse_session.proofs.ReadingLemmas.{found_is}
+use Rattle.reuse_session.proofs.EditLemmas.{fits_by, neighbour_is}
+use Rattle.reuse_session.proofs.plan_place.plan_neighbour.Goals as goal
+use Rattle.reuse_session.proofs.plan_place.plan_neighbour.Goals.{else-scope-via-then-scope+else-neighbour_has_tag, else-scope-via-else-scope}
+
+some_is : (x y : List ℕ) → Some x ≡ Some y → x ≡ y
+some_is x y e = cc
+
+not_over : (n : ℕ) → n ≤ 16_777_216 → nat_lt 16_777_216 n ≡ false
+not_over n h = grind (arith, nat_tests)
+
+pub annotate_neighbour-made-requires : goal.annotate_neighbour-made-requires
+annotate_neighbour-made-requires c = omega (arith, ap length c.as_slice-2.ensures, c.len.ensures, c.if-len-gt-LONGEST_FILE.false)
+
+pub returns-clause-edit : goal.returns-clause-edit
+returns-clause-edit c tree bytes is here reading =
+    let same : bytes ≡ c.in-Found.bytes = some_is bytes c.in-Found.bytes (found_is (Some bytes) 16_777_216 c.in-Found.bytes (sym c.in-Found.is ∙ reading)).0 in
+    let size = ap length same in
+    let short : length bytes ≤ 16_777_216 = omega (arith, size, c.len.ensures, c.if-len-gt-LONGEST_FILE.false) in
+    let due = neighbour_annotation_of c.args.how.now c.args.additions.now bytes in
+    let kept : (c.args.scope.now.skip_existing && neighbour_is_tagged bytes) ≡ false = elim c.else-scope.branch [
+      | else-scope-via-then-scope+else-neighbour_has_tag w ↦
+          ap (λ b. b && neighbour_is_tagged bytes) w.if-scope.true ∙ ap neighbour_is_tagged (same ∙ sym w.as_slice.ensures) ∙ sym w.neighbour_has_tag.ensures ∙ w.if-neighbour_has_tag.false
+      | else-scope-via-else-scope w ↦ ap (λ b. b && neighbour_is_tagged bytes) w.if-scope.false
+    ] in
+    subst (λ r. AnswersEdit tree r c.change_by.result) (sym (neighbour_is c.args.how.now c.args.scope.now c.args.additions.now tree c.args.path.now bytes (not_over (length bytes) short) kept))
+    (subst (λ n. AnswersEdit tree (edit_by c.args.path.now n bytes (neighbour_annotation_of c.args.how.now c.args.additions.now bytes)) c.change_by.result) is
+    (c.change_by.ensures.edit tree bytes due here (size ∙ sym c.len-2.ensures) short
+    (fits_by bytes due (λ edit e. c.annotations_fit.ensures.neighbours c.args.how.now c.args.additions.now bytes edit e))
+    (subst (λ xs. IsDue (answer_of xs (neighbour_annotation_of c.args.how.now c.args.additions.now xs)) c.annotate_neighbour-made.result) (c.as_slice-2.ensures ∙ sym same) c.annotate_neighbour-made.ensures)))

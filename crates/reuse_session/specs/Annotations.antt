@@ -1,0 +1,13 @@
+-- What an annotation of a file may be, where it is an edit.
+use Rattle.std.specs.Prelude.{ℕ, ◌+◌, ◌≤◌, List, length, Result, Ok, Err}
+use Rattle.reuse_header.specs.declared.annotation.HeaderRefusal.{HeaderRefusal}
+use Rattle.reuse_header.specs.Annotation as header
+
+-- the edit of a file, or the first refusal
+abbrev pub Due : Type 0
+Due = Result header.Edit HeaderRefusal
+
+-- an edit is within its file, and makes none that is too long
+abbrev pub Fits : List ℕ → Due → Type 0
+Fits bytes (Ok edit) = (edit.start + edit.old_len ≤ length bytes) × (length (header.edited bytes edit) ≤ 16_777_216)
+Fits bytes (Err refusal) = Unit {0}

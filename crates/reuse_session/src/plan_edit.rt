@@ -1,0 +1,86 @@
+// The change of a place, by what an annotation makes of its bytes.
+ghost use Rattle.std.specs.Prelude.{◌≡◌, ◌≤◌, [], ℕ, List, IfOk, IfErr, Some, None, length};
+ghost use Rattle.std.specs.FinMap.{get};
+ghost use Rattle.reuse_header.specs.Splices.{IsDue, answer_of};
+ghost use Rattle.reuse_tree.specs.Files.{Files};
+ghost use Rattle.reuse_session.specs.Answer.{IsOfPlan};
+ghost use Rattle.reuse_session.specs.Annotate.{edit_by};
+ghost use Rattle.reuse_session.specs.HeaderFaults.{refused_by};
+ghost use Rattle.reuse_session.specs.Annotations.{Fits, Due};
+ghost use Rattle.reuse_session.specs.Plan.{AnswersEdit};
+ghost use Rattle.reuse_tree.specs.declared.fault.StoreFault.{StoreFault};
+
+use crate::header_fault::HeaderFault;
+use crate::reply::Refusal;
+use reuse_header::{HeaderRefusal, Splice};
+use reuse_text::Bytes;
+use reuse_tree::{Change, PathText};
+use std::alloc::{AllocError, Global};
+
+/// The change of a file that is there, of so many bytes, by what an annotation makes of it. A refusal names `path`.
+pub(crate) fn change_by(
+    alloc: Global,
+    path: &PathText,
+    at: &PathText,
+    len: usize,
+    made: Result<Option<Splice>, HeaderRefusal>,
+) -> Result<Option<Change>, Refusal>
+    ensures edit { (tree : Files) (bytes : List ℕ) (due : Due) → get tree at.now ≡ Some bytes → length bytes ≡ len → length bytes ≤ 16_777_216 → Fits bytes due → IsDue (answer_of bytes due) made
+        → AnswersEdit tree (edit_by path.now at.now bytes due) result }
+    ensures planned { IfErr result IsOfPlan }
+    ensures fault { (fault : StoreFault) → result ≡ Err (Refusal.Fault fault) → ⊥ }
+{
+    match made {
+        Err(refusal) => Err(refused_by(alloc, path, refusal)?),
+        Ok(None) => Ok(None),
+        Ok(Some(splice)) => {
+            let rest = len
+                .saturating_sub(splice.at)
+                .saturating_sub(splice.old.len());
+            Ok(Some(Change::Splice {
+                path: at.try_clone(alloc)?,
+                at: splice.at,
+                old: splice.old,
+                new: splice.new,
+                rest,
+            }))
+        }
+    }
+}
+
+/// The change that makes a file, by what an annotation makes of no bytes. A refusal names `path`.
+pub(crate) fn making_by(
+    alloc: Global,
+    path: &PathText,
+    at: &PathText,
+    made: Result<Option<Splice>, HeaderRefusal>,
+) -> Result<Option<Change>, Refusal>
+    ensures edit { (tree : Files) (due : Due) → get tree at.now ≡ None → Fits [] due → IsDue (answer_of [] due) made
+        → AnswersEdit tree (edit_by path.now at.now [] due) result }
+    ensures planned { IfErr result IsOfPlan }
+    ensures fault { (fault : StoreFault) → result ≡ Err (Refusal.Fault fault) → ⊥ }
+{
+    match made {
+        Err(refusal) => Err(refused_by(alloc, path, refusal)?),
+        Ok(None) => Ok(None),
+        Ok(Some(splice)) => Ok(Some(Change::Make {
+            path: at.try_clone(alloc)?,
+            new: splice.new,
+        })),
+    }
+}
+
+// A header's refusal, with the path of its file.
+fn refused_by(alloc: Global, path: &PathText, refusal: HeaderRefusal) -> Result<Refusal, AllocError>
+    ensures { IfOk result (λ refused. refused ≡ refused_by path.now refusal) }
+{
+    let fault = match refusal {
+        HeaderRefusal::NotText => HeaderFault::NotText,
+        HeaderRefusal::NoSuchForm => HeaderFault::NoSuchForm,
+        HeaderRefusal::HoldsCloser => HeaderFault::HoldsCloser,
+        HeaderRefusal::TooLong => HeaderFault::TooLong,
+        HeaderRefusal::Unsettled => HeaderFault::Unsettled,
+        HeaderRefusal::Memory(_) => return Ok(Refusal::Memory),
+    };
+    Ok(Refusal::Header(path.try_clone(alloc)?, fault))
+}

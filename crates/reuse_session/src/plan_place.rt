@@ -1,0 +1,188 @@
+// What annotate does at the place that was chosen.
+ghost use Rattle.std.specs.Prelude.{◌≡◌, ◌≤◌, ◌++◌, ℕ, List, false, true, length, IfOk, IfErr, IfSome, IfNone, Some, None, Ok, Err, nat_lt};
+ghost use Rattle.std.specs.FinMap.{get, keys};
+ghost use Rattle.reuse_header.specs.declared.annotation.How.{How};
+ghost use Rattle.reuse_notice.specs.declared.adding.Additions.{Additions};
+ghost use Rattle.reuse_tree.specs.Files.{Files};
+ghost use Rattle.reuse_tree.specs.Store.{reading_of};
+ghost use Rattle.reuse_tree.specs.declared.fault.StoreFault.{StoreFault};
+ghost use Rattle.reuse_session.specs.Answer.{IsOfPlan};
+ghost use Rattle.reuse_session.specs.Annotate.{neighbour_of, annotated_at, target_by_bytes, edit_target, edit_inside, edit_neighbour};
+ghost use Rattle.reuse_session.specs.Covered.{is_covered};
+ghost use Rattle.reuse_session.specs.Listing.{is_among};
+ghost use Rattle.reuse_session.specs.Plan.{AnswersEdit};
+ghost use Rattle.reuse_session.specs.Steps.{StepsTo, StepsBy};
+ghost use Rattle.reuse_session.specs.declared.command.Scope.{Scope};
+
+use crate::clash::is_clash;
+use crate::command::{Place, Scope};
+use crate::listing::is_folder;
+use crate::plan_edit::{change_by, making_by};
+use crate::plan_target::{Target, neighbour_of, target_by_bytes};
+use crate::reply::Refusal;
+use reuse_header::{
+    How, Style, annotate_file, annotate_neighbour, annotations_fit, find, neighbour_has_tag,
+};
+use reuse_notice::Additions;
+use reuse_tree::{Change, PathError, PathText, Reading};
+use std::alloc::Global;
+
+const LONGEST_FILE: usize = 16_777_216;
+
+/// What is known of a file's change once the file was read.
+#[derive(Debug, Drop)]
+pub(crate) enum Step {
+    /// The change, if there is one.
+    Done(Option<Change>),
+    /// It is that of its neighbour.
+    Beside,
+}
+
+/// The refusal of a path without a file. `paths` are those of the tree.
+pub(crate) fn plan_absent(
+    alloc: Global,
+    paths: &[PathText],
+    path: &PathText,
+) -> Result<Option<Change>, Refusal>
+    ensures edit { (how : How) (scope : Scope) (additions : Additions) (tree : Files) → paths.now ≡ keys tree → is_among paths.now path.now ≡ false → AnswersEdit tree (annotated_at how scope additions tree path.now) result }
+    ensures planned { IfErr result IsOfPlan }
+    ensures fault { (fault : StoreFault) → result ≡ Err (Refusal.Fault fault) → ⊥ }
+{
+    let refused = path.try_clone(alloc)?;
+    if is_folder(alloc, paths, path)? {
+        Err(Refusal::IsFolder(Place::Path(refused)))
+    } else {
+        Err(Refusal::NoSuchPath(refused))
+    }
+}
+
+/// The path of a file's neighbour, unless that is over 4,096 bytes.
+pub(crate) fn neighbour_path(alloc: Global, path: &PathText) -> Result<Option<PathText>, Refusal>
+    ensures path { IfOk result (λ found. IfSome found (λ neighbour. neighbour ≡ neighbour_of path.now)) }
+    ensures long { IfOk result (λ found. IfNone found (nat_lt 4096 (length (neighbour_of path.now)) ≡ true)) }
+    ensures short { IfOk result (λ found. IfSome found (λ neighbour. nat_lt 4096 (length (neighbour_of path.now)) ≡ false)) }
+    ensures memory { IfErr result (λ refusal. refusal ≡ Refusal.Memory) }
+    ensures planned { IfErr result IsOfPlan }
+    ensures fault { (fault : StoreFault) → result ≡ Err (Refusal.Fault fault) → ⊥ }
+{
+    let text = format!(in alloc; "{}.license", path.text())?;
+    match PathText::new(alloc, text.as_str()) {
+        Ok(neighbour) => Ok(Some(neighbour)),
+        Err(PathError::BadPath) => Ok(None),
+        Err(PathError::Memory) => Err(Refusal::Memory),
+    }
+}
+
+/// What is done with a covered file that doesn't go beside at once, by what was read of it.
+pub(crate) fn plan_reading(
+    alloc: Global,
+    path: &PathText,
+    additions: &Additions,
+    how: &How,
+    scope: &Scope,
+    reading: Reading,
+) -> Result<Step, Refusal>
+    ensures step { (tree : Files) (bytes : List ℕ) → get tree path.now ≡ Some bytes → reading ≡ reading_of (Some bytes) 16_777_216
+        → StepsTo tree how.now scope.now additions.now path.now bytes result }
+    ensures planned { IfErr result IsOfPlan }
+    ensures fault { (fault : StoreFault) → result ≡ Err (Refusal.Fault fault) → ⊥ }
+{
+    let bytes = match reading {
+        Reading::Absent => return Err(Refusal::NoSuchPath(path.try_clone(alloc)?)),
+        Reading::TooLong => return Err(Refusal::TooLong(path.try_clone(alloc)?)),
+        Reading::Found(bytes) => bytes,
+    };
+    if bytes.len() > LONGEST_FILE {
+        return Err(Refusal::TooLong(path.try_clone(alloc)?));
+    }
+    match target_by_bytes(alloc, path, bytes.as_slice(), scope) {
+        Ok(Target::Inside(style)) => {
+            plan_inside(alloc, path, bytes.as_slice(), style, additions, how, scope)
+        }
+        Ok(Target::Beside) => Ok(Step::Beside),
+        Ok(Target::Nowhere) => Ok(Step::Done(None)),
+        Err(refusal) => Err(refusal),
+    }
+}
+
+// The change of a file's own comment, unless it has a header block and such files are skipped.
+fn plan_inside(
+    alloc: Global,
+    path: &PathText,
+    bytes: &[u8],
+    style: Style,
+    additions: &Additions,
+    how: &How,
+    scope: &Scope,
+) -> Result<Step, Refusal>
+    requires { length bytes.now ≤ 16_777_216 }
+    ensures step { (tree : Files) → get tree path.now ≡ Some bytes.now → StepsBy tree (edit_inside how.now scope.now additions.now path.now bytes.now style) result }
+    ensures planned { IfErr result IsOfPlan }
+    ensures fault { (fault : StoreFault) → result ≡ Err (Refusal.Fault fault) → ⊥ }
+{
+    if scope.skip_existing && find(bytes, style).block.is_some() {
+        return Ok(Step::Done(None));
+    }
+    // That the edit lies within the file, and makes none that is too long.
+    annotations_fit();
+    let made = annotate_file(alloc, bytes, style, additions, how);
+    match change_by(alloc, path, path, bytes.len(), made) {
+        Ok(change) => Ok(Step::Done(change)),
+        Err(refusal) => Err(refusal),
+    }
+}
+
+/// The change of a neighbour that is there, by what was read of it, unless it has licensing information and such files are skipped.
+pub(crate) fn plan_neighbour(
+    alloc: Global,
+    path: &PathText,
+    neighbour: &PathText,
+    additions: &Additions,
+    how: &How,
+    scope: &Scope,
+    reading: Reading,
+) -> Result<Option<Change>, Refusal>
+    ensures edit { (tree : Files) (bytes : List ℕ) → neighbour.now ≡ neighbour_of path.now → get tree neighbour.now ≡ Some bytes → reading ≡ reading_of (Some bytes) 16_777_216
+        → AnswersEdit tree (edit_neighbour how.now scope.now additions.now tree path.now (Some bytes)) result }
+    ensures planned { IfErr result IsOfPlan }
+    ensures fault { (fault : StoreFault) → result ≡ Err (Refusal.Fault fault) → ⊥ }
+{
+    let bytes = match reading {
+        Reading::Absent => return Err(Refusal::NoSuchPath(path.try_clone(alloc)?)),
+        Reading::TooLong => return Err(Refusal::TooLong(path.try_clone(alloc)?)),
+        Reading::Found(bytes) => bytes,
+    };
+    if bytes.len() > LONGEST_FILE {
+        return Err(Refusal::TooLong(path.try_clone(alloc)?));
+    }
+    if scope.skip_existing && neighbour_has_tag(bytes.as_slice()) {
+        return Ok(None);
+    }
+    // That the edit lies within the file, and makes none that is too long.
+    annotations_fit();
+    let made = annotate_neighbour(alloc, bytes.as_slice(), additions, how);
+    change_by(alloc, path, neighbour, bytes.len(), made)
+}
+
+/// The change that makes a neighbour. `paths` are those of the tree.
+pub(crate) fn plan_new_neighbour(
+    alloc: Global,
+    paths: &[PathText],
+    path: &PathText,
+    neighbour: PathText,
+    additions: &Additions,
+    how: &How,
+) -> Result<Option<Change>, Refusal>
+    ensures edit { (scope : Scope) (tree : Files) → paths.now ≡ keys tree → neighbour ≡ neighbour_of path.now → get tree neighbour ≡ None
+        → AnswersEdit tree (edit_neighbour how.now scope additions.now tree path.now None) result }
+    ensures planned { IfErr result IsOfPlan }
+    ensures fault { (fault : StoreFault) → result ≡ Err (Refusal.Fault fault) → ⊥ }
+{
+    if is_clash(alloc, paths, &neighbour)? {
+        return Err(Refusal::Clash(neighbour));
+    }
+    // That what is made isn't too long.
+    annotations_fit();
+    let made = annotate_neighbour(alloc, b"", additions, how);
+    making_by(alloc, path, &neighbour, made)
+}

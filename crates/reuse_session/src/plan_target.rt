@@ -1,0 +1,121 @@
+// Where the licensing information of a file goes.
+ghost use Rattle.std.specs.Prelude.{◌≡◌, ◌≤◌, ◌++◌, IfOk, IfErr, length};
+ghost use Rattle.std.specs.FinMap.{keys};
+ghost use Rattle.reuse_header.specs.Names.{kind_of_name};
+ghost use Rattle.reuse_tree.specs.Files.{Files};
+ghost use Rattle.reuse_session.specs.Answer.{IsOfPlan};
+ghost use Rattle.reuse_session.specs.Annotate.{neighbour_of, is_uncommentable, goes_beside, target_of_unknown, target_by_name, target_by_style, target_by_bytes};
+ghost use Rattle.reuse_session.specs.Plan.{AnswersOf};
+ghost use Rattle.reuse_tree.specs.declared.fault.StoreFault.{StoreFault};
+
+use crate::command::{Scope, Unknown};
+use crate::listing::is_among;
+use crate::reply::Refusal;
+use reuse_header::{Kind, Style, style_of};
+use reuse_text::{Bytes, is_text};
+use reuse_tree::PathText;
+use std::alloc::{AllocError, Global};
+
+/// Where the licensing information of a file goes.
+#[derive(Clone, Copy, Debug)]
+pub(crate) enum Target {
+    /// Into a comment of the file, in this style.
+    Inside(Style),
+    /// Into its neighbour.
+    Beside,
+    /// Nowhere: the file is skipped.
+    Nowhere,
+}
+
+/// The bytes of a neighbour's path.
+pub(crate) fn neighbour_of(alloc: Global, path: &PathText) -> Result<Bytes, AllocError>
+    ensures { IfOk result (λ neighbour. neighbour ≡ neighbour_of path.now) }
+{
+    let mut neighbour = Bytes::from_slice(alloc, path.as_bytes())?;
+    neighbour.push_slice(b".license")?;
+    Ok(neighbour)
+}
+
+/// Whether the neighbour is the place, whatever the file holds: that is asked for, it is there, or the name takes no comment and no
+/// style is asked for. `paths` are those of the tree.
+pub(crate) fn goes_beside(
+    alloc: Global,
+    paths: &[PathText],
+    path: &PathText,
+    scope: &Scope,
+) -> Result<bool, AllocError>
+    ensures { (tree : Files) → paths.now ≡ keys tree → IfOk result (λ beside. beside ≡ goes_beside scope.now tree path.now) }
+{
+    let neighbour = neighbour_of(alloc, path)?;
+    Ok(
+        scope.force_dot_license
+            || is_among(paths, neighbour.as_slice())
+            || (scope.style.is_none() && is_uncommentable(style_of(path.text()))),
+    )
+}
+
+fn is_uncommentable(kind: Kind) -> bool
+    ensures { result ≡ is_uncommentable kind }
+{
+    match kind {
+        Kind::Style(_) => false,
+        Kind::Uncommentable => true,
+        Kind::Unknown => false,
+    }
+}
+
+/// The place by the bytes of the file, which are at most 16,777,216.
+pub(crate) fn target_by_bytes(
+    alloc: Global,
+    path: &PathText,
+    bytes: &[u8],
+    scope: &Scope,
+) -> Result<Target, Refusal>
+    requires { length bytes.now ≤ 16_777_216 }
+    ensures target { AnswersOf (target_by_bytes scope.now path.now bytes.now) result }
+    ensures planned { IfErr result IsOfPlan }
+    ensures fault { (fault : StoreFault) → result ≡ Err (Refusal.Fault fault) → ⊥ }
+{
+    if !is_text(bytes) {
+        return Ok(Target::Beside);
+    }
+    target_by_style(alloc, path, scope)
+}
+
+// The place by the style that is asked for, else by the name.
+fn target_by_style(alloc: Global, path: &PathText, scope: &Scope) -> Result<Target, Refusal>
+    ensures target { AnswersOf (target_by_style scope.now path.now scope.now.style) result }
+    ensures planned { IfErr result IsOfPlan }
+    ensures fault { (fault : StoreFault) → result ≡ Err (Refusal.Fault fault) → ⊥ }
+{
+    match scope.style {
+        Some(style) => Ok(Target::Inside(style)),
+        None => target_by_name(alloc, path, scope.unknown),
+    }
+}
+
+// The place by the name.
+fn target_by_name(alloc: Global, path: &PathText, unknown: Unknown) -> Result<Target, Refusal>
+    ensures target { AnswersOf (target_by_name unknown path.now (kind_of_name path.now)) result }
+    ensures planned { IfErr result IsOfPlan }
+    ensures fault { (fault : StoreFault) → result ≡ Err (Refusal.Fault fault) → ⊥ }
+{
+    match style_of(path.text()) {
+        Kind::Style(style) => Ok(Target::Inside(style)),
+        Kind::Uncommentable => Ok(Target::Beside),
+        Kind::Unknown => target_of_unknown(alloc, path, unknown),
+    }
+}
+
+// The place where the name has no style.
+fn target_of_unknown(alloc: Global, path: &PathText, unknown: Unknown) -> Result<Target, Refusal>
+    ensures target { AnswersOf (target_of_unknown unknown path.now) result }
+    ensures planned { IfErr result IsOfPlan }
+    ensures fault { (fault : StoreFault) → result ≡ Err (Refusal.Fault fault) → ⊥ }
+{
+    match unknown {
+        Unknown::Refuse => Err(Refusal::Unrecognised(path.try_clone(alloc)?)),
+        Unknown::Neighbour => Ok(Target::Beside),
+        Unknown::Skip => Ok(Target::Nowhere),
+    }
+}
