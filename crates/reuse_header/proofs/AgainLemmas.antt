@@ -1,6 +1,6 @@
 -- The written block as it is found in the new file.
-use Rattle.std.proofs.Common.{◌≡◌, ℕ, zero, suc, ◌+◌, ◌-◌, ◌<◌, ◌≤◌, Bool, true, false, List, [], ◌∷◌, ◌++◌, length, length-append, append_assoc, take, drop, map, length-take, Option, None, Some, refl, sym, ap, subst, ◌∙◌, inl, inr, arith}
-use Rattle.std.specs.Prelude.{◌==◌, ◌&&◌, Contains, All, MatchOption}
+use Rattle.std.proofs.Common.{◌≡◌, ℕ, zero, suc, ◌+◌, ◌<◌, ◌≤◌, Bool, true, false, List, [], ◌∷◌, ◌++◌, length, length-append, append_assoc, take, drop, map, length-take, Option, None, Some, refl, sym, ap, subst, ◌∙◌, inl, inr, arith}
+use Rattle.std.specs.Prelude.{◌==◌, ◌&&◌, All, MatchOption}
 use Rattle.std.specs.Option.{option_map, option_map_or, option_to_list}
 use Rattle.std.proofs.lemmas.Bool.{false≢true, eqb-true}
 use Rattle.std.proofs.Math.Seq.{drop-append_seam, take-append_seam}
@@ -27,6 +27,7 @@ use Rattle.reuse_header.proofs.SplitLemmas.{begins_in-nil, begins_in-within}
 use Rattle.reuse_header.proofs.CountLemmas.{block_at-within}
 use Rattle.reuse_header.proofs.ClosingLemmas.{open_contents-drop}
 use Rattle.reuse_header.proofs.CutLemmas.{before_body}
+use Rattle.reuse_header.proofs.SayableLemmas.{Each, each_both}
 
 -- ---- where the block stands
 
@@ -85,15 +86,15 @@ lines-before [] ys a = tt
 lines-before (x ∷ xs) ys a = (a.0, λ e. front_nil xs ys (a.1 e), lines-before xs ys a.2)
 
 -- lines that are all ended by a kind
-ended_lines : LineKind → List (List ℕ) → List TextLine
+unfoldable pub ended_lines : LineKind → List (List ℕ) → List TextLine
 ended_lines kind contents = map (λ content. record { content = content; ending = Some kind }) contents
 
-ended_lines-text : (kind : LineKind) (contents : List (List ℕ)) → text_of (ended_lines kind contents) ≡ ended_by kind contents
+pub ended_lines-text : (kind : LineKind) (contents : List (List ℕ)) → text_of (ended_lines kind contents) ≡ ended_by kind contents
 unfolding ended_lines
 ended_lines-text kind [] = refl
 ended_lines-text kind (c ∷ contents) = ap (λ (bytes : List ℕ). (c ++ ending_bytes (Some kind)) ++ bytes) (ended_lines-text kind contents)
 
-ended_lines-are : (kind : LineKind) (contents : List (List ℕ)) → All (λ c. IsLine (record { content = c; ending = Some kind })) contents → AreLines (ended_lines kind contents)
+pub ended_lines-are : (kind : LineKind) (contents : List (List ℕ)) → All (λ c. IsLine (record { content = c; ending = Some kind })) contents → AreLines (ended_lines kind contents)
 unfolding ended_lines
 ended_lines-are kind [] h = tt
 ended_lines-are kind (c ∷ contents) h = (h 0 c (omega arith), λ e. absurd (let none : ⊥ = cc in none), ended_lines-are kind contents (λ k d low. h (suc k) d (omega arith)))
@@ -221,7 +222,7 @@ the_size form count = record { form = form; count = count }
 
 -- ---- the parts of the new file
 
-parts_again : (a f t b d : List ℕ) → (a ++ (f ++ (t ++ b))) ++ d ≡ (a ++ f) ++ (t ++ (b ++ d))
+pub parts_again : (a f t b d : List ℕ) → (a ++ (f ++ (t ++ b))) ++ d ≡ (a ++ f) ++ (t ++ (b ++ d))
 parts_again a f t b d = simp append_assoc
 
 -- the bytes of the block that is found are those that were written
@@ -269,28 +270,19 @@ found_contents well only style file span before h front kind contents at same go
 
 -- ---- the first line of a block
 
-Each : (List ℕ → Type 0) → List (List ℕ) → Type 0
-Each P [] = Unit {0}
-Each P (x ∷ xs) = P x × Each P xs
-
 module _ (P : List ℕ → Type 0) where
-  each-append : (xs ys : List (List ℕ)) → Each P xs → Each P ys → Each P (xs ++ ys)
-  unfolding Each
-  each-append [] ys a b = b
-  each-append (x ∷ xs) ys (p, a) b = (p, each-append xs ys a b)
-
   each-map : (f : List ℕ → List ℕ) (xs : List (List ℕ)) → ((x : List ℕ) → P (f x)) → Each P (map f xs)
   unfolding Each
   each-map f [] h = tt
   each-map f (x ∷ xs) h = (h x, each-map f xs h)
 
-  each-joined : (separator : List ℕ) (xs ys : List (List ℕ)) → P separator → Each P xs → Each P ys → Each P (joined separator xs ys)
+  pub each-joined : (separator : List ℕ) (xs ys : List (List ℕ)) → P separator → Each P xs → Each P ys → Each P (joined separator xs ys)
   unfolding Each
   each-joined separator [] ys p a b = b
-  each-joined separator (x ∷ xs) [] p a b = each-append (x ∷ xs) [] a tt
-  each-joined separator (x ∷ xs) (y ∷ ys) p a b = each-append (x ∷ xs) (separator ∷ y ∷ ys) a (p, b)
+  each-joined separator (x ∷ xs) [] p a b = each_both P (x ∷ xs) [] a tt
+  each-joined separator (x ∷ xs) (y ∷ ys) p a b = each_both P (x ∷ xs) (separator ∷ y ∷ ys) a (p, b)
 
-  each-set_off : (separator : List ℕ) (xs : List (List ℕ)) → P separator → Each P xs → Each P (set_off separator xs)
+  pub each-set_off : (separator : List ℕ) (xs : List (List ℕ)) → P separator → Each P xs → Each P (set_off separator xs)
   unfolding Each
   each-set_off separator [] p a = tt
   each-set_off separator (x ∷ xs) p a = (p, a)
@@ -298,9 +290,9 @@ module _ (P : List ℕ → Type 0) where
   each-inner : (marks : LineMarks) (info : Info) → P (separator_of marks) → ((t : List ℕ) → P (marks.lead ++ t)) → ((c : List ℕ) → P (marks.mark ++ c)) → Each P (inner_lines marks info)
   unfolding inner_lines
   each-inner marks info p led marked =
-      each-append (joined (separator_of marks) (holder_lines marks info) (licence_lines marks info)) (set_off (separator_of marks) (free_lines marks info))
+      each_both P (joined (separator_of marks) (holder_lines marks info) (licence_lines marks info)) (set_off (separator_of marks) (free_lines marks info))
       (each-joined (separator_of marks) (holder_lines marks info) (licence_lines marks info) p
-      (each-append (map (λ t. marks.lead ++ t) info.notices) (map (λ v. marks.lead ++ contributor_text v) info.contributors)
+      (each_both P (map (λ t. marks.lead ++ t) info.notices) (map (λ v. marks.lead ++ contributor_text v) info.contributors)
       (each-map (λ t. marks.lead ++ t) info.notices (λ t. led t)) (each-map (λ v. marks.lead ++ contributor_text v) info.contributors (λ v. led (contributor_text v))))
       (each-map (λ v. marks.lead ++ licence_text v) info.licences (λ v. led (licence_text v))))
       (each-set_off (separator_of marks) (free_lines marks info) p (each-map (λ c. marks.mark ++ c) info.free (λ c. marked c)))

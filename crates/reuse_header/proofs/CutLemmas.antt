@@ -18,12 +18,12 @@ use Rattle.reuse_header.proofs.SplitLemmas.{begins_in-within, split_found, split
 
 -- ---- the bytes of lines
 
-bytes_of-append : (xs ys : PlacedLines) → bytes_of (xs ++ ys) ≡ bytes_of xs ++ bytes_of ys
+pub bytes_of-append : (xs ys : PlacedLines) → bytes_of (xs ++ ys) ≡ bytes_of xs ++ bytes_of ys
 bytes_of-append [] ys = refl
 bytes_of-append (x ∷ xs) ys =
     ap (λ (bytes : List ℕ). line_bytes x.1 ++ bytes) (bytes_of-append xs ys) ∙ sym (append_assoc (line_bytes x.1) (bytes_of xs) (bytes_of ys))
 
-bytes_of-placed : (lines : List TextLine) (start : ℕ) → bytes_of (placed start lines) ≡ text_of lines
+pub bytes_of-placed : (lines : List TextLine) (start : ℕ) → bytes_of (placed start lines) ≡ text_of lines
 bytes_of-placed [] start = refl
 bytes_of-placed (line ∷ lines) start = ap (λ (bytes : List ℕ). line_bytes line ++ bytes) (bytes_of-placed lines (start + length (line_bytes line)))
 
@@ -31,7 +31,7 @@ same_line : (a b : ℕ × TextLine) (xs ys : PlacedLines) → (a ∷ xs) ≡ (b 
 same_line a b xs ys e = (cc, cc)
 
 -- the place of the first line behind some lines
-place_behind : (file : List ℕ) (lines : List TextLine) (start : ℕ) (front back : PlacedLines) → placed start lines ≡ front ++ back → length file ≡ start + length (text_of lines)
+pub place_behind : (file : List ℕ) (lines : List TextLine) (start : ℕ) (front back : PlacedLines) → placed start lines ≡ front ++ back → length file ≡ start + length (text_of lines)
     → place_in file back ≡ start + length (bytes_of front)
 place_behind file lines start (x ∷ front) back e whole = behind lines e whole (λ ls n f w. place_behind file ls n front back f w)
   where
@@ -145,7 +145,7 @@ none_cuts style file e = λ before h s. (let there = split_only style (body_line
 
 -- ---- the place behind the prefix lines
 
-file_size : (file : List ℕ) → text_of (lines_of (after_mark file)) ≡ after_mark file → length file ≡ mark_len_of file + length (text_of (lines_of (after_mark file)))
+pub file_size : (file : List ℕ) → text_of (lines_of (after_mark file)) ≡ after_mark file → length file ≡ mark_len_of file + length (text_of (lines_of (after_mark file)))
 file_size file law =
     let mark = take (mark_len_of file) file in
     let fits = mark_within file in

@@ -1,6 +1,6 @@
 -- What annotating keeps of the old block.
-use Rattle.std.proofs.Common.{◌≡◌, ℕ, ◌+◌, ◌-◌, ◌<◌, ◌≤◌, Bool, true, false, List, [], ◌++◌, length, take, drop, Option, None, Some, refl, sym, ap, subst, ◌∙◌, inl, inr, arith}
-use Rattle.std.specs.Prelude.{Result, Ok, Err, if◌then◌else◌, Contains, ◌↔◌, ◌⊎◌, nat_lt}
+use Rattle.std.proofs.Common.{◌≡◌, ℕ, ◌+◌, ◌≤◌, Bool, true, false, List, [], ◌++◌, length, Option, None, Some, refl, sym, ap, subst, ◌∙◌, arith}
+use Rattle.std.specs.Prelude.{Ok, Err, if◌then◌else◌, Contains, ◌↔◌, ◌⊎◌, nat_lt}
 use Rattle.std.proofs.lemmas.Bool.{false≢true}
 use Rattle.std.proofs.lemmas.List.Elements.{Contains-append_left}
 use Rattle.std.specs.Option.{option_map}
@@ -16,13 +16,12 @@ use Rattle.reuse_header.specs.declared.style.Style.{Style}
 use Rattle.reuse_header.specs.declared.style.Form.{Form}
 use Rattle.reuse_header.specs.declared.annotation.HeaderRefusal.TheVariants.{NotText}
 use Rattle.reuse_header.specs.declared.annotation.How.{How}
-use Rattle.reuse_header.specs.declared.annotation.HeaderRefusal.{HeaderRefusal}
 use Rattle.reuse_header.specs.Styles.{punctuation_of}
 use Rattle.reuse_header.specs.Marks.{LineMarks, marks_of}
 use Rattle.reuse_header.specs.Body.{body_lines, place_in}
 use Rattle.reuse_header.specs.Header.{HeaderSpan, span_in, header_of, neighbour_contents}
 use Rattle.reuse_header.specs.Writing.{new_info, block_text, block_lines, ended_by, neighbour_marks}
-use Rattle.reuse_header.specs.Annotation.{Edit, new_bytes, edited, text_start, text_end, size_limit, chosen_form, replaced_block, old_contents, edit_of, kind_of_file, stands_at, annotation_of}
+use Rattle.reuse_header.specs.Annotation.{Edit, new_bytes, edited, text_start, text_end, size_limit, chosen_form, replaced_block, old_contents, edit_of, kind_of_file, annotation_of}
 use Rattle.reuse_header.specs.Neighbour.{is_text, neighbour_end, replaced_contents, neighbour_edit, neighbour_stands, neighbour_written, neighbour_annotation_of}
 use Rattle.reuse_header.specs.declared.blocks.BlockSize.{BlockSize}
 use Rattle.reuse_header.specs.Blocks.{contents_of}
@@ -192,14 +191,14 @@ start_of : (style : Style) (file text : List ℕ) (span : HeaderSpan) → (edit_
 unfolding edit_of
 start_of style file text span = refl
 
-start_within : (style : Style) (file text : List ℕ) (found : Option HeaderSpan) (replace : Bool) → text_of (lines_of (after_mark file)) ≡ after_mark file → option_map (span_in file) (header_of style file) ≡ found
+pub start_within : (style : Style) (file text : List ℕ) (found : Option HeaderSpan) (replace : Bool) → text_of (lines_of (after_mark file)) ≡ after_mark file → option_map (span_in file) (header_of style file) ≡ found
     → (edit_of style file (replaced_block replace found) text).start ≤ length file
 start_within style file text None true law is = let e = (insertion_at style file text).1 in omega (arith, e, body_within style file law)
 start_within style file text None false law is = let e = (insertion_at style file text).1 in omega (arith, e, body_within style file law)
 start_within style file text (Some span) true law is = let e = start_of style file text span in omega (arith, e, span_within style file span law is)
 start_within style file text (Some span) false law is = let e = (insertion_at style file text).1 in omega (arith, e, body_within style file law)
 
-text_lines : (marks : LineMarks) (kind : LineKind) (info : Info) → block_text marks kind info ≡ ended_by kind (block_lines marks info)
+pub text_lines : (marks : LineMarks) (kind : LineKind) (info : Info) → block_text marks kind info ≡ ended_by kind (block_lines marks info)
 unfolding block_text
 text_lines marks kind info = refl
 

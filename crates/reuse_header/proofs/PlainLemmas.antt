@@ -1,21 +1,23 @@
 -- The texts of additions read as what they are.
-use Rattle.std.proofs.Common.{◌≡◌, ◌≢◌, ℕ, ◌+◌, ◌<◌, Bool, true, false, List, [], ◌∷◌, ◌++◌, length, length-append, append_assoc, drop, map, nat_eq, Option, None, Some, refl, sym, ap, subst, ◌∙◌, inl, inr, arith}
-use Rattle.std.specs.Prelude.{not, ◌&&◌, ◌||◌, ◌==◌, nat_lt, All, codes}
-use Rattle.std.specs.List.{list_all, list_any, starts_with}
+use Rattle.std.proofs.Common.{◌≡◌, ℕ, Bool, true, false, List, [], ◌∷◌, ◌++◌, length, length-append, append_assoc, map, Option, None, Some, refl, sym, ap, ◌∙◌, inl, inr, arith}
+use Rattle.std.specs.Prelude.{not, ◌||◌, ◌==◌, All}
+use Rattle.std.specs.List.{list_all, list_any}
 use Rattle.std.specs.Option.{option_map, option_or}
 use Rattle.std.proofs.lemmas.Bool.{false≢true, eqb-true}
 use Rattle.reuse_notice.specs.declared.prefixes.Prefix.{Prefix}
 use Rattle.reuse_notice.specs.declared.prefixes.Prefix.TheVariants.{Spdx, SpdxC, SpdxSymbol, SpdxString, SpdxStringC, SpdxStringSymbol, String, StringC, StringSymbol, Symbol}
 use Rattle.reuse_notice.specs.declared.tags.Years.{Years}
-use Rattle.reuse_notice.specs.declared.adding.Additions.{Additions}
 use Rattle.reuse_notice.specs.Prefixes.{prefix_text}
-use Rattle.reuse_notice.specs.Tags.{TagText, a_notice, a_contributor, a_licence, is_blank, all_blank, is_filler, drop_front, drop_end, trimmed, stripped, value_after, licence_lead, contributor_lead, leaves_value, prefix_of, notice_behind, tag_in, tag_of}
+use Rattle.reuse_notice.specs.Tags.{a_notice, a_contributor, a_licence, is_blank, all_blank, is_filler, drop_front, drop_end, trimmed, stripped, value_after, licence_lead, contributor_lead, leaves_value, prefix_of, notice_behind, tag_in, tag_of}
 use Rattle.reuse_notice.specs.Contents.{notice_text}
-use Rattle.reuse_notice.specs.Adding.{Arguments, is_space, is_control, without_spaces, notice_written, years_text, chosen_years, additions_of}
+use Rattle.reuse_notice.specs.Adding.{Arguments, is_space, is_control, notice_written, years_text, chosen_years, additions_of}
 use Rattle.reuse_notice.specs.Plain.{IsPlain, ArePlain}
+use Rattle.reuse_header.specs.declared.style.Style.{Style}
+use Rattle.reuse_header.specs.declared.style.Style.TheVariants.{Python, C, Css, Html, Haskell, Tex, Lisp, Semicolon, Ml, Vim}
+use Rattle.reuse_header.specs.Styles.{punctuation_of}
 use Rattle.reuse_header.specs.Reading.{AreSayable}
 use Rattle.reuse_header.proofs.TrimLemmas.{truth}
-use Rattle.reuse_header.proofs.SayableLemmas.{IsValue, Each, all_of_each, each_of_all, each_front, end_all, end_again, contributor_again, licence_again}
+use Rattle.reuse_header.proofs.SayableLemmas.{IsValue, Each, all_of_each, each_of_all, each_front, end_all, end_again, end_behind, value_whole, contributor_again, licence_again}
 
 -- ---- plain texts have spaces alone as blank bytes
 
@@ -117,6 +119,22 @@ pub record NoFillers (punct : List ℕ) : Type 0 where
   pub c : is_filler punct 67 ≡ false
   pub sign : is_filler punct 194 ≡ false
 
+-- they are punctuation of no style, nor of neighbours
+pub letters : (style : Style) → NoFillers (punctuation_of style)
+letters Python = record { s = refl; c = refl; sign = refl }
+letters C = record { s = refl; c = refl; sign = refl }
+letters Css = record { s = refl; c = refl; sign = refl }
+letters Html = record { s = refl; c = refl; sign = refl }
+letters Haskell = record { s = refl; c = refl; sign = refl }
+letters Tex = record { s = refl; c = refl; sign = refl }
+letters Lisp = record { s = refl; c = refl; sign = refl }
+letters Semicolon = record { s = refl; c = refl; sign = refl }
+letters Ml = record { s = refl; c = refl; sign = refl }
+letters Vim = record { s = refl; c = refl; sign = refl }
+
+pub no_letters : NoFillers []
+no_letters = record { s = refl; c = refl; sign = refl }
+
 first_stays : (punct : List ℕ) → NoFillers punct → (prefix : Prefix) (rest : List ℕ) → drop_front (is_filler punct) (prefix_text prefix ++ rest) ≡ prefix_text prefix ++ rest
 unfolding drop_front
 first_stays punct letters Spdx rest = let e = letters.s in rw e refl
@@ -163,15 +181,35 @@ behind_prefix : (prefix : Prefix) (years : Option Years) (holder : List ℕ) →
 behind_prefix prefix None holder = (holder, refl)
 behind_prefix prefix (Some years) holder = (years_text years ++ 32 ∷ holder, append_assoc (prefix_text prefix) (32 ∷ years_text years) (32 ∷ holder))
 
+notice_said : (punct : List ℕ) → NoFillers punct → ((text : List ℕ) (prefix : Prefix) → prefix_of text ≡ None → leaves_value text prefix ≡ false)
+    → (prefix : Prefix) (years : Option Years) (holder : List ℕ) → drop_end is_blank (notice_written prefix years holder) ≡ notice_written prefix years holder
+    → notice_text (tag_of punct (notice_written prefix years holder)) ≡ Some (notice_written prefix years holder)
+notice_said punct letters none prefix years holder ends =
+    let b = behind_prefix prefix years holder in
+    let said = notice_reads punct letters none prefix b.0 (ap (drop_end is_blank) (sym b.1) ∙ ends ∙ b.1) in
+    ap (λ (x : List ℕ). notice_text (tag_of punct x)) b.1 ∙ said ∙ ap (λ (x : List ℕ). Some x) (sym b.1)
+
 plain_notice : (punct : List ℕ) → NoFillers punct → ((text : List ℕ) (prefix : Prefix) → prefix_of text ≡ None → leaves_value text prefix ≡ false)
     → (prefix : Prefix) (years : Option Years) (holder : List ℕ) → IsPlain (notice_written prefix years holder)
     → notice_text (tag_of punct (notice_written prefix years holder)) ≡ Some (notice_written prefix years holder)
 plain_notice punct letters none prefix years holder plain =
     let t = notice_written prefix years holder in
-    let b = behind_prefix prefix years holder in
-    let ends : drop_end is_blank t ≡ t = ap (drop_end is_blank) (sym (plain_trimmed t plain)) ∙ end_again is_blank (drop_front is_blank t) ∙ plain_trimmed t plain in
-    let said = notice_reads punct letters none prefix b.0 (ap (drop_end is_blank) (sym b.1) ∙ ends ∙ b.1) in
-    ap (λ (x : List ℕ). notice_text (tag_of punct x)) b.1 ∙ said ∙ ap (λ (x : List ℕ). Some x) (sym b.1)
+    notice_said punct letters none prefix years holder (ap (drop_end is_blank) (sym (plain_trimmed t plain)) ∙ end_again is_blank (drop_front is_blank t) ∙ plain_trimmed t plain)
+
+-- what a notice says before its holder
+pub before_holder : (prefix : Prefix) (years : Option Years) (holder : List ℕ) → (front : List ℕ) × (notice_written prefix years holder ≡ front ++ holder)
+before_holder prefix None holder = (prefix_text prefix ++ 32 ∷ [], sym (append_assoc (prefix_text prefix) (32 ∷ []) holder))
+before_holder prefix (Some years) holder = ((prefix_text prefix ++ 32 ∷ years_text years) ++ 32 ∷ [], sym (append_assoc (prefix_text prefix ++ 32 ∷ years_text years) (32 ∷ []) holder))
+
+-- a notice that is written of a holder
+pub value_notice : (punct : List ℕ) → NoFillers punct → ((text : List ℕ) (prefix : Prefix) → prefix_of text ≡ None → leaves_value text prefix ≡ false)
+    → (prefix : Prefix) (years : Option Years) (holder : List ℕ) → IsValue holder
+    → notice_text (tag_of punct (notice_written prefix years holder)) ≡ Some (notice_written prefix years holder)
+value_notice punct letters none prefix years holder is =
+    let b = before_holder prefix years holder in
+    let ends : drop_end is_blank (notice_written prefix years holder) ≡ notice_written prefix years holder =
+    ap (drop_end is_blank) b.1 ∙ end_behind is_blank b.0 holder is.some ∙ ap (λ (xs : List ℕ). b.0 ++ xs) (value_whole holder is) ∙ sym b.1 in
+    notice_said punct letters none prefix years holder ends
 
 each_notice : (punct : List ℕ) → NoFillers punct → ((text : List ℕ) (prefix : Prefix) → prefix_of text ≡ None → leaves_value text prefix ≡ false)
     → (prefix : Prefix) (years : Option Years) (holders : List (List ℕ)) → Each IsPlain (map (notice_written prefix years) holders)

@@ -1,8 +1,8 @@
 -- Reading the contents of a written block.
-use Rattle.std.proofs.Common.{◌≡◌, ℕ, zero, suc, ◌+◌, ◌-◌, ◌<◌, ◌≤◌, Bool, true, false, cond, List, [], ◌∷◌, ◌++◌, length, length-append, append_assoc, take, drop, map, nat_eq, Option, None, Some, refl, sym, ap, subst, ◌∙◌, inl, inr, ◌⊎◌, arith}
-use Rattle.std.specs.Prelude.{not, ◌&&◌, ◌||◌, ◌==◌, if◌then◌else◌, All, Contains, MatchOption, filter, filter_map, codes, is_some, ◌↔◌, slice_index_or}
-use Rattle.std.specs.List.{list_all, list_any, starts_with}
-use Rattle.std.specs.Option.{option_map, option_map_or, option_to_list, is_none}
+use Rattle.std.proofs.Common.{◌≡◌, ℕ, suc, ◌<◌, Bool, true, false, List, [], ◌∷◌, ◌++◌, length, length-append, append_assoc, map, nat_eq, Option, None, Some, refl, sym, ap, subst, ◌∙◌, inl, inr, arith}
+use Rattle.std.specs.Prelude.{◌&&◌, ◌||◌, ◌==◌, All, Contains, MatchOption, filter, filter_map, ◌↔◌, slice_index_or}
+use Rattle.std.specs.List.{list_all, list_any}
+use Rattle.std.specs.Option.{option_map_or, option_to_list, is_none}
 use Rattle.std.proofs.lemmas.Bool.{false≢true, eqb-true}
 use Rattle.std.proofs.lemmas.List.{append-nil, map-append}
 use Rattle.std.proofs.lemmas.List.Elements.{filter_map-append, filter-append}
@@ -15,12 +15,11 @@ use Rattle.reuse_header.specs.declared.style.Style.{Style}
 use Rattle.reuse_header.specs.declared.style.Style.TheVariants.{Python, C, Css, Html, Haskell, Tex, Lisp, Semicolon, Ml, Vim}
 use Rattle.reuse_header.specs.declared.style.Form.{Form}
 use Rattle.reuse_header.specs.declared.style.Form.TheVariants.{Single, Multi}
-use Rattle.reuse_header.specs.declared.blocks.BlockSize.{BlockSize}
 use Rattle.reuse_header.specs.Search.{is_return, place_of}
-use Rattle.reuse_header.specs.Styles.{punctuation_of, line_comment_of, block_comment_of}
+use Rattle.reuse_header.specs.Styles.{punctuation_of, block_comment_of}
 use Rattle.reuse_header.specs.Marks.{LineMarks, marks_of}
-use Rattle.reuse_header.specs.Blocks.{without_returns, without_star, between_marks, single_content, multi_content, line_content, contents_from, contents_of}
-use Rattle.reuse_header.specs.Writing.{neighbour_marks, contributor_text, licence_text, no_lines, joined, set_off, separator_of, holder_lines, licence_lines, free_lines, inner_lines, block_lines}
+use Rattle.reuse_header.specs.Blocks.{without_returns, without_star, between_marks, single_content, multi_content, contents_from, contents_of}
+use Rattle.reuse_header.specs.Writing.{neighbour_marks, contributor_text, licence_text, joined, set_off, separator_of, holder_lines, licence_lines, free_lines, inner_lines, block_lines}
 use Rattle.reuse_header.specs.Reading.{IsSayable}
 use Rattle.reuse_header.proofs.TrimLemmas.{truth}
 

@@ -1,16 +1,15 @@
 -- Information that is read from contents, and joined with additions, reads back.
-use Rattle.std.proofs.Common.{◌≡◌, ℕ, zero, suc, ◌+◌, ◌<◌, Bool, true, false, cond, List, [], ◌∷◌, ◌++◌, length, take, drop, map, nat_eq, Option, None, Some, refl, sym, ap, subst, ◌∙◌, inl, inr, arith}
-use Rattle.std.specs.Prelude.{not, ◌&&◌, ◌||◌, ◌==◌, if◌then◌else◌, All, filter, filter_map, codes, is_some, slice_index_or}
-use Rattle.std.specs.List.{list_all, list_any, starts_with, cons_option}
+use Rattle.std.proofs.Common.{◌≡◌, ℕ, zero, suc, ◌<◌, Bool, true, false, cond, List, [], ◌∷◌, ◌++◌, length, drop, map, nat_eq, Option, None, Some, refl, sym, ap, subst, ◌∙◌, inl, inr, arith}
+use Rattle.std.specs.Prelude.{not, ◌&&◌, ◌||◌, ◌==◌, if◌then◌else◌, All, filter_map, codes, slice_index_or}
+use Rattle.std.specs.List.{list_all, starts_with, cons_option}
 use Rattle.std.specs.Option.{option_map, option_map_or, option_or, option_to_list, is_none}
 use Rattle.std.specs.Ordering.{match_ordering}
 use Rattle.std.specs.declared.cmp.Ordering.{Ordering}
 use Rattle.std.specs.declared.cmp.Ordering.TheVariants.{Less, Equal, Greater}
-use Rattle.std.proofs.lemmas.Bool.{false≢true}
 use Rattle.reuse_notice.specs.declared.prefixes.Prefix.{Prefix}
 use Rattle.reuse_notice.specs.declared.infos.Info.{Info}
 use Rattle.reuse_notice.specs.declared.adding.Additions.{Additions}
-use Rattle.reuse_notice.specs.Tags.{NoticeText, TagText, a_notice, a_contributor, a_licence, is_blank, all_blank, is_filler, drop_front, drop_end, trimmed, stripped, value_after, licence_lead, contributor_lead, prefix_of, notice_behind, notice_of, tag_in, tag_of}
+use Rattle.reuse_notice.specs.Tags.{TagText, a_notice, a_contributor, a_licence, is_blank, all_blank, is_filler, drop_front, drop_end, trimmed, stripped, value_after, licence_lead, contributor_lead, prefix_of, notice_behind, tag_in, tag_of}
 use Rattle.reuse_notice.specs.Contents.{notice_text, contributor_value, licence_value, is_blank_content, untagged}
 use Rattle.reuse_notice.specs.Sets.{byte_order, with_text, set_of, IsSorted}
 use Rattle.reuse_notice.specs.Infos.{info_of, union_of}
@@ -76,7 +75,7 @@ module _ {X : Type 0} (test : X → Bool) where
     | inr e ↦ rw e refl
   ]
 
-  end_behind : (xs ys : List X) → list_all test ys ≡ false → drop_end test (xs ++ ys) ≡ xs ++ drop_end test ys
+  pub end_behind : (xs ys : List X) → list_all test ys ≡ false → drop_end test (xs ++ ys) ≡ xs ++ drop_end test ys
   unfolding drop_end
   end_behind [] ys q = refl
   end_behind (x ∷ xs) ys q = let e = none_behind (x ∷ xs) ys q in rw (e, end_behind xs ys q) refl
@@ -118,7 +117,7 @@ module _ {X : Type 0} (P : X → Type 0) where
   each_of_all [] h = tt
   each_of_all (x ∷ xs) h = (h 0 x (omega arith), each_of_all xs (λ k d low. h (suc k) d (omega (arith, low))))
 
-  each_both : (xs ys : List X) → Each P xs → Each P ys → Each P (xs ++ ys)
+  pub each_both : (xs ys : List X) → Each P xs → Each P ys → Each P (xs ++ ys)
   unfolding Each
   each_both [] ys a b = b
   each_both (x ∷ xs) ys a b = (a.0, each_both xs ys a.1 b)
@@ -128,7 +127,7 @@ module _ {X : Type 0} (P : X → Type 0) where
   each_front test [] h = tt
   each_front test (x ∷ xs) h = elim (truth (test x)) [ inl e ↦ rw e (each_front test xs h.1) | inr e ↦ rw e h ]
 
-  each_end : (test : X → Bool) (xs : List X) → Each P xs → Each P (drop_end test xs)
+  pub each_end : (test : X → Bool) (xs : List X) → Each P xs → Each P (drop_end test xs)
   unfolding Each drop_end
   each_end test [] h = tt
   each_end test (x ∷ xs) h = elim (truth (list_all test (x ∷ xs))) [ inl e ↦ rw e tt | inr e ↦ rw e (h.0, each_end test xs h.1) ]
@@ -143,7 +142,7 @@ each_with P text (t ∷ texts) p h = by_order (byte_order text t) (each_with P t
     by_order Equal deep = h
     by_order Greater deep = (h.0, deep)
 
-each_set : (P : List ℕ → Type 0) (texts : List (List ℕ)) → Each P texts → Each P (set_of texts)
+pub each_set : (P : List ℕ → Type 0) (texts : List (List ℕ)) → Each P texts → Each P (set_of texts)
 unfolding Each set_of
 each_set P [] h = tt
 each_set P (t ∷ texts) h = each_with P t (set_of texts) h.0 (each_set P texts h.1)
@@ -160,7 +159,7 @@ each_said P f (x ∷ xs) h = by_value (f x) refl (each_said P f xs h)
 -- ---- what is read reads back
 
 -- a notice's text is the whole of what is left of its content
-notice_whole : (text t : List ℕ) → notice_text (tag_in text) ≡ Some t → t ≡ text
+pub notice_whole : (text t : List ℕ) → notice_text (tag_in text) ≡ Some t → t ≡ text
 notice_whole text t e = by_tags (value_after licence_lead text) (value_after contributor_lead text) (prefix_of text) e
   where
     by_tags : (licence contributor : Option (List ℕ)) (prefix : Option Prefix)
@@ -195,33 +194,42 @@ value_read lead text v e = by_test (starts_with nat_eq text lead) (all_blank (dr
     by_test true true is e = absurd (let none : ⊥ = cc in none)
     by_test false blank is e = absurd (let none : ⊥ = cc in none)
 
-contributor_read : (text v : List ℕ) → contributor_value (tag_in text) ≡ Some v → IsValue v
-contributor_read text v e = by_tags (value_after licence_lead text) (value_after contributor_lead text) refl (prefix_of text) e
+pub contributor_is : (text v : List ℕ) → contributor_value (tag_in text) ≡ Some v → value_after contributor_lead text ≡ Some v
+contributor_is text v e = by_tags (value_after licence_lead text) (value_after contributor_lead text) refl (prefix_of text) e
   where
     by_tags : (licence contributor : Option (List ℕ)) → value_after contributor_lead text ≡ contributor → (prefix : Option Prefix)
-        → contributor_value (option_or (option_map a_licence licence) (option_or (option_map a_contributor contributor) (option_map a_notice (option_map (notice_behind text) prefix)))) ≡ Some v → IsValue v
+        → contributor_value (option_or (option_map a_licence licence) (option_or (option_map a_contributor contributor) (option_map a_notice (option_map (notice_behind text) prefix)))) ≡ Some v → value_after contributor_lead text ≡ Some v
     by_tags (Some l) contributor is prefix e = absurd (let none : ⊥ = cc in none)
-    by_tags None (Some c) is prefix e = value_read contributor_lead text v (is ∙ e)
+    by_tags None (Some c) is prefix e = is ∙ e
     by_tags None None is None e = absurd (let none : ⊥ = cc in none)
     by_tags None None is (Some p) e = absurd (let none : ⊥ = cc in none)
 
-licence_read : (text v : List ℕ) → licence_value (tag_in text) ≡ Some v → IsValue v
-licence_read text v e = by_tags (value_after licence_lead text) refl (value_after contributor_lead text) (prefix_of text) e
+pub licence_is : (text v : List ℕ) → licence_value (tag_in text) ≡ Some v → value_after licence_lead text ≡ Some v
+licence_is text v e = by_tags (value_after licence_lead text) refl (value_after contributor_lead text) (prefix_of text) e
   where
     by_tags : (licence : Option (List ℕ)) → value_after licence_lead text ≡ licence → (contributor : Option (List ℕ)) (prefix : Option Prefix)
-        → licence_value (option_or (option_map a_licence licence) (option_or (option_map a_contributor contributor) (option_map a_notice (option_map (notice_behind text) prefix)))) ≡ Some v → IsValue v
-    by_tags (Some l) is contributor prefix e = value_read licence_lead text v (is ∙ e)
+        → licence_value (option_or (option_map a_licence licence) (option_or (option_map a_contributor contributor) (option_map a_notice (option_map (notice_behind text) prefix)))) ≡ Some v → value_after licence_lead text ≡ Some v
+    by_tags (Some l) is contributor prefix e = is ∙ e
     by_tags None is (Some c) prefix e = absurd (let none : ⊥ = cc in none)
     by_tags None is None None e = absurd (let none : ⊥ = cc in none)
     by_tags None is None (Some p) e = absurd (let none : ⊥ = cc in none)
+
+pub contributor_read : (text v : List ℕ) → contributor_value (tag_in text) ≡ Some v → IsValue v
+contributor_read text v e = value_read contributor_lead text v (contributor_is text v e)
+
+pub licence_read : (text v : List ℕ) → licence_value (tag_in text) ≡ Some v → IsValue v
+licence_read text v e = value_read licence_lead text v (licence_is text v e)
+
+-- a value has no blank bytes at its end
+pub value_whole : (v : List ℕ) → IsValue v → drop_end is_blank v ≡ v
+value_whole v is = ap (drop_end is_blank) (sym is.trim) ∙ end_again is_blank (drop_front is_blank v) ∙ is.trim
 
 -- a value behind its tag, where the first letter of the tag is no punctuation
 value_stripped : (punct lead v : List ℕ) → is_filler punct 83 ≡ false → IsValue v → stripped punct ((83 ∷ lead) ++ v) ≡ (83 ∷ lead) ++ v
 unfolding drop_front
 value_stripped punct lead v e is =
     let front : drop_front (is_filler punct) ((83 ∷ lead) ++ v) ≡ (83 ∷ lead) ++ v = rw e refl in
-    let whole : drop_end is_blank v ≡ v = ap (drop_end is_blank) (sym is.trim) ∙ end_again is_blank (drop_front is_blank v) ∙ is.trim in
-    ap (drop_end is_blank) front ∙ end_behind is_blank (83 ∷ lead) v is.some ∙ ap (λ (xs : List ℕ). (83 ∷ lead) ++ xs) whole
+    ap (drop_end is_blank) front ∙ end_behind is_blank (83 ∷ lead) v is.some ∙ ap (λ (xs : List ℕ). (83 ∷ lead) ++ xs) (value_whole v is)
 
 contributor_said : (v : List ℕ) → IsValue v → contributor_value (tag_in (contributor_text v)) ≡ Some v
 unfolding drop_front

@@ -50,7 +50,7 @@ last-without_first file least test (line ∷ lines) last = elim (truth (test lin
   | inr e ↦ rw e last
 ]
 
-last-closed : (file : List ℕ) (least : ℕ) (lines : PlacedLines) → AreLast file least lines → AreLast file least (closed_lines lines)
+pub last-closed : (file : List ℕ) (least : ℕ) (lines : PlacedLines) → AreLast file least lines → AreLast file least (closed_lines lines)
 last-closed file least [] last = last
 last-closed file least (line ∷ lines) last = elim (truth (is_barrier line.1.content)) [
   | inl e ↦ rw e last

@@ -1,23 +1,18 @@
 -- What an edit is, where annotating answers one.
-use Rattle.std.proofs.Common.{◌≡◌, ℕ, ◌+◌, ◌-◌, ◌<◌, ◌≤◌, Bool, true, false, List, [], ◌++◌, length, length-append, append_assoc, take, drop, length-take, Option, None, Some, refl, sym, ap, subst, ◌∙◌, inl, inr, arith}
-use Rattle.std.specs.Prelude.{Result, Ok, Err, nat_lt, if◌then◌else◌}
-use Rattle.std.specs.Option.{option_map}
-use Rattle.std.proofs.lemmas.Bool.{false≢true}
-use Rattle.std.proofs.Math.Seq.{drop-append_seam, drop-append-add}
-use Rattle.std.proofs.lemmas.List.{drop-drop, take-append-drop}
-use Rattle.reuse_text.specs.Text.{TextLine, lines_of, file_lines, after_mark, mark_len_of, text_of, spliced}
+use Rattle.std.proofs.Common.{◌≡◌, ℕ, ◌+◌, ◌-◌, ◌≤◌, Bool, true, false, List, ◌++◌, length, length-append, take, drop, length-take, Option, None, Some, refl, ap, ◌∙◌, arith}
+use Rattle.std.specs.Prelude.{Ok, Err, nat_lt, if◌then◌else◌}
+use Rattle.std.proofs.Math.Seq.{drop-append-add}
+use Rattle.std.proofs.lemmas.List.{drop-drop}
+use Rattle.reuse_text.specs.Text.{spliced}
 use Rattle.reuse_notice.specs.declared.infos.Info.{Info}
-use Rattle.reuse_notice.specs.declared.adding.Additions.{Additions}
 use Rattle.reuse_header.specs.declared.style.Style.{Style}
-use Rattle.reuse_header.specs.declared.annotation.How.{How}
 use Rattle.reuse_header.specs.declared.annotation.HeaderRefusal.{HeaderRefusal}
 use Rattle.reuse_header.specs.declared.annotation.HeaderRefusal.TheVariants.{NoSuchForm, HoldsCloser, TooLong, Unsettled}
 use Rattle.reuse_header.specs.Marks.{LineMarks}
 use Rattle.reuse_header.specs.Header.{HeaderSpan}
-use Rattle.reuse_header.specs.Writing.{new_info, block_text, holds_closer}
-use Rattle.reuse_header.specs.Annotation.{Edit, new_bytes, edited, text_start, text_end, size_limit, settled, stands_at, edit_of, kind_of_file, written_by}
+use Rattle.reuse_header.specs.Writing.{block_text, holds_closer}
+use Rattle.reuse_header.specs.Annotation.{Edit, edited, text_start, text_end, size_limit, settled, stands_at, edit_of, kind_of_file, written_by}
 use Rattle.reuse_header.specs.Laws.{part}
-use Rattle.reuse_header.proofs.TrimLemmas.{truth}
 
 pub error_is_ok : {X : Type 0} (e : HeaderRefusal) (x : X) → Err e ≡ Ok x → ⊥
 error_is_ok e x h = cc

@@ -1,4 +1,4 @@
--- A text that may have so many bytes, as it is written line by line.
+-- A text that may have so many bytes, as it is written line by line (this project's own).
 use Rattle.std.specs.Prelude.{◌≡◌, ℕ, ◌||◌, nat_le, List, ◌++◌, length, Option, None, Some, if◌then◌else◌}
 use Rattle.reuse_text.specs.Text.{is_empty}
 use Rattle.reuse_header.specs.declared.writer.LineWriter.{LineWriter}

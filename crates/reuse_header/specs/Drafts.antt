@@ -1,4 +1,4 @@
--- Edits as they are made: first their place, then their bytes.
+-- Edits as they are made: first their place, then their bytes (this project's own).
 use Rattle.std.specs.Prelude.{◌≡◌, ℕ, ◌<◌, ◌≤◌, List, ◌++◌, length, Option, None, Some, Result, Ok, Err}
 use Rattle.reuse_text.specs.declared.LineKind.{LineKind}
 use Rattle.reuse_header.specs.declared.place.Place.{Place}

@@ -1,4 +1,4 @@
--- Information that the contents of a comment can say.
+-- Information that the contents of a comment can say (this project's own).
 use Rattle.std.specs.Prelude.{◌≡◌, ℕ, List, All, Some, None}
 use Rattle.reuse_notice.specs.declared.infos.Info.{Info}
 use Rattle.reuse_notice.specs.declared.adding.Additions.{Additions}

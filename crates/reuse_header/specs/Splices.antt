@@ -1,4 +1,4 @@
--- What a call answers of an edit.
+-- What a call answers of an edit (this project's own).
 use Rattle.std.specs.Prelude.{◌≡◌, ℕ, List, take, drop, Option, None, Some, Result, Ok, Err, if◌then◌else◌}
 use Rattle.std.specs.Str.{bytes_eq}
 use Rattle.reuse_text.specs.Text.{spliced}

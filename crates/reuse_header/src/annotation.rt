@@ -4,20 +4,25 @@ use reuse_text::Bytes;
 use std::alloc::AllocError;
 use thiserror::Error;
 
-/// How licensing information is added: the form that is asked for, if any, whether the notices of one
-/// holder are merged, and whether the new block takes the old one's place.
+/// How licensing information is added.
 #[derive(Clone, Copy, Debug)]
 pub struct How {
+    /// The form that is asked for, if one is.
     pub form: Option<Form>,
+    /// Whether the notices of one holder are merged.
     pub merge: bool,
+    /// Whether the new block takes the old one's place.
     pub replace: bool,
 }
 
-/// A change of one range of a file: `new` takes the place of `old`, which stands at the place `at`.
+/// A change of one range of a file.
 #[derive(Debug, Drop)]
 pub struct Splice {
+    /// The place of the range.
     pub at: usize,
+    /// The bytes that stand there: the old block, or none.
     pub old: Bytes,
+    /// The bytes that take their place.
     pub new: Bytes,
 }
 
@@ -39,6 +44,7 @@ pub enum HeaderRefusal {
     /// The header block of the new file would not be the one that was written.
     #[error("block would not be found again")]
     Unsettled,
+    /// A growth was refused.
     #[error("out of memory")]
     Memory(AllocError),
 }

@@ -1,30 +1,36 @@
 //! Laws of the definitions that the contracts cite.
-ghost use Rattle.std.specs.Prelude.{◌≡◌, ◌≤◌, ◌+◌, ◌++◌, ℕ, List, Option, None, Some, Ok, true, false, length, map, [], All};
+ghost use Rattle.std.specs.Prelude.{◌≡◌, ◌≤◌, ◌+◌, ◌⊎◌, ◌↔◌, ◌++◌, ℕ, List, Option, None, Some, Ok, true, false, length, take, drop, map, [], All};
 ghost use Rattle.reuse_header.specs.declared.style.Style.{Style};
 ghost use Rattle.reuse_header.specs.declared.blocks.BlockSize.{BlockSize};
-ghost use Rattle.reuse_header.specs.Body.{PlacedLines};
+ghost use Rattle.reuse_header.specs.Body.{PlacedLines, body_lines, place_in};
 ghost use Rattle.std.specs.Option.{option_map};
+ghost use Rattle.reuse_header.specs.Search.{place_of};
 ghost use Rattle.reuse_header.specs.Header.{Header, HeaderSpan, header_in, header_of, span_in, neighbour_contents};
 ghost use Rattle.reuse_notice.specs.declared.adding.Additions.{Additions};
 ghost use Rattle.reuse_header.specs.declared.annotation.How.{How};
-ghost use Rattle.reuse_header.specs.Annotation.{Edit, size_limit, annotation_of, edited, new_bytes, kind_of_file, text_start, text_end};
-ghost use Rattle.reuse_header.specs.Neighbour.{neighbour_annotation_of, neighbour_end};
+ghost use Rattle.reuse_header.specs.Annotation.{Edit, size_limit, annotation_of, annotated, edited, new_bytes, kind_of_file, text_start, text_end};
+ghost use Rattle.reuse_header.specs.Neighbour.{is_text, neighbour_annotation_of, neighbour_annotated, neighbour_end};
 ghost use Rattle.reuse_header.specs.Writing.{block_lines, block_text, neighbour_marks};
 ghost use Rattle.reuse_header.specs.Marks.{LineMarks, marks_of};
 ghost use Rattle.reuse_header.specs.Reading.{IsSayable, AreSayable};
 ghost use Rattle.reuse_notice.specs.Tags.{is_filler};
 ghost use Rattle.reuse_notice.specs.Adding.{Arguments, additions_of};
 ghost use Rattle.reuse_notice.specs.Plain.{ArePlain};
-ghost use Rattle.reuse_header.specs.Blocks.{contents_of, without_returns};
-ghost use Rattle.reuse_header.specs.Styles.{punctuation_of};
+ghost use Rattle.reuse_header.specs.Blocks.{contents_of, count_to_closer, multi_count, without_returns};
+ghost use Rattle.reuse_header.specs.Styles.{BlockForm, punctuation_of};
 ghost use Rattle.reuse_header.specs.declared.style.Form.{Form};
 ghost use Rattle.reuse_notice.specs.declared.infos.Info.{Info};
-ghost use Rattle.reuse_notice.specs.Infos.{info_of, union_of};
-ghost use Rattle.reuse_text.specs.Text.{mark_len_of};
-ghost use Rattle.reuse_header.specs.Laws.{part, Keeps, IsBlockText, ReadsAs, AreContents};
+ghost use Rattle.reuse_notice.specs.Infos.{info_of, union_of, merged_of};
+ghost use Rattle.reuse_text.specs.declared.LineKind.{LineKind};
+ghost use Rattle.reuse_text.specs.Text.{file_lines, mark_len_of};
+ghost use Rattle.reuse_header.specs.Laws.{part, IsFirstPlace, StandsNowhere, IsEndedBy, IsEnclosed, IsCutAtBarrier, IsInsertion, Keeps, IsBlockText, ReadsAs, AreContents, EndsPlainly, info_written, neighbour_info_written};
+ghost use Rattle.reuse_header.specs.Splices.{answer_of};
 ghost use Rattle.reuse_header.specs.Split.{AreCommentBlocks, comment_blocks, IsSplit, IsHeaderBlock, HasNoHeader};
 
-use reuse_notice::{longest_prefix_counts, merging_keeps_holders, sets_are_one};
+use reuse_notice::{
+    holders_are_values, longest_prefix_counts, merged_notices_are_written, merging_keeps_holders,
+    repeating_adds_nothing, sets_are_one,
+};
 use reuse_text::lines_are_one;
 
 /// The comment blocks of open lines are one answer: the block whose form begins at a line, unless the line
@@ -53,12 +59,50 @@ pub fn header_spans_cut_files()
     lines_are_one();
 }
 
+/// The search for a text in bytes finds the least place at which the text stands, and none exactly where it stands nowhere.
+pub fn texts_are_found_first()
+    ensures found { (text bytes : List ℕ) (place : ℕ) → (place_of text bytes ≡ Some place) ↔ IsFirstPlace text bytes place }
+    ensures none { (text bytes : List ℕ) → (place_of text bytes ≡ None) ↔ StandsNowhere text bytes }
+{}
+
+/// A multi-line block has exactly the lines from its opener to the first that holds the closer behind it, where only
+/// blank bytes follow that closer.
+pub fn multi_line_blocks_are_enclosed()
+    ensures closed { (closer : List ℕ) (lines : List (List ℕ)) (count : ℕ) → (count_to_closer closer lines ≡ Some count) ↔ IsEndedBy closer lines count }
+    ensures enclosed { (comment : BlockForm) (lines : List (List ℕ)) (count : ℕ) → (multi_count comment lines ≡ Some count) ↔ IsEnclosed comment lines count }
+{}
+
+/// A neighbour file is its mark, its lines before the first barrier, and the others. The lines before it
+/// are exactly the bytes that are replaced, and theirs are the contents that are read.
+pub fn neighbours_are_cut_at_barriers()
+    ensures { (file : List ℕ) → (open_lines : PlacedLines) × IsCutAtBarrier file open_lines }
+{
+    lines_are_one();
+}
+
 /// The edit that annotating is lies within its file, and the file that it makes has at most 16 MiB.
 pub fn annotations_fit()
     ensures files { (style : Style) (how : How) (additions : Additions) (file : List ℕ) (edit : Edit) → annotation_of style how additions file ≡ Ok edit
         → (edit.start + edit.old_len ≤ length file) × (length (edited file edit) ≤ size_limit) }
     ensures neighbours { (how : How) (additions : Additions) (file : List ℕ) (edit : Edit) → neighbour_annotation_of how additions file ≡ Ok edit
         → (edit.start + edit.old_len ≤ length file) × (length (edited file edit) ≤ size_limit) }
+{
+    lines_are_one();
+}
+
+/// Annotating keeps every byte outside the header block. Where an old block is replaced, the text stands between what
+/// stood before that block and what stood behind it. Where there is none, or it is not to be replaced, no byte is
+/// taken away: the text stands behind the prefix lines, or behind the mark of a neighbour.
+pub fn annotating_keeps_other_bytes()
+    ensures replaced { (style : Style) (how : How) (additions : Additions) (file : List ℕ) (edit : Edit) (span : HeaderSpan) → how.replace ≡ true
+        → annotation_of style how additions file ≡ Ok edit → option_map (span_in file) (header_of style file) ≡ Some span
+        → edited file edit ≡ take span.start file ++ edit.text ++ drop span.end file }
+    ensures inserted { (style : Style) (how : How) (additions : Additions) (file : List ℕ) (edit : Edit) → (how.replace ≡ false) ⊎ (header_of style file ≡ None)
+        → annotation_of style how additions file ≡ Ok edit → IsInsertion file (place_in file (body_lines style (file_lines file))) edit }
+    ensures neighbour_replaced { (how : How) (additions : Additions) (file : List ℕ) (edit : Edit) → how.replace ≡ true → neighbour_annotation_of how additions file ≡ Ok edit
+        → edited file edit ≡ take (mark_len_of file) file ++ edit.text ++ drop (neighbour_end file) file }
+    ensures neighbour_inserted { (how : How) (additions : Additions) (file : List ℕ) (edit : Edit) → how.replace ≡ false → neighbour_annotation_of how additions file ≡ Ok edit
+        → IsInsertion file (mark_len_of file) edit }
 {
     lines_are_one();
 }
@@ -109,7 +153,7 @@ pub fn written_blocks_are_found()
 }
 
 /// What is read from a header block's or a neighbour's contents reads back, also joined with additions that do, where `S`, the
-/// first letter of the tags, is no punctuation.
+/// first letter of the written leads (`SPDX-`), is no punctuation; and what is merged reads back.
 pub fn information_is_sayable()
     ensures read { (punct : List ℕ) (contents : List (List ℕ)) → is_filler punct 83 ≡ false → All (λ content. without_returns content ≡ content) contents
         → IsSayable punct (info_of punct contents) }
@@ -117,9 +161,48 @@ pub fn information_is_sayable()
         → IsSayable (punctuation_of style) (info_of (punctuation_of style) span.contents) }
     ensures neighbours { (file : List ℕ) → IsSayable [] (info_of [] (neighbour_contents file)) }
     ensures joined { (punct : List ℕ) (info : Info) (additions : Additions) → IsSayable punct info → AreSayable punct additions → IsSayable punct (union_of info additions) }
+    ensures merged { (style : Style) (info : Info) (additions : Additions)
+        → (IsSayable (punctuation_of style) info → IsSayable (punctuation_of style) (merged_of info additions)) × (IsSayable [] info → IsSayable [] (merged_of info additions)) }
     ensures added { (style : Style) (arguments : Arguments) → ArePlain (additions_of arguments)
         → AreSayable (punctuation_of style) (additions_of arguments) × AreSayable [] (additions_of arguments) }
 {
     longest_prefix_counts();
     sets_are_one();
+    merged_notices_are_written();
+    holders_are_values();
+}
+
+/// The information that annotating writes reads back, and its lines are the contents of lines: they hold no
+/// LF, and no CR at their ends.
+pub fn written_information_is_sayable()
+    ensures files { (style : Style) (how : How) (arguments : Arguments) (file : List ℕ) (kind : LineKind) (form : Form) (marks : LineMarks) → ArePlain (additions_of arguments) → marks_of style form ≡ Some marks
+        → let info = info_written style how (additions_of arguments) file in
+        (IsSayable (punctuation_of style) info) × (AreContents kind (block_lines marks info)) }
+    ensures neighbours { (how : How) (arguments : Arguments) (file : List ℕ) (kind : LineKind) → ArePlain (additions_of arguments)
+        → let info = neighbour_info_written how (additions_of arguments) file in
+        (IsSayable [] info) × (AreContents kind (block_lines neighbour_marks info)) }
+{
+    lines_are_one();
+    sets_are_one();
+    longest_prefix_counts();
+    merged_notices_are_written();
+    holders_are_values();
+}
+
+/// Where old blocks are replaced, the same call on the file that annotating made changes nothing. One file is
+/// left out: one of a single prefix line that is not ended and ends in CR, since the ending that is put behind it makes
+/// that CR a part of a CRLF, and the file one of another kind. Of a neighbour the law asks that what was made
+/// is text.
+pub fn annotating_again_changes_nothing()
+    ensures files { (style : Style) (how : How) (arguments : Arguments) (file made : List ℕ) → how.replace ≡ true → ArePlain (additions_of arguments) → EndsPlainly style file
+        → annotated style how (additions_of arguments) file ≡ Ok made → answer_of made (annotation_of style how (additions_of arguments) made) ≡ Ok None }
+    ensures neighbours { (how : How) (arguments : Arguments) (file made : List ℕ) → how.replace ≡ true → ArePlain (additions_of arguments) → is_text made ≡ true
+        → neighbour_annotated how (additions_of arguments) file ≡ Ok made → answer_of made (neighbour_annotation_of how (additions_of arguments) made) ≡ Ok None }
+{
+    lines_are_one();
+    sets_are_one();
+    longest_prefix_counts();
+    merged_notices_are_written();
+    holders_are_values();
+    repeating_adds_nothing();
 }

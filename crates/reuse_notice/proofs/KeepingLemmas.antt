@@ -30,7 +30,7 @@ include-right None (Some b) = (omega arith, omega arith)
 include-right (Some a) (Some b) = (omega arith, omega arith)
 
 -- a notice is one of a class
-abbrev Among : NoticeText → List NoticeText → Type 0
+abbrev pub Among : NoticeText → List NoticeText → Type 0
 Among n [] = ⊥
 Among n (m ∷ class) = (n ≡ m) ⊎ Among n class
 
@@ -38,7 +38,7 @@ include-all : (class : List NoticeText) (a own : Option Years) → Include a own
 include-all [] a own h = h
 include-all (n ∷ class) a own h = include-all class (joined_years a n.years) own (include-left a n.years own h)
 
-include-one : (class : List NoticeText) (a : Option Years) (n : NoticeText) → Among n class → Include (fold joined_years a (map (λ m. m.years) class)) n.years
+pub include-one : (class : List NoticeText) (a : Option Years) (n : NoticeText) → Among n class → Include (fold joined_years a (map (λ m. m.years) class)) n.years
 include-one [] a n h = absurd h
 include-one (m ∷ class) a n (inl e) =
     include-all class (joined_years a m.years) n.years (subst (λ y. Include (joined_years a m.years) y) (sym (ap (λ k. k.years) e)) (include-right a m.years))
@@ -59,7 +59,7 @@ include-same (Some a) (Some b) (Some own) e h =
 -- ---- a notice and its class
 
 -- a notice of a holder is in the holder's class
-among-class : (holder text : List ℕ) (n : NoticeText) (xs : List (List ℕ)) → notice_of text ≡ Some n → n.holder ≡ holder → In text xs → Among n (class_of xs holder)
+pub among-class : (holder text : List ℕ) (n : NoticeText) (xs : List (List ℕ)) → notice_of text ≡ Some n → n.holder ≡ holder → In text xs → Among n (class_of xs holder)
 among-class holder text n [] is of h = absurd h
 among-class holder text n (x ∷ xs) is of (inl e) =
     let found : member holder x ≡ Some n =
@@ -106,7 +106,7 @@ kept-class command class text t n is among e = few (nat_lt (length class) 2) e
     few true f = absurd (cc f)
     few false f = back (says prefix (class_years class) n.holder (notice_of written)) refl f
 
-In-map : (f : List ℕ → List ℕ) (xs : List (List ℕ)) (t : List ℕ) → In t xs → In (f t) (map f xs)
+pub In-map : (f : List ℕ → List ℕ) (xs : List (List ℕ)) (t : List ℕ) → In t xs → In (f t) (map f xs)
 In-map f [] t h = absurd h
 In-map f (x ∷ xs) t (inl e) = inl (ap f e)
 In-map f (x ∷ xs) t (inr h) = inr (In-map f xs t h)

@@ -22,7 +22,7 @@ use Rattle.reuse_notice.proofs.BlankLemmas.{truth}
 -- ---- what is left at the ends
 
 module _ {X : Type 0} (test : X → Bool) where
-  all-drop_end : (xs : List X) → list_all test (drop_end test xs) ≡ list_all test xs
+  pub all-drop_end : (xs : List X) → list_all test (drop_end test xs) ≡ list_all test xs
   unfolding drop_end
   all-drop_end [] = refl
   all-drop_end (x ∷ xs) = elim (truth (list_all test (x ∷ xs))) [

@@ -1,7 +1,9 @@
--- What a merge keeps of a notice.
+-- What a merge keeps of a notice (this project's own).
 use Rattle.std.specs.Prelude.{◌≡◌, ◌≤◌, ℕ, List, Option, None, Some}
 use Rattle.reuse_notice.specs.declared.tags.Years.{Years}
+use Rattle.reuse_notice.specs.declared.prefixes.Prefix.{Prefix}
 use Rattle.reuse_notice.specs.Tags.{NoticeText, notice_of}
+use Rattle.reuse_notice.specs.Adding.{notice_written}
 
 -- the first years include the second, if there are some
 abbrev pub Include : Option Years → Option Years → Type 0
@@ -17,3 +19,11 @@ pub record IsKeptBy (text other : List ℕ) : Type 0 where
   pub read_is : notice_of other ≡ Some is
   pub holder : is.holder ≡ was.holder
   pub years : Include is.years was.years
+
+-- the other text is written of the holder that the text names
+pub record IsWrittenOf (text other : List ℕ) : Type 0 where
+  pub notice : NoticeText
+  pub prefix : Prefix
+  pub years : Option Years
+  pub read : notice_of text ≡ Some notice
+  pub written : other ≡ notice_written prefix years notice.holder

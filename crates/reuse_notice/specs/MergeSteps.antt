@@ -1,4 +1,4 @@
--- What the notices of one holder say together, gathered notice by notice.
+-- What the notices of one holder say together, gathered notice by notice (this project's own).
 use Rattle.std.specs.Prelude.{ℕ, Bool, true, false, List, fold, Option, None, Some, unwrap_or, if◌then◌else◌}
 use Rattle.std.specs.Option.{option_or}
 use Rattle.std.specs.List.{list_any}

@@ -1,4 +1,4 @@
--- Texts that a line of a comment can hold.
+-- Texts that a line of a comment can hold (this project's profile).
 use Rattle.std.specs.Prelude.{◌≡◌, ◌≢◌, ℕ, false, List, [], All}
 use Rattle.std.specs.List.{list_any}
 use Rattle.reuse_notice.specs.declared.adding.Additions.{Additions}

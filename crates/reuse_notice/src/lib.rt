@@ -15,7 +15,10 @@ mod text_lists;
 pub use adding::{Additions, NoticeRefusal};
 pub use expressions::{BadExpression, check_expression};
 pub use infos::Info;
-pub use laws::{longest_prefix_counts, merging_keeps_holders, sets_are_one};
+pub use laws::{
+    holders_are_values, longest_prefix_counts, merged_notices_are_written, merging_keeps_holders,
+    repeating_adds_nothing, sets_are_one,
+};
 pub use prefixes::Prefix;
 pub use tags::{Notice, Tag, Years, read_tag};
 pub use text_lists::{TextSet, Texts};

@@ -1,46 +1,23 @@
-use Rattle.std.proofs.Common.{◌≡◌, [], false, refl}
-use Rattle.reuse_notice.specs.Tags.{is_filler}
-use Rattle.reuse_header.specs.declared.style.Style.{Style}
-use Rattle.reuse_header.specs.declared.style.Style.TheVariants.{Python, C, Css, Html, Haskell, Tex, Lisp, Semicolon, Ml, Vim}
+use Rattle.std.proofs.Common.{[], refl}
 use Rattle.reuse_header.specs.Styles.{punctuation_of}
 use Rattle.reuse_header.specs.Header.{neighbour_contents}
 use Rattle.reuse_header.proofs.SayableLemmas.{info_sayable, union_sayable, found_clean, neighbour_clean}
-use Rattle.reuse_header.proofs.PlainLemmas.{NoFillers, additions_sayable}
+use Rattle.reuse_header.proofs.PlainLemmas.{letters, no_letters, additions_sayable}
+use Rattle.reuse_header.proofs.MergedLemmas.{Merges, merged_sayable}
 use Rattle.reuse_header.proofs.laws.information_is_sayable.Goals as goal
-
--- the tags' first letter is punctuation of no style
-letter : (style : Style) → is_filler (punctuation_of style) 83 ≡ false
-letter Python = refl
-letter C = refl
-letter Css = refl
-letter Html = refl
-letter Haskell = refl
-letter Tex = refl
-letter Lisp = refl
-letter Semicolon = refl
-letter Ml = refl
-letter Vim = refl
-
-letters : (style : Style) → NoFillers (punctuation_of style)
-letters Python = record { s = refl; c = refl; sign = refl }
-letters C = record { s = refl; c = refl; sign = refl }
-letters Css = record { s = refl; c = refl; sign = refl }
-letters Html = record { s = refl; c = refl; sign = refl }
-letters Haskell = record { s = refl; c = refl; sign = refl }
-letters Tex = record { s = refl; c = refl; sign = refl }
-letters Lisp = record { s = refl; c = refl; sign = refl }
-letters Semicolon = record { s = refl; c = refl; sign = refl }
-letters Ml = record { s = refl; c = refl; sign = refl }
-letters Vim = record { s = refl; c = refl; sign = refl }
 
 pub returns : goal.returns
 returns c = record {
   read = λ punct contents e good. info_sayable c.sets_are_one.ensures.sorted punct contents e good;
-  found = λ style file span e. info_sayable c.sets_are_one.ensures.sorted (punctuation_of style) span.contents (letter style) (found_clean style file span e);
+  found = λ style file span e. info_sayable c.sets_are_one.ensures.sorted (punctuation_of style) span.contents (letters style).s (found_clean style file span e);
   neighbours = λ file. info_sayable c.sets_are_one.ensures.sorted [] (neighbour_contents file) refl (neighbour_clean file);
   added = λ style arguments plain. (
     additions_sayable c.longest_prefix_counts.ensures.none (punctuation_of style) (letters style) arguments plain,
-    additions_sayable c.longest_prefix_counts.ensures.none [] (record { s = refl; c = refl; sign = refl }) arguments plain,
+    additions_sayable c.longest_prefix_counts.ensures.none [] no_letters arguments plain,
   );
+  merged = λ style info additions. (let merges : Merges = record { written = c.merged_notices_are_written.ensures; some = c.holders_are_values.ensures.some; trim = c.holders_are_values.ensures.trimmed } in (
+    (λ s. merged_sayable merges c.sets_are_one.ensures.sorted c.longest_prefix_counts.ensures.none (punctuation_of style) (letters style) info additions s),
+    (λ s. merged_sayable merges c.sets_are_one.ensures.sorted c.longest_prefix_counts.ensures.none [] no_letters info additions s),
+  ));
   joined = λ punct info additions s a. union_sayable c.sets_are_one.ensures.sorted punct info additions s a;
 }
