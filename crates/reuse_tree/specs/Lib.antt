@@ -5,3 +5,5 @@ pub mod Store
 pub mod Calls
 pub mod CallParts
 pub mod FileMap
+pub mod FuseStore
+pub mod OnceStore

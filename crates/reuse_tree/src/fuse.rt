@@ -22,6 +22,7 @@ impl<S: Store + Drop> FuseStore<S> {
         ensures failures { ⟦<FuseStore<S> as Store>⟧.failures result ≡ S.failures inner }
         ensures written { ⟦<FuseStore<S> as Store>⟧.written result ≡ S.written inner }
         ensures honest { ⟦<FuseStore<S> as Store>⟧.honest result ↔ S.honest inner }
+        ensures burns { (result.inner ≡ inner) × (result.left ≡ left) × (result.takes_effect ≡ takes_effect) }
     {
         FuseStore {
             inner,
@@ -37,13 +38,19 @@ impl<S: Store + Drop> FuseStore<S> {
         ensures failures { S.failures result ≤ ⟦<FuseStore<S> as Store>⟧.failures self }
         ensures written { S.written result ≤ ⟦<FuseStore<S> as Store>⟧.written self }
         ensures honest { S.honest result ↔ ⟦<FuseStore<S> as Store>⟧.honest self }
+        ensures inner { result ≡ self.inner }
     {
         self.inner
     }
 }
 
 impl<S: Store + Drop> Store for FuseStore<S> {
+    ghost use Rattle.std.specs.Prelude.{◌≢◌, ◌<◌, true, MatchResult, IfOk, IfErr, OnOk, IsErrOf};
+    ghost use Rattle.std.specs.FinMap as map;
+    ghost use Rattle.reuse_tree.specs.Files.{Clashes};
     ghost use Rattle.reuse_tree.specs.Calls.{failures_of, written_of};
+    ghost use Rattle.reuse_tree.specs.Store.{reading_of, counted, Puts, PutFails, RemoveFails};
+    ghost use Rattle.reuse_tree.specs.FuseStore.{Asks, Makes};
 
     ghost files = { λ store. S.files store.inner };
 
@@ -53,7 +60,17 @@ impl<S: Store + Drop> Store for FuseStore<S> {
 
     ghost honest = { λ store. S.honest store.inner };
 
-    fn list(&mut self, alloc: Global) -> Result<Vec<PathText>, StoreFault> {
+    fn list(&mut self, alloc: Global) -> Result<Vec<PathText>, StoreFault>
+        ensures was_honest { S.honest self.new.inner → S.honest self.old.inner }
+        ensures kept { S.honest self.old.inner → MatchResult result (λ paths. paths.items ≡ map.keys (S.files self.old.inner) → S.honest self.new.inner) (λ fault. fault ≢ StoreFault.Clash → S.honest self.new.inner) }
+        ensures paths { S.honest self.new.inner → IfOk result (λ paths. paths.items ≡ map.keys (S.files self.old.inner)) }
+        ensures files { S.honest self.new.inner → S.files self.new.inner ≡ S.files self.old.inner }
+        ensures no_clash { S.honest self.new.inner → result ≢ Err StoreFault.Clash }
+        ensures device { IsErrOf result StoreFault.Device → S.failures self.old.inner + failures_of self.old.failed.calls < S.failures self.new.inner + failures_of self.new.failed.calls }
+        ensures failures { S.failures self.old.inner + failures_of self.old.failed.calls ≤ S.failures self.new.inner + failures_of self.new.failed.calls }
+        ensures written { S.written self.new.inner + written_of self.new.failed.calls ≡ S.written self.old.inner + written_of self.old.failed.calls }
+        ensures burns { Asks self.old self.new result }
+    {
         if self.left > 0 {
             self.left -= 1;
             return self.inner.list(alloc);
@@ -63,12 +80,17 @@ impl<S: Store + Drop> Store for FuseStore<S> {
         answer
     }
 
-    fn read(
-        &mut self,
-        alloc: Global,
-        path: &PathText,
-        limit: usize,
-    ) -> Result<Reading, StoreFault> {
+    fn read(&mut self, alloc: Global, path: &PathText, limit: usize) -> Result<Reading, StoreFault>
+        ensures was_honest { S.honest self.new.inner → S.honest self.old.inner }
+        ensures kept { S.honest self.old.inner → MatchResult result (λ reading. reading ≡ reading_of (map.get (S.files self.old.inner) path.now) limit → S.honest self.new.inner) (λ fault. fault ≢ StoreFault.Clash → S.honest self.new.inner) }
+        ensures reading { S.honest self.new.inner → IfOk result (λ reading. reading ≡ reading_of (map.get (S.files self.old.inner) path.now) limit) }
+        ensures files { S.honest self.new.inner → S.files self.new.inner ≡ S.files self.old.inner }
+        ensures no_clash { S.honest self.new.inner → result ≢ Err StoreFault.Clash }
+        ensures device { IsErrOf result StoreFault.Device → S.failures self.old.inner + failures_of self.old.failed.calls < S.failures self.new.inner + failures_of self.new.failed.calls }
+        ensures failures { S.failures self.old.inner + failures_of self.old.failed.calls ≤ S.failures self.new.inner + failures_of self.new.failed.calls }
+        ensures written { S.written self.new.inner + written_of self.new.failed.calls ≡ S.written self.old.inner + written_of self.old.failed.calls }
+        ensures burns { Asks self.old self.new result }
+    {
         if self.left > 0 {
             self.left -= 1;
             return self.inner.read(alloc, path, limit);
@@ -78,7 +100,17 @@ impl<S: Store + Drop> Store for FuseStore<S> {
         answer
     }
 
-    fn put(&mut self, alloc: Global, path: &PathText, bytes: &[u8]) -> Result<(), StoreFault> {
+    fn put(&mut self, alloc: Global, path: &PathText, bytes: &[u8]) -> Result<(), StoreFault>
+        ensures was_honest { S.honest self.new.inner → S.honest self.old.inner }
+        ensures kept { S.honest self.old.inner → MatchResult result (λ _. ¬ (Clashes (S.files self.old.inner) path.now) → S.honest self.new.inner) (λ fault. fault ≡ StoreFault.Clash → Clashes (S.files self.old.inner) path.now → S.honest self.new.inner) }
+        ensures ok { S.honest self.new.inner → OnOk result (Puts path.now bytes.now (S.files self.old.inner) (S.files self.new.inner)) }
+        ensures err { S.honest self.new.inner → IfErr result (λ fault. PutFails fault path.now bytes.now (S.files self.old.inner) (S.files self.new.inner)) }
+        ensures device { IsErrOf result StoreFault.Device → S.failures self.old.inner + failures_of self.old.failed.calls < S.failures self.new.inner + failures_of self.new.failed.calls }
+        ensures failures { S.failures self.old.inner + failures_of self.old.failed.calls ≤ S.failures self.new.inner + failures_of self.new.failed.calls }
+        ensures written { S.written self.new.inner + written_of self.new.failed.calls ≡ S.written self.old.inner + written_of self.old.failed.calls + counted path.now bytes.now }
+        ensures burns { Makes self.old self.new result }
+        ensures effect { self.old.left ≡ 0 → self.old.takes_effect ≡ true → S.written self.new.inner ≡ S.written self.old.inner + counted path.now bytes.now }
+    {
         if self.left > 0 {
             self.left -= 1;
             return self.inner.put(alloc, path, bytes);
@@ -94,7 +126,16 @@ impl<S: Store + Drop> Store for FuseStore<S> {
         answer
     }
 
-    fn remove(&mut self, alloc: Global, path: &PathText) -> Result<(), StoreFault> {
+    fn remove(&mut self, alloc: Global, path: &PathText) -> Result<(), StoreFault>
+        ensures was_honest { S.honest self.new.inner → S.honest self.old.inner }
+        ensures kept { S.honest self.old.inner → OnOk result (S.honest self.new.inner) }
+        ensures ok { S.honest self.new.inner → OnOk result (S.files self.new.inner ≡ map.remove (S.files self.old.inner) path.now) }
+        ensures err { S.honest self.new.inner → IfErr result (λ fault. RemoveFails fault path.now (S.files self.old.inner) (S.files self.new.inner)) }
+        ensures device { IsErrOf result StoreFault.Device → S.failures self.old.inner + failures_of self.old.failed.calls < S.failures self.new.inner + failures_of self.new.failed.calls }
+        ensures failures { S.failures self.old.inner + failures_of self.old.failed.calls ≤ S.failures self.new.inner + failures_of self.new.failed.calls }
+        ensures written { S.written self.new.inner + written_of self.new.failed.calls ≡ S.written self.old.inner + written_of self.old.failed.calls }
+        ensures burns { Makes self.old self.new result }
+    {
         if self.left > 0 {
             self.left -= 1;
             return self.inner.remove(alloc, path);
