@@ -19,14 +19,14 @@ use Rattle.reuse_tree.specs.declared.fault.StoreFault.{StoreFault}
 use Rattle.reuse_tree.specs.declared.fault.StoreFault.TheVariants as faults
 use Rattle.reuse_session.specs.declared.reply.Cause.{Cause}
 use Rattle.reuse_session.specs.declared.reply.Cause.TheVariants as causes
-use Rattle.reuse_session.specs.Answer.{IsNoMemory, IsNoWantOfMemory, IsNoFailure, TellsNoFailure, HasCause, IsTestRefusal, IsNoClash}
+use Rattle.reuse_session.specs.Answer.{TellsNoFault, IsTestRefusal}
 use Rattle.reuse_session.specs.Command.{name_of}
 use Rattle.reuse_session.specs.Outcome.{outcome_of}
 use Rattle.reuse_session.specs.Entry.{paths_of, IsEntry, LeadsBy, LeadsAll}
 use Rattle.reuse_session.specs.Tree.{changed_paths}
 use Rattle.reuse_session.specs.Plan.{IsRefusalOf}
 use Rattle.reuse_session.specs.Machine.{Label, Kept, Snapshots, Step, taken, ran, ran_by, is_full, undone, redone, row_of, rows_before, rows_behind, rows_of}
-use Rattle.reuse_session.specs.Journal.{Recorded, State, IsGoodJournal, Undoes, Redoes, rows_in}
+use Rattle.reuse_session.specs.Journal.{Recorded, State, Undoes, Redoes, rows_in}
 use Rattle.reuse_session.specs.Session.{LeadUpTo, LeadOn, Holds}
 use Rattle.reuse_session.proofs.Differ.{changed_by_entry, changed_by_none}
 use Rattle.reuse_session.proofs.Walk.{leads_once, leads_back, can_lead, none_stuck}
@@ -38,25 +38,7 @@ length_up_to tree (step ∷ steps) (kept ∷ past) h = ap suc (length_up_to kept
 length_up_to tree [] (kept ∷ past) h = absurd h
 length_up_to tree (step ∷ steps) [] h = absurd h
 
-good_up_to : (tree : Files) (steps : List Recorded) (past : List Kept) → LeadUpTo tree steps past → AllByRecursion (λ step. IsEntry step.changes) steps
-good_up_to tree [] [] h = tt
-good_up_to tree (step ∷ steps) (kept ∷ past) h = (h.1.good, good_up_to kept.tree steps past h.2)
-good_up_to tree [] (kept ∷ past) h = absurd h
-good_up_to tree (step ∷ steps) [] h = absurd h
-
-good_on : (tree : Files) (steps : List Recorded) (future : List Kept) → LeadOn tree steps future → AllByRecursion (λ step. IsEntry step.changes) steps
-good_on tree [] [] h = tt
-good_on tree (step ∷ steps) (kept ∷ future) h = (h.1.good, good_on kept.tree steps future h.2)
-good_on tree [] (kept ∷ future) h = absurd h
-good_on tree (step ∷ steps) [] h = absurd h
-
 module _ (held : State) (state : Snapshots) (holds : Holds held state) where
-  pub good_journal : IsGoodJournal held.journal
-  good_journal = record {
-    done = All-from_recursion (λ step. IsEntry step.changes) held.journal.done (good_up_to state.tree held.journal.done state.past holds.past);
-    undone = All-from_recursion (λ step. IsEntry step.changes) held.journal.undone (good_on state.tree held.journal.undone state.future holds.future);
-  }
-
   undo_by_cases : (new : State) (result : Result Reply Refusal) (done : List Recorded) (past : List Kept) → LeadUpTo state.tree done past → Undoes done held result new → state.past ≡ past
       → (result ≡ (undone state past).0) × Holds new (undone state past).1
   undo_by_cases new result [] [] h u e = (u.0, subst (λ s. Holds s state) (sym u.1) holds)
@@ -194,12 +176,6 @@ log_follows held state holds =
     ap (λ rows. rows ++ map (λ step. row_of step.label (length step.changes) false) held.journal.undone) (before_rows state.tree held.journal.done state.past holds.past)
     ∙ ap (λ rows. rows_before state.tree state.past ++ rows) (behind_rows state.tree held.journal.undone state.future holds.future)
 
--- a plan's refusal that is neither memory's nor the store's is the command's
-pub refusal_given : (outcome : Result Files Refusal) (refusal : Refusal) → IsRefusalOf outcome refusal → IsNoMemory refusal → ((fault : StoreFault) → refusal ≡ Fault fault → ⊥) → outcome ≡ Err refusal
-refusal_given outcome Memory h enough store = absurd enough
-refusal_given outcome (Fault fault) h enough store = absurd (store fault refl)
-refusal_given outcome refusal h enough store = h
-
 -- whether a journal is full
 pub full_by_done : (n u : ℕ) → 4096 ≤ n → is_full n u ≡ true
 full_by_done n u h = grind (arith, nat_tests)
@@ -210,55 +186,12 @@ full_by_used n u h = grind (arith, nat_tests)
 pub room_left : (n u : ℕ) → n < 4096 → u < 999_999 → is_full n u ≡ false
 room_left n u h k = grind (arith, nat_tests)
 
--- an answer that passes a refusal on
-pub passed_on : {A B : Type 0} (r : Result A Refusal) (s : Result B Refusal) (x y : Refusal) → s ≡ Err x → x ≡ y → r ≡ Err y → IsNoWantOfMemory s → IsNoWantOfMemory r
-passed_on r s x y at same was enough = subst IsNoWantOfMemory (sym was) (subst IsNoMemory same (subst IsNoWantOfMemory at enough))
-
 -- a refusal of the test that is neither memory's nor the store's names a path
-pub names_path : (refusal : Refusal) → IsTestRefusal refusal → IsNoMemory refusal → (refusal ≡ Fault faults.Device → ⊥) → (refusal ≡ Fault faults.Clash → ⊥) → (path : List ℕ) × (refusal ≡ Moved path)
-names_path Memory h enough device clash = absurd enough
-names_path (Moved path) h enough device clash = (path, refl)
-names_path (Fault faults.Device) h enough device clash = absurd (device refl)
-names_path (Fault faults.Clash) h enough device clash = absurd (clash refl)
-names_path (Fault faults.Memory) h enough device clash = absurd h
-names_path refusal h enough device clash = absurd h
-
--- a walk that can stop for the device and for memory alone, where neither gave way
-pub no_device : (cause : Cause) → IsNoFailure (Interrupted cause) → cause ≡ causes.Device → ⊥
-no_device causes.Device told e = told
-no_device causes.Memory told e = cc
-no_device causes.Moved told e = cc
-no_device causes.Clash told e = cc
-
-pub no_failure : (refusal : Refusal) → IsNoFailure refusal → refusal ≡ Fault faults.Device → ⊥
-no_failure refusal told e = subst IsNoFailure e told
-
-no_rise : (before after : ℕ) (refusal : Refusal) → HasCause (before < after) refusal → after ≡ before → IsNoFailure refusal
-no_rise before after (Fault faults.Device) cause same = omega arith
-no_rise before after (Fault faults.Clash) cause same = tt
-no_rise before after (Fault faults.Memory) cause same = tt
-no_rise before after (Interrupted causes.Device) cause same = omega arith
-no_rise before after (Interrupted causes.Clash) cause same = tt
-no_rise before after (Interrupted causes.Memory) cause same = tt
-no_rise before after (Interrupted causes.Moved) cause same = tt
-no_rise before after _ cause same = tt
-
--- where the failures stay, no answer tells of one
-pub still_no_failure : {A : Type 0} (before after : ℕ) (result : Result A Refusal) → IfErr result (HasCause (before < after)) → after ≡ before → TellsNoFailure result
-still_no_failure before after (Ok reply) cause same = tt
-still_no_failure before after (Err refusal) cause same = no_rise before after refusal cause same
-
-pub no_cause : (cause : Cause) → IsNoMemory (Interrupted cause) → (cause ≡ causes.Device → ⊥) → (cause ≡ causes.Moved → ⊥) → (cause ≡ causes.Clash → ⊥) → ⊥
-no_cause causes.Memory enough device moved clash = enough
-no_cause causes.Device enough device moved clash = device refl
-no_cause causes.Moved enough device moved clash = moved refl
-no_cause causes.Clash enough device moved clash = clash refl
-
-pub is_no_clash : (cause : Cause) → (cause ≡ causes.Moved → ⊥) → (cause ≡ causes.Clash → ⊥) → IsNoClash (Interrupted cause)
-is_no_clash causes.Memory moved clash = tt
-is_no_clash causes.Device moved clash = tt
-is_no_clash causes.Moved moved clash = moved refl
-is_no_clash causes.Clash moved clash = clash refl
+pub names_path : (refusal : Refusal) → IsTestRefusal refusal → TellsNoFault {A = Reply} (Err refusal) → (path : List ℕ) × (refusal ≡ Moved path)
+names_path Memory h told = absurd told
+names_path (Moved path) h told = (path, refl)
+names_path (Fault fault) h told = absurd told
+names_path refusal h told = absurd h
 
 -- a plan of some changes is an entry
 pub entry_of_plan : (changes : List Change) → 0 < length changes → (changes ≡ []) ⊎ IsEntry changes → IsEntry changes

@@ -63,7 +63,7 @@ under_from_parts path folder x e =
     and_both _ _ ((starts_is Decides-eqb path folder _ refl).1 (47 ∷ x) e) (eq-eqb _ _ (ap (λ p. get_or p (length folder) 0) e ∙ at_end folder (47 ∷ x)))
 
 -- of two fronts of a list that a slash follows, one lies under the other or they are one
-fronts : (f p x y : List ℕ) → f ++ 47 ∷ x ≡ p ++ 47 ∷ y → (p ≡ f) ⊎ ((z : List ℕ) × (p ≡ f ++ 47 ∷ z)) ⊎ ((z : List ℕ) × (f ≡ p ++ 47 ∷ z))
+pub fronts : (f p x y : List ℕ) → f ++ 47 ∷ x ≡ p ++ 47 ∷ y → (p ≡ f) ⊎ ((z : List ℕ) × (p ≡ f ++ 47 ∷ z)) ⊎ ((z : List ℕ) × (f ≡ p ++ 47 ∷ z))
 fronts [] [] x y e = inl refl
 fronts [] (b ∷ p) x y e = let h : b ≡ 47 = cc in inr (inl (p, ap (λ c. c ∷ p) h))
 fronts (a ∷ f) [] x y e = let h : a ≡ 47 = cc in inr (inr (f, ap (λ c. c ∷ f) h))
@@ -74,7 +74,7 @@ fronts (a ∷ f) (b ∷ p) x y e =
     (λ r. inr (⊎_elim (λ (u : (z : List ℕ) × (p ≡ f ++ 47 ∷ z)). let v = u.1 in inl (u.0, cc)) (λ (u : (z : List ℕ) × (f ≡ p ++ 47 ∷ z)). let v = u.1 in inr (u.0, cc)) r))
     (fronts f p x y k)
 
-slash_inside : (p z : List ℕ) → list_any (λ b. nat_eq b 47) (p ++ 47 ∷ z) ≡ true
+pub slash_inside : (p z : List ℕ) → list_any (λ b. nat_eq b 47) (p ++ 47 ∷ z) ≡ true
 slash_inside [] z = refl
 slash_inside (b ∷ p) z = or_right (nat_eq b 47) _ (slash_inside p z)
   where
@@ -83,7 +83,7 @@ slash_inside (b ∷ p) z = or_right (nat_eq b 47) _ (slash_inside p z)
     or_right false b e = e
 
 -- a folder of the journal's folder is `.reuse`
-above_journal : (p z : List ℕ) → codes ".reuse/undo" ≡ p ++ 47 ∷ z → p ≡ codes ".reuse"
+pub above_journal : (p z : List ℕ) → codes ".reuse/undo" ≡ p ++ 47 ∷ z → p ≡ codes ".reuse"
 above_journal p z e =
     ⊎_elim (λ same. same)
     (λ r. ⊎_elim
@@ -114,7 +114,7 @@ module _ (path : List ℕ) (here : is_of_tree path ≡ true) where
       ∙ (bytes_eq-Decides path journal_folder).1 same)
 
 -- a file of the journal's folder neither lies under a path of the tree nor has it beneath it
-apart_from_journal : (path other : List ℕ) → is_of_tree path ≡ true → lies_under other journal_folder ≡ true → (lies_under other path || lies_under path other) ≡ true → ⊥
+pub apart_from_journal : (path other : List ℕ) → is_of_tree path ≡ true → lies_under other journal_folder ≡ true → (lies_under other path || lies_under path other) ≡ true → ⊥
 apart_from_journal path other here there nested =
     let x = under_parts other journal_folder there in
     ⊎_elim

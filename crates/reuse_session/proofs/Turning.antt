@@ -1,9 +1,9 @@
 -- What a put, a removal and a splice make of a file.
-use Rattle.std.proofs.Common.{◌≡◌, ◌⊎◌, inl, inr, ⊎_elim, ℕ, ◌+◌, List, ◌++◌, length, drop, Option, Some, None, Result, Ok, Err, OnOk, OnErr, sym, ap, subst, ◌∙◌}
+use Rattle.std.proofs.Common.{◌≡◌, ◌⊎◌, inl, inr, ⊎_elim, ℕ, ◌+◌, true, cond, List, ◌++◌, length, drop, Option, Some, None, Result, Ok, Err, OnOk, OnErr, sym, ap, subst, ◌∙◌, arith}
 use Rattle.std.specs.FinMap.{get, remove}
 use Rattle.reuse_text.specs.Text.{spliced}
 use Rattle.reuse_tree.specs.Files.{Files}
-use Rattle.reuse_tree.specs.Store.{Puts, PutFails, RemoveFails}
+use Rattle.reuse_tree.specs.Store.{counted, Puts, PutFails, RemoveFails}
 use Rattle.reuse_tree.specs.declared.fault.StoreFault.{StoreFault}
 use Rattle.reuse_tree.specs.declared.fault.StoreFault.TheVariants.{Device, Clash, Memory}
 use Rattle.reuse_tree.specs.declared.change.Change.{Change}
@@ -13,8 +13,9 @@ use Rattle.reuse_tree.proofs.FileMaps.{get-put_same, get-put_other, get-removed_
 use Rattle.reuse_tree.proofs.Parts.{cuts}
 use Rattle.reuse_session.specs.declared.entry.Way.{Way}
 use Rattle.reuse_session.specs.declared.entry.Way.TheVariants.{Do, Undo}
-use Rattle.reuse_session.specs.Tree.{Sets}
+use Rattle.reuse_session.specs.Tree.{is_of_tree, Sets}
 use Rattle.reuse_session.specs.Entry.{IsReady, Steps}
+use Rattle.reuse_session.proofs.OfTree.{outside}
 
 pub put_sets : (m n : Files) (p bytes : List ℕ) → Puts p bytes m n → Sets p (Some bytes) m n
 put_sets m n p bytes h = record {
@@ -38,6 +39,13 @@ pub removal_doubt : (fault : StoreFault) (m n : Files) (p : List ℕ) → Remove
 removal_doubt Clash m n p h = absurd h
 removal_doubt Device m n p h = ⊎_elim (λ same. inl same) (λ e. inr (removal_sets m n p e)) h
 removal_doubt Memory m n p h = ⊎_elim (λ same. inl same) (λ e. inr (removal_sets m n p e)) h
+
+-- a put at a path of the tree doesn't count as written
+pub counts_none : (path bytes : List ℕ) (old new : ℕ) → is_of_tree path ≡ true → new ≡ old + counted path bytes → new ≡ old
+counts_none path bytes old new of_tree e = e ∙ ap (λ n. old + n) (ap (λ b. cond b (length bytes) 0) (outside path of_tree)) ∙ no_more old
+  where
+    no_more : (n : ℕ) → n + 0 ≡ n
+    no_more n = omega arith
 
 -- a part gives way to another
 exchanged : (file part other : List ℕ) (at rest : ℕ) (f g : Option (List ℕ)) → HoldsPart (Some file) part at rest → f ≡ Some file → g ≡ Some (spliced file at (length part) other)

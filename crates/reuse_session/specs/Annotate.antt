@@ -1,4 +1,5 @@
--- What annotate does at each path of a tree.
+-- What annotate does at each path of a tree (the reuse tool's manual page of `annotate`; which place is written: this
+-- project's profile).
 use Rattle.std.specs.Prelude.{ℕ, Bool, true, false, not, ◌&&◌, ◌||◌, List, [], ◌++◌, length, take, drop, codes, nat_lt, Option, Some, None, is_some, is_none, Result, Ok, Err, if◌then◌else◌}
 use Rattle.std.specs.List.{list_any}
 use Rattle.std.specs.Str.{bytes_eq}

@@ -1,4 +1,4 @@
--- What an annotation of a file may be, where it is an edit.
+-- What an annotation of a file may be, where it is an edit (this project's own).
 use Rattle.std.specs.Prelude.{ℕ, ◌+◌, ◌≤◌, List, length, Result, Ok, Err}
 use Rattle.reuse_header.specs.declared.annotation.HeaderRefusal.{HeaderRefusal}
 use Rattle.reuse_header.specs.Annotation as header

@@ -1,4 +1,4 @@
--- Why a header can't be written, as a refusal that names the file.
+-- Why a header can't be written, as a refusal that names the file (this project's profile).
 use Rattle.std.specs.Prelude.{ℕ, List}
 use Rattle.reuse_header.specs.declared.annotation.HeaderRefusal.{HeaderRefusal}
 use Rattle.reuse_header.specs.declared.annotation.HeaderRefusal.TheVariants as header

@@ -24,11 +24,6 @@ pub record Journal : Type 0 where
   pub undone : List Recorded
   pub used : ℕ
 
--- the changes of each step are an entry
-pub record IsGoodJournal (journal : Journal) : Type 0 where
-  pub done : All (λ step. IsEntry step.changes) journal.done
-  pub undone : All (λ step. IsEntry step.changes) journal.undone
-
 -- a tree, and the journal beside it
 pub record State : Type 0 where
   pub tree : Files
@@ -59,8 +54,3 @@ abbrev pub rows_in : Journal → List Row
 rows_in journal =
     map (λ step. row_of step.label (length step.changes) true) (reverse journal.done)
     ++ map (λ step. row_of step.label (length step.changes) false) journal.undone
-
--- the call stopped within the first of these steps: so many of its changes are made this way, and no other
-abbrev pub StopsWithin : Way → List Recorded → Files → Files → Type 0
-StopsWithin way [] before after = ⊥
-StopsWithin way (step ∷ steps) before after = (count : ℕ) × LeadsBy way (take count step.changes) before after

@@ -3,7 +3,7 @@ use Rattle.std.specs.Prelude.{◌≡◌, Option, Some}
 use Rattle.reuse_session.specs.declared.reply.Refusal.{Refusal}
 use Rattle.reuse_dep5.specs.declared.refusal.Dep5Refusal.{Dep5Refusal}
 use Rattle.reuse_dep5.specs.declared.refusal.Dep5Refusal.TheVariants as dep5
-use Rattle.reuse_session.specs.declared.reply.Refusal.TheVariants.{Broken, JournalFull, NothingToUndo, NothingToRedo, Moved, Memory, Interrupted, Fault, Dep5}
+use Rattle.reuse_session.specs.declared.reply.Refusal.TheVariants.{Broken, JournalFull, NothingToUndo, NothingToRedo, Moved, Memory, Interrupted, Fault, BadJournal, Dep5}
 
 -- the refusal is one of planning, and tells no fault of a store
 abbrev pub IsNoFault : Refusal → Type 0
@@ -14,6 +14,7 @@ IsNoFault NothingToRedo = ⊥
 IsNoFault (Moved path) = ⊥
 IsNoFault (Interrupted cause) = ⊥
 IsNoFault (Fault fault) = ⊥
+IsNoFault (BadJournal path) = ⊥
 IsNoFault refusal = Unit {0}
 
 -- a refusal is the one that is due, unless memory ran out

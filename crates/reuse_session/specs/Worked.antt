@@ -1,4 +1,5 @@
--- The paths that a command goes through: those that it is given, and, in place of folders, the covered files beneath them.
+-- The paths that a command goes through: those that it is given, and, in place of folders, the covered files beneath
+-- them (the reuse tool's manual page of `annotate`, `--recursive`; the order: this project's profile).
 use Rattle.std.specs.Prelude.{ℕ, Bool, List, [], ◌∷◌, filter, flat_map, if◌then◌else◌}
 use Rattle.std.specs.FinMap.{keys}
 use Rattle.reuse_notice.specs.Sets.{set_of}

@@ -5,7 +5,7 @@ ghost use Rattle.std.specs.FinMap as map;
 ghost use Rattle.reuse_text.specs.Text.{spliced};
 ghost use Rattle.reuse_tree.specs.Files.{Clashes};
 ghost use Rattle.reuse_tree.specs.Change.{path_of, IsProper};
-ghost use Rattle.reuse_session.specs.Tree.{Sets};
+ghost use Rattle.reuse_session.specs.Tree.{is_of_tree, Sets};
 ghost use Rattle.reuse_session.specs.Entry.{makes, whole_after, IsSmall, IsReady, Steps};
 
 use crate::entry::Way;
@@ -50,6 +50,7 @@ pub fn can_turn<S: Store>(
     ensures clash { S.honest store.new → result ≢ Err StoreFault.Clash }
     ensures device { IsErrOf result StoreFault.Device → S.failures store.old < S.failures store.new }
     ensures failures { S.failures store.old ≤ S.failures store.new }
+    ensures written { S.written store.new ≡ S.written store.old }
     ensures was_honest { S.honest store.new → S.honest store.old }
 {
     match store.read(alloc, change.path(), LONGEST_FILE)? {
@@ -73,6 +74,7 @@ fn put_or_remove<S: Store>(
     ensures moved { result ≢ Err Cause.Moved }
     ensures device { IsErrOf result Cause.Device → S.failures store.old < S.failures store.new }
     ensures failures { S.failures store.old ≤ S.failures store.new }
+    ensures written { is_of_tree path.now ≡ true → S.written store.new ≡ S.written store.old }
     ensures was_honest { S.honest store.new → S.honest store.old }
 {
     match file {
@@ -101,6 +103,7 @@ fn put_spliced<S: Store>(
     ensures moved { result ≢ Err Cause.Moved }
     ensures device { IsErrOf result Cause.Device → S.failures store.old < S.failures store.new }
     ensures failures { S.failures store.old ≤ S.failures store.new }
+    ensures written { is_of_tree path.now ≡ true → S.written store.new ≡ S.written store.old }
     ensures was_honest { S.honest store.new → S.honest store.old }
 {
     // No memory holds more bytes than a number counts.
@@ -139,6 +142,7 @@ fn turn_from<S: Store>(
         → result ≡ Err Cause.Clash → (makes way change.now ≡ true) × Clashes (S.files store.old) (path_of change.now) }
     ensures device { IsErrOf result Cause.Device → S.failures store.old < S.failures store.new }
     ensures failures { S.failures store.old ≤ S.failures store.new }
+    ensures written { is_of_tree (path_of change.now) ≡ true → S.written store.new ≡ S.written store.old }
     ensures was_honest { S.honest store.new → S.honest store.old }
 {
     if !is_ready(change, way, file) {
@@ -173,6 +177,7 @@ pub fn turn<S: Store>(alloc: Global, store: &mut S, change: &Change, way: Way) -
     ensures clash { S.honest store.new → result ≡ Err Cause.Clash → (makes way change.now ≡ true) × Clashes (S.files store.old) (path_of change.now) }
     ensures device { IsErrOf result Cause.Device → S.failures store.old < S.failures store.new }
     ensures failures { S.failures store.old ≤ S.failures store.new }
+    ensures written { is_of_tree (path_of change.now) ≡ true → S.written store.new ≡ S.written store.old }
     ensures was_honest { S.honest store.new → S.honest store.old }
 {
     match store.read(alloc, change.path(), LONGEST_FILE)? {

@@ -46,6 +46,7 @@ loop-change-preserved g c =
     let change = c.change-item.result in
     let kept = c.loop-change.invariant in
     record {
+      written = c.can_be_made.ensures.written ∙ kept.written;
       later = omega (arith, kept.later, c.can_be_made.ensures.failures);
       was_honest = λ honest. kept.was_honest (c.can_be_made.ensures.was_honest honest);
       files = λ honest. c.can_be_made.ensures.files honest ∙ kept.files (c.can_be_made.ensures.was_honest honest);

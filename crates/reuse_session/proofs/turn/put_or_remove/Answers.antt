@@ -2,7 +2,7 @@ use Rattle.std.proofs.Common.{◌≡◌, ◌⊎◌, Some, None, OnErr, ap, sym, 
 use Rattle.std.specs.Option.{option_copied}
 use Rattle.std.proofs.lemmas.Result.{err_from_is_err_and}
 use Rattle.reuse_session.specs.Tree.{Sets}
-use Rattle.reuse_session.proofs.Turning.{put_sets, removal_sets, put_doubt, removal_doubt}
+use Rattle.reuse_session.proofs.Turning.{counts_none, put_sets, removal_sets, put_doubt, removal_doubt}
 use Rattle.reuse_session.proofs.turn.put_or_remove.Goals as goal
 
 pub returns-in_err-put-in-Some-clause-err : goal.returns-in_err-put-in-Some-clause-err
@@ -40,3 +40,9 @@ returns-in_ok-remove-in-None-clause-ok g c honest =
     let new = store.files c.remove.new.self in
     let file : option_copied c.args.file ≡ None = ap option_copied c.in-None.is in
     subst (λ f. Sets c.args.path.now f old new) (sym file) (removal_sets old new c.args.path.now (c.in_ok-remove-in-None.ensures.ok honest))
+
+pub returns-in_err-put-in-Some-clause-written : goal.returns-in_err-put-in-Some-clause-written
+returns-in_err-put-in-Some-clause-written g c of_tree = counts_none c.args.path.now c.in-Some.bytes.now _ _ of_tree c.put.ensures.written
+
+pub returns-in_ok-put-in-Some-clause-written : goal.returns-in_ok-put-in-Some-clause-written
+returns-in_ok-put-in-Some-clause-written g c of_tree = counts_none c.args.path.now c.in-Some.bytes.now _ _ of_tree c.put.ensures.written

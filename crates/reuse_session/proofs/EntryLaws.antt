@@ -1,0 +1,306 @@
+-- The text of a sound entry is good, and no longer than the entry size.
+use Rattle.std.proofs.Common.{◌≡◌, ℕ, zero, suc, ◌+◌, ◌*◌, ◌^◌, ◌/◌, ◌%◌, ◌<◌, ◌≤◌, ◌==◌, Bool, true, false, ◌&&◌, List, [], ◌∷◌, ◌++◌, length, map, get_or, codes, decimal, Some, refl, sym, ap, ◌∙◌, arith, length-append, inl, inr, eqb-true, ltb-true}
+use Rattle.std.specs.Prelude.{IsUtf8}
+use Rattle.std.specs.List.{AllByRecursion, AllZip, join_with_byte}
+use Rattle.std.specs.Str.{IsAscii}
+use Rattle.std.proofs.lemmas.Bool.{and_parts, cases_lt}
+use Rattle.std.proofs.lemmas.Fmt.{length-decimal-le, IsAscii-decimal}
+use Rattle.std.proofs.lemmas.Str.Ascii.{IsAscii-nil, IsAscii-cons}
+use Rattle.std.proofs.lemmas.Str.{IsUtf8-append, IsUtf8-from_ascii}
+use Rattle.std.proofs.lemmas.List.Elements.{recursion_from_All}
+use Rattle.json.specs.Tree as tree
+use Rattle.json.specs.Print.{escape_byte, escape, quoted}
+use Rattle.json.proofs.Printed.Utf8.{IsUtf8-are_ascii, are_ascii, IsUtf8-quoted}
+use Rattle.json.proofs.Printed.Decimals.{IsNumber-decimal}
+use Rattle.hex.specs.Hex.{encode_lower, encode_with, lower_digits, IsBytes}
+use Rattle.hex.proofs.HexLemmas.{IsAscii-encode_with, decode_of-encode_lower}
+use Rattle.serde_json.specs.Data.{string}
+use Rattle.serde_json.specs.Read.{read, of_json, of_items}
+use Rattle.serde_json.specs.View.{items_of}
+use Rattle.serde_json.specs.Written.{outline, items_outline, has_float, items_have_float}
+use Rattle.serde_json.proofs.Numbers.{number_of-decimal}
+use Rattle.reuse_session.specs.Entry.{change_size, entry_size, IsSmall}
+use Rattle.reuse_session.specs.EntryText.{command_name, hex_text, change_text, entry_text, change_value, entry_value, IsHex, IsChangeValue, IsChangeInMemory, IsSoundEntry, IsGoodEntry}
+use Rattle.reuse_tree.specs.declared.change.Change.{Change}
+use Rattle.reuse_tree.specs.declared.change.Change.TheVariants.{Make, Drop, Splice}
+use Rattle.reuse_session.specs.declared.journal.entry.Entry.{Entry}
+use Rattle.reuse_session.specs.declared.command.CommandName.{CommandName}
+use Rattle.reuse_session.specs.declared.command.CommandName.TheVariants.{Annotate, ConvertDep5, Download}
+use Rattle.reuse_session.proofs.JsonPrinting.{IsReadable, read-compact_text}
+use Rattle.reuse_session.proofs.JoinedTexts.{length-join-le, IsUtf8-join, AllByRecursion-weaker}
+use Rattle.reuse_session.proofs.EntryTexts.{entry_compact}
+
+-- what its text needs of a change
+record IsWritable (c : Change) : Type 0 where
+  small : IsSmall c
+  in_memory : IsChangeInMemory c
+
+all_writable : (e : Entry) → IsSoundEntry e → AllByRecursion IsWritable e.changes
+all_writable e sound = recursion_from_All IsWritable e.changes (λ k c below. record { small = sound.changes.small k c below; in_memory = sound.in_memory k c below })
+
+-- the bytes of the file that a splice keeps
+abbrev kept : Change → ℕ
+kept (Make path new) = 0
+kept (Drop path old) = 0
+kept (Splice path at old new rest) = at + rest
+
+-- ---- no floats
+
+change_no_float : (c : Change) → has_float (change_value c) ≡ false
+change_no_float (Make path new) = refl
+change_no_float (Drop path old) = refl
+change_no_float (Splice path at old new rest) = refl
+
+changes_no_float : (cs : List Change) → items_have_float (items_of (map change_value cs)) ≡ false
+changes_no_float [] = refl
+changes_no_float (c ∷ cs) = rw (change_no_float c) (changes_no_float cs)
+
+pub entry_no_float : (e : Entry) → has_float (entry_value e) ≡ false
+entry_no_float e = rw (changes_no_float e.changes) refl
+
+-- ---- the value is read back from its text
+
+change_flat : (c : Change) → tree.depth (outline (change_value c)) ≡ 1
+change_flat (Make path new) = refl
+change_flat (Drop path old) = refl
+change_flat (Splice path at old new rest) = refl
+
+changes_flat : (cs : List Change) → tree.items_depth (items_outline (items_of (map change_value cs))) ≤ 1
+changes_flat [] = omega arith
+changes_flat (c ∷ cs) = omega (arith, change_flat c, changes_flat cs)
+
+change_numbers : (c : Change) → kept c < 2 ^ 64 → tree.HasNumbers (outline (change_value c))
+change_numbers (Make path new) h = (tt, (tt, (tt, tt)))
+change_numbers (Drop path old) h = (tt, (tt, (tt, tt)))
+change_numbers (Splice path at old new rest) h = (IsNumber-decimal at (omega arith), (tt, (tt, (tt, (tt, (IsNumber-decimal rest (omega arith), tt))))))
+
+changes_numbers : (cs : List Change) → AllByRecursion (λ c. kept c < 2 ^ 64) cs → tree.ItemsHaveNumbers (items_outline (items_of (map change_value cs)))
+changes_numbers [] h = tt
+changes_numbers (c ∷ cs) h = (change_numbers c h.0, changes_numbers cs h.1)
+
+change_read : (c : Change) → kept c < 2 ^ 64 → of_json (outline (change_value c)) ≡ Some (change_value c)
+change_read (Make path new) h = refl
+change_read (Drop path old) h = refl
+change_read (Splice path at old new rest) h =
+    let low : at < 2 ^ 64 = omega arith in
+    let high : rest < 2 ^ 64 = omega arith in
+    rw (number_of-decimal at low, number_of-decimal rest high) refl
+
+changes_read : (cs : List Change) → AllByRecursion (λ c. kept c < 2 ^ 64) cs → of_items (items_outline (items_of (map change_value cs))) ≡ Some (items_of (map change_value cs))
+changes_read [] h = refl
+changes_read (c ∷ cs) h = rw (change_read c h.0, changes_read cs h.1) refl
+
+few_kept : (c : Change) → IsWritable c → kept c < 2 ^ 64
+few_kept (Make path new) h = omega arith
+few_kept (Drop path old) h = omega arith
+few_kept (Splice path at old new rest) h = omega (arith, h.small.0)
+
+entry_readable : (e : Entry) → IsSoundEntry e → IsReadable (entry_value e)
+entry_readable e sound =
+    let wide = AllByRecursion-weaker IsWritable (λ c. kept c < 2 ^ 64) few_kept e.changes (all_writable e sound) in
+    let when : e.when < 2 ^ 64 = omega (arith, sound.when) in record {
+      shallow = omega (arith, changes_flat e.changes);
+      numbers = (changes_numbers e.changes wide, (tt, (IsNumber-decimal 1 (omega arith), (IsNumber-decimal e.when when, tt))));
+      again = rw (changes_read e.changes wide, number_of-decimal 1 (omega arith), number_of-decimal e.when when) refl;
+    }
+
+-- ---- the text is UTF-8
+
+ascii_by_test : (xs : List ℕ) → are_ascii xs ≡ true → IsAscii xs
+ascii_by_test [] e = IsAscii-nil
+ascii_by_test (x ∷ xs) e = let p = and_parts _ _ e in IsAscii-cons x xs (ltb-true x 128 p.0) (ascii_by_test xs p.1)
+
+lower_ascii : IsAscii lower_digits
+lower_ascii = ascii_by_test lower_digits refl
+
+hex_utf8 : (bytes : List ℕ) → IsUtf8 (hex_text bytes)
+hex_utf8 bytes = IsUtf8-quoted (encode_lower bytes) (IsUtf8-from_ascii (encode_lower bytes) (IsAscii-encode_with lower_digits bytes lower_ascii))
+
+number_utf8 : (n : ℕ) → n < 2 ^ 64 → IsUtf8 (decimal n)
+number_utf8 n h = IsUtf8-from_ascii (decimal n) (IsAscii-decimal n h)
+
+change_utf8 : (c : Change) → IsWritable c → IsUtf8 (change_text c)
+change_utf8 (Make path new) h =
+    let ascii = λ (xs : List ℕ) (e : are_ascii xs ≡ true). IsUtf8-are_ascii xs e in
+    IsUtf8-append _ (codes "}") (IsUtf8-append _ (quoted path) (IsUtf8-append _ (codes ",\"path\":") (IsUtf8-append (codes "{\"kind\":\"make\",\"new\":") (hex_text new) (ascii _ refl) (hex_utf8 new)) (ascii _ refl)) (IsUtf8-quoted path h.in_memory.utf8)) (ascii _ refl)
+change_utf8 (Drop path old) h =
+    let ascii = λ (xs : List ℕ) (e : are_ascii xs ≡ true). IsUtf8-are_ascii xs e in
+    IsUtf8-append _ (codes "}") (IsUtf8-append _ (quoted path) (IsUtf8-append _ (codes ",\"path\":") (IsUtf8-append (codes "{\"kind\":\"drop\",\"old\":") (hex_text old) (ascii _ refl) (hex_utf8 old)) (ascii _ refl)) (IsUtf8-quoted path h.in_memory.utf8)) (ascii _ refl)
+change_utf8 (Splice path at old new rest) h =
+    let ascii = λ (xs : List ℕ) (e : are_ascii xs ≡ true). IsUtf8-are_ascii xs e in
+    let low : at < 2 ^ 64 = omega (arith, h.small.0) in
+    let high : rest < 2 ^ 64 = omega (arith, h.small.0) in
+    IsUtf8-append _ (codes "}")
+    (IsUtf8-append _ (decimal rest)
+    (IsUtf8-append _ (codes ",\"rest\":")
+    (IsUtf8-append _ (quoted path)
+    (IsUtf8-append _ (codes ",\"path\":")
+    (IsUtf8-append _ (hex_text old)
+    (IsUtf8-append _ (codes ",\"old\":")
+    (IsUtf8-append _ (hex_text new)
+    (IsUtf8-append _ (codes ",\"kind\":\"splice\",\"new\":")
+    (IsUtf8-append (codes "{\"at\":") (decimal at) (ascii _ refl) (number_utf8 at low))
+    (ascii _ refl))
+    (hex_utf8 new))
+    (ascii _ refl))
+    (hex_utf8 old))
+    (ascii _ refl))
+    (IsUtf8-quoted path h.in_memory.utf8))
+    (ascii _ refl))
+    (number_utf8 rest high))
+    (ascii _ refl)
+
+name_utf8 : (w : CommandName) → IsUtf8 (command_name w)
+name_utf8 Annotate = IsUtf8-are_ascii _ refl
+name_utf8 ConvertDep5 = IsUtf8-are_ascii _ refl
+name_utf8 Download = IsUtf8-are_ascii _ refl
+
+entry_utf8 : (e : Entry) → IsSoundEntry e → IsUtf8 (entry_text e)
+entry_utf8 e sound =
+    let ascii = λ (xs : List ℕ) (e : are_ascii xs ≡ true). IsUtf8-are_ascii xs e in
+    let each = AllByRecursion-weaker IsWritable (λ c. IsUtf8 (change_text c)) change_utf8 e.changes (all_writable e sound) in
+    IsUtf8-append _ (codes "}")
+    (IsUtf8-append _ (decimal e.when)
+    (IsUtf8-append _ (codes "\",\"format\":1,\"when\":")
+    (IsUtf8-append _ (command_name e.command)
+    (IsUtf8-append _ (codes "],\"command\":\"")
+    (IsUtf8-append (codes "{\"changes\":[") (join_with_byte 44 (map change_text e.changes)) (ascii _ refl) (IsUtf8-join change_text e.changes each))
+    (ascii _ refl))
+    (name_utf8 e.command))
+    (ascii _ refl))
+    (number_utf8 e.when (omega (arith, sound.when))))
+    (ascii _ refl)
+
+-- ---- the lengths
+
+escape_byte_short : (x : ℕ) → length (escape_byte x) ≤ 6
+unfolding escape_byte
+escape_byte_short x = grind arith
+
+length-escape-le : (s : List ℕ) → length (escape s) ≤ 6 * length s
+length-escape-le [] = omega arith
+length-escape-le (x ∷ s) = omega (arith, length-append (escape_byte x) (escape s), escape_byte_short x, length-escape-le s)
+
+length-quoted-le : (s : List ℕ) → length (quoted s) ≤ 6 * length s + 2
+length-quoted-le s = omega (arith, length-append (escape s) (34 ∷ []), length-escape-le s)
+
+-- the test that a digit of the table stands for itself, at the first n
+abbrev are_plain : ℕ → Bool
+are_plain zero = true
+are_plain (suc n) = (length (escape_byte (get_or lower_digits n 0)) == 1) && are_plain n
+
+all_plain : are_plain 16 ≡ true
+unfolding escape_byte
+all_plain = refl
+
+plain_at : (n k : ℕ) → are_plain n ≡ true → k < n → length (escape_byte (get_or lower_digits k 0)) ≡ 1
+plain_at zero k h below = absurd (omega arith)
+plain_at (suc n) k h below =
+    let p = and_parts (length (escape_byte (get_or lower_digits n 0)) == 1) (are_plain n) h in
+    elim (cases_lt k n) [
+      | inl under ↦ plain_at n k p.1 under
+      | inr top ↦ let same : k ≡ n = omega arith in rw same (eqb-true _ 1 p.0)
+    ]
+
+length-escape-hex : (bytes : List ℕ) → IsBytes bytes → length (escape (encode_lower bytes)) ≡ 2 * length bytes
+unfolding encode_with
+length-escape-hex [] h = refl
+length-escape-hex (b ∷ bytes) h =
+    let byte : b < 256 = h 0 in
+    let high = get_or lower_digits (b / 16) 0 in
+    let low = get_or lower_digits (b % 16) 0 in
+    let rest = length-escape-hex bytes (λ i. h (suc i)) in
+    omega (
+      arith,
+      plain_at 16 (b / 16) all_plain (omega arith),
+      plain_at 16 (b % 16) all_plain (omega arith),
+      rest,
+      length-append (escape_byte high) (escape_byte low ++ escape (encode_lower bytes)),
+      length-append (escape_byte low) (escape (encode_lower bytes)),
+    )
+
+length-hex : (bytes : List ℕ) → IsBytes bytes → length (hex_text bytes) ≡ 2 * length bytes + 2
+length-hex bytes h = omega (arith, length-append (escape (encode_lower bytes)) (34 ∷ []), length-escape-hex bytes h)
+
+number_length : (n : ℕ) → n < 2 ^ 64 → length (decimal n) ≤ 20
+number_length n h = length-decimal-le 20 n (omega arith) (omega arith) h
+
+make_length : (new path : List ℕ) → length (codes "{\"kind\":\"make\",\"new\":" ++ new ++ codes ",\"path\":" ++ path ++ codes "}") ≤ 30 + (length new + length path)
+make_length new path = simp length-append (omega arith)
+
+drop_length : (old path : List ℕ) → length (codes "{\"kind\":\"drop\",\"old\":" ++ old ++ codes ",\"path\":" ++ path ++ codes "}") ≤ 30 + (length old + length path)
+drop_length old path = simp length-append (omega arith)
+
+splice_length : (at new old path rest : List ℕ)
+    → length (codes "{\"at\":" ++ at ++ codes ",\"kind\":\"splice\",\"new\":" ++ new ++ codes ",\"old\":" ++ old ++ codes ",\"path\":" ++ path ++ codes ",\"rest\":" ++ rest ++ codes "}") ≤ 60 + (length at + length new + length old + length path + length rest)
+splice_length at new old path rest = simp length-append (omega arith)
+
+-- each change with its comma keeps to its size
+change_length : (c : Change) → IsWritable c → length (change_text c) + 1 ≤ change_size c
+change_length (Make path new) h =
+    let n = length-hex new h.in_memory.written in
+    let p = length-quoted-le path in
+    let whole = make_length (hex_text new) (quoted path) in
+    omega arith
+change_length (Drop path old) h =
+    let o = length-hex old h.in_memory.removed in
+    let p = length-quoted-le path in
+    let whole = drop_length (hex_text old) (quoted path) in
+    omega arith
+change_length (Splice path at old new rest) h =
+    let low : at < 2 ^ 64 = omega (arith, h.small.0) in
+    let high : rest < 2 ^ 64 = omega (arith, h.small.0) in
+    let a = number_length at low in
+    let r = number_length rest high in
+    let n = length-hex new h.in_memory.written in
+    let o = length-hex old h.in_memory.removed in
+    let p = length-quoted-le path in
+    let whole = splice_length (decimal at) (hex_text new) (hex_text old) (quoted path) (decimal rest) in
+    omega arith
+
+name_length : (w : CommandName) → length (command_name w) ≤ 12
+name_length Annotate = omega arith
+name_length ConvertDep5 = omega arith
+name_length Download = omega arith
+
+around_length : (items name when : List ℕ) → length (codes "{\"changes\":[" ++ items ++ codes "],\"command\":\"" ++ name ++ codes "\",\"format\":1,\"when\":" ++ when ++ codes "}") ≤ 46 + (length items + length name + length when)
+around_length items name when = simp length-append (omega arith)
+
+-- the text of an entry is no longer than its entry size
+pub entry_length : (e : Entry) → IsSoundEntry e → length (entry_text e) ≤ entry_size e.changes
+entry_length e sound =
+    let each = AllByRecursion-weaker IsWritable (λ c. length (change_text c) + 1 ≤ change_size c) change_length e.changes (all_writable e sound) in
+    omega (
+      arith,
+      around_length (join_with_byte 44 (map change_text e.changes)) (command_name e.command) (decimal e.when),
+      length-join-le change_text change_size e.changes each,
+      name_length e.command,
+      number_length e.when (omega (arith, sound.when)),
+    )
+
+-- ---- the law
+
+hex_is : (bytes : List ℕ) → IsBytes bytes → IsHex bytes (string (encode_lower bytes))
+hex_is bytes h = (encode_lower bytes, refl, decode_of-encode_lower bytes h)
+
+change_is : (c : Change) → IsWritable c → IsChangeValue c (change_value c)
+change_is (Make path new) h = (string (encode_lower new), hex_is new h.in_memory.written, refl)
+change_is (Drop path old) h = (string (encode_lower old), hex_is old h.in_memory.removed, refl)
+change_is (Splice path at old new rest) h = (string (encode_lower new), string (encode_lower old), hex_is new h.in_memory.written, hex_is old h.in_memory.removed, refl)
+
+changes_are : (cs : List Change) → AllByRecursion IsWritable cs → AllZip IsChangeValue cs (map change_value cs)
+changes_are [] h = tt
+changes_are (c ∷ cs) h = (change_is c h.0, changes_are cs h.1)
+
+pub entry_good : (e : Entry) → IsSoundEntry e → IsGoodEntry (entry_text e) e
+entry_good e sound = record {
+  short = omega (arith, entry_length e sound, sound.changes.light);
+  value = (
+    entry_value e,
+    record { utf8 = entry_utf8 e sound; reads = ap read (sym (entry_compact e)) ∙ read-compact_text (entry_value e) (entry_readable e sound) },
+    (map change_value e.changes, changes_are e.changes (all_writable e sound), refl),
+  );
+  changes = sound.changes;
+  paths = λ k c below. (sound.in_memory k c below).path;
+  when = sound.when;
+}

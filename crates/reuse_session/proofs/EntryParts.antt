@@ -1,0 +1,281 @@
+-- What is read of an entry's value is the entry, and nothing else is.
+use Rattle.std.proofs.Common.{◌≡◌, ℕ, ◌≤◌, Bool, true, false, cond, List, [], ◌∷◌, codes, Option, Some, None, refl, sym, ap, ap₂, ◌∙◌, subst, le-leb, leb-true, Result, Ok, Err, ◌⊎◌, inl, inr}
+use Rattle.std.specs.Prelude.{IsTrue, IfOk}
+use Rattle.reuse_session.specs.declared.journal.fault.DecodeFault.{DecodeFault}
+use Rattle.reuse_session.specs.Decoded.{Gives, IsAnswer}
+use Rattle.std.specs.List.{AllZip}
+use Rattle.std.specs.Result.{result_ok}
+use Rattle.std.specs.Str.{bytes_eq}
+use Rattle.std.proofs.lemmas.Option.{none-some, same_Some, cond_some}
+use Rattle.std.proofs.lemmas.Slice.Eq.{bytes_eq-Decides}
+use Rattle.std.proofs.lemmas.List.Elements.{All-head, All-tail}
+use Rattle.hex.specs.Hex.{decode_of}
+use Rattle.hex.specs.declared.error.FromHexError.{FromHexError}
+use Rattle.serde_json.specs.Data.{Data, string, array, object, Items, no_items, item, Members, no_members, member}
+use Rattle.serde_json.specs.Find.{as_array, as_object, as_str, get}
+use Rattle.serde_json.specs.View.{items_of}
+use Rattle.reuse_tree.specs.Path.{is_path}
+use Rattle.reuse_tree.specs.Change.{path_of}
+use Rattle.reuse_session.specs.Json.{count, array_of, IsJson}
+use Rattle.reuse_session.specs.EntryText.{command_name, IsHex, IsChangeValue, IsEntryValue, HavePaths, IsJsonEntry, IsGoodEntry}
+use Rattle.reuse_session.specs.JsonReading.{first_member, if_none_left, if_format_one, number_in, read_items}
+use Rattle.reuse_session.specs.EntryReading.{if_text, hex_in, path_in, command_from, moment_in, make_in, drop_in, splice_in, splice_bytes_in, splice_end_in, change_in, changes_in, entry_in}
+use Rattle.reuse_tree.specs.declared.change.Change.{Change}
+use Rattle.reuse_tree.specs.declared.change.Change.TheVariants.{Make, Drop, Splice}
+use Rattle.reuse_session.specs.declared.journal.entry.Entry.{Entry}
+use Rattle.reuse_session.specs.declared.command.CommandName.{CommandName}
+use Rattle.reuse_session.specs.declared.command.CommandName.TheVariants.{Annotate, ConvertDep5, Download}
+use Rattle.reuse_session.proofs.JsonParts.{either, bind_some, first_member_found, none_left_found, object_found, array_found, string_found, number_found, format_one_found, IfOk-from_gives, IsAnswer-from_gives, same_json}
+
+-- ---- parts
+
+if_text_found : (text : List ℕ) (d : Data) (u : Unit) → if_text text d ≡ Some u → d ≡ string text
+if_text_found text d u e =
+    let s = bind_some _ (as_str d) u e in
+    let t = cond_some (bytes_eq s.0 text) tt u s.2 in
+    string_found d s.0 s.1 ∙ ap string ((bytes_eq-Decides s.0 text).0 t.0)
+
+ok_found : (r : Result (List ℕ) FromHexError) (bytes : List ℕ) → result_ok r ≡ Some bytes → r ≡ Ok bytes
+ok_found (Ok found) bytes e = ap Ok (same_Some found bytes e)
+ok_found (Err f) bytes e = absurd (none-some bytes e)
+
+hex_found : (d : Data) (bytes : List ℕ) → hex_in d ≡ Some bytes → IsHex bytes d
+hex_found d bytes e =
+    let s = bind_some _ (as_str d) bytes e in
+    (s.0, string_found d s.0 s.1, ok_found (decode_of s.0) bytes s.2)
+
+hex_again : (d : Data) (bytes : List ℕ) → IsHex bytes d → hex_in d ≡ Some bytes
+hex_again d bytes h = ap hex_in h.1 ∙ ap result_ok h.2
+
+path_found : (d : Data) (path : List ℕ) → path_in d ≡ Some path → (d ≡ string path) × (is_path path ≡ true)
+path_found d path e =
+    let s = bind_some _ (as_str d) path e in
+    let t = cond_some (is_path s.0) s.0 path s.2 in
+    (string_found d s.0 s.1 ∙ ap string t.1, subst (λ (p : List ℕ). is_path p ≡ true) t.1 t.0)
+
+path_again : (path : List ℕ) → is_path path ≡ true → path_in (string path) ≡ Some path
+path_again path is = ap (λ b. cond b (Some path) None) is
+
+moment_found : (d : Data) (n : ℕ) → moment_in d ≡ Some n → (d ≡ count n) × (n ≤ 250_000_000_000)
+moment_found d n e =
+    let m = bind_some _ (number_in d) n e in
+    let t = cond_some _ m.0 n m.2 in
+    let same : m.0 ≡ n = t.1 in
+    (number_found d m.0 m.1 ∙ ap count same, subst (λ (k : ℕ). k ≤ 250_000_000_000) same (leb-true m.0 250000000000 t.0))
+
+moment_again : (n : ℕ) → n ≤ 250_000_000_000 → moment_in (count n) ≡ Some n
+moment_again n h = rw (le-leb n 250000000000 h) refl
+
+named : (name : List ℕ) (v w : CommandName) → (bytes_eq name (command_name v) ≡ true) × (v ≡ w) → name ≡ command_name w
+named name v w h = (bytes_eq-Decides name (command_name v)).0 h.0 ∙ ap command_name h.1
+
+command_found : (name : List ℕ) (w : CommandName) → command_from name ≡ Some w → name ≡ command_name w
+command_found name w e = elim (either (bytes_eq name (codes "annotate")) Annotate w _ e) [
+  | inl first ↦ named name Annotate w first
+  | inr other ↦ elim (either (bytes_eq name (codes "convert-dep5")) ConvertDep5 w _ other) [
+    | inl second ↦ named name ConvertDep5 w second
+    | inr last ↦ named name Download w (cond_some (bytes_eq name (codes "download")) Download w last)
+  ]
+]
+
+command_again : (w : CommandName) → command_from (command_name w) ≡ Some w
+command_again Annotate = refl
+command_again ConvertDep5 = refl
+command_again Download = refl
+
+-- ---- a change
+
+make_found : (d : Data) (c : Change) → make_in d ≡ Some c → IsChangeValue c d
+unfolding make_in
+make_found d c e =
+    let fields = bind_some _ (as_object d) c e in
+    let kind = bind_some _ (first_member (codes "kind") fields.0) c fields.2 in
+    let make = bind_some _ (if_text (codes "make") kind.0.0) c kind.2 in
+    let new = bind_some _ (first_member (codes "new") kind.0.1) c make.2 in
+    let n = bind_some _ (hex_in new.0.0) c new.2 in
+    let path = bind_some _ (first_member (codes "path") new.0.1) c n.2 in
+    let p = bind_some _ (path_in path.0.0) c path.2 in
+    let end = bind_some _ (if_none_left path.0.1) c p.2 in
+    let third = first_member_found (codes "path") new.0.1 path.0 path.1 ∙ ap₂ (member (codes "path")) (path_found path.0.0 p.0 p.1).0 (none_left_found path.0.1 end.0 end.1) in
+    let second = first_member_found (codes "new") kind.0.1 new.0 new.1 ∙ ap (member (codes "new") new.0.0) third in
+    let first = first_member_found (codes "kind") fields.0 kind.0 kind.1 ∙ ap₂ (member (codes "kind")) (if_text_found (codes "make") kind.0.0 make.0 make.1) second in
+    subst (λ (x : Change). IsChangeValue x d) (same_Some (Make p.0 n.0) c end.2)
+    (new.0.0, hex_found new.0.0 n.0 n.1, object_found d fields.0 fields.1 ∙ ap object first)
+
+drop_found : (d : Data) (c : Change) → drop_in d ≡ Some c → IsChangeValue c d
+unfolding drop_in
+drop_found d c e =
+    let fields = bind_some _ (as_object d) c e in
+    let kind = bind_some _ (first_member (codes "kind") fields.0) c fields.2 in
+    let is = bind_some _ (if_text (codes "drop") kind.0.0) c kind.2 in
+    let old = bind_some _ (first_member (codes "old") kind.0.1) c is.2 in
+    let o = bind_some _ (hex_in old.0.0) c old.2 in
+    let path = bind_some _ (first_member (codes "path") old.0.1) c o.2 in
+    let p = bind_some _ (path_in path.0.0) c path.2 in
+    let end = bind_some _ (if_none_left path.0.1) c p.2 in
+    let third = first_member_found (codes "path") old.0.1 path.0 path.1 ∙ ap₂ (member (codes "path")) (path_found path.0.0 p.0 p.1).0 (none_left_found path.0.1 end.0 end.1) in
+    let second = first_member_found (codes "old") kind.0.1 old.0 old.1 ∙ ap (member (codes "old") old.0.0) third in
+    let first = first_member_found (codes "kind") fields.0 kind.0 kind.1 ∙ ap₂ (member (codes "kind")) (if_text_found (codes "drop") kind.0.0 is.0 is.1) second in
+    subst (λ (x : Change). IsChangeValue x d) (same_Some (Drop p.0 o.0) c end.2)
+    (old.0.0, hex_found old.0.0 o.0 o.1, object_found d fields.0 fields.1 ∙ ap object first)
+
+splice_end_found : (at : ℕ) (new old : List ℕ) (fields : Members) (c : Change) → splice_end_in at new old fields ≡ Some c → (p : List ℕ) × (r : ℕ) × (c ≡ Splice p at old new r) × (fields ≡ member (codes "path") (string p) (member (codes "rest") (count r) no_members))
+unfolding splice_end_in
+splice_end_found at new old fields c e =
+    let path = bind_some _ (first_member (codes "path") fields) c e in
+    let p = bind_some _ (path_in path.0.0) c path.2 in
+    let rest = bind_some _ (first_member (codes "rest") path.0.1) c p.2 in
+    let r = bind_some _ (number_in rest.0.0) c rest.2 in
+    let end = bind_some _ (if_none_left rest.0.1) c r.2 in
+    let sixth = first_member_found (codes "rest") path.0.1 rest.0 rest.1 ∙ ap₂ (member (codes "rest")) (number_found rest.0.0 r.0 r.1) (none_left_found rest.0.1 end.0 end.1) in
+    (p.0, r.0, sym (same_Some (Splice p.0 at old new r.0) c end.2), first_member_found (codes "path") fields path.0 path.1 ∙ ap₂ (member (codes "path")) (path_found path.0.0 p.0 p.1).0 sixth)
+
+-- the members of a splice from its new bytes on
+pub record SpliceBytes (at : ℕ) (fields : Members) (c : Change) : Type 0 where
+  pub path : List ℕ
+  pub rest : ℕ
+  pub new_bytes : List ℕ
+  pub old_bytes : List ℕ
+  pub new : Data
+  pub old : Data
+  pub is_new : IsHex new_bytes new
+  pub is_old : IsHex old_bytes old
+  pub change : c ≡ Splice path at old_bytes new_bytes rest
+  pub all : fields ≡ member (codes "new") new (member (codes "old") old (member (codes "path") (string path) (member (codes "rest") (count rest) no_members)))
+
+splice_bytes_found : (at : ℕ) (fields : Members) (c : Change) → splice_bytes_in at fields ≡ Some c → SpliceBytes at fields c
+unfolding splice_bytes_in
+splice_bytes_found at fields c e =
+    let new = bind_some _ (first_member (codes "new") fields) c e in
+    let n = bind_some _ (hex_in new.0.0) c new.2 in
+    let old = bind_some _ (first_member (codes "old") new.0.1) c n.2 in
+    let o = bind_some _ (hex_in old.0.0) c old.2 in
+    let end = splice_end_found at n.0 o.0 old.0.1 c o.2 in
+    record {
+      path = end.0;
+      rest = end.1;
+      new_bytes = n.0;
+      old_bytes = o.0;
+      new = new.0.0;
+      old = old.0.0;
+      is_new = hex_found new.0.0 n.0 n.1;
+      is_old = hex_found old.0.0 o.0 o.1;
+      change = end.2;
+      all = first_member_found (codes "new") fields new.0 new.1 ∙ ap (member (codes "new") new.0.0) (first_member_found (codes "old") new.0.1 old.0 old.1 ∙ ap (member (codes "old") old.0.0) end.3);
+    }
+
+splice_found : (d : Data) (c : Change) → splice_in d ≡ Some c → IsChangeValue c d
+unfolding splice_in
+splice_found d c e =
+    let fields = bind_some _ (as_object d) c e in
+    let at = bind_some _ (first_member (codes "at") fields.0) c fields.2 in
+    let a = bind_some _ (number_in at.0.0) c at.2 in
+    let kind = bind_some _ (first_member (codes "kind") at.0.1) c a.2 in
+    let is = bind_some _ (if_text (codes "splice") kind.0.0) c kind.2 in
+    let b = splice_bytes_found a.0 kind.0.1 c is.2 in
+    let second = first_member_found (codes "kind") at.0.1 kind.0 kind.1 ∙ ap₂ (member (codes "kind")) (if_text_found (codes "splice") kind.0.0 is.0 is.1) b.all in
+    let first = first_member_found (codes "at") fields.0 at.0 at.1 ∙ ap₂ (member (codes "at")) (number_found at.0.0 a.0 a.1) second in
+    subst (λ (x : Change). IsChangeValue x d) (sym b.change)
+    (b.new, b.old, b.is_new, b.is_old, object_found d fields.0 fields.1 ∙ ap object first)
+
+-- one of three readers gave the value
+of_kind : (b1 b2 b3 : Bool) (x y z : Option Change) (c : Change) → cond b1 x (cond b2 y (cond b3 z None)) ≡ Some c → (x ≡ Some c) ⊎ ((y ≡ Some c) ⊎ (z ≡ Some c))
+of_kind true b2 b3 x y z c e = inl e
+of_kind false true b3 x y z c e = inr (inl e)
+of_kind false false true x y z c e = inr (inr e)
+of_kind false false false x y z c e = absurd (none-some c e)
+
+change_found : (d : Data) (c : Change) → change_in d ≡ Some c → IsChangeValue c d
+unfolding change_in
+change_found d c e =
+    let kind = bind_some _ (get (codes "kind") d) c e in
+    let name = bind_some _ (as_str kind.0) c kind.2 in
+    elim (of_kind (bytes_eq name.0 (codes "make")) (bytes_eq name.0 (codes "drop")) (bytes_eq name.0 (codes "splice")) (make_in d) (drop_in d) (splice_in d) c name.2) [
+      | inl make ↦ make_found d c make
+      | inr other ↦ elim other [ inl dropped ↦ drop_found d c dropped | inr spliced ↦ splice_found d c spliced ]
+    ]
+
+change_again : (c : Change) (d : Data) → IsChangeValue c d → is_path (path_of c) ≡ true → change_in d ≡ Some c
+unfolding change_in make_in drop_in splice_in splice_bytes_in splice_end_in
+change_again (Make path new) d h is = rw h.2 (rw (hex_again h.0 new h.1, is) refl)
+change_again (Drop path old) d h is = rw h.2 (rw (hex_again h.0 old h.1, is) refl)
+change_again (Splice path at old new rest) d h is = rw h.4 (rw (hex_again h.0 new h.2, hex_again h.1 old h.3, is) refl)
+
+changes_found_in : (ds : Items) (cs : List Change) → read_items change_in ds ≡ Some cs → (values : List Data) × (ds ≡ items_of values) × AllZip IsChangeValue cs values
+unfolding read_items
+changes_found_in no_items cs e = ([], refl, subst (λ (xs : List Change). AllZip IsChangeValue xs []) (same_Some [] cs e) tt)
+changes_found_in (item d ds) cs e =
+    let first = bind_some _ (change_in d) cs e in
+    let others = bind_some _ (read_items change_in ds) cs first.2 in
+    let rest = changes_found_in ds others.0 others.1 in
+    (d ∷ rest.0, ap (item d) rest.1, subst (λ (xs : List Change). AllZip IsChangeValue xs (d ∷ rest.0)) (same_Some (first.0 ∷ others.0) cs others.2) (change_found d first.0 first.1, rest.2))
+
+changes_again_in : (cs : List Change) (values : List Data) → AllZip IsChangeValue cs values → HavePaths cs → read_items change_in (items_of values) ≡ Some cs
+unfolding read_items
+changes_again_in [] [] h sound = refl
+changes_again_in [] (d ∷ ds) h sound = absurd h
+changes_again_in (c ∷ cs) [] h sound = absurd h
+changes_again_in (c ∷ cs) (d ∷ ds) h sound =
+    let is_good = λ (x : Change). IsTrue (is_path (path_of x)) in
+    rw (change_again c d h.0 (All-head is_good c cs sound), changes_again_in cs ds h.1 (All-tail is_good c cs sound)) refl
+
+changes_found : (d : Data) (cs : List Change) → changes_in d ≡ Some cs → (values : List Data) × (d ≡ array_of values) × AllZip IsChangeValue cs values
+unfolding changes_in
+changes_found d cs e =
+    let items = bind_some _ (as_array d) cs e in
+    let rest = changes_found_in items.0 cs items.2 in
+    (rest.0, array_found d items.0 items.1 ∙ ap array rest.1, rest.2)
+
+changes_again : (cs : List Change) (values : List Data) → AllZip IsChangeValue cs values → HavePaths cs → changes_in (array_of values) ≡ Some cs
+unfolding changes_in
+changes_again cs values h sound = changes_again_in cs values h sound
+
+-- ---- an entry
+
+-- what is read as an entry is a value of it
+entry_found : (d : Data) (entry : Entry) → entry_in d ≡ Some entry → IsEntryValue entry d × (entry.when ≤ 250_000_000_000)
+unfolding entry_in
+entry_found d entry e =
+    let fields = bind_some _ (as_object d) entry e in
+    let changes = bind_some _ (first_member (codes "changes") fields.0) entry fields.2 in
+    let cs = bind_some _ (changes_in changes.0.0) entry changes.2 in
+    let command = bind_some _ (first_member (codes "command") changes.0.1) entry cs.2 in
+    let text = bind_some _ (as_str command.0.0) entry command.2 in
+    let name = bind_some _ (command_from text.0) entry text.2 in
+    let format = bind_some _ (first_member (codes "format") command.0.1) entry name.2 in
+    let one = bind_some _ (if_format_one format.0.0) entry format.2 in
+    let when = bind_some _ (first_member (codes "when") format.0.1) entry one.2 in
+    let w = bind_some _ (moment_in when.0.0) entry when.2 in
+    let end = bind_some _ (if_none_left when.0.1) entry w.2 in
+    let moment = moment_found when.0.0 w.0 w.1 in
+    let values = changes_found changes.0.0 cs.0 cs.1 in
+    let in_command = string_found command.0.0 text.0 text.1 ∙ ap string (command_found text.0 name.0 name.1) in
+    let fourth = first_member_found (codes "when") format.0.1 when.0 when.1 ∙ ap₂ (member (codes "when")) moment.0 (none_left_found when.0.1 end.0 end.1) in
+    let third = first_member_found (codes "format") command.0.1 format.0 format.1 ∙ ap₂ (member (codes "format")) (format_one_found format.0.0 one.0 one.1) fourth in
+    let second = first_member_found (codes "command") changes.0.1 command.0 command.1 ∙ ap₂ (member (codes "command")) in_command third in
+    let first = first_member_found (codes "changes") fields.0 changes.0 changes.1 ∙ ap₂ (member (codes "changes")) values.1 second in
+    let found : Entry = record { changes = cs.0; command = name.0; when = w.0 } in
+    subst (λ (x : Entry). IsEntryValue x d × (x.when ≤ 250_000_000_000)) (same_Some found entry end.2)
+    ((values.0, values.2, object_found d fields.0 fields.1 ∙ ap object first), moment.1)
+
+-- a value of an entry is read as the entry
+entry_again : (d : Data) (entry : Entry) → HavePaths entry.changes → entry.when ≤ 250_000_000_000 → IsEntryValue entry d → entry_in d ≡ Some entry
+unfolding entry_in
+entry_again d entry paths when h =
+    rw h.2 (rw (changes_again entry.changes h.0 h.1 paths, command_again entry.command, moment_again entry.when when) refl)
+
+-- ---- what `read_entry` answers
+
+pub entry_ok : (r : Result Entry DecodeFault) (text : List ℕ) (d : Data) → IsJson text d → Gives r (entry_in d) → IfOk r (λ e. IsJsonEntry text e × (e.when ≤ 250_000_000_000))
+entry_ok r text d is gives =
+    IfOk-from_gives r (entry_in d) (λ e. IsJsonEntry text e × (e.when ≤ 250_000_000_000)) (λ entry e. let f = entry_found d entry e in ((d, is, f.0), f.1)) gives
+
+pub entry_only : (r : Result Entry DecodeFault) (text : List ℕ) (d : Data) → IsJson text d → Gives r (entry_in d) → (entry : Entry) → HavePaths entry.changes → entry.when ≤ 250_000_000_000 → IsJsonEntry text entry → IsAnswer r entry
+entry_only r text d is gives entry paths when other =
+    IsAnswer-from_gives r (entry_in d) entry gives (entry_again d entry paths when (subst (IsEntryValue entry) (same_json text other.0 d other.1 is) other.2))
+
+-- a text stands for one entry at most
+pub one_entry : (text : List ℕ) (a b : Entry) → IsGoodEntry text a → IsGoodEntry text b → a ≡ b
+one_entry text a b is_a is_b =
+    let same = same_json text is_a.value.0 is_b.value.0 is_a.value.1 is_b.value.1 in
+    same_Some a b (sym (entry_again is_a.value.0 a is_a.paths is_a.when is_a.value.2) ∙ ap entry_in same ∙ entry_again is_b.value.0 b is_b.paths is_b.when is_b.value.2)

@@ -1,0 +1,206 @@
+-- What is read of a head's value is the head, and nothing else is.
+use Rattle.std.proofs.Common.{◌≡◌, ℕ, ◌^◌, ◌<◌, ◌≤◌, true, List, [], ◌∷◌, codes, Option, Some, None, option_map, refl, sym, ap, ap₂, ◌∙◌, subst, arith, inl, inr, length, ◌-◌, ◌++◌, Result}
+use Rattle.std.specs.Prelude.{⊤, IfOk}
+use Rattle.reuse_session.specs.declared.journal.fault.DecodeFault.{DecodeFault}
+use Rattle.reuse_session.specs.Decoded.{Gives, IsAnswer}
+use Rattle.std.specs.List.{AllByRecursion, All, slice_get}
+use Rattle.std.proofs.lemmas.List.Elements.{All-get_or, All-weaker, recursion_from_All, All-nil, All-cons, All-head, All-tail}
+use Rattle.std.proofs.lemmas.Option.{none-some, same_Some, cond_some, slice_get_within, get_or_from_slice_get}
+use Rattle.std.proofs.lemmas.Slice.Eq.{bytes_eq-Decides}
+use Rattle.std.specs.Str.{bytes_eq}
+use Rattle.serde_json.specs.Data.{Data, null, boolean, number, string, array, object, member}
+use Rattle.serde_json.specs.Find.{as_object, as_str}
+use Rattle.reuse_session.specs.Json.{IsJson}
+use Rattle.reuse_session.specs.Head.{way_name, pending_value, head_value, FitsWay, PendingFits, IsSoundHead, IsGoodHead}
+use Rattle.reuse_session.specs.JsonReading.{first_member, if_none_left, small_in, smalls_in, if_format_one}
+use Rattle.reuse_session.specs.HeadReading.{way_from, way_in, some_pending_in, pending_in, head_in}
+use Rattle.reuse_session.specs.declared.journal.head.Head.{Head}
+use Rattle.reuse_session.specs.declared.journal.head.Pending.{Pending}
+use Rattle.reuse_session.specs.declared.journal.head.PendingWay.{PendingWay}
+use Rattle.reuse_session.specs.declared.journal.head.PendingWay.TheVariants.{Do, Undo, Redo}
+use Rattle.reuse_session.proofs.JoinedTexts.{AllByRecursion-weaker}
+use Rattle.reuse_session.proofs.JsonParts.{either, bind_some, first_member_found, none_left_found, object_found, string_found, small_found, small_again, smalls_found, smalls_again, format_one_found, IfOk-from_gives, IsAnswer-from_gives, same_json}
+
+named : (name : List ℕ) (v w : PendingWay) → (bytes_eq name (way_name v) ≡ true) × (v ≡ w) → name ≡ way_name w
+named name v w h = (bytes_eq-Decides name (way_name v)).0 h.0 ∙ ap way_name h.1
+
+way_found : (name : List ℕ) (w : PendingWay) → way_from name ≡ Some w → name ≡ way_name w
+way_found name w e = elim (either (bytes_eq name (codes "do")) Do w _ e) [
+  | inl first ↦ named name Do w first
+  | inr other ↦ elim (either (bytes_eq name (codes "undo")) Undo w _ other) [
+    | inl second ↦ named name Undo w second
+    | inr last ↦ named name Redo w (cond_some (bytes_eq name (codes "redo")) Redo w last)
+  ]
+]
+
+way_again : (w : PendingWay) → way_from (way_name w) ≡ Some w
+way_again Do = refl
+way_again Undo = refl
+way_again Redo = refl
+
+some_pending_found : (d : Data) (p : Pending) → some_pending_in d ≡ Some p → d ≡ pending_value (Some p)
+unfolding some_pending_in
+some_pending_found d p e =
+    let fields = bind_some _ (as_object d) p e in
+    let entry = bind_some _ (first_member (codes "entry") fields.0) p fields.2 in
+    let n = bind_some _ (small_in entry.0.0) p entry.2 in
+    let way = bind_some _ (first_member (codes "way") entry.0.1) p n.2 in
+    let w = bind_some _ (way_in way.0.0) p way.2 in
+    let end = bind_some _ (if_none_left way.0.1) p w.2 in
+    let name = bind_some _ (as_str way.0.0) w.0 w.1 in
+    let last = same_Some _ p end.2 in
+    let is_object = object_found d fields.0 fields.1 in
+    let first = first_member_found (codes "entry") fields.0 entry.0 entry.1 in
+    let second = first_member_found (codes "way") entry.0.1 way.0 way.1 in
+    let none = none_left_found way.0.1 end.0 end.1 in
+    let number_is = (small_found entry.0.0 n.0 n.1).0 in
+    let name_is = string_found way.0.0 name.0 name.1 ∙ ap string (way_found name.0 w.0 name.2) in
+    is_object ∙ ap object (first ∙ ap₂ (member (codes "entry")) number_is (second ∙ ap₂ (member (codes "way")) name_is none)) ∙ ap (λ (q : Pending). pending_value (Some q)) last
+
+some_pending_again : (p : Pending) → p.entry < 2 ^ 32 → some_pending_in (pending_value (Some p)) ≡ Some p
+unfolding some_pending_in
+some_pending_again p h = rw (small_again p.entry h, way_again p.way) refl
+
+mapped_found : {A B : Type 0} (f : A → B) (o : Option A) (y : B) → option_map f o ≡ Some y → (x : A) × (o ≡ Some x) × (f x ≡ y)
+mapped_found f None y e = absurd (none-some y e)
+mapped_found f (Some x) y e = (x, refl, same_Some (f x) y e)
+
+-- the number of what is under way, if anything is, has six digits
+abbrev pub FitsSix : Option Pending → Type 0
+FitsSix None = ⊤
+FitsSix (Some p) = p.entry < 1000000
+
+-- the number of what is under way, if anything is, has 32 bits
+abbrev pub FitsSmall : Option Pending → Type 0
+FitsSmall None = ⊤
+FitsSmall (Some p) = p.entry < 2 ^ 32
+
+not_null : (d : Data) (o : Option Pending) → option_map Some (some_pending_in d) ≡ Some o → d ≡ pending_value o
+not_null d o e =
+    let p = mapped_found Some (some_pending_in d) o e in
+    some_pending_found d p.0 p.1 ∙ ap pending_value p.2
+
+pending_again : (o : Option Pending) → FitsSmall o → pending_in (pending_value o) ≡ Some o
+pending_again None h = refl
+pending_again (Some p) h = ap (option_map Some) (some_pending_again p h)
+
+pending_found : (d : Data) (o : Option Pending) → pending_in d ≡ Some o → d ≡ pending_value o
+pending_found null o e = ap pending_value (same_Some None o e)
+pending_found (boolean b) o e = not_null (boolean b) o e
+pending_found (number n) o e = not_null (number n) o e
+pending_found (string s) o e = not_null (string s) o e
+pending_found (array ds) o e = not_null (array ds) o e
+pending_found (object ms) o e = not_null (object ms) o e
+
+-- what is read as a head is its value
+pub head_found : (d : Data) (h : Head) → head_in d ≡ Some h → d ≡ head_value h
+unfolding head_in
+head_found d h e =
+    let fields = bind_some _ (as_object d) h e in
+    let done = bind_some _ (first_member (codes "done") fields.0) h fields.2 in
+    let dones = bind_some _ (smalls_in done.0.0) h done.2 in
+    let format = bind_some _ (first_member (codes "format") done.0.1) h dones.2 in
+    let one = bind_some _ (if_format_one format.0.0) h format.2 in
+    let next = bind_some _ (first_member (codes "next") format.0.1) h one.2 in
+    let n = bind_some _ (small_in next.0.0) h next.2 in
+    let pending = bind_some _ (first_member (codes "pending") next.0.1) h n.2 in
+    let p = bind_some _ (pending_in pending.0.0) h pending.2 in
+    let undone = bind_some _ (first_member (codes "undone") pending.0.1) h p.2 in
+    let undones = bind_some _ (smalls_in undone.0.0) h undone.2 in
+    let end = bind_some _ (if_none_left undone.0.1) h undones.2 in
+    let last = same_Some _ h end.2 in
+    let in_done = smalls_found done.0.0 dones.0 dones.1 in
+    let in_format = format_one_found format.0.0 one.0 one.1 in
+    let in_next = (small_found next.0.0 n.0 n.1).0 in
+    let in_pending = pending_found pending.0.0 p.0 p.1 in
+    let in_undone = smalls_found undone.0.0 undones.0 undones.1 in
+    let none = none_left_found undone.0.1 end.0 end.1 in
+    let fifth = first_member_found (codes "undone") pending.0.1 undone.0 undone.1 ∙ ap₂ (member (codes "undone")) in_undone none in
+    let fourth = first_member_found (codes "pending") next.0.1 pending.0 pending.1 ∙ ap₂ (member (codes "pending")) in_pending fifth in
+    let third = first_member_found (codes "next") format.0.1 next.0 next.1 ∙ ap₂ (member (codes "next")) in_next fourth in
+    let second = first_member_found (codes "format") done.0.1 format.0 format.1 ∙ ap₂ (member (codes "format")) in_format third in
+    let first = first_member_found (codes "done") fields.0 done.0 done.1 ∙ ap₂ (member (codes "done")) in_done second in
+    object_found d fields.0 fields.1 ∙ ap object first ∙ ap head_value last
+
+All-front : (P : ℕ → Type 0) (xs ys : List ℕ) → All P (xs ++ ys) → All P xs
+All-front P [] ys h = All-nil P
+All-front P (x ∷ xs) ys h = All-cons P x xs (All-head P x (xs ++ ys) h) (All-front P xs ys (All-tail P x (xs ++ ys) h))
+
+All-back : (P : ℕ → Type 0) (xs ys : List ℕ) → All P (xs ++ ys) → All P ys
+All-back P [] ys h = h
+All-back P (x ∷ xs) ys h = All-back P xs ys (All-tail P x (xs ++ ys) h)
+
+-- the numbers of a head have 32 bits
+pub record IsSmallHead (h : Head) : Type 0 where
+  pub done : AllByRecursion (λ n. n < 2 ^ 32) h.done
+  pub undone : AllByRecursion (λ n. n < 2 ^ 32) h.undone
+  pub next : h.next < 2 ^ 32
+  pub pending : FitsSmall h.pending
+
+-- a head's value is read as the head
+pub head_again : (h : Head) → IsSmallHead h → head_in (head_value h) ≡ Some h
+unfolding head_in
+head_again h small = rw (smalls_again h.done small.done, small_again h.next small.next, pending_again h.pending small.pending, smalls_again h.undone small.undone) refl
+
+last_is : (ns : List ℕ) (n next : ℕ) → All (λ m. (1 ≤ m) × (m < next)) ns → slice_get ns (length ns - 1) ≡ Some n → n < next
+last_is ns n next h e =
+    let within = slice_get_within ns _ n e in
+    subst (λ m. m < next) (get_or_from_slice_get ns _ n 0 e) (All-get_or (λ m. (1 ≤ m) × (m < next)) ns _ 0 within h).1
+
+pending_six : (entry next : ℕ) (w : PendingWay) (done undone : List ℕ) → next ≤ 1000000 → All (λ m. (1 ≤ m) × (m < next)) done → All (λ m. (1 ≤ m) × (m < next)) undone → FitsWay entry w next done undone → entry < 1000000
+pending_six entry next Do done undone h a b fits = omega arith
+pending_six entry next Undo done undone h a b fits = let below = last_is done entry next a fits in omega arith
+pending_six entry next Redo done undone h a b fits = let below = last_is undone entry next b fits in omega arith
+
+fits_six : (o : Option Pending) (next : ℕ) (done undone : List ℕ) → next ≤ 1000000 → All (λ m. (1 ≤ m) × (m < next)) done → All (λ m. (1 ≤ m) × (m < next)) undone → PendingFits o next done undone → FitsSix o
+fits_six None next done undone h a b fits = tt
+fits_six (Some p) next done undone h a b fits = pending_six p.entry next p.way done undone h a b fits
+
+small_from_six : (o : Option Pending) → FitsSix o → FitsSmall o
+small_from_six None h = tt
+small_from_six (Some p) h = omega arith
+
+-- the numbers of a head have six digits, and that of the next entry may be 1,000,000
+pub record IsSixHead (h : Head) : Type 0 where
+  pub done : AllByRecursion (λ n. n < 1000000) h.done
+  pub undone : AllByRecursion (λ n. n < 1000000) h.undone
+  pub pending : FitsSix h.pending
+
+pub six_from_sound : (h : Head) → IsSoundHead h → IsSixHead h
+six_from_sound h sound =
+    let P : ℕ → Type 0 = λ m. (1 ≤ m) × (m < h.next) in
+    let Q : ℕ → Type 0 = λ m. m < 1000000 in
+    let wider : (m : ℕ) → P m → Q m = λ m p. omega (arith, sound.next, p) in
+    let done : All P h.done = All-front P h.done h.undone sound.given_out in
+    let undone : All P h.undone = All-back P h.done h.undone sound.given_out in
+    record {
+      done = recursion_from_All Q h.done (All-weaker P Q wider h.done done);
+      undone = recursion_from_All Q h.undone (All-weaker P Q wider h.undone undone);
+      pending = fits_six h.pending h.next h.done h.undone sound.next.1 done undone sound.pending;
+    }
+
+pub small_from_sound : (h : Head) → IsSoundHead h → IsSmallHead h
+small_from_sound h sound =
+    let six = six_from_sound h sound in
+    let wider : (m : ℕ) → m < 1000000 → m < 2 ^ 32 = λ m p. omega arith in
+    record {
+      done = AllByRecursion-weaker (λ m. m < 1000000) (λ m. m < 2 ^ 32) wider h.done six.done;
+      undone = AllByRecursion-weaker (λ m. m < 1000000) (λ m. m < 2 ^ 32) wider h.undone six.undone;
+      next = omega (arith, sound.next);
+      pending = small_from_six h.pending six.pending;
+    }
+
+-- ---- what `read_head` answers
+
+pub head_ok : (r : Result Head DecodeFault) (text : List ℕ) (d : Data) → IsJson text d → Gives r (head_in d) → IfOk r (λ h. IsJson text (head_value h))
+head_ok r text d is gives = IfOk-from_gives r (head_in d) (λ h. IsJson text (head_value h)) (λ h e. subst (IsJson text) (head_found d h e) is) gives
+
+pub head_only : (r : Result Head DecodeFault) (text : List ℕ) (d : Data) → IsJson text d → Gives r (head_in d) → (h : Head) → IsSoundHead h → IsJson text (head_value h) → IsAnswer r h
+head_only r text d is gives h sound other =
+    IsAnswer-from_gives r (head_in d) h gives (ap head_in (same_json text d (head_value h) is other) ∙ head_again h (small_from_sound h sound))
+
+-- a text stands for one head at most
+pub one_head : (text : List ℕ) (a b : Head) → IsGoodHead text a → IsGoodHead text b → a ≡ b
+one_head text a b is_a is_b =
+    let same = same_json text (head_value a) (head_value b) is_a.value is_b.value in
+    same_Some a b (sym (head_again a (small_from_sound a is_a.sound)) ∙ ap head_in same ∙ head_again b (small_from_sound b is_b.sound))

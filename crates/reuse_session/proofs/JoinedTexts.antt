@@ -1,0 +1,28 @@
+-- Texts with commas between: their length, and that they are UTF-8.
+use Rattle.std.proofs.Common.{◌≡◌, ℕ, ◌+◌, ◌*◌, ◌≤◌, List, [], ◌∷◌, length, map, refl, arith, length-append}
+use Rattle.std.specs.Prelude.{sum_by, IsUtf8}
+use Rattle.std.specs.List.{AllByRecursion, join_with_byte}
+use Rattle.std.proofs.lemmas.List.Sums.{sum_by-cons}
+use Rattle.std.proofs.lemmas.Str.{IsUtf8-append, IsUtf8-nil}
+use Rattle.json.proofs.Printed.Utf8.{IsUtf8-are_ascii}
+
+module _ {A : Type 0} (text : A → List ℕ) where
+  -- each text with its comma is no longer than its size
+  pub length-join-le : (size : A → ℕ) (xs : List A) → AllByRecursion (λ x. length (text x) + 1 ≤ size x) xs → length (join_with_byte 44 (map text xs)) ≤ sum_by size xs
+  length-join-le size [] h = omega arith
+  length-join-le size (x ∷ []) h = omega (arith, sum_by-cons size x [], h.0)
+  length-join-le size (x ∷ y ∷ xs) h =
+      omega (arith, sum_by-cons size x (y ∷ xs), h.0, length-append (text x) (44 ∷ join_with_byte 44 (map text (y ∷ xs))), length-join-le size (y ∷ xs) h.1)
+
+  pub IsUtf8-join : (xs : List A) → AllByRecursion (λ x. IsUtf8 (text x)) xs → IsUtf8 (join_with_byte 44 (map text xs))
+  IsUtf8-join [] h = IsUtf8-nil
+  IsUtf8-join (x ∷ []) h = h.0
+  IsUtf8-join (x ∷ y ∷ xs) h = IsUtf8-append (text x) _ h.0 (IsUtf8-append (44 ∷ []) _ (IsUtf8-are_ascii (44 ∷ []) refl) (IsUtf8-join (y ∷ xs) h.1))
+
+pub sum_by-constant : {A : Type 0} (n : ℕ) (xs : List A) → sum_by (λ _. n) xs ≡ n * length xs
+sum_by-constant n [] = omega arith
+sum_by-constant n (x ∷ xs) = omega (arith, sum_by-cons (λ _. n) x xs, sum_by-constant n xs)
+
+pub AllByRecursion-weaker : {A : Type 0} (P Q : A → Type 0) → ((x : A) → P x → Q x) → (xs : List A) → AllByRecursion P xs → AllByRecursion Q xs
+AllByRecursion-weaker P Q f [] h = tt
+AllByRecursion-weaker P Q f (x ∷ xs) h = (f x h.0, AllByRecursion-weaker P Q f xs h.1)

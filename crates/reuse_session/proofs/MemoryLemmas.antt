@@ -1,0 +1,77 @@
+-- What a session remembers of a journal.
+use Rattle.std.proofs.Common.{◌≡◌, ◌↔◌, ℕ, ◌+◌, true, false, List, [], ◌∷◌, ◌++◌, length, map, reverse, Option, refl, sym, ap, ap₂, ◌∙◌, subst, arith}
+use Rattle.std.proofs.lemmas.List.{length-append, length-map, length-reverse, reverse-append, reverse-reverse, map-append, same_from_push, nil_from_length}
+use Rattle.reuse_session.specs.History.{Memory, head_listing, row_listing, rows_listing}
+use Rattle.reuse_session.specs.Journal.{Recorded, Journal, rows_in}
+use Rattle.reuse_session.specs.JournalFiles.{number_of, head_of}
+use Rattle.reuse_session.specs.Session.{listed_as, Remembers}
+use Rattle.reuse_session.specs.declared.history.ListedEntry.{ListedEntry}
+use Rattle.reuse_session.specs.declared.journal.head.Head.{Head}
+use Rattle.reuse_session.specs.declared.journal.head.Pending.{Pending}
+
+map_twice : {X Y Z : Type 0} (f : Y → Z) (g : X → Y) (xs : List X) → map f (map g xs) ≡ map (λ x. f (g x)) xs
+map_twice f g [] = refl
+map_twice f g (x ∷ xs) = ap (λ ys. f (g x) ∷ ys) (map_twice f g xs)
+
+reverse_map : {X Y : Type 0} (f : X → Y) (xs : List X) → reverse (map f xs) ≡ map f (reverse xs)
+reverse_map f [] = refl
+reverse_map f (x ∷ xs) =
+    reverse-append (f x ∷ []) (map f xs) ∙ ap (λ ys. ys ++ f x ∷ []) (reverse_map f xs)
+    ∙ sym (map-append f (reverse xs) (x ∷ [])) ∙ ap (map f) (sym (reverse-append (x ∷ []) xs))
+
+pub head_of_parts : (a b : Head) → a.done ≡ b.done → a.undone ≡ b.undone → a.next ≡ b.next → a.pending ≡ b.pending → a ≡ b
+head_of_parts a b d u n p = λ i. record { done = d i; undone = u i; next = n i; pending = p i }
+
+pub listing_of : (memory : Memory) (journal : Journal) (p : Option Pending) → Remembers memory journal → head_listing memory p ≡ head_of journal p
+listing_of memory journal p remembers = head_of_parts (head_listing memory p) (head_of journal p)
+    (ap (map (λ (entry : ListedEntry). entry.number)) remembers.done ∙ map_twice (λ (entry : ListedEntry). entry.number) listed_as (reverse journal.done))
+    (ap (map (λ (entry : ListedEntry). entry.number)) remembers.undone ∙ map_twice (λ (entry : ListedEntry). entry.number) listed_as (reverse journal.undone))
+    (ap (λ used. used + 1) remembers.used) refl
+
+pub rows_of_memory : (memory : Memory) (journal : Journal) → Remembers memory journal → rows_listing memory ≡ rows_in journal
+rows_of_memory memory journal remembers = ap₂ ◌++◌
+    (ap (map (row_listing true)) remembers.done ∙ map_twice (row_listing true) listed_as (reverse journal.done))
+    (ap (λ entries. map (row_listing false) (reverse entries)) remembers.undone
+    ∙ ap (map (row_listing false)) (reverse_map listed_as (reverse journal.undone) ∙ ap (map listed_as) (reverse-reverse journal.undone))
+    ∙ map_twice (row_listing false) listed_as journal.undone)
+
+-- entries that are listed as steps, the newest last
+last_step : (entries : List ListedEntry) (steps : List Recorded) (entry : ListedEntry) (front : List ListedEntry) → entries ≡ map listed_as (reverse steps) → entries ≡ front ++ entry ∷ []
+    → (step : Recorded) × (more : List Recorded) × (steps ≡ step ∷ more) × (entry ≡ listed_as step) × (front ≡ map listed_as (reverse more))
+last_step entries [] entry front are last =
+    absurd (omega (arith, ap length are, ap length last, length-append front (entry ∷ [])))
+last_step entries (step ∷ more) entry front are last =
+    let both = same_from_push front (map listed_as (reverse more)) entry (listed_as step)
+    (sym last ∙ are ∙ ap (map listed_as) (reverse-append (step ∷ []) more) ∙ map-append listed_as (reverse more) (step ∷ [])) in
+    (step, more, refl, both.1, both.0)
+
+count_listed : (entries : List ListedEntry) (steps : List Recorded) → entries ≡ map listed_as (reverse steps) → length entries ≡ length steps
+count_listed entries steps are = ap length are ∙ length-map (reverse steps) listed_as ∙ length-reverse steps
+
+none_listed : (entries : List ListedEntry) (steps : List Recorded) → entries ≡ map listed_as (reverse steps) → (entries ≡ []) ↔ (steps ≡ [])
+none_listed entries steps are = (
+  λ none. nil_from_length steps (sym (count_listed entries steps are) ∙ ap length none),
+  λ none. nil_from_length entries (count_listed entries steps are ∙ ap length none),
+)
+
+-- the last entry done, as a step
+pub moved_back : (memory : Memory) (journal : Journal) (entry : ListedEntry) (front : List ListedEntry) → Remembers memory journal → memory.done ≡ front ++ entry ∷ []
+    → (step : Recorded) × (steps : List Recorded) × (journal.done ≡ step ∷ steps) × (entry ≡ listed_as step) × (front ≡ map listed_as (reverse steps))
+moved_back memory journal entry front remembers last = last_step memory.done journal.done entry front remembers.done last
+
+-- the next to be redone
+pub moved_on : (memory : Memory) (journal : Journal) (entry : ListedEntry) (front : List ListedEntry) → Remembers memory journal → memory.undone ≡ front ++ entry ∷ []
+    → (step : Recorded) × (steps : List Recorded) × (journal.undone ≡ step ∷ steps) × (entry ≡ listed_as step) × (front ≡ map listed_as (reverse steps))
+moved_on memory journal entry front remembers last = last_step memory.undone journal.undone entry front remembers.undone last
+
+pub none_done : (memory : Memory) (journal : Journal) → Remembers memory journal → (memory.done ≡ []) ↔ (journal.done ≡ [])
+none_done memory journal remembers = none_listed memory.done journal.done remembers.done
+
+pub none_undone : (memory : Memory) (journal : Journal) → Remembers memory journal → (memory.undone ≡ []) ↔ (journal.undone ≡ [])
+none_undone memory journal remembers = none_listed memory.undone journal.undone remembers.undone
+
+pub count_done : (memory : Memory) (journal : Journal) → Remembers memory journal → length memory.done ≡ length journal.done
+count_done memory journal remembers = count_listed memory.done journal.done remembers.done
+
+pub count_undone : (memory : Memory) (journal : Journal) → Remembers memory journal → length memory.undone ≡ length journal.undone
+count_undone memory journal remembers = count_listed memory.undone journal.undone remembers.undone

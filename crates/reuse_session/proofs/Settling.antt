@@ -1,0 +1,190 @@
+-- What is pending in a journal is rolled back.
+use Rattle.std.proofs.Common.{◌≡◌, ◌⊎◌, inl, inr, ⊎_elim, ℕ, Bool, true, false, not, cond, List, [], get_or, Option, Some, None, IsSome, is_some, Result, Ok, Err, IfErr, OnOk, MatchResult, codes, refl, sym, ap, subst, ◌∙◌}
+use Rattle.std.specs.List.{All}
+use Rattle.std.specs.FinMap.{get}
+use Rattle.std.proofs.lemmas.Bool.{false≢true}
+use Rattle.std.proofs.lemmas.List.Elements.{All-head}
+use Rattle.std.proofs.lemmas.List.Folds.{Any-from_list_any}
+use Rattle.std.specs.Str.{bytes_eq}
+use Rattle.std.proofs.lemmas.Slice.Eq.{bytes_eq-Decides}
+use Rattle.reuse_tree.specs.Path.{lies_under, journal_folder}
+use Rattle.reuse_tree.specs.Files.{Files, AreFiles, Clashes, tree_of}
+use Rattle.reuse_tree.specs.Change.{path_of}
+use Rattle.reuse_tree.specs.declared.change.Change.{Change}
+use Rattle.reuse_session.specs.Answer.{IsEarly, IsFailure, IsReadRefusal, IsRollBackRefusal}
+use Rattle.reuse_session.specs.Carried.{SetsHead, IsRolledBack, StopsRollingBack}
+use Rattle.reuse_session.specs.Entry.{touches, IsEntry, IsReady, SomeMade, CanBeSetBack, IsFirstWithout}
+use Rattle.reuse_session.specs.Head.{way_of, IsGoodHead, IsSoundHead}
+use Rattle.reuse_session.specs.History.{Memory, head_listing}
+use Rattle.reuse_session.specs.Journal.{Recorded, Journal, State}
+use Rattle.reuse_session.specs.JournalFiles.{head_path, entry_path, head_of, number_of, entry_in, HeadSays, EntrySays, IsKeptIn, KeepsJournal}
+use Rattle.reuse_session.specs.Opening.{IsReadable, IsRead, IsSettled, IsStuckAt}
+use Rattle.reuse_session.specs.Session.{Remembers}
+use Rattle.reuse_session.specs.Standing.{IsTree, IsStanding, IsUnderWay}
+use Rattle.reuse_session.specs.Tree.{is_of_tree, undo_folder_of}
+use Rattle.reuse_session.specs.declared.entry.Way.{Way}
+use Rattle.reuse_session.specs.declared.journal.entry.Entry.{Entry}
+use Rattle.reuse_session.specs.declared.journal.head.Pending.{Pending}
+use Rattle.reuse_session.specs.declared.journal.head.PendingWay.{PendingWay}
+use Rattle.reuse_session.specs.declared.reply.Cause.{Cause}
+use Rattle.reuse_session.specs.declared.reply.Refusal.{Refusal}
+use Rattle.reuse_session.specs.declared.reply.Refusal.TheVariants as refusals
+use Rattle.reuse_session.proofs.HeadMoves.{sound_unpended}
+use Rattle.reuse_session.proofs.JournalLemmas.{head_in_folder, same_entry, entry_good, sound_head, keeps_again}
+use Rattle.reuse_session.proofs.MadeLemmas.{back_at_start}
+use Rattle.reuse_session.proofs.MemoryLemmas.{listing_of}
+use Rattle.reuse_session.proofs.OfTree.{get-tree, get-folder, are_tree}
+use Rattle.reuse_session.proofs.OpeningLemmas.{recorded, same_journal}
+
+-- ---- the folders above the journal
+
+none_in_tree : (files : Files) (path : List ℕ) → get files path ≡ None → get (tree_of files) path ≡ None
+none_in_tree files path none = get-tree files path ∙ at_test (not (lies_under path journal_folder))
+  where
+    at_test : (b : Bool) → cond b (get files path) None ≡ None
+    at_test true = none
+    at_test false = refl
+
+pub none_in_files : (files : Files) (path : List ℕ) → lies_under path journal_folder ≡ false → get (tree_of files) path ≡ None → get files path ≡ None
+none_in_files files path outside none = ap (λ b. cond (not b) (get files path) None) (sym outside) ∙ sym (get-tree files path) ∙ none
+
+-- an entry has no change of a path that isn't of the tree
+pub none_outside : (changes : List Change) (path : List ℕ) → IsEntry changes → is_of_tree path ≡ false → touches changes path ≡ false
+none_outside changes path good out = at_test (touches changes path) refl
+  where
+    at_test : (b : Bool) → touches changes path ≡ b → touches changes path ≡ false
+    at_test false e = e
+    at_test true e =
+        let found = Any-from_list_any (λ change. bytes_eq path (path_of change)) changes e in
+        let here : path ≡ path_of (get_or changes found.0 found.1) = (bytes_eq-Decides path (path_of found.1)).0 found.4 ∙ ap path_of (sym found.3) in
+        absurd (false≢true (sym out ∙ ap is_of_tree here ∙ good.of_tree found.0 found.1 found.2))
+
+-- files without those folders are a tree beside the journal
+pub is_tree : (files : Files) → AreFiles files → get files (codes ".reuse") ≡ None → get files journal_folder ≡ None → IsTree (tree_of files)
+is_tree files are no_reuse no_undo = record {
+  are_files = are_tree files are;
+  no_reuse = none_in_tree files (codes ".reuse") no_reuse;
+  no_undo = none_in_tree files journal_folder no_undo;
+}
+
+-- ---- what is pending
+
+-- where something is pending, the head has a file, and can be put
+pub head_fits : (files : Files) (journal : Journal) (pending : Pending) → AreFiles files → KeepsJournal (undo_folder_of files) journal (Some pending) → Clashes files head_path → ⊥
+head_fits files journal pending are keeps clash = are.apart head_path here clash
+  where
+    has_file : (file : Option (List ℕ)) → HeadSays file (head_of journal (Some pending)) → IsSome file
+    has_file None says = let e = ap (λ h. h.pending) says in absurd (cc)
+    has_file (Some text) says = refl
+
+    here : IsSome (get files head_path)
+    here = sym (ap is_some (get-folder files head_path ∙ ap (λ b. cond b (get files head_path) None) head_in_folder)) ∙ has_file (get (undo_folder_of files) head_path) keeps.head
+
+module _ (before : Files) (pending : Pending) (memory : Memory) (journal : Journal) (read : IsRead before (Some pending) memory journal) (entry : Entry) (says : EntrySays (get (undo_folder_of before) (entry_path pending.entry)) entry) where
+  pub is_entry : IsEntry entry.changes
+  is_entry = entry_good (get (undo_folder_of before) (entry_path pending.entry)) entry says
+
+  -- the files that are rolled back are a standing, from which the step was under way
+  pub is_settled : (after : Files) (text : List ℕ) → AreFiles after → IsGoodHead text (head_of journal None) → IsRolledBack (way_of pending.way) entry.changes text before after
+      → IsSettled pending journal before after
+  is_settled after text are good rolled =
+      let still : (path : List ℕ) → is_of_tree path ≡ false → get before path ≡ None → get (tree_of after) path ≡ None =
+      λ path out none. sym (rolled.tree.others path (none_outside entry.changes path is_entry out)) ∙ none_in_tree before path none in
+      let tree : IsTree (tree_of after) = record {
+        are_files = are_tree after are;
+        no_reuse = still (codes ".reuse") refl read.no_reuse;
+        no_undo = still journal_folder refl read.no_undo;
+      } in (
+        recorded pending.entry entry,
+        refl,
+        record { good = tree; journal = read.keeps; kept = says; ready = rolled.ready; some = rolled.tree },
+        record { tree = refl; good = tree; journal = keeps_again (undo_folder_of before) (undo_folder_of after) journal pending text read.keeps rolled.sets good },
+      )
+
+  pub is_stuck : (path : List ℕ) → IsFirstWithout (CanBeSetBack (way_of pending.way) (tree_of before)) entry.changes path → IsStuckAt before path
+  is_stuck path first = record { journal = journal; way = pending.way; step = recorded pending.entry entry; keeps = read.keeps; kept = says; stuck = first }
+
+  module _ (step : Recorded) (first : State) (number : number_of step ≡ pending.entry) (under : IsUnderWay pending.way step first before) where
+    -- the step that is under way is that of the entry
+    pub of_step : step.changes ≡ entry.changes
+    of_step = ap (λ e. e.changes) (same_entry (get (undo_folder_of before) (entry_path pending.entry)) (entry_in step) entry (subst (λ n. EntrySays (get (undo_folder_of before) (entry_path n)) (entry_in step)) number under.kept) says)
+
+    pub some_made : SomeMade (way_of pending.way) entry.changes first.tree (tree_of before)
+    some_made = subst (λ changes. SomeMade (way_of pending.way) changes first.tree (tree_of before)) of_step under.some
+
+    pub all_ready : All (λ change. IsReady (way_of pending.way) change (get first.tree (path_of change))) entry.changes
+    all_ready = subst (All (λ change. IsReady (way_of pending.way) change (get first.tree (path_of change)))) of_step under.ready
+
+    its_journal : journal ≡ first.journal
+    its_journal = (same_journal (undo_folder_of before) journal first.journal (Some pending) (Some (record { entry = number_of step; way = pending.way })) read.keeps under.journal).0
+
+    -- files whose tree is that from before the step, under the head that tells of none, are the standing
+    stands : (after : Files) (text : List ℕ) → IsGoodHead text (head_of journal None) → tree_of after ≡ first.tree → SetsHead text before after → IsStanding after first
+    stands after text good tree sets = record {
+      tree = tree;
+      good = under.good;
+      journal = subst (λ j. KeepsJournal (undo_folder_of after) j None) its_journal (keeps_again (undo_folder_of before) (undo_folder_of after) journal pending text read.keeps sets good);
+    }
+
+    -- what rolling back answers and leaves
+    pub settles : {A : Type 0} (result : Result A Refusal) (after : Files) (text : List ℕ) → IsGoodHead text (head_of journal None)
+        → OnOk result (IsRolledBack (way_of pending.way) entry.changes text before after)
+        → ((cause : Cause) → result ≡ Err (refusals.Interrupted cause) → StopsRollingBack (way_of pending.way) entry.changes text first.tree before after)
+        → IfErr result (λ refusal. IsEarly refusal → after ≡ before)
+        → ((path : List ℕ) → result ≡ Err (refusals.Moved path) → ⊥)
+        → IfErr result IsRollBackRefusal
+        → MatchResult result (λ _. IsStanding after first) (λ refusal. IsFailure refusal × (IsStanding after first ⊎ IsUnderWay pending.way step first after))
+    settles (Ok x) after text good done stopped early moved refusal =
+        stands after text good (back_at_start (way_of pending.way) entry.changes is_entry first.tree (tree_of before) (tree_of after) some_made all_ready (record { made = done.tree; ready = done.ready })) done.sets
+    settles (Err (refusals.Interrupted cause)) after text good done stopped early moved refusal = (
+      tt,
+      ⊎_elim
+          (λ (still : SomeMade (way_of pending.way) entry.changes first.tree (tree_of after) × (undo_folder_of after ≡ undo_folder_of before)). inr (record {
+            good = under.good;
+            journal = subst (λ folder. KeepsJournal folder first.journal (Some (record { entry = number_of step; way = pending.way }))) (sym still.1) under.journal;
+            kept = subst (λ folder. IsKeptIn folder step) (sym still.1) under.kept;
+            ready = under.ready;
+            some = subst (λ changes. SomeMade (way_of pending.way) changes first.tree (tree_of after)) (sym of_step) still.0;
+          }))
+          (λ (back : (tree_of after ≡ first.tree) × SetsHead text before after). inl (stands after text good back.0 back.1))
+          (stopped cause refl),
+    )
+    settles (Err (refusals.Moved path)) after text good done stopped early moved refusal = absurd (moved path refl)
+    settles (Err refusals.Memory) after text good done stopped early moved refusal = (tt, inr (subst (IsUnderWay pending.way step first) (sym (early tt)) under))
+    settles (Err (refusals.Fault fault)) after text good done stopped early moved refusal = (tt, inr (subst (IsUnderWay pending.way step first) (sym (early tt)) under))
+    settles (Err other) after text good done stopped early moved refusal = absurd refusal
+
+-- the entry of what is pending can be read
+pub pending_readable : (files : Files) (pending : Pending) (memory : Memory) (journal : Journal) → IsRead files (Some pending) memory journal → IsReadable (undo_folder_of files) pending.entry
+pending_readable files pending memory journal read = All-head (IsReadable (undo_folder_of files)) pending.entry [] read.readable
+
+-- a call that failed before anything was rolled back
+pub stays_under_way : {A : Type 0} (result : Result A Refusal) (given refusal : Refusal) (way : PendingWay) (step : Recorded) (first : State) (before after : Files)
+    → result ≡ Err given → given ≡ refusal → IsFailure refusal → after ≡ before → IsUnderWay way step first before
+    → MatchResult result (λ _. IsStanding after first) (λ refusal. IsFailure refusal × (IsStanding after first ⊎ IsUnderWay way step first after))
+stays_under_way result given refusal way step first before after is same failure files under =
+    subst (λ r. MatchResult r (λ _. IsStanding after first) (λ refusal. IsFailure refusal × (IsStanding after first ⊎ IsUnderWay way step first after))) (sym is)
+    (subst IsFailure (sym same) failure, inr (subst (IsUnderWay way step first) (sym files) under))
+
+-- one fact at equal files, ways and changes
+pub at_same : (P : Files → Way → List Change → Type 0) (before old : Files) (way other : Way) (changes others : List Change) → before ≡ old → way ≡ other → changes ≡ others → P before way changes → P old other others
+at_same P before old way other changes others files ways lists h =
+    subst (λ f. P f other others) files (subst (λ w. P before w others) ways (subst (P before way) lists h))
+
+-- the text of a head that was made of what is remembered
+pub settled_sound : (folder : Files) (journal : Journal) (p : Option Pending) (memory : Memory) → KeepsJournal folder journal p → Remembers memory journal → IsSoundHead (head_listing memory None)
+settled_sound folder journal p memory keeps remembers = subst IsSoundHead (sym (listing_of memory journal None remembers)) (sound_unpended journal p (sound_head folder journal p keeps))
+
+pub settled_good : (folder : Files) (journal : Journal) (p : Option Pending) (memory : Memory) (text : List ℕ) → KeepsJournal folder journal p → Remembers memory journal
+    → (IsSoundHead (head_listing memory None) → IsGoodHead text (head_listing memory None)) → IsGoodHead text (head_of journal None)
+settled_good folder journal p memory text keeps remembers good =
+    subst (IsGoodHead text) (listing_of memory journal None remembers) (good (settled_sound folder journal p memory keeps remembers))
+
+-- ---- refusals
+
+-- reading fails for the device or memory alone, where nothing is at fault
+pub read_failure : (refusal : Refusal) → IsReadRefusal refusal → ((path : List ℕ) → refusal ≡ refusals.BadJournal path → ⊥) → IsFailure refusal
+read_failure refusals.Memory is good = tt
+read_failure (refusals.Fault fault) is good = tt
+read_failure (refusals.BadJournal path) is good = absurd (good path refl)
+read_failure other is good = absurd is

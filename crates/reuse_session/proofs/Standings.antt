@@ -1,0 +1,92 @@
+-- How the standing of files changes when a step is carried out.
+use Rattle.std.proofs.Common.{◌≡◌, ◌≢◌, ◌⊎◌, inl, inr, ⊎_elim, ℕ, ◌+◌, ◌<◌, ◌≤◌, Bool, true, false, List, ◌∷◌, length, Some, None, codes, refl, sym, ap, subst, ◌∙◌, arith}
+use Rattle.std.specs.FinMap.{get}
+use Rattle.std.specs.List.{All}
+use Rattle.reuse_tree.specs.Path.{journal_folder}
+use Rattle.reuse_tree.specs.Files.{Files, AreFiles, tree_of}
+use Rattle.reuse_tree.specs.Change.{path_of}
+use Rattle.reuse_session.specs.Carried.{IsCarriedOut, IsStopped}
+use Rattle.reuse_session.specs.Entry.{touches, IsEntry, IsReady, LeadsBy, SomeMade}
+use Rattle.reuse_session.specs.Head.{way_of, IsGoodHead}
+use Rattle.reuse_session.specs.Journal.{Recorded, Journal, State}
+use Rattle.reuse_session.specs.JournalFiles.{entry_path, head_of, number_of, IsKeptIn, KeepsJournal}
+use Rattle.reuse_session.specs.Session.{IsSameBut}
+use Rattle.reuse_session.specs.Standing.{IsTree, IsStanding, IsStep, IsUnderWay, InDoubt, Moves}
+use Rattle.reuse_session.specs.Tree.{is_of_tree, undo_folder_of}
+use Rattle.reuse_session.specs.declared.journal.head.PendingWay.{PendingWay}
+use Rattle.reuse_tree.specs.declared.change.Change.{Change}
+use Rattle.std.proofs.lemmas.Bool.{false≢true}
+use Rattle.std.proofs.lemmas.List.Folds.{Any-from_list_any}
+use Rattle.std.proofs.lemmas.Slice.Eq.{bytes_eq-Decides}
+use Rattle.std.specs.Str.{bytes_eq}
+use Rattle.reuse_session.proofs.OfTree.{are_tree}
+use Rattle.reuse_session.proofs.Walk.{leads_once}
+use Rattle.reuse_session.proofs.JournalLemmas.{entry_in_folder, same_but_in_folder, keeps_beside, keeps_pending, keeps_settled, kept_stays}
+use Rattle.reuse_session.proofs.MadeLemmas.{reach_ready}
+
+-- the entry's file of the next number changes no standing
+pub after_entry : (files after : Files) (held : State) → IsStanding files held → held.journal.used < 999_999 → IsSameBut (entry_path (held.journal.used + 1)) files after → IsStanding after held
+after_entry files after held standing room same =
+    let sets = same_but_in_folder files after (entry_path (held.journal.used + 1)) (entry_in_folder (held.journal.used + 1)) same in
+    record {
+      tree = sets.1 ∙ standing.tree;
+      good = standing.good;
+      journal = keeps_beside (undo_folder_of files) (undo_folder_of after) held.journal standing.journal room sets.0;
+    }
+
+-- a path that is none of the tree's is touched by no entry
+untouched : (changes : List Change) (path : List ℕ) → IsEntry changes → is_of_tree path ≡ false → touches changes path ≡ false
+untouched changes path good none = at_test (touches changes path) refl
+  where
+    at_test : (b : Bool) → touches changes path ≡ b → touches changes path ≡ false
+    at_test false e = e
+    at_test true e =
+        let found = Any-from_list_any (λ change. bytes_eq path (path_of change)) changes e in
+        let here : path ≡ path_of found.1 = (bytes_eq-Decides path (path_of found.1)).0 found.4 in
+        let of_tree : is_of_tree (path_of found.1) ≡ true = subst (λ c. is_of_tree (path_of c) ≡ true) found.3 (good.of_tree found.0 found.1 found.2) in
+        absurd (false≢true (sym none ∙ ap is_of_tree here ∙ of_tree))
+
+-- a tree stays one where changes of an entry lead on from it
+pub still_tree : (way : PendingWay) (changes : List Change) (before after : Files) → IsEntry changes → LeadsBy (way_of way) changes before after → IsTree before → AreFiles after → IsTree after
+still_tree way changes before after good leads tree are = record {
+  are_files = are;
+  no_reuse = leads.others (codes ".reuse") (untouched changes (codes ".reuse") good refl) ∙ tree.no_reuse;
+  no_undo = leads.others journal_folder (untouched changes journal_folder good refl) ∙ tree.no_undo;
+}
+
+module _ (files after : Files) (way : PendingWay) (step : Recorded) (first second : State) (standing : IsStanding files first) (kept : IsKeptIn (undo_folder_of files) step) (is_step : IsStep way step first second) (good : IsEntry step.changes) (are : AreFiles after) where
+  start : LeadsBy (way_of way) step.changes (tree_of files) second.tree
+  start = subst (λ tree. LeadsBy (way_of way) step.changes tree second.tree) (sym standing.tree) is_step.leads
+
+  -- once the step is carried out, the standing is the next
+  pub carried : (settled : List ℕ) → IsCarriedOut (way_of way) step.changes settled files after → IsGoodHead settled (head_of second.journal None) → IsStanding after second
+  carried settled out head =
+      let tree : tree_of after ≡ second.tree = leads_once (way_of way) step.changes (tree_of files) (tree_of after) second.tree out.tree start in
+      record {
+        tree = tree;
+        good = still_tree way step.changes first.tree second.tree good is_step.leads standing.good (subst AreFiles tree (are_tree after are));
+        journal = keeps_settled (undo_folder_of files) (undo_folder_of after) first.journal second.journal None way step settled standing.journal kept is_step.moves out.sets head;
+      }
+
+  -- where that stops, the files are in doubt between the two
+  pub stopped : (pending settled : List ℕ) → (after ≡ files) ⊎ IsStopped (way_of way) step.changes pending files after ⊎ IsCarriedOut (way_of way) step.changes settled files after
+      → IsGoodHead pending (head_of first.journal (Some (record { entry = number_of step; way = way }))) → IsGoodHead settled (head_of second.journal None) → InDoubt first second after
+  stopped pending settled case pending_head settled_head =
+      ⊎_elim
+      (λ (same : after ≡ files). inl (subst (λ f. IsStanding f first) (sym same) standing))
+      (λ rest. ⊎_elim
+      (λ (out : IsStopped (way_of way) step.changes pending files after). inr (inr (
+        way,
+        step,
+        is_step,
+        record {
+          good = standing.good;
+          journal = keeps_pending (undo_folder_of files) (undo_folder_of after) first.journal (record { entry = number_of step; way = way }) pending standing.journal out.sets pending_head;
+          kept = kept_stays (undo_folder_of files) (undo_folder_of after) step pending kept out.sets;
+          ready = reach_ready (way_of way) step.changes first.tree second.tree is_step.leads;
+          some = subst (λ tree. SomeMade (way_of way) step.changes tree (tree_of after)) standing.tree out.tree;
+        },
+      )))
+      (λ (out : IsCarriedOut (way_of way) step.changes settled files after). inr (inl (carried settled out settled_head)))
+      rest)
+      case

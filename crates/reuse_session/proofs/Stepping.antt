@@ -1,0 +1,134 @@
+-- A step from one standing to the next: its heads, and what is remembered then.
+use Rattle.std.proofs.Common.{◌≡◌, ◌≢◌, ◌⊎◌, inl, inr, ℕ, ◌+◌, ◌*◌, ◌<◌, ◌≤◌, Bool, true, false, List, [], ◌∷◌, ◌++◌, length, map, reverse, get_or, Some, None, Result, Ok, refl, sym, ap, subst, ◌∙◌, append_assoc, arith}
+use Rattle.std.specs.List.{All}
+use Rattle.std.proofs.lemmas.Bool.Decides.{nat_tests}
+use Rattle.std.proofs.lemmas.List.{length-append, length-map, length-reverse, map-append, reverse-append}
+use Rattle.std.proofs.Math.Seq.{get_or-append_seam}
+use Rattle.reuse_tree.specs.Files.{Files, AreFiles, tree_of}
+use Rattle.reuse_tree.specs.declared.change.Change.{Change}
+use Rattle.reuse_session.specs.Command.{name_of}
+use Rattle.reuse_session.specs.Entry.{IsEntry, LeadsBy}
+use Rattle.reuse_session.specs.Head.{listed, way_of, IsGoodHead, IsSoundHead}
+use Rattle.reuse_session.specs.History.{Memory, head_listing, remember_run}
+use Rattle.reuse_session.specs.Journal.{Recorded, Journal, State}
+use Rattle.reuse_session.specs.JournalFiles.{head_of, number_of}
+use Rattle.reuse_session.specs.Machine.{is_full}
+use Rattle.reuse_session.specs.Outcome.{edits_of, outcome_of}
+use Rattle.reuse_session.specs.Plan.{IsPlan, Records}
+use Rattle.reuse_session.specs.Session.{listed_as, new_step, IsRun, Remembers}
+use Rattle.reuse_session.specs.Standing.{IsStanding, IsStep, Moves}
+use Rattle.reuse_session.specs.Tree.{undo_folder_of}
+use Rattle.reuse_session.specs.declared.command.Command.{Command}
+use Rattle.reuse_session.specs.declared.history.ListedEntry.{ListedEntry}
+use Rattle.reuse_session.specs.declared.journal.head.Pending.{Pending}
+use Rattle.reuse_session.specs.declared.journal.head.PendingWay.{PendingWay}
+use Rattle.reuse_session.specs.declared.journal.head.PendingWay.TheVariants.{Do, Undo, Redo}
+use Rattle.reuse_session.specs.Answer.{IsNoClash}
+use Rattle.reuse_session.specs.declared.reply.Cause.{Cause}
+use Rattle.reuse_session.specs.declared.reply.Cause.TheVariants as causes
+use Rattle.reuse_session.specs.declared.reply.Refusal.TheVariants.{Interrupted}
+use Rattle.reuse_session.proofs.HeadMoves.{sound_pending, sound_moved}
+use Rattle.reuse_session.proofs.JournalLemmas.{sound_head}
+use Rattle.reuse_session.proofs.MemoryLemmas.{listing_of}
+
+-- ---- a run
+
+-- the step of a run
+abbrev pub step_of : Command → ℕ → State → List Change → Recorded
+step_of command when held changes = new_step (name_of command) when held changes
+
+-- the standing after it
+abbrev pub second_of : Command → ℕ → State → List Change → Files → State
+second_of command when held changes after = record {
+  tree = after;
+  journal = record { done = step_of command when held changes ∷ held.journal.done; undone = []; used = held.journal.used + 1 };
+}
+
+module _ (command : Command) (when : ℕ) (held : State) (changes : List Change) (tree : Files) (same : tree ≡ held.tree) (plan : IsPlan (outcome_of command tree) tree changes) (entry : IsEntry changes) where
+  pub run_step : IsStep Do (step_of command when held changes) held (second_of command when held changes plan.after)
+  run_step = record { leads = subst (λ t. LeadsBy (way_of Do) changes t plan.after) same plan.leads; moves = (refl, refl) }
+
+  pub is_run : Records tree (edits_of command tree) changes → is_full (length held.journal.done) held.journal.used ≡ false → IsRun command when held (second_of command when held changes plan.after)
+  is_run records room = record {
+    step = step_of command when held changes;
+    label = refl;
+    room = room;
+    outcome = subst (λ t. outcome_of command t ≡ Ok plan.after) same plan.outcome;
+    entry = entry;
+    recorded = subst (λ t. Records t (edits_of command t) changes) same records;
+    are_files = plan.are_files;
+    is_step = run_step;
+  }
+
+-- ---- what is remembered
+
+-- one more entry at the end
+pub listed_more : (steps : List Recorded) (step : Recorded) → map listed_as (reverse (step ∷ steps)) ≡ map listed_as (reverse steps) ++ listed_as step ∷ []
+listed_more steps step = ap (map listed_as) (reverse-append (step ∷ []) steps) ∙ map-append listed_as (reverse steps) (step ∷ [])
+
+pub remembers_run : (memory : Memory) (journal : Journal) (step : Recorded) (entry : ListedEntry) → Remembers memory journal → entry ≡ listed_as step
+    → Remembers (remember_run memory entry) (record { done = step ∷ journal.done; undone = []; used = journal.used + 1 })
+remembers_run memory journal step entry r is = record {
+  done = ap (λ es. es ++ entry ∷ []) r.done ∙ ap (λ e. map listed_as (reverse journal.done) ++ e ∷ []) is ∙ sym (listed_more journal.done step);
+  undone = refl;
+  used = ap (λ n. n + 1) r.used;
+}
+
+pub remembers_undo : (memory : Memory) (journal : Journal) (step : Recorded) (steps : List Recorded) (entry : ListedEntry) (front : List ListedEntry) → Remembers memory journal
+    → entry ≡ listed_as step → front ≡ map listed_as (reverse steps)
+    → Remembers (record { done = front; undone = memory.undone ++ entry ∷ []; used = memory.used }) (record { done = steps; undone = step ∷ journal.undone; used = journal.used })
+remembers_undo memory journal step steps entry front r is rest = record {
+  done = rest;
+  undone = ap (λ es. es ++ entry ∷ []) r.undone ∙ ap (λ e. map listed_as (reverse journal.undone) ++ e ∷ []) is ∙ sym (listed_more journal.undone step);
+  used = r.used;
+}
+
+pub remembers_redo : (memory : Memory) (journal : Journal) (step : Recorded) (steps : List Recorded) (entry : ListedEntry) (front : List ListedEntry) → Remembers memory journal
+    → entry ≡ listed_as step → front ≡ map listed_as (reverse steps)
+    → Remembers (record { done = memory.done ++ entry ∷ []; undone = front; used = memory.used }) (record { done = step ∷ journal.done; undone = steps; used = journal.used })
+remembers_redo memory journal step steps entry front r is rest = record {
+  done = ap (λ es. es ++ entry ∷ []) r.done ∙ ap (λ e. map listed_as (reverse journal.done) ++ e ∷ []) is ∙ sym (listed_more journal.done step);
+  undone = rest;
+  used = r.used;
+}
+
+-- ---- the numbers of listed steps
+
+pub last_number : (steps : List Recorded) (step : Recorded) (behind : List ℕ) → get_or (map number_of (reverse (step ∷ steps)) ++ behind) (length (map number_of (reverse steps))) 0 ≡ number_of step
+last_number steps step behind =
+    ap (λ ns. get_or (ns ++ behind) (length (map number_of (reverse steps))) 0) (ap (map number_of) (reverse-append (step ∷ []) steps) ∙ map-append number_of (reverse steps) (step ∷ []))
+    ∙ ap (λ ns. get_or ns (length (map number_of (reverse steps))) 0) (append_assoc (map number_of (reverse steps)) (number_of step ∷ []) behind)
+    ∙ get_or-append_seam (map number_of (reverse steps)) (number_of step) behind 0
+
+-- ---- the heads of a step
+
+module _ (memory : Memory) (files : Files) (first second : State) (standing : IsStanding files first) (remembers : Remembers memory first.journal) (way : PendingWay) (step : Recorded) (moves : Moves way step first.journal second.journal) (low : number_of step ≤ 999_999) where
+  -- the head before it
+  pub sound_first : IsSoundHead (head_of first.journal None)
+  sound_first = sound_head (undo_folder_of files) first.journal None standing.journal
+
+  pub sound_between : (pending : Pending) → pending ≡ record { entry = number_of step; way = way } → IsSoundHead (head_listing memory (Some pending))
+  sound_between pending is =
+      subst IsSoundHead (sym (listing_of memory first.journal (Some pending) remembers))
+      (subst (λ p. IsSoundHead (head_of first.journal (Some p))) (sym is) (sound_pending first.journal second.journal way step sound_first moves low))
+
+  pub good_between : (pending : Pending) (text : List ℕ) → pending ≡ record { entry = number_of step; way = way } → (IsSoundHead (head_listing memory (Some pending)) → IsGoodHead text (head_listing memory (Some pending)))
+      → IsGoodHead text (head_of first.journal (Some (record { entry = number_of step; way = way })))
+  good_between pending text is good =
+      subst (λ p. IsGoodHead text (head_of first.journal (Some p))) is (subst (IsGoodHead text) (listing_of memory first.journal (Some pending) remembers) (good (sound_between pending is)))
+
+  pub sound_second : (moved : Memory) → Remembers moved second.journal → (way ≡ Do → is_full (length first.journal.done) first.journal.used ≡ false) → IsSoundHead (head_listing moved None)
+  sound_second moved after room = subst IsSoundHead (sym (listing_of moved second.journal None after)) (sound_moved first.journal second.journal way step sound_first moves room)
+
+  pub good_second : (moved : Memory) (text : List ℕ) → Remembers moved second.journal → (way ≡ Do → is_full (length first.journal.done) first.journal.used ≡ false)
+      → (IsSoundHead (head_listing moved None) → IsGoodHead text (head_listing moved None)) → IsGoodHead text (head_of second.journal None)
+  good_second moved text after room good = subst (IsGoodHead text) (listing_of moved second.journal None after) (good (sound_second moved after room))
+
+-- ---- causes
+
+-- a stop that tells neither a clash nor a file that has moved
+pub is_no_clash : (cause : Cause) → (cause ≡ causes.Moved → ⊥) → (cause ≡ causes.Clash → ⊥) → IsNoClash (Interrupted cause)
+is_no_clash causes.Memory moved clash = tt
+is_no_clash causes.Device moved clash = tt
+is_no_clash causes.Moved moved clash = moved refl
+is_no_clash causes.Clash moved clash = clash refl

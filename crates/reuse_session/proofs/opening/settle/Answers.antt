@@ -1,0 +1,124 @@
+use Rattle.std.proofs.Common.{◌≡◌, ◌+◌, ◌≤◌, arith, length, Some, None, Err, IfErr, OnOk, sym, ap, subst, ◌∙◌}
+use Rattle.std.specs.FinMap.{get}
+use Rattle.std.specs.List.{All}
+use Rattle.std.proofs.lemmas.Result.{err_from_is_err_and}
+use Rattle.reuse_tree.specs.Change.{path_of}
+use Rattle.reuse_tree.specs.Files.{Clashes, tree_of}
+use Rattle.reuse_session.specs.Answer.{IsEarly}
+use Rattle.reuse_session.specs.Carried.{IsRolledBack, StopsRollingBack}
+use Rattle.reuse_session.specs.Entry.{IsEntry, IsReady, SomeMade, CanBeSetBack, IsFirstWithout}
+use Rattle.reuse_session.specs.Head.{way_of, IsGoodHead}
+use Rattle.reuse_session.specs.History.{head_listing}
+use Rattle.reuse_session.specs.JournalFiles.{head_path}
+use Rattle.reuse_session.specs.Opening.{IsSettled}
+use Rattle.reuse_session.specs.Tree.{undo_folder_of}
+use Rattle.reuse_session.specs.declared.reply.Refusal.TheVariants.{BadJournal, Memory}
+use Rattle.reuse_session.proofs.Settling.{is_entry, is_settled, is_stuck, some_made, all_ready, settles, settled_good, settled_sound, head_fits, at_same, pending_readable, stays_under_way, read_failure}
+use Rattle.reuse_session.proofs.Turning.{on_ok}
+use Rattle.reuse_session.proofs.opening.settle.Goals as goal
+
+pub returns-in_err-entry-clause-settles : goal.returns-in_err-entry-clause-settles
+returns-in_err-entry-clause-settles g c honest journal read step first number under =
+    let files = g.S.Store.files in
+    let p = err_from_is_err_and c.from_residual.result c.from_residual.ensures.1 in
+    let refusal = c.in_err-entry.field-0.0 in
+    let readable = pending_readable (files c.args.store.now) c.args.pending c.args.history.now journal read in
+    let failure = read_failure refusal c.in_err-entry.ensures.refusal (λ path e. (c.read_entry.ensures.bad honest path (c.in_err-entry.was ∙ ap (λ x. Err x) e)).1 readable.0 readable.1) in
+    stays_under_way c.from_residual.result p.0 refusal c.args.pending.way step first (files c.args.store.now) (files c.read_entry.new.store) p.1 p.2 failure (c.read_entry.ensures.files honest) under
+
+pub returns-in_err-entry-clause-no_bad : goal.returns-in_err-entry-clause-no_bad
+returns-in_err-entry-clause-no_bad g c honest journal read path e =
+    let files = g.S.Store.files in
+    let p = err_from_is_err_and c.from_residual.result c.from_residual.ensures.1 in
+    let readable = pending_readable (files c.args.store.now) c.args.pending c.args.history.now journal read in
+    let given : p.0 ≡ BadJournal path = let x = sym p.1 ∙ e in cc in
+    (c.read_entry.ensures.bad honest path (c.in_err-entry.was ∙ ap (λ x. Err x) (sym p.2 ∙ given))).1 readable.0 readable.1
+
+pub returns-in_err-settled-clause-settles : goal.returns-in_err-settled-clause-settles
+returns-in_err-settled-clause-settles g c honest journal read step first number under =
+    let files = g.S.Store.files in
+    let p = err_from_is_err_and c.from_residual-in_err-settled.result c.from_residual-in_err-settled.ensures.1 in
+    stays_under_way c.from_residual-in_err-settled.result p.0 Memory c.args.pending.way step first (files c.args.store.now) (files c.read_entry.new.store) p.1 p.2 tt (c.read_entry.ensures.files honest) under
+
+pub returns-clause-done : goal.returns-clause-done
+returns-clause-done g c honest journal read =
+    let files = g.S.Store.files in
+    let old = files c.args.store.now in
+    let new = files c.roll_back.new.store in
+    let pending = c.args.pending in
+    let memory = c.args.history.now in
+    let entry = c.in_ok-entry.entry in
+    let reading = c.roll_back.ensures.was_honest honest in
+    let same = c.read_entry.ensures.files reading in
+    let says = c.in_ok-entry.ensures.ok reading in
+    let changes = c.as_slice.ensures in
+    let text = c.as_slice-2.result.now in
+    let good_text = settled_good (undo_folder_of old) journal (Some pending) memory text read.keeps read.remembers (λ sound. subst (λ t. IsGoodHead t (head_listing memory None)) (sym c.as_slice-2.ensures.value) (c.in_ok-settled.ensures.good sound)) in
+    let good = subst IsEntry (sym changes) (is_entry old pending memory journal read entry says) in
+    let rolled = at_same (λ f w cs. OnOk c.roll_back.result (IsRolledBack w cs text f new)) (files c.read_entry.new.store) old c.way.result (way_of pending.way) c.as_slice.result.now entry.changes same c.way.ensures changes (c.roll_back.ensures.done honest good) in
+    on_ok c.roll_back.result (IsRolledBack (way_of pending.way) entry.changes text old new) (IsSettled pending journal old new)
+    (is_settled old pending memory journal read entry says new text (g.met.S.Store.are_files c.roll_back.new.store honest) good_text) rolled
+
+pub returns-clause-moved : goal.returns-clause-moved
+returns-clause-moved g c honest journal read path e =
+    let files = g.S.Store.files in
+    let old = files c.args.store.now in
+    let pending = c.args.pending in
+    let memory = c.args.history.now in
+    let entry = c.in_ok-entry.entry in
+    let reading = c.roll_back.ensures.was_honest honest in
+    let same = c.read_entry.ensures.files reading in
+    let says = c.in_ok-entry.ensures.ok reading in
+    let changes = c.as_slice.ensures in
+    let good = subst IsEntry (sym changes) (is_entry old pending memory journal read entry says) in
+    is_stuck old pending memory journal read entry says path
+    (at_same (λ f w cs. IsFirstWithout (CanBeSetBack w (tree_of f)) cs path) (files c.read_entry.new.store) old c.way.result (way_of pending.way) c.as_slice.result.now entry.changes same c.way.ensures changes (c.roll_back.ensures.moved honest good path e))
+
+pub returns-clause-settles : goal.returns-clause-settles
+returns-clause-settles g c honest journal read step first number under =
+    let files = g.S.Store.files in
+    let old = files c.args.store.now in
+    let mid = files c.read_entry.new.store in
+    let new = files c.roll_back.new.store in
+    let pending = c.args.pending in
+    let memory = c.args.history.now in
+    let entry = c.in_ok-entry.entry in
+    let result = c.roll_back.result in
+    let reading = c.roll_back.ensures.was_honest honest in
+    let same = c.read_entry.ensures.files reading in
+    let says = c.in_ok-entry.ensures.ok reading in
+    let changes = c.as_slice.ensures in
+    let all = c.as_slice.result.now in
+    let way = c.way.ensures in
+    let text = c.as_slice-2.result.now in
+    let good_text = settled_good (undo_folder_of old) journal (Some pending) memory text read.keeps read.remembers (λ sound. subst (λ t. IsGoodHead t (head_listing memory None)) (sym c.as_slice-2.ensures.value) (c.in_ok-settled.ensures.good sound)) in
+    let good = subst IsEntry (sym changes) (is_entry old pending memory journal read entry says) in
+    let some = at_same (λ f w cs. SomeMade w cs first.tree (tree_of f)) old mid (way_of pending.way) c.way.result entry.changes all (sym same) (sym way) (sym changes) (some_made old pending memory journal read entry says step first number under) in
+    let ready = at_same (λ f w cs. All (λ change. IsReady w change (get first.tree (path_of change))) cs) old mid (way_of pending.way) c.way.result entry.changes all (sym same) (sym way) (sym changes) (all_ready old pending memory journal read entry says step first number under) in
+    settles old pending memory journal read entry says step first number under result new text good_text
+    (at_same (λ f w cs. OnOk result (IsRolledBack w cs text f new)) mid old c.way.result (way_of pending.way) all entry.changes same way changes (c.roll_back.ensures.done honest good))
+    (λ cause e. at_same (λ f w cs. StopsRollingBack w cs text first.tree f new) mid old c.way.result (way_of pending.way) all entry.changes same way changes (c.roll_back.ensures.stopped honest good first.tree some ready cause e))
+    (subst (λ f. IfErr result (λ refusal. IsEarly refusal → new ≡ f)) same (c.roll_back.ensures.unchanged honest))
+    (λ path e. c.roll_back.ensures.settles honest good first.tree under.good.are_files some ready path e)
+    c.roll_back.ensures.refusal
+
+pub returns-clause-clash : goal.returns-clause-clash
+returns-clause-clash g c honest journal read =
+    let files = g.S.Store.files in
+    let old = files c.args.store.now in
+    let reading = c.roll_back.ensures.was_honest honest in
+    let same = c.read_entry.ensures.files reading in
+    let says = c.in_ok-entry.ensures.ok reading in
+    let good = subst IsEntry (sym c.as_slice.ensures) (is_entry old c.args.pending c.args.history.now journal read c.in_ok-entry.entry says) in
+    let are = g.met.S.Store.are_files c.args.store.now (c.read_entry.ensures.was_honest reading) in
+    c.roll_back.ensures.clash honest good (λ clash. head_fits old journal c.args.pending are read.keeps (subst (λ f. Clashes f head_path) same clash))
+
+pub returns-clause-written : goal.returns-clause-written
+returns-clause-written g c honest journal read =
+    let old = g.S.Store.files c.args.store.now in
+    let memory = c.args.history.now in
+    let entry = c.in_ok-entry.entry in
+    let says = c.in_ok-entry.ensures.ok (c.roll_back.ensures.was_honest honest) in
+    let good = subst IsEntry (sym c.as_slice.ensures) (is_entry old c.args.pending memory journal read entry says) in
+    let sound = settled_sound (undo_folder_of old) journal (Some c.args.pending) memory read.keeps read.remembers in
+    omega (arith, c.roll_back.ensures.written good, ap length c.as_slice-2.ensures.value, c.in_ok-settled.ensures.bound sound, c.read_entry.ensures.written)

@@ -1,0 +1,31 @@
+use Rattle.std.proofs.Common.{◌≡◌, Err, OnErr, sym, subst}
+use Rattle.std.proofs.lemmas.Result.{err_from_is_err_and}
+use Rattle.reuse_tree.specs.Files.{tree_of}
+use Rattle.reuse_session.specs.Carried.{StopsRollingBack}
+use Rattle.reuse_session.specs.Entry.{SomeMade, CanBeSetBack}
+use Rattle.reuse_session.specs.declared.reply.Refusal.TheVariants.{Moved}
+use Rattle.reuse_session.proofs.Walk.{none_without}
+use Rattle.reuse_session.proofs.MadeLemmas.{settles_from}
+use Rattle.reuse_session.proofs.roll_back.roll_back.Goals as goal
+
+-- on the way from a tree no change is in doubt
+pub returns-in_err-test_setting_back-clause-settles : goal.returns-in_err-test_setting_back-clause-settles
+returns-in_err-test_setting_back-clause-settles g c honest good start are some ready path e =
+    let tree = tree_of (g.S.Store.files c.args.store.now) in
+    let p = err_from_is_err_and c.from_residual.result c.from_residual.ensures.1 in
+    let from = p.1 in
+    let same = p.2 in
+    let was = c.in_err-test_setting_back.was in
+    let moved : c.test_setting_back.result ≡ Err (Moved path) = cc in
+    none_without (CanBeSetBack c.args.way tree) c.args.changes.now path
+    (settles_from c.args.way start tree c.args.changes.now good are some ready)
+    (c.test_setting_back.ensures.moved honest good path moved)
+
+pub returns-in-Err-clause-stopped : goal.returns-in-Err-clause-stopped
+returns-in-Err-clause-stopped g c honest good start some ready cause e =
+    let store = g.S.Store in
+    let same = c.test_setting_back.ensures.files (c.set_all_back.ensures.was_honest honest) in
+    let after = store.files c.set_all_back.new.store in
+    let stopped = c.set_all_back.ensures.stopped honest good start (subst (λ files. SomeMade c.args.way c.args.changes.now start (tree_of files)) (sym same) some) ready in
+    subst (λ files. StopsRollingBack c.args.way c.args.changes.now c.args.settled.now start files after) same
+    (subst (λ r. OnErr r (StopsRollingBack c.args.way c.args.changes.now c.args.settled.now start (store.files c.test_setting_back.new.store) after)) c.in-Err.is stopped)

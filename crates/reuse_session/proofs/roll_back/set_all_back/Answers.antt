@@ -1,0 +1,189 @@
+use Rattle.std.proofs.Common.{◌≡◌, ◌⊎◌, inl, inr, ⊎_elim, ◌+◌, List, ℕ, Some, length, take, OnErr, true, arith, ap, sym, refl, subst, ◌∙◌}
+use Rattle.std.specs.List.{All}
+use Rattle.std.specs.FinMap.{get}
+use Rattle.std.proofs.Math.Seq.{take-length}
+use Rattle.std.proofs.lemmas.Result.{err_from_is_err_and, on_ok_weaker, on_err_weaker}
+use Rattle.reuse_tree.specs.Files.{Files, tree_of}
+use Rattle.reuse_tree.specs.Change.{path_of, IsProper}
+use Rattle.reuse_tree.specs.declared.change.Change.{Change}
+use Rattle.reuse_session.specs.declared.entry.Way.{Way}
+use Rattle.reuse_session.specs.Carried.{IsRolledBack, StopsRollingBack}
+use Rattle.reuse_session.specs.Tree.{is_of_tree, undo_folder_of, Sets}
+use Rattle.reuse_session.specs.Entry.{IsSmall, IsEntry, IsReady, CanBeSetBack, SomeMade, Steps, opposite}
+use Rattle.reuse_session.specs.JournalFiles.{head_path}
+use Rattle.reuse_session.proofs.OfTree.{tree_at, step_of_tree, folder_stays, clash_in_tree}
+use Rattle.reuse_session.proofs.MadeLemmas.{AreBack, back_none, back_more, still_made, still_free, set_back_of_tree, folder_stays_back, made_from_start, back_at_start}
+use Rattle.reuse_session.proofs.HeadPuts.{head_sets, head_keeps_tree, head_clashed}
+use Rattle.reuse_session.proofs.roll_back.set_all_back.Goals as goal
+
+pub loop-change-init : goal.loop-change-init
+loop-change-init g c = record {
+  written = λ good. refl;
+  later = omega arith;
+  was_honest = λ honest. honest;
+  back = λ honest good. back_none c.args.way c.args.changes.now _;
+  folder = λ honest good. refl;
+}
+
+pub loop-change-preserved : goal.loop-change-preserved
+loop-change-preserved g c =
+    let store = g.S.Store in
+    let i = c.loop-change.change-index in
+    let lt = c.loop-change-test.true in
+    let change = c.change-item.result in
+    let now = store.files c.loop-change.store in
+    let after = store.files c.set_back.new.store in
+    let kept = c.loop-change.invariant in
+    record {
+      written = λ good.
+          let of_tree = subst (λ x. is_of_tree (path_of x) ≡ true) (sym c.change-item.is) (good.of_tree i change lt) in
+          c.set_back.ensures.written of_tree ∙ kept.written good;
+      later = omega (arith, kept.later, c.set_back.ensures.failures);
+      was_honest = λ honest. kept.was_honest (c.set_back.ensures.was_honest honest);
+      back = λ honest good.
+          let before = c.set_back.ensures.was_honest honest in
+          let proper = subst IsProper (sym c.change-item.is) (good.proper i change lt) in
+          let small = subst IsSmall (sym c.change-item.is) (good.small i change lt) in
+          let of_tree = subst (λ x. is_of_tree (path_of x) ≡ true) (sym c.change-item.is) (good.of_tree i change lt) in
+          back_more c.args.way c.args.changes.now good i lt change c.change-item.is _ (tree_of now) (kept.back before good) (tree_of after)
+          (set_back_of_tree c.args.way change now after of_tree (c.in_ok-set_back.ensures.ok honest proper small));
+      folder = λ honest good.
+          let before = c.set_back.ensures.was_honest honest in
+          let proper = subst IsProper (sym c.change-item.is) (good.proper i change lt) in
+          let small = subst IsSmall (sym c.change-item.is) (good.small i change lt) in
+          let of_tree = subst (λ x. is_of_tree (path_of x) ≡ true) (sym c.change-item.is) (good.of_tree i change lt) in
+          folder_stays_back c.args.way change now after of_tree (c.in_ok-set_back.ensures.ok honest proper small) ∙ kept.folder before good;
+    }
+
+-- it stops before the change or after it
+pub returns-in_err-set_back-clause-stopped : goal.returns-in_err-set_back-clause-stopped
+returns-in_err-set_back-clause-stopped g c honest good start some ready =
+    let store = g.S.Store in
+    let i = c.loop-change.change-index in
+    let lt = c.loop-change-test.true in
+    let change = c.change-item.result in
+    let way = c.args.way in
+    let changes = c.args.changes.now in
+    let old = store.files c.args.store.now in
+    let now = store.files c.loop-change.store in
+    let after = store.files c.set_back.new.store in
+    let kept = c.loop-change.invariant in
+    let before = c.set_back.ensures.was_honest honest in
+    let p = err_from_is_err_and c.from_residual.result c.from_residual.ensures.1 in
+    let proper = subst IsProper (sym c.change-item.is) (good.proper i change lt) in
+    let small = subst IsSmall (sym c.change-item.is) (good.small i change lt) in
+    let of_tree = subst (λ x. is_of_tree (path_of x) ≡ true) (sym c.change-item.is) (good.of_tree i change lt) in
+    let back = kept.back before good in
+    let stops : SomeMade way changes start (tree_of after) × (undo_folder_of after ≡ undo_folder_of old) = ⊎_elim
+    (λ (same : after ≡ now). (
+      subst (λ files. SomeMade way changes start (tree_of files)) (sym same) (made_from_start way changes good start (tree_of old) (tree_of now) some ready i back),
+      ap undo_folder_of same ∙ kept.folder before good,
+    ))
+    (λ (step : Steps (opposite way) change now after). (
+      made_from_start way changes good start (tree_of old) (tree_of after) some ready (i + 1)
+          (back_more way changes good i lt change c.change-item.is (tree_of old) (tree_of now) back (tree_of after) (inr (step_of_tree (opposite way) change now after of_tree step))),
+      folder_stays (opposite way) change now after of_tree step ∙ kept.folder before good,
+    ))
+    (c.in_err-set_back.ensures.err honest proper small) in
+    subst (λ r. OnErr r (StopsRollingBack way changes c.args.settled.now start old after)) (sym p.1) (inl stops)
+
+pub returns-in_err-set_back-clause-written : goal.returns-in_err-set_back-clause-written
+returns-in_err-set_back-clause-written g c good =
+    let of_tree = subst (λ x. is_of_tree (path_of x) ≡ true) (sym c.change-item.is) (good.of_tree c.loop-change.change-index c.change-item.result c.loop-change-test.true) in
+    let a = c.set_back.ensures.written of_tree in
+    let b = c.loop-change.invariant.written good in
+    omega (arith, a, b)
+
+-- each change that could be set back can be
+pub returns-in_err-set_back-clause-cause : goal.returns-in_err-set_back-clause-cause
+returns-in_err-set_back-clause-cause g c honest good all free =
+    let store = g.S.Store in
+    let i = c.loop-change.change-index in
+    let lt = c.loop-change-test.true in
+    let change = c.change-item.result in
+    let way = c.args.way in
+    let changes = c.args.changes.now in
+    let old = store.files c.args.store.now in
+    let now = store.files c.loop-change.store in
+    let kept = c.loop-change.invariant in
+    let before = c.set_back.ensures.was_honest honest in
+    let p = err_from_is_err_and c.from_residual.result c.from_residual.ensures.1 in
+    let proper = subst IsProper (sym c.change-item.is) (good.proper i change lt) in
+    let small = subst IsSmall (sym c.change-item.is) (good.small i change lt) in
+    let of_tree = subst (λ x. is_of_tree (path_of x) ≡ true) (sym c.change-item.is) (good.of_tree i change lt) in
+    let can = subst (CanBeSetBack way (tree_of old)) (sym c.change-item.is) (all i change lt) in
+    let back = kept.back before good in
+    let at = tree_at now (path_of change) of_tree in (
+      λ e. let was = c.in_err-set_back.was in
+          let stuck = c.set_back.ensures.moved honest proper small (cc) in
+          stuck.0 (subst (IsReady (opposite way) change) at (still_made way changes good i lt change c.change-item.is (tree_of old) (tree_of now) back can (λ r. stuck.1 (subst (IsReady way change) at r)))),
+      λ e. let was = c.in_err-set_back.was in
+          let clash = c.set_back.ensures.clash honest proper small (cc) in
+          still_free way changes good i lt change c.change-item.is (tree_of old) (tree_of now) back can (λ r. clash.0 (subst (IsReady way change) at r)) clash.1 (clash_in_tree now (path_of change) of_tree clash.2),
+    )
+
+-- all are taken back, and the head is put
+module _ (way : Way) (changes : List Change) (settled : List ℕ) (good : IsEntry changes) (i : ℕ) (last : i ≡ length changes) (old now after : Files) (made : AreBack way (take i changes) (tree_of old) (tree_of now)) (folder : undo_folder_of now ≡ undo_folder_of old) where
+  all_back : AreBack way changes (tree_of old) (tree_of now)
+  all_back = subst (λ front. AreBack way front (tree_of old) (tree_of now)) (ap (λ n. take n changes) last ∙ take-length changes) made
+
+  head_set : Sets head_path (Some settled) now after → Sets head_path (Some settled) (undo_folder_of old) (undo_folder_of after)
+  head_set sets = subst (λ f. Sets head_path (Some settled) f (undo_folder_of after)) folder (head_sets now after (Some settled) sets)
+
+  rolled_back : Sets head_path (Some settled) now after → IsRolledBack way changes settled old after
+  rolled_back sets =
+      let same : tree_of after ≡ tree_of now = head_keeps_tree now after (Some settled) sets in
+      record {
+        tree = subst (λ t. SomeMade way changes t (tree_of old)) (sym same) all_back.made;
+        ready = subst (λ t. All (λ change. IsReady way change (get t (path_of change))) changes) (sym same) all_back.ready;
+        sets = head_set sets;
+      }
+
+  stops_at_head : (start : Files) → SomeMade way changes start (tree_of old) → All (λ change. IsReady way change (get start (path_of change))) changes
+      → (after ≡ now) ⊎ Sets head_path (Some settled) now after → StopsRollingBack way changes settled start old after
+  stops_at_head start some ready (inl same) = inl (
+    subst (λ files. SomeMade way changes start (tree_of files)) (sym same) (made_from_start way changes good start (tree_of old) (tree_of now) some ready i made),
+    ap undo_folder_of same ∙ folder,
+  )
+  stops_at_head start some ready (inr sets) = inr (
+    head_keeps_tree now after (Some settled) sets ∙ back_at_start way changes good start (tree_of old) (tree_of now) some ready all_back,
+    head_set sets,
+  )
+
+pub returns-clause-done : goal.returns-clause-done
+returns-clause-done g c honest good =
+    let store = g.S.Store in
+    let kept = c.loop-change.invariant in
+    let before = c.put_head.ensures.was_honest honest in
+    let last : c.loop-change.change-index ≡ length c.args.changes.now = omega (arith, c.loop-change-test.false, c.loop-change.auto.change-index-end) in
+    on_ok_weaker c.put_head.result
+    (rolled_back c.args.way c.args.changes.now c.args.settled.now good c.loop-change.change-index last (store.files c.args.store.now) (store.files c.loop-change.store) (store.files c.put_head.new.store) (kept.back before good) (kept.folder before good))
+    (c.put_head.ensures.ok honest)
+
+pub returns-clause-stopped : goal.returns-clause-stopped
+returns-clause-stopped g c honest good start some ready =
+    let store = g.S.Store in
+    let kept = c.loop-change.invariant in
+    let before = c.put_head.ensures.was_honest honest in
+    let last : c.loop-change.change-index ≡ length c.args.changes.now = omega (arith, c.loop-change-test.false, c.loop-change.auto.change-index-end) in
+    on_err_weaker c.put_head.result
+    (stops_at_head c.args.way c.args.changes.now c.args.settled.now good c.loop-change.change-index last (store.files c.args.store.now) (store.files c.loop-change.store) (store.files c.put_head.new.store) (kept.back before good) (kept.folder before good) start some ready)
+    (c.put_head.ensures.err honest)
+
+pub returns-clause-cause : goal.returns-clause-cause
+returns-clause-cause g c honest good all free =
+    let store = g.S.Store in
+    let kept = c.loop-change.invariant in
+    let before = c.put_head.ensures.was_honest honest in
+    let last : c.loop-change.change-index ≡ length c.args.changes.now = omega (arith, c.loop-change-test.false, c.loop-change.auto.change-index-end) in
+    let all_made : AreBack c.args.way c.args.changes.now (tree_of (store.files c.args.store.now)) (tree_of (store.files c.loop-change.store)) =
+    subst (λ front. AreBack c.args.way front (tree_of (store.files c.args.store.now)) (tree_of (store.files c.loop-change.store))) (ap (λ n. take n c.args.changes.now) last ∙ take-length c.args.changes.now) (kept.back before good) in (
+      c.put_head.ensures.moved,
+      λ e. free (head_clashed c.args.changes.now good (store.files c.args.store.now) (store.files c.loop-change.store) (λ path none. sym (all_made.made.others path none)) (kept.folder before good) (c.put_head.ensures.clash honest e)),
+    )
+
+pub returns-clause-written : goal.returns-clause-written
+returns-clause-written g c good =
+    let a = c.put_head.ensures.written in
+    let b = c.loop-change.invariant.written good in
+    omega (arith, a, b)

@@ -1,0 +1,52 @@
+use Rattle.std.proofs.Common.{◌≡◌, ◌⊎◌, List, ℕ, Err, sym, ap, subst, ◌∙◌}
+use Rattle.std.specs.List.{All}
+use Rattle.reuse_tree.specs.Files.{tree_of}
+use Rattle.reuse_tree.specs.declared.change.Change.{Change}
+use Rattle.reuse_session.specs.Carried.{IsCarriedOut, IsStopped}
+use Rattle.reuse_session.specs.Entry.{IsEntry, CanBeMade}
+use Rattle.reuse_session.specs.Head.{way_of}
+use Rattle.reuse_session.specs.Session.{store_of, memory_of}
+use Rattle.reuse_session.specs.declared.entry.Way.{Way}
+use Rattle.reuse_session.proofs.Standings.{carried, stopped}
+use Rattle.reuse_session.proofs.Stepping.{good_between, good_second, is_no_clash}
+use Rattle.reuse_session.proofs.session.Session.step.Goals as goal
+
+pub returns-in-Ok-clause-moves : goal.returns-in-Ok-clause-moves
+returns-in-Ok-clause-moves g c honest held second step stands same is kept good low is_step remembers room =
+    let store = g.S.Store in
+    let files = store.files (store_of c.args.self.now) in
+    let after = store.files c.carry_out-carried.new.store in
+    let settled = c.in_ok-settled.settled.items in
+    let out : IsCarriedOut (way_of c.args.pending.way) step.changes settled files after =
+    subst (λ w. IsCarriedOut w step.changes settled files after) c.way.ensures
+    (subst (λ cs. IsCarriedOut c.way.result cs settled files after) (sym same)
+    (subst (λ text. IsCarriedOut c.way.result c.args.changes.now text files after) c.deref-2.ensures.value (c.in-Ok.ensures.done honest good))) in
+    let head = good_second (memory_of c.args.self.now) files held second stands.standing stands.remembers c.args.pending.way step is_step.moves low c.args.moved settled remembers room c.in_ok-settled.ensures.good in
+    record {
+      whole = stands.whole;
+      standing = carried files after c.args.pending.way step held second stands.standing kept is_step (subst IsEntry (sym same) good) (g.met.S.Store.are_files c.carry_out-carried.new.store honest) settled out head;
+      remembers = remembers;
+    }
+
+pub returns-in-Err-clause-moves : goal.returns-in-Err-clause-moves
+returns-in-Err-clause-moves g c honest held second step stands same is kept good low is_step remembers room =
+    let store = g.S.Store in
+    let files = store.files (store_of c.args.self.now) in
+    let after = store.files c.carry_out-carried.new.store in
+    let before = c.in_ok-before.before.items in
+    let settled = c.in_ok-settled.settled.items in
+    let Left : Way → List Change → List ℕ → List ℕ → Type 0 = λ w cs p s. (after ≡ files) ⊎ IsStopped w cs p files after ⊎ IsCarriedOut w cs s files after in
+    let left : Left (way_of c.args.pending.way) step.changes before settled =
+    subst (λ w. Left w step.changes before settled) c.way.ensures
+    (subst (λ cs. Left c.way.result cs before settled) (sym same)
+    (subst (λ text. Left c.way.result c.args.changes.now before text) c.deref-2.ensures.value
+    (subst (λ text. Left c.way.result c.args.changes.now text c.deref-2.result.now) c.deref.ensures.value (c.in-Err.ensures.stopped honest good)))) in
+    stopped files after c.args.pending.way step held second stands.standing kept is_step (subst IsEntry (sym same) good) (g.met.S.Store.are_files c.carry_out-carried.new.store honest) before settled left
+    (good_between (memory_of c.args.self.now) files held second stands.standing stands.remembers c.args.pending.way step is_step.moves low c.args.pending before is c.in_ok-before.ensures.good)
+    (good_second (memory_of c.args.self.now) files held second stands.standing stands.remembers c.args.pending.way step is_step.moves low c.args.moved settled remembers room c.in_ok-settled.ensures.good)
+
+pub returns-in-Err-clause-clash : goal.returns-in-Err-clause-clash
+returns-in-Err-clause-clash g c honest good can free =
+    let start = tree_of (g.S.Store.files (store_of c.args.self.now)) in
+    let no = c.carry_out-carried.ensures.cause honest good (subst (λ w. All (CanBeMade w start) c.args.changes.now) (sym c.way.ensures) can) free in
+    is_no_clash c.in-Err.cause (λ e. no.0 (c.in-Err.is ∙ ap (λ x. Err x) e)) (λ e. no.1 (c.in-Err.is ∙ ap (λ x. Err x) e))

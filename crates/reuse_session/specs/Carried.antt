@@ -1,0 +1,41 @@
+-- What carrying a step out leaves, and rolling it back. The heads are given by their texts.
+use Rattle.std.specs.Prelude.{◌≡◌, ◌⊎◌, ℕ, List, Some}
+use Rattle.std.specs.List.{All}
+use Rattle.std.specs.FinMap.{get}
+use Rattle.reuse_tree.specs.Files.{Files, tree_of}
+use Rattle.reuse_tree.specs.Change.{path_of}
+use Rattle.reuse_tree.specs.declared.change.Change.{Change}
+use Rattle.reuse_session.specs.Entry.{opposite, LeadsBy, SomeMade, IsReady, Steps}
+use Rattle.reuse_session.specs.JournalFiles.{head_path}
+use Rattle.reuse_session.specs.Tree.{Sets, undo_folder_of}
+use Rattle.reuse_session.specs.declared.entry.Way.{Way}
+
+-- the folder of the journal has this head then, and its other files stay
+abbrev pub SetsHead : List ℕ → Files → Files → Type 0
+SetsHead head before after = Sets head_path (Some head) (undo_folder_of before) (undo_folder_of after)
+
+-- all changes are made, and this is the head
+pub record IsCarriedOut (way : Way) (changes : List Change) (head : List ℕ) (before after : Files) : Type 0 where
+  pub tree : LeadsBy way changes (tree_of before) (tree_of after)
+  pub sets : SetsHead head before after
+
+-- some changes are made, and this is the head
+pub record IsStopped (way : Way) (changes : List Change) (head : List ℕ) (before after : Files) : Type 0 where
+  pub tree : SomeMade way changes (tree_of before) (tree_of after)
+  pub sets : SetsHead head before after
+
+-- the change was not made, or is taken back
+abbrev pub IsSetBack : Way → Change → Files → Files → Type 0
+IsSetBack way change before after = (IsReady way change (get before (path_of change)) × (after ≡ before)) ⊎ Steps (opposite way) change before after
+
+-- the files were those now with some of the changes made, none of which is made now, and this is the head
+pub record IsRolledBack (way : Way) (changes : List Change) (head : List ℕ) (before after : Files) : Type 0 where
+  pub tree : SomeMade way changes (tree_of after) (tree_of before)
+  pub ready : All (λ change. IsReady way change (get (tree_of after) (path_of change))) changes
+  pub sets : SetsHead head before after
+
+-- on the way back to a tree: some of the changes are still made under the old head, or none under the new one
+abbrev pub StopsRollingBack : Way → List Change → List ℕ → Files → Files → Files → Type 0
+StopsRollingBack way changes head start before after =
+    (SomeMade way changes start (tree_of after) × (undo_folder_of after ≡ undo_folder_of before))
+    ⊎ ((tree_of after ≡ start) × SetsHead head before after)

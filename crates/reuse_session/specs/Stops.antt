@@ -1,0 +1,84 @@
+-- Runs with stops: what a driven session answers and leaves, whichever calls of the store fail.
+use Rattle.std.specs.Prelude.{◌≡◌, ◌⊎◌, Bool, true, false, List, [], ◌∷◌, Option, Some, None, Result, Ok, Err}
+use Rattle.reuse_tree.specs.Files.{Files}
+use Rattle.reuse_session.specs.Journal.{State}
+use Rattle.reuse_session.specs.Machine.{Snapshots, step}
+use Rattle.reuse_session.specs.Session.{store_of, Holds, StandsAt}
+use Rattle.reuse_session.specs.Standing.{IsStanding, InDoubt}
+use Rattle.reuse_session.specs.declared.events.Driven.{Driven}
+use Rattle.reuse_session.specs.declared.events.Driven.TheVariants.{Open, Closed}
+use Rattle.reuse_session.specs.declared.events.Event.{Event}
+use Rattle.reuse_session.specs.declared.events.Event.TheVariants as event
+use Rattle.reuse_session.specs.declared.reply.Reply.{Reply}
+use Rattle.reuse_session.specs.declared.reply.Reply.TheVariants.{Opened}
+use Rattle.reuse_session.specs.declared.reply.Refusal.{Refusal}
+use Rattle.reuse_session.specs.declared.reply.Refusal.TheVariants.{Broken, Fault, Memory, Interrupted}
+
+-- Where a run is: whether a session is open, the state of the machine, and, where a call stopped since the last opening, the state
+-- after its step, which may have been reached or not.
+pub record Point : Type 0 where
+  pub is_open : Bool
+  pub state : Snapshots
+  pub next : Option Snapshots
+
+abbrev pub open_at : Snapshots → Point
+open_at state = record { is_open = true; state = state; next = None }
+
+abbrev pub closed : Point → Point
+closed point = record { is_open = false; state = point.state; next = point.next }
+
+-- a step that stopped is kept or left out, which the next opening finds
+abbrev pub IsReached : Point → Snapshots → Type 0
+IsReached point state = (point.state ≡ state) ⊎ (point.next ≡ Some state)
+
+-- An opening goes on from the state, or from that after the step that stopped. Where it fails it is left out.
+abbrev pub Reopens : Result Reply Refusal → Point → Point → Type 0
+Reopens (Ok Opened) old new = (state : Snapshots) × IsReached old state × (new ≡ open_at state)
+Reopens (Err (Fault fault)) old new = new ≡ closed old
+Reopens (Err Memory) old new = new ≡ closed old
+Reopens (Err (Interrupted cause)) old new = new ≡ closed old
+Reopens answer old new = ⊥
+
+-- An event of an open session. One that a fault of the store or want of memory refused is left out; one that was interrupted closes the
+-- session, and is kept or left out; and every other is that of the machine.
+abbrev pub Continues : Event → Result Reply Refusal → Point → Point → Type 0
+Continues event (Err (Fault fault)) old new = new ≡ old
+Continues event (Err Memory) old new = new ≡ old
+Continues event (Err (Interrupted cause)) old new = new ≡ record { is_open = false; state = old.state; next = Some (step old.state event).1 }
+Continues event answer old new = (answer ≡ (step old.state event).0) × (new ≡ open_at (step old.state event).1)
+
+-- while no session is open, all but an opening is refused as broken
+abbrev pub Answers : Bool → Event → Result Reply Refusal → Point → Point → Type 0
+Answers is_open event.Reopen answer old new = Reopens answer old new
+Answers true event answer old new = Continues event answer old new
+Answers false event answer old new = (answer ≡ Err Broken) × (new ≡ old)
+
+-- the events are answered so, one after the other, and lead from one point to the other
+abbrev pub RunsWithStops : List Event → List (Result Reply Refusal) → Point → Point → Type 0
+RunsWithStops [] [] old new = new ≡ old
+RunsWithStops (event ∷ events) (answer ∷ answers) old new = (point : Point) × Answers old.is_open event answer old point × RunsWithStops events answers point new
+RunsWithStops [] (answer ∷ answers) old new = ⊥
+RunsWithStops (event ∷ events) [] old new = ⊥
+
+-- ---- what the files are then
+
+-- the files hold the state
+abbrev pub HoldState : Files → Snapshots → Type 0
+HoldState files state = (held : State) × IsStanding files held × Holds held state
+
+-- they do, or are in doubt between it and the next
+abbrev pub AreLeft : Files → Snapshots → Option Snapshots → Type 0
+AreLeft files state None = HoldState files state
+AreLeft files state (Some next) = (first : State) × (second : State) × Holds first state × Holds second next × InDoubt first second files
+
+-- ---- for private clauses
+
+-- the store of an open session, or that where none is open
+abbrev pub store_in : {S : Type 0} → Driven S → S
+store_in (Open session) = store_of session
+store_in (Closed store) = store
+
+-- a session is open and stands at the state, or none is and the files are left so
+abbrev pub IsAt : {S : Type 0} → (S → Files) → Driven S → Point → Type 0
+IsAt files (Open session) point = (point ≡ open_at point.state) × StandsAt files session point.state
+IsAt files (Closed store) point = (point.is_open ≡ false) × AreLeft (files store) point.state point.next

@@ -1,0 +1,205 @@
+// What a session remembers of the journal: its entries' labels, and not their changes.
+ghost use Rattle.std.specs.Prelude.{◌≡◌, ◌<◌, ◌≤◌, ◌+◌, ◌*◌, ◌++◌, ◌∷◌, [], Option, None, Some, List, IfOk, length, map, true, false};
+ghost use Rattle.reuse_session.specs.Head.{IsGoodHead, IsSoundHead};
+ghost use Rattle.reuse_session.specs.History.{Memory, head_listing, row_listing, rows_listing, remember_run};
+ghost use Rattle.reuse_session.specs.Machine.{is_full};
+ghost use Rattle.reuse_session.specs.declared.history.ListedEntry.{ListedEntry};
+
+use crate::command::CommandName;
+use crate::journal::{EntryNumbers, Head, Pending, encode_head};
+use crate::moment::Moment;
+use crate::reply::{Row, Rows};
+use std::alloc::{AllocError, Global};
+use std::marker::Model;
+
+const MOST_DONE: usize = 4_096;
+
+const LAST_NUMBER: u32 = 999_999;
+
+/// An entry that the head lists: what names it, and how many paths it changed.
+#[derive(Clone, Copy, Debug)]
+pub struct ListedEntry {
+    pub number: u32,
+    pub when: Moment,
+    pub command: CommandName,
+    pub count: usize,
+}
+
+impl ListedEntry {
+    /// Its number.
+    pub fn number(&self) -> u32
+        ensures { result ≡ self.now.number }
+    {
+        self.number
+    }
+}
+
+/// The entries of a session in the head's order: those done, the oldest first, and those undone, the next to be redone
+/// last.
+#[derive(Debug, Drop)]
+pub struct History {
+    done: Vec<ListedEntry>,
+    undone: Vec<ListedEntry>,
+    // How many numbers are used.
+    used: u32,
+    ghost within: { used ≤ 999_999 },
+}
+
+impl Model for History {
+    ghost use Rattle.reuse_session.specs.History.{Memory};
+
+    ghost Value = { Memory };
+
+    ghost view = { λ h. record { done = h.done.items; undone = h.undone.items; used = h.used } };
+}
+
+impl History {
+    /// These entries.
+    pub fn new(done: Vec<ListedEntry>, undone: Vec<ListedEntry>, used: u32) -> History
+        requires { used ≤ 999_999 }
+        ensures { result ≡ record { done = done.items; undone = undone.items; used = used } }
+    {
+        History { done, undone, used }
+    }
+
+    /// How many numbers are used.
+    pub fn used(&self) -> u32
+        ensures { result ≡ self.now.used }
+    {
+        self.used
+    }
+
+    /// Whether no further entry can be done.
+    pub fn is_full(&self) -> bool
+        ensures { result ≡ is_full (length self.now.done) self.now.used }
+    {
+        self.done.len() >= MOST_DONE || self.used >= LAST_NUMBER
+    }
+
+    /// The entry that an undo takes back.
+    pub fn last_done(&self) -> Option<ListedEntry>
+        ensures none { result ≡ None → self.now.done ≡ [] }
+        ensures some { (entry : ListedEntry) → result ≡ Some entry → (front : List ListedEntry) × (self.now.done ≡ front ++ entry ∷ []) }
+    {
+        self.done.last().copied()
+    }
+
+    /// The entry that a redo makes again.
+    pub fn next_undone(&self) -> Option<ListedEntry>
+        ensures none { result ≡ None → self.now.undone ≡ [] }
+        ensures some { (entry : ListedEntry) → result ≡ Some entry → (front : List ListedEntry) × (self.now.undone ≡ front ++ entry ∷ []) }
+    {
+        self.undone.last().copied()
+    }
+
+    /// What is remembered after a run: the entry is done, and none is undone.
+    pub fn after_run(&self, alloc: Global, entry: ListedEntry) -> Result<History, AllocError>
+        requires { self.now.used < 999_999 }
+        ensures { IfOk result (λ history. history ≡ remember_run self.now entry) }
+    {
+        Ok(History {
+            done: with_entry(alloc, self.done.as_slice(), entry)?,
+            undone: Vec::new(alloc),
+            used: self.used + 1,
+        })
+    }
+
+    /// What is remembered after an undo.
+    pub fn after_undo(&self, alloc: Global, entry: ListedEntry) -> Result<History, AllocError>
+        ensures { (front : List ListedEntry) → self.now.done ≡ front ++ entry ∷ []
+            → IfOk result (λ history. history ≡ record { done = front; undone = self.now.undone ++ entry ∷ []; used = self.now.used }) }
+    {
+        Ok(History {
+            done: without_last(alloc, self.done.as_slice())?,
+            undone: with_entry(alloc, self.undone.as_slice(), entry)?,
+            used: self.used,
+        })
+    }
+
+    /// What is remembered after a redo.
+    pub fn after_redo(&self, alloc: Global, entry: ListedEntry) -> Result<History, AllocError>
+        ensures { (front : List ListedEntry) → self.now.undone ≡ front ++ entry ∷ []
+            → IfOk result (λ history. history ≡ record { done = self.now.done ++ entry ∷ []; undone = front; used = self.now.used }) }
+    {
+        Ok(History {
+            done: with_entry(alloc, self.done.as_slice(), entry)?,
+            undone: without_last(alloc, self.undone.as_slice())?,
+            used: self.used,
+        })
+    }
+
+    /// The text of the head that lists the entries.
+    pub fn head_text(&self, alloc: Global, pending: Option<Pending>) -> Result<Vec<u8>, AllocError>
+        ensures good { IsSoundHead (head_listing self.now pending) → IfOk result (λ text. IsGoodHead text.items (head_listing self.now pending)) }
+        ensures bound { IsSoundHead (head_listing self.now pending)
+            → IfOk result (λ text. length text.items ≤ 128 + 7 * (length self.now.done + length self.now.undone)) }
+    {
+        let head = Head {
+            done: numbers_of(alloc, self.done.as_slice())?,
+            undone: numbers_of(alloc, self.undone.as_slice())?,
+            next: self.used + 1,
+            pending,
+        };
+        encode_head(alloc, &head)
+    }
+
+    /// The rows of a log.
+    pub fn rows(&self, alloc: Global) -> Result<Rows, AllocError>
+        ensures { IfOk result (λ rows. rows ≡ rows_listing self.now) }
+    {
+        let mut rows = Vec::new(alloc);
+        for entry in &self.done {
+            rows.push(row_of(entry, true))?;
+        }
+        for entry in self.undone.iter().rev() {
+            rows.push(row_of(entry, false))?;
+        }
+        Ok(Rows { rows })
+    }
+}
+
+// The row of an entry.
+fn row_of(entry: &ListedEntry, done: bool) -> Row
+    ensures { result ≡ row_listing done entry.now }
+{
+    Row {
+        number: entry.number,
+        when: entry.when,
+        command: entry.command,
+        count: entry.count,
+        done,
+    }
+}
+
+// The entries, and one more.
+fn with_entry(
+    alloc: Global,
+    entries: &[ListedEntry],
+    entry: ListedEntry,
+) -> Result<Vec<ListedEntry>, AllocError>
+    ensures { IfOk result (λ list. list.items ≡ entries.now ++ entry ∷ []) }
+{
+    let mut list = Vec::from_slice(alloc, entries)?;
+    list.push(entry)?;
+    Ok(list)
+}
+
+// The entries without the last.
+fn without_last(alloc: Global, entries: &[ListedEntry]) -> Result<Vec<ListedEntry>, AllocError>
+    ensures { (front : List ListedEntry) → (entry : ListedEntry) → entries.now ≡ front ++ entry ∷ [] → IfOk result (λ list. list.items ≡ front) }
+{
+    let mut list = Vec::from_slice(alloc, entries)?;
+    list.pop();
+    Ok(list)
+}
+
+// The numbers of the entries.
+fn numbers_of(alloc: Global, entries: &[ListedEntry]) -> Result<EntryNumbers, AllocError>
+    ensures { IfOk result (λ numbers. numbers ≡ map (λ (entry : ListedEntry). entry.number) entries.now) }
+{
+    let mut numbers = Vec::with_capacity(alloc, entries.len())?;
+    for entry in entries {
+        numbers.push(entry.number)?;
+    }
+    Ok(EntryNumbers::new(numbers))
+}

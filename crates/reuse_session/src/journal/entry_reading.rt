@@ -1,0 +1,165 @@
+// An entry's text, read.
+ghost use Rattle.std.specs.Prelude.{◌≡◌, ◌≤◌, IfOk};
+ghost use Rattle.serde_json.specs.View.{view, items_view};
+ghost use Rattle.reuse_session.specs.Decoded.{Gives, GivesBy, IsAnswer};
+ghost use Rattle.reuse_session.specs.EntryText.{HavePaths, IsGoodEntry, IsJsonEntry};
+ghost use Rattle.reuse_session.specs.EntryReading.{change_in, changes_in, command_from, drop_in, entry_in, make_in, splice_in};
+ghost use Rattle.reuse_session.specs.JsonReading.{read_items};
+ghost use Rattle.reuse_session.specs.Json.{IsJson};
+ghost use Rattle.reuse_session.specs.declared.journal.entry.Entry.{Entry};
+
+use crate::CommandName;
+use crate::journal::entry::{Changes, Entry};
+use crate::journal::entry_checks::are_sound;
+use crate::journal::fault::DecodeFault;
+use crate::journal::fields::{
+    bytes_of, expect_text, field, fields, finish, format_of, moment_of, number_of, parse, path_of,
+    text_of,
+};
+use reuse_tree::Change;
+use serde_json::Value;
+use std::alloc::Global;
+
+const LONGEST_TEXT: usize = 268_435_456;
+
+/// The entry that a text stands for; `NotGood` where there is none.
+pub fn decode_entry(alloc: Global, text: &[u8]) -> Result<Entry, DecodeFault>
+    ensures ok { IfOk result (IsGoodEntry text.now) }
+    ensures only { (entry : Entry) → IsGoodEntry text.now entry → IsAnswer result entry }
+{
+    if text.len() > LONGEST_TEXT {
+        return Err(DecodeFault::NotGood);
+    }
+    let entry = read_entry(alloc, text)?;
+    if are_sound(entry.changes.as_slice()) {
+        Ok(entry)
+    } else {
+        Err(DecodeFault::NotGood)
+    }
+}
+
+// The entry whose value the text is, sound or not.
+fn read_entry(alloc: Global, text: &[u8]) -> Result<Entry, DecodeFault>
+    ensures ok { IfOk result (λ entry. IsJsonEntry text.now entry × (entry.when ≤ 250_000_000_000)) }
+    ensures only { (entry : Entry) → HavePaths entry.changes → entry.when ≤ 250_000_000_000
+        → IsJsonEntry text.now entry → IsAnswer result entry }
+{
+    let value = parse(alloc, text)?;
+    entry_of(alloc, &value)
+}
+
+#[tactic(auto, unfolding(crate::specs::EntryReading::entry_in))]
+fn entry_of(alloc: Global, value: &Value) -> Result<Entry, DecodeFault>
+    ensures { Gives result (entry_in (view value.now)) }
+{
+    let mut members = fields(value)?;
+    let changes = changes_of(alloc, field(&mut members, "changes")?)?;
+    let command = command_of(text_of(field(&mut members, "command")?)?)?;
+    format_of(field(&mut members, "format")?)?;
+    let when = moment_of(field(&mut members, "when")?)?;
+    finish(members)?;
+    Ok(Entry {
+        changes,
+        command,
+        when,
+    })
+}
+
+fn command_of(name: &str) -> Result<CommandName, DecodeFault>
+    ensures { Gives result (command_from name.now) }
+{
+    if name == "annotate" {
+        Ok(CommandName::Annotate)
+    } else if name == "convert-dep5" {
+        Ok(CommandName::ConvertDep5)
+    } else if name == "download" {
+        Ok(CommandName::Download)
+    } else {
+        Err(DecodeFault::NotGood)
+    }
+}
+
+#[tactic(auto, unfolding(crate::specs::EntryReading::changes_in))]
+fn changes_of(alloc: Global, value: &Value) -> Result<Changes, DecodeFault>
+    ensures { Gives result (changes_in (view value.now)) }
+{
+    match value {
+        Value::Array(values) => {
+            let changes = change_list(alloc, values.as_slice())?;
+            Ok(Changes::new(changes))
+        }
+        _ => Err(DecodeFault::NotGood),
+    }
+}
+
+fn change_list(alloc: Global, values: &[Value]) -> Result<Vec<Change>, DecodeFault>
+    ensures { GivesBy (λ v. v.items) result (read_items change_in (items_view values.now)) }
+{
+    let mut changes = Vec::with_capacity(alloc, values.len())?;
+    for value in values {
+        changes.push(change_of(alloc, value)?)?;
+    }
+    Ok(changes)
+}
+
+#[tactic(auto, unfolding(crate::specs::EntryReading::change_in))]
+fn change_of(alloc: Global, value: &Value) -> Result<Change, DecodeFault>
+    ensures { Gives result (change_in (view value.now)) }
+{
+    let kind = value.get("kind").ok_or(DecodeFault::NotGood)?;
+    let name = text_of(kind)?;
+    if name == "make" {
+        make_of(alloc, value)
+    } else if name == "drop" {
+        drop_of(alloc, value)
+    } else if name == "splice" {
+        splice_of(alloc, value)
+    } else {
+        Err(DecodeFault::NotGood)
+    }
+}
+
+#[tactic(auto, unfolding(crate::specs::EntryReading::make_in))]
+fn make_of(alloc: Global, value: &Value) -> Result<Change, DecodeFault>
+    ensures { Gives result (make_in (view value.now)) }
+{
+    let mut members = fields(value)?;
+    expect_text(field(&mut members, "kind")?, "make")?;
+    let new = bytes_of(alloc, field(&mut members, "new")?)?;
+    let path = path_of(alloc, field(&mut members, "path")?)?;
+    finish(members)?;
+    Ok(Change::Make { path, new })
+}
+
+#[tactic(auto, unfolding(crate::specs::EntryReading::drop_in))]
+fn drop_of(alloc: Global, value: &Value) -> Result<Change, DecodeFault>
+    ensures { Gives result (drop_in (view value.now)) }
+{
+    let mut members = fields(value)?;
+    expect_text(field(&mut members, "kind")?, "drop")?;
+    let old = bytes_of(alloc, field(&mut members, "old")?)?;
+    let path = path_of(alloc, field(&mut members, "path")?)?;
+    finish(members)?;
+    Ok(Change::Drop { path, old })
+}
+
+#[tactic(auto, unfolding(crate::specs::EntryReading::splice_in, crate::specs::EntryReading::splice_bytes_in, crate::specs::EntryReading::splice_end_in))]
+fn splice_of(alloc: Global, value: &Value) -> Result<Change, DecodeFault>
+    ensures { Gives result (splice_in (view value.now)) }
+{
+    let mut members = fields(value)?;
+    let at = number_of(field(&mut members, "at")?)? as usize;
+    expect_text(field(&mut members, "kind")?, "splice")?;
+    let new = bytes_of(alloc, field(&mut members, "new")?)?;
+    let old = bytes_of(alloc, field(&mut members, "old")?)?;
+    let path = path_of(alloc, field(&mut members, "path")?)?;
+    let rest = number_of(field(&mut members, "rest")?)? as usize;
+    finish(members)?;
+    Ok(Change::Splice {
+        path,
+        at,
+        old,
+        new,
+        rest,
+    })
+}

@@ -1,0 +1,110 @@
+// An entry as text.
+ghost use Rattle.std.specs.Prelude.{◌≡◌, ◌≤◌, IfOk, OnOk, IsTrue, IsUtf8, length, map, string_bytes};
+ghost use Rattle.std.specs.List.{All};
+ghost use Rattle.serde_json.specs.View.{view};
+ghost use Rattle.hex.specs.Hex.{encode_lower, IsBytes};
+ghost use Rattle.reuse_tree.specs.Path.{is_path};
+ghost use Rattle.reuse_session.specs.Entry.{entry_size, IsEntry};
+ghost use Rattle.reuse_session.specs.EntryText.{command_name, change_value, entry_text, entry_value, IsChangeInMemory, IsGoodEntry};
+ghost use Rattle.reuse_session.specs.Json.{array_of};
+
+use crate::CommandName;
+use crate::journal::entry::Entry;
+use reuse_tree::{Change, PathText};
+use serde_json::{Value, json};
+use std::alloc::{AllocError, Global};
+
+/// The compact JSON text of an entry.
+pub fn encode_entry(alloc: Global, entry: &Entry) -> Result<Vec<u8>, AllocError>
+    ensures text { IfOk result (λ text. text.items ≡ entry_text entry.now) }
+    ensures good { IsEntry entry.now.changes → IfOk result (λ text. IsGoodEntry text.items entry.now) }
+    ensures bound { IsEntry entry.now.changes
+        → IfOk result (λ text. length text.items ≤ entry_size entry.now.changes) }
+{
+    let value = entry_json(alloc, entry)?;
+    value.to_vec(alloc)
+}
+
+fn entry_json(alloc: Global, entry: &Entry) -> Result<Value, AllocError>
+    ensures value { IfOk result (λ value. view value ≡ entry_value entry.now) }
+    ensures changes { OnOk result (All IsChangeInMemory entry.now.changes) }
+    ensures when { OnOk result (entry.now.when ≤ 250_000_000_000) }
+{
+    let changes = changes_json(alloc, entry.changes.as_slice())?;
+    let command = name_of(entry.command);
+    let when = entry.when.seconds();
+    json!(in alloc; {"changes": changes, "command": command, "format": 1u32, "when": when})
+}
+
+// The word that stands for a command in an entry.
+fn name_of(command: CommandName) -> &'static str
+    ensures { result.now ≡ command_name command }
+{
+    match command {
+        CommandName::Annotate => "annotate",
+        CommandName::ConvertDep5 => "convert-dep5",
+        CommandName::Download => "download",
+    }
+}
+
+fn changes_json(alloc: Global, changes: &[Change]) -> Result<Value, AllocError>
+    ensures value { IfOk result (λ value. view value ≡ array_of (map change_value changes.now)) }
+    ensures changes { OnOk result (All IsChangeInMemory changes.now) }
+{
+    let mut values = Vec::with_capacity(alloc, changes.len())?;
+    for change in changes {
+        values.push(change_json(alloc, change)?)?;
+    }
+    Ok(Value::Array(values))
+}
+
+fn change_json(alloc: Global, change: &Change) -> Result<Value, AllocError>
+    ensures value { IfOk result (λ value. view value ≡ change_value change.now) }
+    ensures change { OnOk result (IsChangeInMemory change.now) }
+{
+    match change {
+        Change::Make { path, new } => {
+            let new = hex_of(alloc, new.as_slice())?;
+            json!(in alloc; {"kind": "make", "new": new, "path": text_of(path)})
+        }
+        Change::Drop { path, old } => {
+            let old = hex_of(alloc, old.as_slice())?;
+            json!(in alloc; {"kind": "drop", "old": old, "path": text_of(path)})
+        }
+        Change::Splice {
+            path,
+            at,
+            old,
+            new,
+            rest,
+        } => {
+            let new = hex_of(alloc, new.as_slice())?;
+            let old = hex_of(alloc, old.as_slice())?;
+            json!(in alloc; {
+                "at": *at,
+                "kind": "splice",
+                "new": new,
+                "old": old,
+                "path": text_of(path),
+                "rest": *rest
+            })
+        }
+    }
+}
+
+// Bytes in small hexadecimal digits.
+fn hex_of(alloc: Global, bytes: &[u8]) -> Result<String, AllocError>
+    ensures text { IfOk result (λ text. string_bytes text ≡ encode_lower bytes.now) }
+    ensures bytes { IsBytes bytes.now }
+{
+    hex::encode(alloc, bytes)
+}
+
+// The text of a path.
+fn text_of(path: &PathText) -> &str
+    ensures text { result.now ≡ path.now }
+    ensures path { IsTrue (is_path path.now) }
+    ensures utf8 { IsUtf8 path.now }
+{
+    path.text()
+}

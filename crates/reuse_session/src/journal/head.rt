@@ -1,0 +1,63 @@
+// The head of the journal.
+ghost use Rattle.std.specs.Prelude.{◌≡◌};
+
+use crate::entry::Way;
+use crate::journal::numbers::EntryNumbers;
+
+/// Which way an entry is being applied.
+#[derive(Clone, Copy, Debug, PartialEq, Eq)]
+pub enum PendingWay {
+    /// A new entry, for the first time.
+    Do,
+    /// An entry that was done, backwards.
+    Undo,
+    /// An entry that was undone, forwards.
+    Redo,
+}
+
+/// The entry that is under way.
+#[derive(Clone, Copy, Debug, PartialEq, Eq)]
+pub struct Pending {
+    /// Its number.
+    pub entry: u32,
+    /// Which way it goes.
+    pub way: PendingWay,
+}
+
+/// The head of the journal.
+#[derive(Debug, Drop)]
+pub struct Head {
+    /// The entries that are done, oldest first.
+    pub done: EntryNumbers,
+    /// The entries that are undone; the last is the next to be redone.
+    pub undone: EntryNumbers,
+    /// The number that the next entry gets.
+    pub next: u32,
+    /// The entry that is under way, if any.
+    pub pending: Option<Pending>,
+}
+
+impl PendingWay {
+    ghost use Rattle.reuse_session.specs.Head.{way_of, way_name};
+
+    /// Which way the changes of the entry are gone through.
+    pub(crate) fn way(self) -> Way
+        ensures { result ≡ way_of self }
+    {
+        match self {
+            PendingWay::Do | PendingWay::Redo => Way::Do,
+            PendingWay::Undo => Way::Undo,
+        }
+    }
+
+    /// The word that stands for the way in a head.
+    pub(crate) fn name(self) -> &'static str
+        ensures { result.now ≡ way_name self }
+    {
+        match self {
+            PendingWay::Do => "do",
+            PendingWay::Undo => "undo",
+            PendingWay::Redo => "redo",
+        }
+    }
+}

@@ -1,0 +1,195 @@
+// The files of the journal: reads and puts its head and its entries.
+ghost use Rattle.std.specs.Prelude.{◌≡◌, ◌≢◌, ◌⊎◌, ◌<◌, ◌≤◌, ◌+◌, ℕ, List, Option, Some, IfOk, IfErr, OnOk, OnErr, IsErrOf, length, IsSome};
+ghost use Rattle.std.specs.FinMap as map;
+ghost use Rattle.reuse_tree.specs.Files.{Clashes, tree_of};
+ghost use Rattle.reuse_tree.specs.Store.{reading_of};
+ghost use Rattle.reuse_tree.specs.declared.fault.StoreFault.{StoreFault};
+ghost use Rattle.reuse_tree.specs.declared.fault.StoreFault.TheVariants as faults;
+ghost use Rattle.reuse_session.specs.Answer.{IsReadRefusal, IsPutRefusal, bad_text};
+ghost use Rattle.reuse_session.specs.Entry.{IsEntry, entry_size};
+ghost use Rattle.reuse_session.specs.Head.{IsSoundHead};
+ghost use Rattle.reuse_session.specs.Session.{IsSameBut};
+ghost use Rattle.reuse_session.specs.Tree.{Sets, undo_folder_of};
+ghost use Rattle.reuse_session.specs.JournalFiles.{digit, head_path, entry_path, HeadSays, EntrySays};
+ghost use Rattle.reuse_session.specs.declared.journal.head.Head.{Head};
+ghost use Rattle.reuse_session.specs.declared.journal.entry.Entry.{Entry};
+
+use crate::journal::{
+    DecodeFault, Entry, EntryNumbers, Head, decode_entry, decode_head, encode_entry,
+};
+use crate::reply::{Cause, Refusal};
+use reuse_tree::{PathText, Reading, Store, StoreFault};
+use std::alloc::{AllocError, Global};
+
+const LONGEST_HEAD: usize = 16_777_216;
+
+const LONGEST_ENTRY: usize = 268_435_456;
+
+/// The path of the head.
+pub fn head_path(alloc: Global) -> Result<PathText, AllocError>
+    ensures { IfOk result (λ path. path ≡ head_path) }
+{
+    path_of_text(alloc, ".reuse/undo/head.json")
+}
+
+/// The path of the entry of this number.
+pub fn entry_path(alloc: Global, number: u32) -> Result<PathText, AllocError>
+    ensures { IfOk result (λ path. path ≡ entry_path number) }
+{
+    let mut text = String::from_str(alloc, ".reuse/undo/")?;
+    text.push(digit(number, 100_000))?;
+    text.push(digit(number, 10_000))?;
+    text.push(digit(number, 1_000))?;
+    text.push(digit(number, 100))?;
+    text.push(digit(number, 10))?;
+    text.push(digit(number, 1))?;
+    text.push_str(".json")?;
+    path_of_text(alloc, text.as_str())
+}
+
+// The digit of a number at this place.
+fn digit(number: u32, place: u32) -> char
+    requires { 0 < place }
+    ensures { result ≡ digit number place }
+{
+    char::from(b'0' + (number / place % 10) as u8)
+}
+
+/// A path that is known to be a good one.
+pub fn path_of_text(alloc: Global, text: &str) -> Result<PathText, AllocError>
+    ensures { IfOk result (λ path. path ≡ text.now) }
+{
+    match PathText::new(alloc, text) {
+        Ok(path) => Ok(path),
+        Err(_) => Err(AllocError),
+    }
+}
+
+/// The head; that of an empty journal where it has no file.
+pub fn read_head<S: Store>(alloc: Global, store: &mut S) -> Result<Head, Refusal>
+    ensures ok { S.honest store.new → IfOk result (HeadSays (map.get (undo_folder_of (S.files store.old)) head_path)) }
+    ensures bad { S.honest store.new → (path : List ℕ) → result ≡ Err (Refusal.BadJournal path)
+        → (path ≡ head_path) × ((head : Head) → ¬ (HeadSays (map.get (undo_folder_of (S.files store.old)) head_path) head)) }
+    ensures sound { IfOk result IsSoundHead }
+    ensures refusal { IfErr result IsReadRefusal }
+    ensures files { S.honest store.new → S.files store.new ≡ S.files store.old }
+    ensures clash { S.honest store.new → result ≢ Err (Refusal.Fault faults.Clash) }
+    ensures device { result ≡ Err (Refusal.Fault faults.Device) → S.failures store.old < S.failures store.new }
+    ensures failures { S.failures store.old ≤ S.failures store.new }
+    ensures written { S.written store.new ≡ S.written store.old }
+    ensures was_honest { S.honest store.new → S.honest store.old }
+{
+    let path = head_path(alloc)?;
+    let reading = store.read(alloc, &path, LONGEST_HEAD)?;
+    head_in(alloc, path, reading)
+}
+
+// The head that was read at the path.
+fn head_in(alloc: Global, path: PathText, reading: Reading) -> Result<Head, Refusal>
+    ensures ok { (file : Option (List ℕ)) → reading ≡ reading_of file 16_777_216 → IfOk result (HeadSays file) }
+    ensures bad { (file : Option (List ℕ)) → reading ≡ reading_of file 16_777_216 → (place : List ℕ) → result ≡ Err (Refusal.BadJournal place)
+        → (place ≡ path) × ((head : Head) → ¬ (HeadSays file head)) }
+    ensures sound { IfOk result IsSoundHead }
+    ensures refusal { IfErr result IsReadRefusal }
+    ensures no_fault { (fault : StoreFault) → result ≢ Err (Refusal.Fault fault) }
+{
+    match reading {
+        Reading::Absent => Ok(Head {
+            done: EntryNumbers::new(Vec::new(alloc)),
+            undone: EntryNumbers::new(Vec::new(alloc)),
+            next: 1,
+            pending: None,
+        }),
+        Reading::Found(text) => match decode_head(alloc, text.as_slice()) {
+            Ok(head) => Ok(head),
+            Err(fault) => Err(bad_text(path, fault)),
+        },
+        Reading::TooLong => Err(Refusal::BadJournal(path)),
+    }
+}
+
+/// The entry of this number.
+pub fn read_entry<S: Store>(alloc: Global, store: &mut S, number: u32) -> Result<Entry, Refusal>
+    ensures ok { S.honest store.new → IfOk result (EntrySays (map.get (undo_folder_of (S.files store.old)) (entry_path number))) }
+    ensures bad { S.honest store.new → (path : List ℕ) → result ≡ Err (Refusal.BadJournal path)
+        → (path ≡ entry_path number) × ((entry : Entry) → ¬ (EntrySays (map.get (undo_folder_of (S.files store.old)) (entry_path number)) entry)) }
+    ensures refusal { IfErr result IsReadRefusal }
+    ensures files { S.honest store.new → S.files store.new ≡ S.files store.old }
+    ensures clash { S.honest store.new → result ≢ Err (Refusal.Fault faults.Clash) }
+    ensures device { result ≡ Err (Refusal.Fault faults.Device) → S.failures store.old < S.failures store.new }
+    ensures failures { S.failures store.old ≤ S.failures store.new }
+    ensures written { S.written store.new ≡ S.written store.old }
+    ensures was_honest { S.honest store.new → S.honest store.old }
+{
+    let path = entry_path(alloc, number)?;
+    let reading = store.read(alloc, &path, LONGEST_ENTRY)?;
+    entry_in(alloc, path, reading)
+}
+
+// The entry that was read at the path.
+fn entry_in(alloc: Global, path: PathText, reading: Reading) -> Result<Entry, Refusal>
+    ensures ok { (file : Option (List ℕ)) → reading ≡ reading_of file 268_435_456 → IfOk result (EntrySays file) }
+    ensures bad { (file : Option (List ℕ)) → reading ≡ reading_of file 268_435_456 → (place : List ℕ) → result ≡ Err (Refusal.BadJournal place)
+        → (place ≡ path) × ((entry : Entry) → ¬ (EntrySays file entry)) }
+    ensures refusal { IfErr result IsReadRefusal }
+    ensures no_fault { (fault : StoreFault) → result ≢ Err (Refusal.Fault fault) }
+{
+    match reading {
+        Reading::Found(text) => match decode_entry(alloc, text.as_slice()) {
+            Ok(entry) => Ok(entry),
+            Err(fault) => Err(bad_text(path, fault)),
+        },
+        Reading::Absent | Reading::TooLong => Err(Refusal::BadJournal(path)),
+    }
+}
+
+// The refusal of a text of the journal.
+fn bad_text(path: PathText, fault: DecodeFault) -> Refusal
+    ensures { result ≡ bad_text path fault }
+{
+    match fault {
+        DecodeFault::NotGood => Refusal::BadJournal(path),
+        DecodeFault::Memory => Refusal::Memory,
+    }
+}
+
+/// Puts the entry's file.
+pub fn put_entry<S: Store>(
+    alloc: Global,
+    store: &mut S,
+    number: u32,
+    entry: &Entry,
+) -> Result<(), Refusal>
+    ensures ok { S.honest store.new → IsEntry entry.now.changes
+        → OnOk result (EntrySays (map.get (S.files store.new) (entry_path number)) entry.now) }
+    // No other path holds something else, whatever it answers.
+    ensures others { S.honest store.new → IsSameBut (entry_path number) (S.files store.old) (S.files store.new) }
+    ensures refusal { IfErr result IsPutRefusal }
+    ensures clash { S.honest store.new → result ≡ Err (Refusal.Fault faults.Clash) → Clashes (S.files store.old) (entry_path number) }
+    ensures device { result ≡ Err (Refusal.Fault faults.Device) → S.failures store.old < S.failures store.new }
+    ensures failures { S.failures store.old ≤ S.failures store.new }
+    ensures written { IsEntry entry.now.changes → S.written store.new ≤ S.written store.old + entry_size entry.now.changes }
+    ensures was_honest { S.honest store.new → S.honest store.old }
+{
+    let path = entry_path(alloc, number)?;
+    let text = encode_entry(alloc, entry)?;
+    store.put(alloc, &path, text.as_slice())?;
+    Ok(())
+}
+
+/// Puts this text of a head.
+pub fn put_head<S: Store>(alloc: Global, store: &mut S, text: &[u8]) -> Result<(), Cause>
+    ensures ok { S.honest store.new → OnOk result (Sets head_path (Some text.now) (S.files store.old) (S.files store.new)) }
+    ensures err { S.honest store.new → OnErr result ((S.files store.new ≡ S.files store.old)
+        ⊎ Sets head_path (Some text.now) (S.files store.old) (S.files store.new)) }
+    ensures clash { S.honest store.new → result ≡ Err Cause.Clash → Clashes (S.files store.old) head_path }
+    ensures moved { result ≢ Err Cause.Moved }
+    ensures device { IsErrOf result Cause.Device → S.failures store.old < S.failures store.new }
+    ensures failures { S.failures store.old ≤ S.failures store.new }
+    ensures written { S.written store.new ≤ S.written store.old + length text.now }
+    ensures was_honest { S.honest store.new → S.honest store.old }
+{
+    let path = head_path(alloc)?;
+    store.put(alloc, &path, text)?;
+    Ok(())
+}

@@ -1,0 +1,265 @@
+// Opens the journal of a store: reads the head and each entry that it names, and rolls back what is pending.
+ghost use Rattle.std.specs.Prelude.{◌≡◌, ◌≢◌, ◌⊎◌, ◌<◌, ◌≤◌, ◌+◌, ℕ, List, IfOk, IfErr, OnOk, IsSome, Some, None, length, codes, MatchResult};
+ghost use Rattle.std.specs.FinMap as map;
+ghost use Rattle.std.specs.List.{All, AllZip};
+ghost use Rattle.reuse_tree.specs.Path.{journal_folder};
+ghost use Rattle.reuse_tree.specs.declared.fault.StoreFault.TheVariants as faults;
+ghost use Rattle.reuse_session.specs.Answer.{HasCause, IsEarly, IsNoClash, IsFailure, IsReadRefusal, IsOpenRefusal};
+ghost use Rattle.reuse_session.specs.Head.{listed, IsSoundHead};
+ghost use Rattle.reuse_session.specs.declared.journal.head.Head.{Head};
+ghost use Rattle.reuse_session.specs.Journal.{Recorded, Journal, State};
+ghost use Rattle.reuse_session.specs.JournalFiles.{head_path, number_of, HeadSays};
+ghost use Rattle.reuse_session.specs.Opening.{least, listed_entry, named, IsReadable, IsListedIn, IsFoundAt, IsLeastFound, IsFirstUnreadable, IsFirstBad, IsRead, IsSettled, IsStuckAt, OpensOn};
+ghost use Rattle.reuse_session.specs.Session.{head_room, listed_count, Remembers};
+ghost use Rattle.reuse_session.specs.Standing.{IsStanding, IsUnderWay, InDoubt};
+ghost use Rattle.reuse_session.specs.Tree.{undo_folder_of};
+
+use crate::history::{History, ListedEntry};
+use crate::journal::{Entry, Head, Pending};
+use crate::journal_files::{entry_path, path_of_text, read_entry, read_head};
+use crate::reply::Refusal;
+use crate::roll_back::roll_back;
+use reuse_tree::{Reading, Store};
+use std::alloc::{AllocError, Global};
+
+/// Reads the journal of a store, and rolls back what is pending. It answers what the head lists then.
+pub fn open_journal<S: Store>(alloc: Global, store: &mut S) -> Result<History, Refusal>
+    ensures opened { S.honest store.new → IfOk result (λ memory. (held : State) × Remembers memory held.journal × OpensOn (S.files store.old) held (S.files store.new)) }
+    ensures bad { S.honest store.new → (path : List ℕ) → result ≡ Err (Refusal.BadJournal path) → IsFirstBad (S.files store.old) path }
+    ensures moved { S.honest store.new → (path : List ℕ) → result ≡ Err (Refusal.Moved path) → IsStuckAt (S.files store.old) path }
+    ensures unchanged { S.honest store.new → IfErr result (λ refusal. IsEarly refusal → S.files store.new ≡ S.files store.old) }
+    // Of files in doubt it makes one of the two standings, or leaves them in doubt where it fails.
+    ensures settles { S.honest store.new → (first second : State) → InDoubt first second (S.files store.old)
+        → MatchResult result (λ memory. (IsStanding (S.files store.new) first × Remembers memory first.journal) ⊎ (IsStanding (S.files store.new) second × Remembers memory second.journal))
+        (λ refusal. IsFailure refusal × InDoubt first second (S.files store.new)) }
+    // At most one head is put.
+    ensures written { S.honest store.new → (head : Head) → HeadSays (map.get (undo_folder_of (S.files store.old)) head_path) head
+        → S.written store.new ≤ S.written store.old + head_room (length (listed head)) }
+    ensures refusal { IfErr result IsOpenRefusal }
+    ensures clash { S.honest store.new → IfErr result IsNoClash }
+    ensures fault { IfErr result (HasCause (S.failures store.old < S.failures store.new)) }
+    ensures failures { S.failures store.old ≤ S.failures store.new }
+    ensures was_honest { S.honest store.new → S.honest store.old }
+{
+    let (pending, history) = read_journal(alloc, store)?;
+    match pending {
+        None => Ok(history),
+        Some(pending) => {
+            settle(alloc, store, pending, &history)?;
+            Ok(history)
+        }
+    }
+}
+
+// Reads the head and each entry that it names. It answers what is pending, and what the head lists.
+fn read_journal<S: Store>(
+    alloc: Global,
+    store: &mut S,
+) -> Result<(Option<Pending>, History), Refusal>
+    ensures ok { S.honest store.new → IfOk result (λ read. (journal : Journal) × IsRead (S.files store.old) read.0 read.1 journal) }
+    ensures bad { S.honest store.new → (path : List ℕ) → result ≡ Err (Refusal.BadJournal path) → IsFirstBad (S.files store.old) path }
+    ensures refusal { IfErr result IsReadRefusal }
+    ensures files { S.honest store.new → S.files store.new ≡ S.files store.old }
+    ensures clash { S.honest store.new → result ≢ Err (Refusal.Fault faults.Clash) }
+    ensures device { result ≡ Err (Refusal.Fault faults.Device) → S.failures store.old < S.failures store.new }
+    ensures written { S.written store.new ≡ S.written store.old }
+    ensures failures { S.failures store.old ≤ S.failures store.new }
+    ensures was_honest { S.honest store.new → S.honest store.old }
+{
+    test_folders(alloc, store)?;
+    let head = read_head(alloc, store)?;
+    let history = read_entries(alloc, store, &head)?;
+    Ok((head.pending, history))
+}
+
+// Rolls back what is pending in a journal that was read.
+fn settle<S: Store>(
+    alloc: Global,
+    store: &mut S,
+    pending: Pending,
+    history: &History,
+) -> Result<(), Refusal>
+    ensures done { S.honest store.new → (journal : Journal) → IsRead (S.files store.old) (Some pending) history.now journal
+        → OnOk result (IsSettled pending journal (S.files store.old) (S.files store.new)) }
+    ensures moved { S.honest store.new → (journal : Journal) → IsRead (S.files store.old) (Some pending) history.now journal
+        → (path : List ℕ) → result ≡ Err (Refusal.Moved path) → IsStuckAt (S.files store.old) path }
+    ensures unchanged { S.honest store.new → IfErr result (λ refusal. IsEarly refusal → S.files store.new ≡ S.files store.old) }
+    ensures settles { S.honest store.new → (journal : Journal) → IsRead (S.files store.old) (Some pending) history.now journal
+        → (step : Recorded) → (first : State) → number_of step ≡ pending.entry → IsUnderWay pending.way step first (S.files store.old)
+        → MatchResult result (λ done. IsStanding (S.files store.new) first)
+        (λ refusal. IsFailure refusal × (IsStanding (S.files store.new) first ⊎ IsUnderWay pending.way step first (S.files store.new))) }
+    ensures no_bad { S.honest store.new → (journal : Journal) → IsRead (S.files store.old) (Some pending) history.now journal
+        → (path : List ℕ) → result ≢ Err (Refusal.BadJournal path) }
+    ensures written { S.honest store.new → (journal : Journal) → IsRead (S.files store.old) (Some pending) history.now journal
+        → S.written store.new ≤ S.written store.old + head_room (listed_count history.now) }
+    ensures refusal { IfErr result IsOpenRefusal }
+    ensures clash { S.honest store.new → (journal : Journal) → IsRead (S.files store.old) (Some pending) history.now journal → IfErr result IsNoClash }
+    ensures fault { IfErr result (HasCause (S.failures store.old < S.failures store.new)) }
+    ensures failures { S.failures store.old ≤ S.failures store.new }
+    ensures was_honest { S.honest store.new → S.honest store.old }
+{
+    let entry = read_entry(alloc, store, pending.entry)?;
+    let settled = history.head_text(alloc, None)?;
+    roll_back(
+        alloc,
+        store,
+        entry.changes.as_slice(),
+        pending.way.way(),
+        settled.as_slice(),
+    )
+}
+
+// Neither `.reuse` nor `.reuse/undo` is a file.
+fn test_folders<S: Store>(alloc: Global, store: &mut S) -> Result<(), Refusal>
+    ensures ok { S.honest store.new → OnOk result ((map.get (S.files store.old) (codes ".reuse") ≡ None) × (map.get (S.files store.old) journal_folder ≡ None)) }
+    ensures bad { S.honest store.new → (path : List ℕ) → result ≡ Err (Refusal.BadJournal path)
+        → ((path ≡ codes ".reuse") ⊎ (path ≡ journal_folder)) × IsSome (map.get (S.files store.old) path) }
+    ensures refusal { IfErr result IsReadRefusal }
+    ensures files { S.honest store.new → S.files store.new ≡ S.files store.old }
+    ensures clash { S.honest store.new → result ≢ Err (Refusal.Fault faults.Clash) }
+    ensures device { result ≡ Err (Refusal.Fault faults.Device) → S.failures store.old < S.failures store.new }
+    ensures failures { S.failures store.old ≤ S.failures store.new }
+    ensures written { S.written store.new ≡ S.written store.old }
+    ensures was_honest { S.honest store.new → S.honest store.old }
+{
+    test_folder(alloc, store, ".reuse")?;
+    test_folder(alloc, store, ".reuse/undo")
+}
+
+// No file has the path.
+fn test_folder<S: Store>(alloc: Global, store: &mut S, text: &str) -> Result<(), Refusal>
+    ensures ok { S.honest store.new → OnOk result (map.get (S.files store.old) text.now ≡ None) }
+    ensures bad { S.honest store.new → (path : List ℕ) → result ≡ Err (Refusal.BadJournal path)
+        → (path ≡ text.now) × IsSome (map.get (S.files store.old) path) }
+    ensures refusal { IfErr result IsReadRefusal }
+    ensures files { S.honest store.new → S.files store.new ≡ S.files store.old }
+    ensures clash { S.honest store.new → result ≢ Err (Refusal.Fault faults.Clash) }
+    ensures device { result ≡ Err (Refusal.Fault faults.Device) → S.failures store.old < S.failures store.new }
+    ensures failures { S.failures store.old ≤ S.failures store.new }
+    ensures written { S.written store.new ≡ S.written store.old }
+    ensures was_honest { S.honest store.new → S.honest store.old }
+{
+    let path = path_of_text(alloc, text)?;
+    match store.read(alloc, &path, 0)? {
+        Reading::Absent => Ok(()),
+        Reading::Found(_) | Reading::TooLong => Err(Refusal::BadJournal(path)),
+    }
+}
+
+// Reads each entry that the head names, and answers what it lists. It is refused at the least number whose entry can't be read.
+fn read_entries<S: Store>(alloc: Global, store: &mut S, head: &Head) -> Result<History, Refusal>
+    requires { IsSoundHead head.now }
+    ensures ok { S.honest store.new → IfOk result (λ memory.
+        AllZip (IsListedIn (undo_folder_of (S.files store.old))) head.now.done memory.done
+        × AllZip (IsListedIn (undo_folder_of (S.files store.old))) head.now.undone memory.undone
+        × All (IsReadable (undo_folder_of (S.files store.old))) (named head.now)
+        × (memory.used + 1 ≡ head.now.next)) }
+    ensures bad { S.honest store.new → (path : List ℕ) → result ≡ Err (Refusal.BadJournal path)
+        → IsFirstUnreadable (undo_folder_of (S.files store.old)) (named head.now) path }
+    ensures refusal { IfErr result IsReadRefusal }
+    ensures files { S.honest store.new → S.files store.new ≡ S.files store.old }
+    ensures clash { S.honest store.new → result ≢ Err (Refusal.Fault faults.Clash) }
+    ensures device { result ≡ Err (Refusal.Fault faults.Device) → S.failures store.old < S.failures store.new }
+    ensures failures { S.failures store.old ≤ S.failures store.new }
+    ensures written { S.written store.new ≡ S.written store.old }
+    ensures was_honest { S.honest store.new → S.honest store.old }
+{
+    let numbers = named_numbers(alloc, head)?;
+    let (entries, unreadable) = read_all(alloc, store, numbers.as_slice())?;
+    if let Some(number) = unreadable {
+        return Err(Refusal::BadJournal(entry_path(alloc, number)?));
+    }
+    let done = head.done.as_slice().len();
+    let listed = done + head.undone.as_slice().len();
+    Ok(History::new(
+        Vec::from_slice(alloc, &entries[..done])?,
+        Vec::from_slice(alloc, &entries[done..listed])?,
+        head.next - 1,
+    ))
+}
+
+// The numbers of the entries that the head names.
+fn named_numbers(alloc: Global, head: &Head) -> Result<Vec<u32>, AllocError>
+    ensures { IfOk result (λ numbers. numbers.items ≡ named head.now) }
+{
+    let mut numbers = Vec::from_slice(alloc, head.done.as_slice())?;
+    numbers.extend_from_slice(head.undone.as_slice())?;
+    if let Some(pending) = head.pending {
+        numbers.push(pending.entry)?;
+    }
+    Ok(numbers)
+}
+
+// Reads the entries of these numbers, and answers what they are listed as, and the least number whose entry can't be read.
+fn read_all<S: Store>(
+    alloc: Global,
+    store: &mut S,
+    numbers: &[u32],
+) -> Result<(Vec<ListedEntry>, Option<u32>), Refusal>
+    ensures listed { S.honest store.new → IfOk result (λ read. read.1 ≡ None → AllZip (IsListedIn (undo_folder_of (S.files store.old))) numbers.now read.0.items) }
+    ensures all { IfOk result (λ read. read.1 ≡ None → length read.0.items ≡ length numbers.now) }
+    ensures found { S.honest store.new → IfOk result (λ read. IsLeastFound (undo_folder_of (S.files store.old)) numbers.now read.1) }
+    ensures refusal { IfErr result IsReadRefusal }
+    ensures no_bad { (path : List ℕ) → result ≢ Err (Refusal.BadJournal path) }
+    ensures files { S.honest store.new → S.files store.new ≡ S.files store.old }
+    ensures clash { S.honest store.new → result ≢ Err (Refusal.Fault faults.Clash) }
+    ensures device { result ≡ Err (Refusal.Fault faults.Device) → S.failures store.old < S.failures store.new }
+    ensures failures { S.failures store.old ≤ S.failures store.new }
+    ensures written { S.written store.new ≡ S.written store.old }
+    ensures was_honest { S.honest store.new → S.honest store.old }
+{
+    let mut entries = Vec::new(alloc);
+    let mut unreadable = None;
+    for number in numbers {
+        match listed_at(alloc, store, *number)? {
+            Some(entry) => entries.push(entry)?,
+            None => unreadable = Some(least(unreadable, *number)),
+        }
+    }
+    Ok((entries, unreadable))
+}
+
+// What the entry of the number is listed as, if it can be read.
+fn listed_at<S: Store>(
+    alloc: Global,
+    store: &mut S,
+    number: u32,
+) -> Result<Option<ListedEntry>, Refusal>
+    ensures ok { S.honest store.new → IfOk result (IsFoundAt (undo_folder_of (S.files store.old)) number) }
+    ensures refusal { IfErr result IsReadRefusal }
+    ensures no_bad { (path : List ℕ) → result ≢ Err (Refusal.BadJournal path) }
+    ensures files { S.honest store.new → S.files store.new ≡ S.files store.old }
+    ensures clash { S.honest store.new → result ≢ Err (Refusal.Fault faults.Clash) }
+    ensures device { result ≡ Err (Refusal.Fault faults.Device) → S.failures store.old < S.failures store.new }
+    ensures failures { S.failures store.old ≤ S.failures store.new }
+    ensures written { S.written store.new ≡ S.written store.old }
+    ensures was_honest { S.honest store.new → S.honest store.old }
+{
+    match read_entry(alloc, store, number) {
+        Ok(entry) => Ok(Some(listed(number, &entry))),
+        Err(Refusal::BadJournal(_path)) => Ok(None),
+        Err(refusal) => Err(refusal),
+    }
+}
+
+// What an entry is listed as.
+fn listed(number: u32, entry: &Entry) -> ListedEntry
+    ensures { result ≡ listed_entry number entry.now }
+{
+    ListedEntry {
+        number,
+        when: entry.when,
+        command: entry.command,
+        count: entry.changes.as_slice().len(),
+    }
+}
+
+// The lesser number.
+fn least(one: Option<u32>, other: u32) -> u32
+    ensures { result ≡ least one other }
+{
+    match one {
+        Some(one) if one < other => one,
+        _ => other,
+    }
+}

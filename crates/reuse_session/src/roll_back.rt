@@ -1,0 +1,163 @@
+// Rolls a pending step back: its files are as they were before it, and the head tells it no more.
+ghost use Rattle.std.specs.Prelude.{◌≡◌, ◌≢◌, ◌⊎◌, ◌<◌, ◌≤◌, ◌+◌, ℕ, List, IfErr, OnOk, OnErr, IfOk, IsErrOf, IsTrue, ◌↔◌, length, true};
+ghost use Rattle.std.specs.FinMap as map;
+ghost use Rattle.std.specs.List.{All};
+ghost use Rattle.reuse_tree.specs.Change.{path_of, IsProper};
+ghost use Rattle.reuse_tree.specs.Files.{Files, AreFiles, Clashes, tree_of};
+ghost use Rattle.reuse_tree.specs.declared.fault.StoreFault.TheVariants as faults;
+ghost use Rattle.reuse_session.specs.Answer.{HasCause, IsEarly, IsNoClash, IsTestRefusal, IsRollBackRefusal};
+ghost use Rattle.reuse_session.specs.Carried.{IsSetBack, IsRolledBack, StopsRollingBack};
+ghost use Rattle.reuse_session.specs.Entry.{makes, opposite, IsEntry, IsReady, IsSmall, SomeMade, Steps, CanBeSetBack, IsFirstWithout};
+ghost use Rattle.reuse_session.specs.Tree.{is_of_tree};
+ghost use Rattle.reuse_session.specs.JournalFiles.{head_path};
+ghost use Rattle.reuse_session.specs.declared.reply.Cause.{Cause};
+ghost use Rattle.reuse_session.specs.declared.reply.Refusal.TheVariants as refusals;
+
+use crate::entry::Way;
+use crate::journal_files::put_head;
+use crate::perform::{can_be_made, paths_to_heed};
+use crate::reply::{Cause, Refusal};
+use crate::turn::{can_turn, turn};
+use reuse_tree::{Change, PathText, Store, StoreFault};
+use std::alloc::Global;
+
+/// Tests that each change of a step that is pending this way is made or not, and can be taken back where it is made. Then
+/// takes back those that are made, and puts the head. It is refused as `Moved` at the first path where that can't be.
+pub fn roll_back<S: Store>(
+    alloc: Global,
+    store: &mut S,
+    changes: &[Change],
+    way: Way,
+    settled: &[u8],
+) -> Result<(), Refusal>
+    ensures done { S.honest store.new → IsEntry changes.now → OnOk result (IsRolledBack way changes.now settled.now (S.files store.old) (S.files store.new)) }
+    ensures moved { S.honest store.new → IsEntry changes.now → (path : List ℕ) → result ≡ Err (Refusal.Moved path)
+        → IsFirstWithout (CanBeSetBack way (tree_of (S.files store.old))) changes.now path }
+    ensures unchanged { S.honest store.new → IfErr result (λ refusal. IsEarly refusal → S.files store.new ≡ S.files store.old) }
+    // From a tree on which some of the changes were made, it stops on the way back to that tree.
+    ensures stopped { S.honest store.new → IsEntry changes.now → (start : Files) → SomeMade way changes.now start (tree_of (S.files store.old))
+        → All (λ change. IsReady way change (map.get start (path_of change))) changes.now
+        → (cause : Cause) → result ≡ Err (refusals.Interrupted cause) → StopsRollingBack way changes.now settled.now start (S.files store.old) (S.files store.new) }
+    // It is never refused on the way from a tree.
+    ensures settles { S.honest store.new → IsEntry changes.now → (start : Files) → AreFiles start → SomeMade way changes.now start (tree_of (S.files store.old))
+        → All (λ change. IsReady way change (map.get start (path_of change))) changes.now → (path : List ℕ) → result ≢ Err (Refusal.Moved path) }
+    ensures refusal { IfErr result IsRollBackRefusal }
+    ensures clash { S.honest store.new → IsEntry changes.now → ¬ (Clashes (S.files store.old) head_path) → IfErr result IsNoClash }
+    ensures fault { IfErr result (HasCause (S.failures store.old < S.failures store.new)) }
+    ensures failures { S.failures store.old ≤ S.failures store.new }
+    ensures written { IsEntry changes.now → S.written store.new ≤ S.written store.old + length settled.now }
+    ensures was_honest { S.honest store.new → S.honest store.old }
+{
+    test_setting_back(alloc, store, changes, way)?;
+    match set_all_back(alloc, store, changes, way, settled) {
+        Ok(()) => Ok(()),
+        Err(cause) => Err(Refusal::Interrupted(cause)),
+    }
+}
+
+// The other way.
+fn opposite(way: Way) -> Way
+    ensures { result ≡ opposite way }
+{
+    match way {
+        Way::Do => Way::Undo,
+        Way::Undo => Way::Do,
+    }
+}
+
+// Tests that each change isn't made or can be taken back; refused as `Moved` at the first of which neither holds.
+fn test_setting_back<S: Store>(
+    alloc: Global,
+    store: &mut S,
+    changes: &[Change],
+    way: Way,
+) -> Result<(), Refusal>
+    ensures ready { S.honest store.new → IsEntry changes.now → OnOk result (All (CanBeSetBack way (tree_of (S.files store.old))) changes.now) }
+    ensures moved { S.honest store.new → IsEntry changes.now → (path : List ℕ) → result ≡ Err (Refusal.Moved path)
+        → IsFirstWithout (CanBeSetBack way (tree_of (S.files store.old))) changes.now path }
+    ensures refusal { IfErr result IsTestRefusal }
+    ensures files { S.honest store.new → S.files store.new ≡ S.files store.old }
+    ensures clash { S.honest store.new → result ≢ Err (Refusal.Fault faults.Clash) }
+    ensures device { result ≡ Err (Refusal.Fault faults.Device) → S.failures store.old < S.failures store.new }
+    ensures failures { S.failures store.old ≤ S.failures store.new }
+    ensures written { S.written store.new ≡ S.written store.old }
+    ensures was_honest { S.honest store.new → S.honest store.old }
+{
+    let paths = paths_to_heed(alloc, store, changes, opposite(way))?;
+    for change in changes {
+        if !can_be_set_back(alloc, store, change, way, &paths)? {
+            return Err(Refusal::Moved(change.path().try_clone(alloc)?));
+        }
+    }
+    Ok(())
+}
+
+// Whether the change isn't made, or can be taken back.
+fn can_be_set_back<S: Store>(
+    alloc: Global,
+    store: &mut S,
+    change: &Change,
+    way: Way,
+    paths: &[PathText],
+) -> Result<bool, StoreFault>
+    ensures ok { S.honest store.new → IsProper change.now → IsSmall change.now → is_of_tree (path_of change.now) ≡ true
+        → (makes (opposite way) change.now ≡ true → paths.now ≡ map.keys (S.files store.old))
+        → IfOk result (λ yes. IsTrue yes ↔ CanBeSetBack way (tree_of (S.files store.old)) change.now) }
+    ensures files { S.honest store.new → S.files store.new ≡ S.files store.old }
+    ensures clash { S.honest store.new → result ≢ Err StoreFault.Clash }
+    ensures device { IsErrOf result StoreFault.Device → S.failures store.old < S.failures store.new }
+    ensures failures { S.failures store.old ≤ S.failures store.new }
+    ensures written { S.written store.new ≡ S.written store.old }
+    ensures was_honest { S.honest store.new → S.honest store.old }
+{
+    if can_turn(alloc, store, change, way)? {
+        return Ok(true);
+    }
+    can_be_made(alloc, store, change, opposite(way), paths)
+}
+
+// Takes the change back, where it is made.
+fn set_back<S: Store>(alloc: Global, store: &mut S, change: &Change, way: Way) -> Result<(), Cause>
+    ensures ok { S.honest store.new → IsProper change.now → IsSmall change.now
+        → OnOk result (IsSetBack way change.now (S.files store.old) (S.files store.new)) }
+    ensures err { S.honest store.new → IsProper change.now → IsSmall change.now → OnErr result ((S.files store.new ≡ S.files store.old)
+        ⊎ Steps (opposite way) change.now (S.files store.old) (S.files store.new)) }
+    ensures moved { S.honest store.new → IsProper change.now → IsSmall change.now → result ≡ Err Cause.Moved
+        → ¬ (IsReady (opposite way) change.now (map.get (S.files store.old) (path_of change.now))) × ¬ (IsReady way change.now (map.get (S.files store.old) (path_of change.now))) }
+    ensures clash { S.honest store.new → IsProper change.now → IsSmall change.now → result ≡ Err Cause.Clash
+        → ¬ (IsReady way change.now (map.get (S.files store.old) (path_of change.now))) × (makes (opposite way) change.now ≡ true) × Clashes (S.files store.old) (path_of change.now) }
+    ensures device { IsErrOf result Cause.Device → S.failures store.old < S.failures store.new }
+    ensures failures { S.failures store.old ≤ S.failures store.new }
+    ensures written { is_of_tree (path_of change.now) ≡ true → S.written store.new ≡ S.written store.old }
+    ensures was_honest { S.honest store.new → S.honest store.old }
+{
+    if can_turn(alloc, store, change, way)? {
+        return Ok(());
+    }
+    turn(alloc, store, change, opposite(way))
+}
+
+// Takes back each change that is made, and puts the head.
+fn set_all_back<S: Store>(
+    alloc: Global,
+    store: &mut S,
+    changes: &[Change],
+    way: Way,
+    settled: &[u8],
+) -> Result<(), Cause>
+    ensures done { S.honest store.new → IsEntry changes.now → OnOk result (IsRolledBack way changes.now settled.now (S.files store.old) (S.files store.new)) }
+    ensures stopped { S.honest store.new → IsEntry changes.now → (start : Files) → SomeMade way changes.now start (tree_of (S.files store.old))
+        → All (λ change. IsReady way change (map.get start (path_of change))) changes.now
+        → OnErr result (StopsRollingBack way changes.now settled.now start (S.files store.old) (S.files store.new)) }
+    ensures cause { S.honest store.new → IsEntry changes.now → All (CanBeSetBack way (tree_of (S.files store.old))) changes.now
+        → ¬ (Clashes (S.files store.old) head_path) → (result ≢ Err Cause.Moved) × (result ≢ Err Cause.Clash) }
+    ensures device { IsErrOf result Cause.Device → S.failures store.old < S.failures store.new }
+    ensures failures { S.failures store.old ≤ S.failures store.new }
+    ensures written { IsEntry changes.now → S.written store.new ≤ S.written store.old + length settled.now }
+    ensures was_honest { S.honest store.new → S.honest store.old }
+{
+    for change in changes {
+        set_back(alloc, store, change, way)?;
+    }
+    put_head(alloc, store, settled)
+}

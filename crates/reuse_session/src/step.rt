@@ -1,0 +1,40 @@
+// Carries a step out: its changes are made between two puts of the head.
+ghost use Rattle.std.specs.Prelude.{◌≡◌, ◌≢◌, ◌⊎◌, ◌<◌, ◌≤◌, ◌+◌, OnOk, OnErr, IsErrOf, length};
+ghost use Rattle.std.specs.List.{All};
+ghost use Rattle.reuse_tree.specs.Files.{Clashes, tree_of};
+ghost use Rattle.reuse_session.specs.Entry.{IsEntry, CanBeMade};
+ghost use Rattle.reuse_session.specs.Carried.{IsCarriedOut, IsStopped};
+ghost use Rattle.reuse_session.specs.JournalFiles.{head_path};
+
+use crate::entry::Way;
+use crate::journal_files::put_head;
+use crate::perform::perform;
+use crate::reply::Cause;
+use reuse_tree::{Change, Store};
+use std::alloc::Global;
+
+/// Puts the head that tells the step as pending, makes its changes this way, and puts the head that lists it.
+pub fn carry_out<S: Store>(
+    alloc: Global,
+    store: &mut S,
+    changes: &[Change],
+    way: Way,
+    pending: &[u8],
+    settled: &[u8],
+) -> Result<(), Cause>
+    ensures done { S.honest store.new → IsEntry changes.now → OnOk result (IsCarriedOut way changes.now settled.now (S.files store.old) (S.files store.new)) }
+    ensures stopped { S.honest store.new → IsEntry changes.now → OnErr result ((S.files store.new ≡ S.files store.old)
+        ⊎ IsStopped way changes.now pending.now (S.files store.old) (S.files store.new)
+        ⊎ IsCarriedOut way changes.now settled.now (S.files store.old) (S.files store.new)) }
+    // Where each change can be made and the head can be put, nothing but the device and memory stops it.
+    ensures cause { S.honest store.new → IsEntry changes.now → All (CanBeMade way (tree_of (S.files store.old))) changes.now
+        → ¬ (Clashes (S.files store.old) head_path) → (result ≢ Err Cause.Moved) × (result ≢ Err Cause.Clash) }
+    ensures device { IsErrOf result Cause.Device → S.failures store.old < S.failures store.new }
+    ensures failures { S.failures store.old ≤ S.failures store.new }
+    ensures written { IsEntry changes.now → S.written store.new ≤ S.written store.old + length pending.now + length settled.now }
+    ensures was_honest { S.honest store.new → S.honest store.old }
+{
+    put_head(alloc, store, pending)?;
+    perform(alloc, store, changes, way)?;
+    put_head(alloc, store, settled)
+}
