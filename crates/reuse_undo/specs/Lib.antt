@@ -1,5 +1,12 @@
+pub mod Dates
 pub mod FolderFault
 pub mod Honesty
-pub mod HonestFiles
+pub mod Within
 pub mod KeptOut
 pub mod Lines
+pub mod Places
+pub mod PrefixNames
+pub mod RowLines
+pub mod RunLine
+pub mod Statuses
+pub mod WriterFaults

@@ -1,5 +1,6 @@
 -- The lines that a reply is printed as.
-use Rattle.std.specs.Prelude.{ℕ, List, [], ◌∷◌, ◌++◌, codes}
+use Rattle.std.specs.Prelude.{◌≡◌, ℕ, List, [], ◌∷◌, ◌++◌, codes}
+use Rattle.reuse_undo.specs.RowLines.{AreRowLines}
 use Rattle.reuse_session.specs.declared.reply.Reply.{Reply}
 use Rattle.reuse_session.specs.declared.reply.Reply.TheVariants.{Opened, Changed, NothingChanged, Undone, Redone, Log}
 
@@ -12,11 +13,11 @@ abbrev pub lines_of : List ℕ → List (List ℕ) → List ℕ
 lines_of word [] = []
 lines_of word (path ∷ paths) = line_of word path ++ lines_of word paths
 
--- the lines of a reply; that a session was opened is not told
-abbrev pub reply_lines : Reply → List ℕ
-reply_lines Opened = []
-reply_lines (Changed paths) = lines_of (codes "changed") paths
-reply_lines NothingChanged = codes "nothing changed" ++ 10 ∷ []
-reply_lines (Undone paths) = lines_of (codes "undone") paths
-reply_lines (Redone paths) = lines_of (codes "redone") paths
-reply_lines (Log rows) = []
+-- what a reply is printed as; that a session was opened is not told
+abbrev pub IsReplyText : Reply → List ℕ → Type 0
+IsReplyText Opened text = text ≡ []
+IsReplyText (Changed paths) text = text ≡ lines_of (codes "changed") paths
+IsReplyText NothingChanged text = text ≡ codes "nothing changed" ++ 10 ∷ []
+IsReplyText (Undone paths) text = text ≡ lines_of (codes "undone") paths
+IsReplyText (Redone paths) text = text ≡ lines_of (codes "redone") paths
+IsReplyText (Log rows) text = AreRowLines rows text

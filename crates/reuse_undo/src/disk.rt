@@ -2,7 +2,6 @@
 ghost use Rattle.std.specs.Prelude.{◌≡◌};
 ghost use Rattle.reuse_tree.specs.Calls.{Start, failures_of, written_of};
 ghost use Rattle.reuse_tree.specs.Files.{AreFiles};
-ghost use Rattle.reuse_undo.specs.HonestFiles.{honest_are_files};
 ghost use Rattle.reuse_undo.specs.Honesty.{files_of, IsHonest};
 
 mod fault;
@@ -15,6 +14,7 @@ mod place;
 mod tests;
 
 use folder::RootFolder;
+use reuse_tree::laws::files_stay_good;
 use reuse_tree::{CallRecord, PathText, Reading, Store, StoreFault};
 use std::alloc::Global;
 use std::rt::Files;
@@ -27,6 +27,7 @@ use std::rt::Files;
 pub struct DiskStore<R: Files + AllocGlobal + Clone + Drop> {
     folder: RootFolder<R>,
     calls: CallRecord,
+    ghost are_files: { IsHonest calls.start calls.calls → AreFiles (files_of calls.start calls.calls) },
 }
 
 impl<R: Files + AllocGlobal + Clone + Drop> DiskStore<R> {
@@ -76,6 +77,7 @@ impl<R: Files + AllocGlobal + Clone + Drop> Store for DiskStore<R> {
     }
 
     fn put(&mut self, alloc: Global, path: &PathText, bytes: &[u8]) -> Result<(), StoreFault> {
+        files_stay_good();
         let answer = self
             .folder
             .put(alloc, path, bytes)
@@ -85,10 +87,11 @@ impl<R: Files + AllocGlobal + Clone + Drop> Store for DiskStore<R> {
     }
 
     fn remove(&mut self, alloc: Global, path: &PathText) -> Result<(), StoreFault> {
+        files_stay_good();
         let answer = self.folder.remove(alloc, path).map_err(StoreFault::from);
         self.calls.note_remove(path, &answer);
         answer
     }
 
-    ghost are_files = { λ store honest. honest_are_files store.calls.start store.calls.calls honest };
+    ghost are_files = { λ store honest. store.are_files honest };
 }

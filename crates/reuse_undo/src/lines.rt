@@ -1,8 +1,10 @@
 //! The lines that a reply is printed as.
 ghost use Rattle.std.specs.Prelude.{OnOk};
 ghost use Rattle.std.specs.Io.KnownBytes.{Appends};
-ghost use Rattle.reuse_undo.specs.Lines.{line_of, lines_of, reply_lines};
+ghost use Rattle.reuse_undo.specs.Lines.{line_of, lines_of, IsReplyText};
+ghost use Rattle.reuse_undo.specs.RowLines.{AppendsSome};
 
+use crate::rows::print_rows;
 use reuse_session::Reply;
 use reuse_tree::PathText;
 use std::io::{self, Write};
@@ -23,15 +25,16 @@ fn print_paths<W: Write>(out: &mut W, word: &str, paths: &[PathText]) -> io::Res
     Ok(())
 }
 
-/// Prints a reply. The rows of a log are not printed yet.
+/// Prints a reply: a line for each path or row. That a session was opened is not told.
 pub fn print_reply<W: Write>(out: &mut W, reply: &Reply) -> io::Result<()>
-    ensures { OnOk result (Appends (W.contents out.old) (W.contents out.new) (reply_lines reply.now)) }
+    ensures { OnOk result (AppendsSome (W.contents out.old) (W.contents out.new) (IsReplyText reply.now)) }
 {
     match reply {
         Reply::Changed(paths) => print_paths(out, "changed", paths.as_slice()),
         Reply::Undone(paths) => print_paths(out, "undone", paths.as_slice()),
         Reply::Redone(paths) => print_paths(out, "redone", paths.as_slice()),
         Reply::NothingChanged => writeln!(out, "nothing changed"),
-        Reply::Opened | Reply::Log(_) => Ok(()),
+        Reply::Log(rows) => print_rows(out, rows.as_slice()),
+        Reply::Opened => Ok(()),
     }
 }

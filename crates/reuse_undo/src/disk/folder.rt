@@ -1,6 +1,11 @@
 //! A folder of the file system: its regular files by their paths.
-ghost use Rattle.std.specs.Prelude.{◌≡◌, ◌++◌, ◌∷◌, IfOk, IsTrue, string_bytes};
+ghost use Rattle.std.specs.Prelude.{◌≡◌, ◌++◌, ◌∷◌, All, false, IfOk, IsErr, IsTrue, string_bytes};
+ghost use Rattle.std.specs.List.Sorted.{IsSorted};
+ghost use Rattle.std.specs.Ordering.{nat_cmp};
+ghost use Rattle.std.specs.Cmp.Lexicographic.{slice_cmp};
 ghost use Rattle.reuse_tree.specs.Path.{is_path};
+ghost use Rattle.reuse_undo.specs.KeptOut.{is_kept_out};
+ghost use Rattle.reuse_undo.specs.Within.{IsWithin};
 
 use crate::disk::fault::FolderFault;
 use crate::disk::kept_out::{NEW, is_kept_out};
@@ -58,9 +63,11 @@ impl<R: Files + AllocGlobal + Clone + Drop> RootFolder<R> {
         Ok(Place::Nothing)
     }
 
-    /// What stands at the path.
-    fn look(&mut self, full: &FullPath) -> Result<Place, FolderFault> {
-        if is_kept_out(full.path()) {
+    /// What stands at the path, which `full` is below the root.
+    fn look(&mut self, path: &PathText, full: &FullPath) -> Result<Place, FolderFault>
+        ensures { IsTrue (is_kept_out path.now) → result ≡ Ok Place.Other }
+    {
+        if is_kept_out(path.text()) {
             return Ok(Place::Other);
         }
         if self.seen.as_str() != full.folder() {
@@ -80,7 +87,10 @@ impl<R: Files + AllocGlobal + Clone + Drop> RootFolder<R> {
     }
 
     /// The paths of all regular files, in byte order.
-    pub fn list(&mut self, alloc: Global) -> Result<Vec<PathText>, FolderFault> {
+    pub fn list(&mut self, alloc: Global) -> Result<Vec<PathText>, FolderFault>
+        ensures sorted { IfOk result (λ paths. IsSorted (slice_cmp nat_cmp) paths.items) }
+        ensures kept_out { IfOk result (λ paths. All (λ path. is_kept_out path ≡ false) paths.items) }
+    {
         if self.root.is_empty() {
             return Err(FolderFault::Device);
         }
@@ -95,9 +105,12 @@ impl<R: Files + AllocGlobal + Clone + Drop> RootFolder<R> {
         alloc: Global,
         path: &PathText,
         limit: usize,
-    ) -> Result<Reading, FolderFault> {
+    ) -> Result<Reading, FolderFault>
+        ensures within { IfOk result (IsWithin limit) }
+        ensures kept_out { IsTrue (is_kept_out path.now) → IfOk result (λ reading. reading ≡ Reading.Absent) }
+    {
         let full = self.full(alloc, path.text())?;
-        match self.look(&full)? {
+        match self.look(path, &full)? {
             Place::File(metadata) => {
                 read_file(&self.rt, alloc, full.text(), metadata.len(), limit)
             }
@@ -109,10 +122,11 @@ impl<R: Files + AllocGlobal + Clone + Drop> RootFolder<R> {
 
     /// Makes the bytes the file at the path, as a whole or not at all, and folders as needed.
     pub fn put(&mut self, alloc: Global, path: &PathText, bytes: &[u8]) -> Result<(), FolderFault>
-        ensures { IsTrue (is_path path.now) }
+        ensures path { IsTrue (is_path path.now) }
+        ensures kept_out { IsTrue (is_kept_out path.now) → IsErr result }
     {
         let full = self.full(alloc, path.text())?;
-        match self.look(&full)? {
+        match self.look(path, &full)? {
             Place::Nothing => {
                 full.make_folders(&self.rt)?;
                 self.write(alloc, &full, None, bytes)
@@ -156,7 +170,7 @@ impl<R: Files + AllocGlobal + Clone + Drop> RootFolder<R> {
     /// Removes the regular file at the path, if there is one, and no folder.
     pub fn remove(&mut self, alloc: Global, path: &PathText) -> Result<(), FolderFault> {
         let full = self.full(alloc, path.text())?;
-        match self.look(&full)? {
+        match self.look(path, &full)? {
             Place::File(_) => Ok(fs::remove_file(&self.rt, full.text())?),
             Place::Nothing | Place::BelowFile | Place::Folder | Place::Other => Ok(()),
         }
@@ -170,7 +184,9 @@ fn read_file(
     full: &str,
     len: u64,
     limit: usize,
-) -> Result<Reading, FolderFault> {
+) -> Result<Reading, FolderFault>
+    ensures { IfOk result (IsWithin limit) }
+{
     let most = u64::try_from(limit).unwrap_or(u64::MAX).saturating_add(1);
     if len >= most {
         return Ok(Reading::TooLong);

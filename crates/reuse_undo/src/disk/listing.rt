@@ -1,4 +1,10 @@
 //! The files below a folder.
+ghost use Rattle.std.specs.Prelude.{◌≡◌, All, false, IfOk};
+ghost use Rattle.std.specs.List.Sorted.{IsSorted};
+ghost use Rattle.std.specs.Ordering.{nat_cmp};
+ghost use Rattle.std.specs.Cmp.Lexicographic.{slice_cmp};
+ghost use Rattle.reuse_undo.specs.KeptOut.{is_kept_out};
+
 use crate::disk::fault::FolderFault;
 use crate::disk::kept_out::{is_folder_kept_out, is_kept_out};
 use crate::disk::place::FullPath;
@@ -16,9 +22,25 @@ struct Listing {
     names: usize,
     folders: Vec<String>,
     paths: Vec<PathText>,
+    ghost in_tree: { All (λ path. is_kept_out path ≡ false) paths.items },
 }
 
 impl Listing {
+    /// Nothing found, and one folder to look at.
+    fn of(alloc: Global, folder: &str) -> Result<Listing, FolderFault> {
+        let mut folders = Vec::new(alloc);
+        folders.push(String::from_str(alloc, folder)?)?;
+        Ok(Listing {
+            names: 0,
+            folders,
+            paths: Vec::new(alloc),
+        })
+    }
+
+    fn next_folder(&mut self) -> Option<String> {
+        self.folders.pop()
+    }
+
     /// Takes in one name. Links, devices and pipes are left out.
     fn take<R: Files>(
         &mut self,
@@ -57,6 +79,16 @@ impl Listing {
         }
         Ok(())
     }
+
+    /// What was found, in byte order.
+    fn into_paths(self) -> Result<Vec<PathText>, FolderFault>
+        ensures sorted { IfOk result (λ paths. IsSorted (slice_cmp nat_cmp) paths.items) }
+        ensures kept_out { IfOk result (λ paths. All (λ path. is_kept_out path ≡ false) paths.items) }
+    {
+        let mut paths = self.paths;
+        paths.sort()?;
+        Ok(paths)
+    }
 }
 
 /// The paths of the regular files below this folder, which is the root where it is empty, in byte order.
@@ -65,20 +97,15 @@ pub fn list_below<R: Files + AllocGlobal + Clone + Drop>(
     alloc: Global,
     root: &str,
     folder: &str,
-) -> Result<Vec<PathText>, FolderFault> {
-    let mut listing = Listing {
-        names: 0,
-        folders: Vec::new(alloc),
-        paths: Vec::new(alloc),
-    };
-    listing.folders.push(String::from_str(alloc, folder)?)?;
+) -> Result<Vec<PathText>, FolderFault>
+    ensures sorted { IfOk result (λ paths. IsSorted (slice_cmp nat_cmp) paths.items) }
+    ensures kept_out { IfOk result (λ paths. All (λ path. is_kept_out path ≡ false) paths.items) }
+{
+    let mut listing = Listing::of(alloc, folder)?;
     for _ in 0..=MOST_NAMES {
-        match listing.folders.pop() {
+        match listing.next_folder() {
             Some(folder) => listing.take_folder(rt, alloc, root, folder.as_str())?,
-            None => {
-                listing.paths.sort()?;
-                return Ok(listing.paths);
-            }
+            None => return listing.into_paths(),
         }
     }
     Err(FolderFault::Device)

@@ -1,7 +1,10 @@
 //! `DiskStore` on folders that each test makes below the folder for temporary files.
+mod full;
+mod full_journal;
 mod odd;
 
 use crate::disk::DiskStore;
+use full::FullDisk;
 use odd::OddName;
 use reuse_tree::{PathText, Reading, Store, StoreFault};
 use std::alloc::Global;
@@ -190,6 +193,26 @@ fn reads_puts_and_removes(rt: HostRuntime) -> Result<(), Fail> {
 }
 
 #[test]
+fn takes_an_empty_tree(rt: HostRuntime) -> Result<(), Fail> {
+    let scratch = Scratch::new(rt, "empty_tree")?;
+    scratch.ask(
+        "",
+        &[
+            ("list", "", ""),
+            ("read 9", "a", "absent"),
+            ("remove", "a", "done"),
+            ("list", "", ""),
+            ("put x", "a/b", "done"),
+            ("remove", "a/b", "done"),
+            ("list", "", ""),
+            ("put y", "a/b", "done"),
+            ("list", "", "a/b "),
+        ],
+    )?;
+    scratch.remove()
+}
+
+#[test]
 fn clashes_with_files_alone(rt: HostRuntime) -> Result<(), Fail> {
     let scratch = Scratch::new(rt, "clashes")?;
     scratch.make_folders(&[
@@ -301,6 +324,19 @@ fn keeps_permission_bits(rt: HostRuntime) -> Result<(), Fail> {
 }
 
 #[test]
+fn takes_no_bits_of_a_new_file_that_was_left(rt: HostRuntime) -> Result<(), Fail> {
+    let scratch = Scratch::new(rt, "left_over")?;
+    scratch.make_folders(&[".reuse", ".reuse/undo"])?;
+    scratch.write(&["plain", ".reuse/undo/new"])?;
+    scratch.set_mode(".reuse/undo/new", 0o400)?;
+    scratch.ask("", &[("put y", "made", "done"), ("read 9", "made", "y")])?;
+    assert_eq!(scratch.rt; scratch.mode("made")?, scratch.mode("plain")?);
+    let new = scratch.at(".reuse/undo/new")?;
+    assert!(scratch.rt; fs::symlink_metadata(&scratch.rt, new.as_str()).is_err());
+    scratch.remove()
+}
+
+#[test]
 fn fails_where_the_root_is_no_folder(rt: HostRuntime) -> Result<(), Fail> {
     let scratch = Scratch::new(rt, "roots")?;
     scratch.write(&["file"])?;
@@ -337,6 +373,47 @@ fn fails_where_a_folder_is_closed(rt: HostRuntime) -> Result<(), Fail> {
         )?;
     }
     scratch.set_mode("in/closed", 0o755)?;
+    scratch.remove()
+}
+
+#[test]
+fn fails_where_the_root_is_read_only(rt: HostRuntime) -> Result<(), Fail> {
+    let scratch = Scratch::new(rt, "read_only")?;
+    scratch.make_folders(&["in"])?;
+    scratch.write(&["in/a"])?;
+    scratch.set_mode("in", 0o555)?;
+    let file = scratch.at("in/try")?;
+    if fs::write(&scratch.rt, file.as_str(), "x").is_err() {
+        scratch.ask(
+            "in",
+            &[
+                ("list", "", "a "),
+                ("put y", "a", "device fault"),
+                ("put y", "b", "device fault"),
+                ("remove", "a", "device fault"),
+                ("remove", "b", "done"),
+                ("read 9", "a", "x"),
+                ("list", "", "a "),
+            ],
+        )?;
+    }
+    scratch.set_mode("in", 0o755)?;
+    scratch.remove()
+}
+
+#[test]
+fn keeps_the_files_of_a_full_disk(rt: HostRuntime) -> Result<(), Fail> {
+    let scratch = Scratch::new(rt, "full")?;
+    let alloc = scratch.rt.alloc();
+    scratch.write(&["a"])?;
+    let rt = scratch.rt.clone()?;
+    let mut full = DiskStore::at(FullDisk { rt }, scratch.at("")?);
+    for path in ["a", "b/c"] {
+        let found = answer(&mut full, alloc, "put y", path)?;
+        assert_eq!(scratch.rt; found.as_str(), "device fault");
+    }
+    scratch.ask("", &[("list", "", "a "), ("read 9", "a", "x")])?;
+    scratch.ask("", &[("put y", "b/c", "done"), ("list", "", "a b/c ")])?;
     scratch.remove()
 }
 

@@ -1,0 +1,17 @@
+-- Lists of paths none of which is kept out.
+use Rattle.std.proofs.Common.{◌≡◌, All, ℕ, Bool, true, false, if◌then◌else◌, List, [], ◌∷◌, ◌++◌}
+use Rattle.std.specs.List.Sorted.{IsPermutation}
+use Rattle.std.proofs.lemmas.List.Elements.{All-push, All-same}
+use Rattle.std.proofs.lemmas.List.Sorted.{All-permutation}
+use Rattle.reuse_undo.specs.KeptOut.{is_kept_out}
+
+-- a list after a push that may have failed
+pub pushed : (done : Bool) (before after : List (List ℕ)) (path : List ℕ) →
+    All (λ path. is_kept_out path ≡ false) before → is_kept_out path ≡ false → after ≡ (if done then before ++ path ∷ [] else before) →
+    All (λ path. is_kept_out path ≡ false) after
+pushed true before after path kept new same = All-same (λ path. is_kept_out path ≡ false) after (before ++ path ∷ []) same (All-push (λ path. is_kept_out path ≡ false) before path kept new)
+pushed false before after path kept new same = All-same (λ path. is_kept_out path ≡ false) after before same kept
+
+-- a list in another order
+pub in_order : (before after : List (List ℕ)) → IsPermutation before after → All (λ path. is_kept_out path ≡ false) before → All (λ path. is_kept_out path ≡ false) after
+in_order before after = All-permutation (λ path. is_kept_out path ≡ false) before after

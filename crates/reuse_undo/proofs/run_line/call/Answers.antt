@@ -1,0 +1,53 @@
+use Rattle.std.proofs.Common.{◌<◌, inl, IfErr, refl, sym, subst, arith}
+use Rattle.reuse_session.specs.Answer.{HasCause}
+use Rattle.reuse_session.specs.Session.{store_of}
+use Rattle.reuse_undo.specs.RunLine.{Carries}
+use Rattle.reuse_undo.proofs.RunLemmas.{carried, found_again, caused}
+use Rattle.reuse_undo.proofs.run_line.call.Goals as goal
+
+pub returns-in-Ok-clause-carries : goal.returns-in-Ok-clause-carries
+returns-in-Ok-clause-carries g c honest =
+    let files = g.S.Store.files in
+    let before = files c.args.store in
+    let event = c.args.event.now in
+    let answer = c.ask-answer.result in
+    let left = c.ask-answer.new.session in
+    let back = c.into_store.ensures in
+    let is_honest = subst g.S.Store.honest back honest in
+    let was_honest = c.ask-answer.ensures.was_honest is_honest in
+    subst (λ s. Carries before event answer (files s)) (sym back)
+    (carried files before event c.in-Ok.opened answer (files (store_of left)) (c.in-Ok.ensures.opened was_honest) (λ first second doubt. c.in-Ok.ensures.settles first second doubt was_honest)
+    (c.ask-answer.ensures.calls is_honest))
+
+pub returns-in-Ok-clause-clash : goal.returns-in-Ok-clause-clash
+returns-in-Ok-clause-clash g c honest held standing free =
+    let files = g.S.Store.files in
+    let is_honest = subst g.S.Store.honest c.into_store.ensures honest in
+    let was_honest = c.ask-answer.ensures.was_honest is_honest in
+    let found =
+    found_again files (files c.args.store) c.in-Ok.opened held standing (c.in-Ok.ensures.opened was_honest) (λ first second doubt. c.in-Ok.ensures.settles first second doubt was_honest) free in
+    c.ask-answer.ensures.clash is_honest held found.0 found.1
+
+pub returns-in-Ok-clause-fault : goal.returns-in-Ok-clause-fault
+returns-in-Ok-clause-fault g c =
+    let failures = g.S.Store.failures in
+    let opened = failures (store_of c.in-Ok.opened) in
+    let left = failures (store_of c.ask-answer.new.session) in
+    let first = failures c.args.store in
+    subst (λ s. IfErr c.ask-answer.result (HasCause (first < failures s))) (sym c.into_store.ensures)
+    (caused (opened < left) (first < left) (λ rose. omega (arith, rose, c.in-Ok.ensures.failures)) c.ask-answer.result c.ask-answer.ensures.fault)
+
+pub returns-in-Err-clause-carries : goal.returns-in-Err-clause-carries
+returns-in-Err-clause-carries g c honest =
+    inl (
+      c.in-Err.refusal,
+      refl,
+      record {
+        is_of_opening = c.in-Err.ensures.refusal;
+        bad = c.in-Err.ensures.bad honest;
+        moved = c.in-Err.ensures.moved honest;
+        no_clash = c.in-Err.ensures.clash honest;
+        unchanged = c.in-Err.ensures.unchanged honest;
+        settles = λ first second doubt. c.in-Err.ensures.settles first second doubt honest;
+      },
+    )

@@ -1,0 +1,272 @@
+//! The options and subcommands that the command line has, with their help.
+use clap::{Arg, ArgAction, ArgGroup, Command};
+use std::alloc::{AllocError, Global};
+
+const STYLES: &[&str] = &[
+    "python",
+    "c",
+    "css",
+    "html",
+    "haskell",
+    "tex",
+    "lisp",
+    "semicolon",
+    "ml",
+    "vim",
+];
+
+const PREFIXES: &[&str] = &[
+    "spdx",
+    "spdx-c",
+    "spdx-symbol",
+    "spdx-string",
+    "spdx-string-c",
+    "spdx-string-symbol",
+    "string",
+    "string-c",
+    "string-symbol",
+    "symbol",
+];
+
+const ABOUT: &str = "Adds licensing information to the files of a source tree, and takes it back.";
+
+const AFTER: &str = "\
+Each command is one step: undo takes it back and redo makes it again, byte for byte. The steps are kept in
+DIR/.reuse/undo.
+
+Examples:
+  reuse-undo annotate -c \"Jane Doe\" -l MIT -r src
+  reuse-undo undo
+
+Status: 0 on success, 1 where a call was refused, 2 where the words are wrong.";
+
+const AFTER_ANNOTATE: &str = "\
+PATHs are relative to the root. A file that can't hold a comment gets its information in PATH.license. Where one
+file is refused, none is changed.
+
+Example: the licence and this year's copyright for all files beneath src:
+  reuse-undo annotate --copyright \"Jane Doe\" --license MIT --recursive src";
+
+const AFTER_DOWNLOAD: &str = "\
+Nothing is fetched from a network: the text of ID is DIR/ID.txt. DIR is relative to the working folder.
+
+Example:
+  reuse-undo download --texts /usr/share/licenses MIT";
+
+const AFTER_CONVERT: &str = "\
+.reuse/dep5 is removed. A pattern with an unescaped `?` can't be said in REUSE.toml and is refused.
+
+Example:
+  reuse-undo convert-dep5";
+
+const AFTER_UNDO: &str = "\
+It is refused, and changes nothing, where a file of the step isn't as the step left it.
+
+Example:
+  reuse-undo --root ~/demo undo";
+
+const AFTER_REDO: &str = "\
+It is refused, and changes nothing, where a file of the step isn't as it was before the step.
+
+Example:
+  reuse-undo redo";
+
+const AFTER_LOG: &str = "\
+A line is NUMBER DATE COMMAND COUNT STATE: the step's number, its date in UTC, the command, how many paths it
+changed, and `done` or `undone`. The steps done come first, in order; the first one undone is the next that redo makes.
+
+Example:
+  reuse-undo log";
+
+fn repeated<'a>(alloc: Global, id: &'a str, value: &'a str, help: &'a str) -> Arg<'a> {
+    Arg::new(alloc, id)
+        .long(id)
+        .value_name(value)
+        .action(ArgAction::Append)
+        .help(help)
+}
+
+fn flag<'a>(alloc: Global, id: &'a str, help: &'a str) -> Arg<'a> {
+    Arg::new(alloc, id)
+        .long(id)
+        .action(ArgAction::SetTrue)
+        .help(help)
+}
+
+fn named<'a>(alloc: Global, id: &'a str, names: &'a [&'a str], help: &'a str) -> Arg<'a> {
+    Arg::new(alloc, id)
+        .long(id)
+        .value_name("NAME")
+        .action(ArgAction::Set)
+        .value_parser(names)
+        .help(help)
+}
+
+fn listed<'a>(alloc: Global, id: &'a str, help: &'a str) -> Arg<'a> {
+    Arg::new(alloc, id)
+        .required(true)
+        .num_args(1..)
+        .action(ArgAction::Append)
+        .help(help)
+}
+
+fn with_texts<'a>(alloc: Global, command: Command<'a>) -> Result<Command<'a>, AllocError> {
+    let copyright = repeated(
+        alloc,
+        "copyright",
+        "TEXT",
+        "A copyright holder; may be repeated",
+    );
+    let license = repeated(
+        alloc,
+        "license",
+        "EXPR",
+        "An SPDX licence expression; may be repeated",
+    );
+    let contributor = repeated(
+        alloc,
+        "contributor",
+        "TEXT",
+        "A contributor; may be repeated",
+    );
+    let year = repeated(
+        alloc,
+        "year",
+        "YEAR",
+        "The year of the copyright, by default this one; repeated, the ends of a range",
+    );
+    command
+        .arg(copyright.short('c'))?
+        .arg(license.short('l'))?
+        .arg(contributor)?
+        .arg(year.short('y'))?
+        .arg(flag(alloc, "exclude-year", "Write no year"))
+}
+
+fn with_form<'a>(alloc: Global, command: Command<'a>) -> Result<Command<'a>, AllocError> {
+    let style = named(
+        alloc,
+        "style",
+        STYLES,
+        "The comment style of all PATHs, in place of that of their names",
+    );
+    let prefix = named(
+        alloc,
+        "copyright-prefix",
+        PREFIXES,
+        "What a copyright notice begins with, by default spdx",
+    );
+    let form = ArgGroup::new(alloc, "form")
+        .arg("single-line")?
+        .arg("multi-line")?;
+    command
+        .arg(style.short('s'))?
+        .arg(prefix)?
+        .arg(flag(
+            alloc,
+            "merge-copyrights",
+            "Write the notices of one holder as one, with a range of years",
+        ))?
+        .arg(flag(alloc, "single-line", "Write single-line comments"))?
+        .arg(flag(alloc, "multi-line", "Write multi-line comments"))?
+        .arg(flag(
+            alloc,
+            "no-replace",
+            "Put a new header above the one that is there",
+        ))?
+        .group(form)
+}
+
+fn with_scope<'a>(alloc: Global, command: Command<'a>) -> Result<Command<'a>, AllocError> {
+    let unknown = ArgGroup::new(alloc, "unknown")
+        .arg("fallback-dot-license")?
+        .arg("skip-unrecognised")?;
+    command
+        .arg(flag(alloc, "recursive", "Annotate the files beneath folders").short('r'))?
+        .arg(flag(
+            alloc,
+            "force-dot-license",
+            "Write PATH.license, whatever PATH is",
+        ))?
+        .arg(flag(
+            alloc,
+            "fallback-dot-license",
+            "Write PATH.license where the style of PATH is unknown",
+        ))?
+        .arg(flag(
+            alloc,
+            "skip-unrecognised",
+            "Skip a PATH whose style is unknown",
+        ))?
+        .arg(flag(
+            alloc,
+            "skip-existing",
+            "Skip a PATH that has licensing information",
+        ))?
+        .arg(listed(
+            alloc,
+            "PATH",
+            "A file, or with --recursive a folder; `.` is the root",
+        ))?
+        .group(unknown)
+}
+
+fn annotate<'a>(alloc: Global) -> Result<Command<'a>, AllocError> {
+    let command = Command::new(alloc, "annotate")
+        .about("Adds copyright and licensing information to files")
+        .after_help(AFTER_ANNOTATE);
+    let command = with_texts(alloc, command)?;
+    let command = with_form(alloc, command)?;
+    with_scope(alloc, command)
+}
+
+fn download<'a>(alloc: Global) -> Result<Command<'a>, AllocError> {
+    let texts = Arg::new(alloc, "texts")
+        .long("texts")
+        .value_name("DIR")
+        .required(true)
+        .action(ArgAction::Set)
+        .help("The folder of the licence texts");
+    Command::new(alloc, "download")
+        .about("Copies licence texts into LICENSES")
+        .after_help(AFTER_DOWNLOAD)
+        .arg(texts)?
+        .arg(listed(alloc, "ID", "The identifier of a licence"))
+}
+
+fn plain<'a>(alloc: Global, name: &'a str, about: &'a str, after: &'a str) -> Command<'a> {
+    Command::new(alloc, name).about(about).after_help(after)
+}
+
+/// The whole command line.
+pub fn whole<'a>(alloc: Global) -> Result<Command<'a>, AllocError> {
+    let root = Arg::new(alloc, "root")
+        .long("root")
+        .value_name("DIR")
+        .default_value(".")
+        .action(ArgAction::Set)
+        .help("The root of the source tree");
+    Command::new(alloc, "reuse-undo")
+        .bin_name("reuse-undo")?
+        .version("1.0.0")
+        .about(ABOUT)
+        .after_help(AFTER)
+        .subcommand_required(true)
+        .arg(root)?
+        .subcommand(annotate(alloc)?)?
+        .subcommand(plain(
+            alloc,
+            "convert-dep5",
+            "Puts a REUSE.toml in the place of .reuse/dep5",
+            AFTER_CONVERT,
+        ))?
+        .subcommand(download(alloc)?)?
+        .subcommand(plain(alloc, "undo", "Takes the last step back", AFTER_UNDO))?
+        .subcommand(plain(
+            alloc,
+            "redo",
+            "Makes the step again that was undone last",
+            AFTER_REDO,
+        ))?
+        .subcommand(plain(alloc, "log", "Lists the steps", AFTER_LOG))
+}

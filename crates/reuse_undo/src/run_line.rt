@@ -1,0 +1,120 @@
+//! Carries a line out on a store.
+ghost use Rattle.std.specs.Prelude.{◌≡◌, ◌≤◌, ◌<◌, IfErr, OnOk};
+ghost use Rattle.reuse_session.specs.Answer.{HasCause, IsNoClash};
+ghost use Rattle.reuse_session.specs.Journal.{State};
+ghost use Rattle.reuse_session.specs.JournalFiles.{IsFree};
+ghost use Rattle.reuse_session.specs.Machine.{Snapshots};
+ghost use Rattle.reuse_session.specs.Session.{store_of, StandsOn};
+ghost use Rattle.reuse_session.specs.Standing.{IsStanding};
+ghost use Rattle.reuse_session.specs.Stops.{HoldState};
+ghost use Rattle.reuse_session.specs.Tree.{undo_folder_of};
+ghost use Rattle.reuse_undo.specs.Lines.{IsReplyText};
+ghost use Rattle.reuse_undo.specs.RowLines.{AppendsSome};
+ghost use Rattle.reuse_undo.specs.WriterFaults.{IsOfWriter};
+ghost use Rattle.reuse_undo.specs.RunLine.{asked, Calls, Carries, Steps, Tells, IfRefused};
+
+use crate::fault::Fault;
+use crate::line::{Action, Line};
+use crate::lines::print_reply;
+use reuse_session::{Answer, Command, Event, LicenceTexts, Reply, Session};
+use reuse_tree::Store;
+use std::alloc::Global;
+use std::io::Write;
+
+/// Opens a session on the store, makes the one call that the line asks for, and writes the lines of its reply. The texts are
+/// those that were found for a download. The store is given back; where the reply can't be written, what the call changed
+/// stands.
+pub fn run_line<S: Store + Drop, W: Write>(
+    alloc: Global,
+    line: Line,
+    store: S,
+    texts: LicenceTexts,
+    out: &mut W,
+) -> (S, Result<(), Fault>)
+    // From any files, where the store is honest: what is told is the session's answer to the line, and the files are as it left them.
+    ensures exact { S.honest result.0
+        → Tells (λ answer. Carries (S.files store) (asked line texts) answer (S.files result.0)) (W.contents out.old) (W.contents out.new) result.1 }
+    // From any state that the files hold it is that of the machine that keeps whole copies.
+    ensures machine { S.honest result.0 → (state : Snapshots) → HoldState (S.files store) state
+        → Tells (λ answer. Steps state (asked line texts) answer (S.files result.0)) (W.contents out.old) (W.contents out.new) result.1 }
+    // A fault has its cause; where nothing is pending, a clash is told only where a path of a file of the journal is a folder.
+    ensures fault { IfRefused result.1 (HasCause (S.failures store < S.failures result.0)) }
+    ensures clash { S.honest result.0 → (held : State) → IsStanding (S.files store) held → IsFree (undo_folder_of (S.files store)) → IfRefused result.1 IsNoClash }
+    ensures failures { S.failures store ≤ S.failures result.0 }
+    ensures was_honest { S.honest result.0 → S.honest store }
+{
+    let event = event_of(line, texts);
+    let (store, answer) = call(alloc, store, &event);
+    match answer {
+        Ok(reply) => (store, print(out, &reply)),
+        Err(refusal) => (store, Err(Fault::Refused(refusal))),
+    }
+}
+
+// Opens a session on the store, and makes the call.
+fn call<S: Store + Drop>(alloc: Global, store: S, event: &Event) -> (S, Answer)
+    ensures carries { S.honest result.0 → Carries (S.files store) event.now result.1 (S.files result.0) }
+    ensures fault { IfErr result.1 (HasCause (S.failures store < S.failures result.0)) }
+    ensures clash { S.honest result.0 → (held : State) → IsStanding (S.files store) held → IsFree (undo_folder_of (S.files store)) → IfErr result.1 IsNoClash }
+    ensures failures { S.failures store ≤ S.failures result.0 }
+    ensures was_honest { S.honest result.0 → S.honest store }
+{
+    match Session::open(alloc, store) {
+        Ok(opened) => {
+            let mut session = opened;
+            let answer = ask(alloc, &mut session, event);
+            (session.into_store(), answer)
+        }
+        Err((refusal, store)) => (store, Err(refusal)),
+    }
+}
+
+// Makes the call. A session that is asked to be opened is open.
+fn ask<S: Store + Drop>(alloc: Global, session: &mut Session<S>, event: &Event) -> Answer
+    ensures calls { S.honest (store_of session.new) → (held : State) → StandsOn S.files session.old held → Calls event.now held result (S.files (store_of session.new)) }
+    ensures fault { IfErr result (HasCause (S.failures (store_of session.old) < S.failures (store_of session.new))) }
+    ensures clash { S.honest (store_of session.new) → (held : State) → StandsOn S.files session.old held
+        → IsFree (undo_folder_of (S.files (store_of session.old))) → IfErr result IsNoClash }
+    ensures failures { S.failures (store_of session.old) ≤ S.failures (store_of session.new) }
+    ensures was_honest { S.honest (store_of session.new) → S.honest (store_of session.old) }
+{
+    match event {
+        Event::Run(command, when) => session.run(alloc, command, *when),
+        Event::Undo => session.undo(alloc),
+        Event::Redo => session.redo(alloc),
+        Event::Log => match session.log(alloc) {
+            Ok(rows) => Ok(Reply::Log(rows)),
+            Err(refusal) => Err(refusal),
+        },
+        Event::Reopen => Ok(Reply::Opened),
+    }
+}
+
+// What the line asks the session for.
+fn event_of(line: Line, texts: LicenceTexts) -> Event
+    ensures { result ≡ asked line texts }
+{
+    let Line {
+        root: _,
+        action,
+        moment,
+    } = line;
+    match action {
+        Action::Annotate(command) => Event::Run(command, moment),
+        Action::ConvertDep5 => Event::Run(Command::ConvertDep5, moment),
+        Action::Download { folder: _, ids } => Event::Run(Command::Download { ids, texts }, moment),
+        Action::Undo => Event::Undo,
+        Action::Redo => Event::Redo,
+        Action::Log => Event::Log,
+    }
+}
+
+fn print<W: Write>(out: &mut W, reply: &Reply) -> Result<(), Fault>
+    ensures ok { OnOk result (AppendsSome (W.contents out.old) (W.contents out.new) (IsReplyText reply.now)) }
+    ensures fault { IfErr result IsOfWriter }
+{
+    match print_reply(out, reply) {
+        Ok(()) => Ok(()),
+        Err(error) => Err(Fault::from(error)),
+    }
+}

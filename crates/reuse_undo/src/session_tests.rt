@@ -1,0 +1,11 @@
+//! Sessions with worked values, by the public calls of `reuse_session` alone.
+mod downloads_and_conversions;
+mod growths;
+mod headers;
+mod histories;
+mod journal_texts;
+mod journals;
+mod places;
+mod scarce_memory;
+mod stops;
+pub mod trees;

@@ -1,0 +1,163 @@
+// Texts of the journal, with worked values.
+use crate::session_tests::trees::FIRST;
+use reuse_session::journal::laws::{written_entries_are_good, written_heads_are_good};
+use reuse_session::{
+    Changes, CommandName, DecodeFault, Entry, EntryNumbers, Head, Moment, Pending, PendingWay,
+    decode_entry, decode_head, encode_entry, encode_head,
+};
+use reuse_text::Bytes;
+use reuse_tree::{Change, PathText};
+use std::alloc::{AllocError, Global};
+use std::test::Fail;
+
+const NEW: &[u8] =
+    b"# SPDX-FileCopyrightText: 2024 Jane Doe\n#\n# SPDX-License-Identifier: MIT\n\n";
+
+fn head_text(
+    alloc: Global,
+    done: &[u32],
+    next: u32,
+    pending: Option<Pending>,
+) -> Result<Vec<u8>, AllocError> {
+    let head = Head {
+        done: EntryNumbers::new(Vec::from_slice(alloc, done)?),
+        undone: EntryNumbers::new(Vec::new(alloc)),
+        next,
+        pending,
+    };
+    encode_head(alloc, &head)
+}
+
+#[test]
+fn heads_are_written(rt: HostRuntime) -> Result<(), Fail> {
+    let alloc = rt.alloc();
+    let text = head_text(alloc, &[], 1, None)?;
+    let empty = b"{\"done\":[],\"format\":1,\"next\":1,\"pending\":null,\"undone\":[]}";
+    assert_eq!(rt; text.as_slice(), empty.as_slice());
+    let pending = Pending {
+        entry: 1,
+        way: PendingWay::Do,
+    };
+    let text = head_text(alloc, &[], 1, Some(pending))?;
+    let first =
+        b"{\"done\":[],\"format\":1,\"next\":1,\"pending\":{\"entry\":1,\"way\":\"do\"},\"undone\":[]}";
+    assert_eq!(rt; text.as_slice(), first.as_slice());
+    let text = head_text(alloc, &[1, 3], 4, None)?;
+    let later = b"{\"done\":[1,3],\"format\":1,\"next\":4,\"pending\":null,\"undone\":[]}";
+    assert_eq!(rt; text.as_slice(), later.as_slice());
+    written_heads_are_good();
+    written_entries_are_good();
+    Ok(())
+}
+
+#[test]
+fn heads_are_read(rt: HostRuntime) -> Result<(), Fail> {
+    let alloc = rt.alloc();
+    let text =
+        b" {\"undone\":[2], \"pending\": {\"way\":\"undo\",\"entry\":1},\"next\":3,\"format\":1,\"done\":[1]}";
+    let found = decode_head(alloc, text)?;
+    assert_eq!(rt; found.done.as_slice(), [1].as_slice());
+    assert_eq!(rt; found.undone.as_slice(), [2].as_slice());
+    assert_eq!(rt; found.next, 3);
+    let pending = Pending {
+        entry: 1,
+        way: PendingWay::Undo,
+    };
+    assert_eq!(rt; found.pending, Some(pending));
+    Ok(())
+}
+
+#[test]
+fn bad_heads_are_refused(rt: HostRuntime) {
+    let alloc = rt.alloc();
+    for text in [
+        "{\"done\":[1]",
+        "{\"done\":[1],\"format\":1,\"next\":2,\"pending\":{\"entry\":2,\"way\":\"undo\"},\"undone\":[]}",
+        "{\"done\":[1,1],\"format\":1,\"next\":2,\"pending\":null,\"undone\":[]}",
+        "{\"done\":[2],\"format\":1,\"next\":2,\"pending\":null,\"undone\":[]}",
+        "{\"done\":[1.0],\"format\":1,\"next\":2,\"pending\":null,\"undone\":[]}",
+        "{\"done\":[1],\"format\":2,\"next\":2,\"pending\":null,\"undone\":[]}",
+        "{\"done\":[],\"format\":1,\"next\":1000001,\"pending\":null,\"undone\":[]}",
+        "{\"done\":[],\"format\":1,\"more\":0,\"next\":1,\"pending\":null,\"undone\":[]}",
+    ] {
+        let found = decode_head(alloc, text.as_bytes());
+        assert!(rt; matches!(found, Err(DecodeFault::NotGood)), "{text}");
+    }
+}
+
+#[test]
+fn an_entry_is_written_and_read(rt: HostRuntime) -> Result<(), Fail> {
+    let alloc = rt.alloc();
+    let change = Change::Splice {
+        path: PathText::new(alloc, "a.py")?,
+        at: 0,
+        old: Bytes::new(alloc),
+        new: Bytes::from_slice(alloc, NEW)?,
+        rest: 9,
+    };
+    let entry = Entry {
+        changes: Changes::new(vec![in alloc; change]?),
+        command: CommandName::Annotate,
+        when: Moment::new(1_704_067_200).ok_or("moment")?,
+    };
+    let text = encode_entry(alloc, &entry)?;
+    assert_eq!(rt; text.as_slice(), FIRST.as_bytes());
+    let again = encode_entry(alloc, &decode_entry(alloc, text.as_slice())?)?;
+    assert_eq!(rt; again.as_slice(), FIRST.as_bytes());
+    Ok(())
+}
+
+#[test]
+fn other_spellings_are_read(rt: HostRuntime) -> Result<(), Fail> {
+    let alloc = rt.alloc();
+    let text =
+        b"{ \"when\":0,\"format\":1,\"command\":\"download\",\"changes\":[{\"path\":\"a\\u002fb\",\"new\":\"6A6b\",\"kind\":\"make\",\"kind\":\"make\"}]}";
+    let again = encode_entry(alloc, &decode_entry(alloc, text)?)?;
+    let plain =
+        b"{\"changes\":[{\"kind\":\"make\",\"new\":\"6a6b\",\"path\":\"a/b\"}],\"command\":\"download\",\"format\":1,\"when\":0}";
+    assert_eq!(rt; again.as_slice(), plain.as_slice());
+    Ok(())
+}
+
+fn refuses(alloc: Global, changes: &str) -> Result<bool, AllocError> {
+    let text = format!(in alloc;
+        "{{\"changes\":[{changes}],\"command\":\"annotate\",\"format\":1,\"when\":0}}"
+    )?;
+    let found = decode_entry(alloc, text.as_bytes());
+    Ok(matches!(found, Err(DecodeFault::NotGood)))
+}
+
+#[test]
+fn bad_entries_are_refused(rt: HostRuntime) -> Result<(), Fail> {
+    let alloc = rt.alloc();
+    for changes in [
+        "",
+        "{\"at\":18446744073709551615,\"kind\":\"splice\",\"new\":\"61\",\"old\":\"\",\"path\":\"a\",\"rest\":9}",
+        "{\"at\":0,\"kind\":\"splice\",\"new\":\"61\",\"old\":\"61\",\"path\":\"a\",\"rest\":9}",
+        "{\"at\":0,\"kind\":\"splice\",\"new\":\"61\",\"old\":\"\",\"path\":\"a\",\"rest\":16777216}",
+        "{\"kind\":\"make\",\"new\":\"61\",\"path\":\".reuse/undo/x\"}",
+        "{\"kind\":\"make\",\"new\":\"61\",\"path\":\"a/../b\"}",
+        "{\"kind\":\"make\",\"new\":\"6\",\"path\":\"a\"}",
+        "{\"kind\":\"drop\",\"new\":\"61\",\"path\":\"a\"}",
+        "{\"kind\":\"make\",\"new\":\"\",\"path\":\"b\"},{\"kind\":\"make\",\"new\":\"\",\"path\":\"a\"}",
+        "{\"kind\":\"make\",\"new\":\"\",\"path\":\"a\"},{\"kind\":\"make\",\"new\":\"\",\"path\":\"a-\"},{\"kind\":\"make\",\"new\":\"\",\"path\":\"a/b\"}",
+    ] {
+        assert!(rt; refuses(alloc, changes)?, "{changes}");
+    }
+    assert!(rt;
+        !refuses(
+            alloc,
+            "{\"kind\":\"make\",\"new\":\"\",\"path\":\"a\"},{\"kind\":\"drop\",\"old\":\"\",\"path\":\"a-/b\"},{\"kind\":\"make\",\"new\":\"\",\"path\":\"ab\"}"
+        )?
+    );
+    for (from, to) in [
+        ("\"at\":0", "\"at\":18446744073709551615"),
+        ("\"rest\":9", "\"rest\":16777200"),
+        ("a.py", ".reuse/undo/x"),
+    ] {
+        let text = FIRST.replace(alloc, from, to)?;
+        let found = decode_entry(alloc, text.as_bytes());
+        assert!(rt; matches!(found, Err(DecodeFault::NotGood)), "{to}");
+    }
+    Ok(())
+}

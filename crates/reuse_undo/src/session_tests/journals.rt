@@ -1,0 +1,238 @@
+// Journals in files: what a session writes, and what it makes of what is there.
+use crate::session_tests::trees::{
+    ANNOTATED, ENTRY, FIRST, HEAD, PLAIN, copy, dump, holds, lacks, path, play, signing, tree,
+};
+use reuse_session::{Event, drive};
+use reuse_tree::{FuseStore, MemoryStore, Store};
+use std::alloc::Global;
+use std::process::Abort;
+use std::test::Fail;
+
+const DONE: &[u8] = b"{\"done\":[1],\"format\":1,\"next\":2,\"pending\":null,\"undone\":[]}";
+
+const DONE_REVERSED: &[u8] =
+    b"{ \"undone\": [ ], \"pending\": null, \"next\": 2, \"format\": 1, \"done\": [ 1 ] }";
+
+const PENDING: &[u8] =
+    b"{\"done\":[],\"format\":1,\"next\":1,\"pending\":{\"entry\":1,\"way\":\"do\"},\"undone\":[]}";
+
+const PENDING_ANOTHER: &[u8] =
+    b"{\"done\":[1],\"format\":1,\"next\":2,\"pending\":{\"entry\":2,\"way\":\"undo\"},\"undone\":[]}";
+
+const USED_UP: &[u8] =
+    b"{\"done\":[],\"format\":1,\"next\":1000000,\"pending\":null,\"undone\":[]}";
+
+const FIRST_AND_THIRD: &[u8] =
+    b"{\"done\":[1,3],\"format\":1,\"next\":4,\"pending\":null,\"undone\":[]}";
+
+// A store of one annotated file, with its journal.
+fn signed(alloc: Global) -> Result<MemoryStore, Fail> {
+    let start = tree(alloc, &[("a.py", PLAIN)])?;
+    let (store, _) = play(alloc, start, &[signing(alloc, &["a.py"])?])?;
+    Ok(store)
+}
+
+#[test]
+fn a_run_writes_an_entry_and_a_head(rt: HostRuntime) -> Result<(), Fail> {
+    let alloc = rt.alloc();
+    let mut store = signed(alloc)?;
+    assert!(rt; holds(alloc, &mut store, "a.py", ANNOTATED)?);
+    assert!(rt; holds(alloc, &mut store, ENTRY, FIRST.as_bytes())?);
+    assert!(rt; holds(alloc, &mut store, HEAD, DONE)?);
+    assert_eq!(rt; store.list(alloc)?.len(), 3);
+    Ok(())
+}
+
+// Which file a run on one file put last.
+fn progress(alloc: Global, store: &mut MemoryStore) -> Result<&'static str, Fail> {
+    let entry = holds(alloc, store, ENTRY, FIRST.as_bytes())?;
+    let pending = holds(alloc, store, HEAD, PENDING)?;
+    let file = holds(alloc, store, "a.py", ANNOTATED)?;
+    let done = holds(alloc, store, HEAD, DONE)?;
+    match (entry, pending, file, done) {
+        (false, false, false, false) => Ok("start "),
+        (true, false, false, false) => Ok("entry "),
+        (true, true, false, false) => Ok("pending "),
+        (true, true, true, false) => Ok("file "),
+        (true, false, true, true) => Ok("done "),
+        _ => Ok("another "),
+    }
+}
+
+#[test]
+fn a_run_puts_its_files_in_order(rt: HostRuntime) -> Result<(), Fail> {
+    let alloc = rt.alloc();
+    let run = [signing(alloc, &["a.py"])?];
+    let mut seen = String::new(alloc);
+    let mut last = "";
+    for left in 0..30 {
+        let fuse = FuseStore::new(tree(alloc, &[("a.py", PLAIN)])?, left, false);
+        let (fuse, _) = drive(alloc, fuse, &run);
+        let now = progress(alloc, &mut fuse.into_inner())?;
+        if now != last {
+            seen.push_str(now)?;
+            last = now;
+        }
+    }
+    assert_eq!(rt; seen.as_str(), "start entry pending file done ");
+    Ok(())
+}
+
+#[test]
+fn a_moved_file_is_not_undone(rt: HostRuntime) -> Result<(), Fail> {
+    let alloc = rt.alloc();
+    let mut store = signed(alloc)?;
+    let longer =
+        b"# SPDX-FileCopyrightText: 2024 Jane Doe\n#\n# SPDX-License-Identifier: MIT\n\nprint(1)\n\n";
+    store.put(alloc, &path(alloc, "a.py")?, longer)?;
+    let (mut store, lines) = play(alloc, store, &[Event::Undo, Event::Log])?;
+    assert_eq!(rt; lines.as_str(), "opened\na.py: moved\nlog 1 done\n");
+    assert!(rt; holds(alloc, &mut store, "a.py", longer)?);
+    assert!(rt; holds(alloc, &mut store, ENTRY, FIRST.as_bytes())?);
+    assert!(rt; holds(alloc, &mut store, HEAD, DONE)?);
+    store.put(alloc, &path(alloc, "a.py")?, ANNOTATED)?;
+    let (mut store, lines) = play(alloc, store, &[Event::Undo])?;
+    assert_eq!(rt; lines.as_str(), "opened\nundone a.py\n");
+    assert!(rt; holds(alloc, &mut store, "a.py", PLAIN)?);
+    Ok(())
+}
+
+#[test]
+fn bytes_beside_a_header_may_change(rt: HostRuntime) -> Result<(), Fail> {
+    let alloc = rt.alloc();
+    let mut store = signed(alloc)?;
+    let another =
+        b"# SPDX-FileCopyrightText: 2024 Jane Doe\n#\n# SPDX-License-Identifier: MIT\n\nprint(2)\n";
+    store.put(alloc, &path(alloc, "a.py")?, another)?;
+    let (mut store, lines) = play(alloc, store, &[Event::Undo])?;
+    assert_eq!(rt; lines.as_str(), "opened\nundone a.py\n");
+    assert!(rt; holds(alloc, &mut store, "a.py", b"print(2)\n")?);
+    Ok(())
+}
+
+#[test]
+fn numbers_are_given_out_once(rt: HostRuntime) -> Result<(), Fail> {
+    let alloc = rt.alloc();
+    let start = tree(alloc, &[("a.py", PLAIN), ("b.py", PLAIN), ("c.py", PLAIN)])?;
+    let events = [
+        signing(alloc, &["a.py"])?,
+        signing(alloc, &["b.py"])?,
+        Event::Undo,
+        signing(alloc, &["c.py"])?,
+        Event::Log,
+    ];
+    let (mut store, lines) = play(alloc, start, &events)?;
+    assert_eq!(rt;
+        lines.as_str(),
+        "opened\nchanged a.py\nchanged b.py\nundone b.py\nchanged c.py\nlog 1 done 3 done\n"
+    );
+    assert!(rt; holds(alloc, &mut store, HEAD, FIRST_AND_THIRD)?);
+    Ok(())
+}
+
+#[test]
+fn a_command_without_changes_keeps_the_redo_list(rt: HostRuntime) -> Result<(), Fail> {
+    let alloc = rt.alloc();
+    let start = tree(alloc, &[("a.py", PLAIN), ("b.py", PLAIN)])?;
+    let events = [
+        signing(alloc, &["a.py"])?,
+        signing(alloc, &["b.py"])?,
+        Event::Undo,
+        signing(alloc, &["a.py"])?,
+        Event::Redo,
+    ];
+    let (_, lines) = play(alloc, start, &events)?;
+    assert_eq!(rt;
+        lines.as_str(),
+        "opened\nchanged a.py\nchanged b.py\nundone b.py\nnothing changed\nredone b.py\n"
+    );
+    Ok(())
+}
+
+// Opens a session on these files, and tells its answer. They stay.
+fn refuses(
+    rt: &impl Abort,
+    alloc: Global,
+    files: &[(&str, &[u8])],
+    line: &str,
+) -> Result<(), Fail> {
+    let mut start = tree(alloc, files)?;
+    let (mut store, lines) = play(alloc, copy(alloc, &mut start)?, &[])?;
+    assert_eq!(rt; lines.as_str(), line);
+    assert!(rt; dump(alloc, &mut store)? == dump(alloc, &mut start)?);
+    Ok(())
+}
+
+#[test]
+fn bad_journals_are_refused(rt: HostRuntime) -> Result<(), Fail> {
+    let alloc = rt.alloc();
+    let file = ("a.py", ANNOTATED);
+    let first = (ENTRY, FIRST.as_bytes());
+    let bad_head = ".reuse/undo/head.json: bad journal\n";
+    let bad_entry = ".reuse/undo/000001.json: bad journal\n";
+    refuses(&rt, alloc, &[file, (HEAD, b"{\"done\":[1]")], bad_head)?;
+    refuses(
+        &rt,
+        alloc,
+        &[file, (HEAD, PENDING_ANOTHER), first],
+        bad_head,
+    )?;
+    refuses(&rt, alloc, &[file, (HEAD, DONE)], bad_entry)?;
+    let line = ".reuse: bad journal\n";
+    refuses(&rt, alloc, &[file, (".reuse", b"")], line)?;
+    let line = ".reuse/undo: bad journal\n";
+    refuses(&rt, alloc, &[file, (".reuse/undo", b"")], line)?;
+    let moved = ("a.py", b"x\n".as_slice());
+    let line = "a.py: moved\n";
+    refuses(&rt, alloc, &[moved, (HEAD, PENDING), first], line)
+}
+
+#[test]
+fn bad_entries_are_refused(rt: HostRuntime) -> Result<(), Fail> {
+    let alloc = rt.alloc();
+    for (from, to) in [
+        ("\"at\":0", "\"at\":18446744073709551615"),
+        ("\"rest\":9", "\"rest\":16777200"),
+        ("a.py", ".reuse/undo/x"),
+    ] {
+        let entry = FIRST.replace(alloc, from, to)?;
+        let entry = (ENTRY, entry.as_bytes());
+        let line = ".reuse/undo/000001.json: bad journal\n";
+        refuses(
+            &rt,
+            alloc,
+            &[("a.py", ANNOTATED), (HEAD, DONE), entry],
+            line,
+        )?;
+    }
+    Ok(())
+}
+
+#[test]
+fn a_head_may_be_spelled_another_way(rt: HostRuntime) -> Result<(), Fail> {
+    let alloc = rt.alloc();
+    let start = tree(
+        alloc,
+        &[
+            ("a.py", ANNOTATED),
+            (HEAD, DONE_REVERSED),
+            (ENTRY, FIRST.as_bytes()),
+        ],
+    )?;
+    let (mut store, lines) = play(alloc, start, &[Event::Undo])?;
+    assert_eq!(rt; lines.as_str(), "opened\nundone a.py\n");
+    assert!(rt; holds(alloc, &mut store, "a.py", PLAIN)?);
+    Ok(())
+}
+
+#[test]
+fn numbers_are_used_up(rt: HostRuntime) -> Result<(), Fail> {
+    let alloc = rt.alloc();
+    let start = tree(alloc, &[("a.py", PLAIN), (HEAD, USED_UP)])?;
+    let events = [signing(alloc, &["a.py"])?, Event::Undo];
+    let (mut store, lines) = play(alloc, start, &events)?;
+    assert_eq!(rt; lines.as_str(), "opened\njournal full\nnothing to undo\n");
+    assert!(rt; holds(alloc, &mut store, "a.py", PLAIN)?);
+    assert!(rt; lacks(alloc, &mut store, ENTRY)?);
+    Ok(())
+}

@@ -1,0 +1,243 @@
+// What the tests of sessions share: small trees, commands on them, and answers as lines of text.
+use reuse_header::How;
+use reuse_notice::{Additions, Prefix};
+use reuse_session::{
+    Answer, Command, Event, Moment, Paths, Place, Places, Reply, Scope, Unknown, drive,
+};
+use reuse_tree::{MemoryStore, PathText, Reading, Store};
+use std::alloc::Global;
+use std::process::Abort;
+use std::test::Fail;
+
+pub const PLAIN: &[u8] = b"print(1)\n";
+
+pub const ANNOTATED: &[u8] =
+    b"# SPDX-FileCopyrightText: 2024 Jane Doe\n#\n# SPDX-License-Identifier: MIT\n\nprint(1)\n";
+
+pub const HEAD: &str = ".reuse/undo/head.json";
+
+pub const ENTRY: &str = ".reuse/undo/000001.json";
+
+/// The first entry, where it is an annotation of `a.py` at that moment.
+pub const FIRST: &str =
+    "{\"changes\":[{\"at\":0,\"kind\":\"splice\",\"new\":\"2320535044582d46696c65436f70797269676874546578743a2032303234204a616e6520446f650a230a2320535044582d4c6963656e73652d4964656e7469666965723a204d49540a0a\",\"old\":\"\",\"path\":\"a.py\",\"rest\":9}],\"command\":\"annotate\",\"format\":1,\"when\":1704067200}";
+
+const LONGEST_FILE: usize = 16_777_216;
+
+pub fn moment() -> Result<Moment, Fail> {
+    Ok(Moment::new(1_704_067_200).ok_or("moment")?)
+}
+
+pub fn path(alloc: Global, text: &str) -> Result<PathText, Fail> {
+    Ok(PathText::new(alloc, text)?)
+}
+
+/// A store of these files.
+pub fn tree(alloc: Global, files: &[(&str, &[u8])]) -> Result<MemoryStore, Fail> {
+    let mut store = MemoryStore::new();
+    for (name, bytes) in files {
+        store.put(alloc, &path(alloc, name)?, bytes)?;
+    }
+    Ok(store)
+}
+
+/// Whether the path has a file of these bytes.
+pub fn holds<S: Store>(
+    alloc: Global,
+    store: &mut S,
+    name: &str,
+    bytes: &[u8],
+) -> Result<bool, Fail> {
+    match store.read(alloc, &path(alloc, name)?, LONGEST_FILE)? {
+        Reading::Found(found) => Ok(found.as_slice() == bytes),
+        _ => Ok(false),
+    }
+}
+
+/// Whether the path has no file.
+pub fn lacks<S: Store>(alloc: Global, store: &mut S, name: &str) -> Result<bool, Fail> {
+    Ok(matches!(
+        store.read(alloc, &path(alloc, name)?, LONGEST_FILE)?,
+        Reading::Absent
+    ))
+}
+
+/// Whether the store has these files, and no others but those of the journal.
+pub fn has_just(
+    alloc: Global,
+    store: &mut MemoryStore,
+    files: &[(&str, &[u8])],
+) -> Result<bool, Fail> {
+    for (name, bytes) in files {
+        if !holds(alloc, store, name, bytes)? {
+            return Ok(false);
+        }
+    }
+    let paths = store.list(alloc)?;
+    let count = paths.iter().filter(|path| !path.is_in_journal()).count();
+    Ok(count == files.len())
+}
+
+/// Another store of the same files.
+pub fn copy(alloc: Global, store: &mut MemoryStore) -> Result<MemoryStore, Fail> {
+    let mut other = MemoryStore::new();
+    for path in &store.list(alloc)? {
+        if let Reading::Found(bytes) = store.read(alloc, path, LONGEST_FILE)? {
+            other.put(alloc, path, bytes.as_slice())?;
+        }
+    }
+    Ok(other)
+}
+
+/// All paths and files, one after the other.
+pub fn dump(alloc: Global, store: &mut MemoryStore) -> Result<Vec<u8>, Fail> {
+    let mut all = Vec::new(alloc);
+    for path in &store.list(alloc)? {
+        all.extend_from_slice(path.as_bytes())?;
+        all.push(0)?;
+        if let Reading::Found(bytes) = store.read(alloc, path, LONGEST_FILE)? {
+            all.extend_from_slice(bytes.as_slice())?;
+        }
+        all.push(0)?;
+    }
+    Ok(all)
+}
+
+/// Each answer as a line: of a session that is opened on the store, and of the events.
+pub fn play<S: Store + Drop>(
+    alloc: Global,
+    store: S,
+    events: &[Event],
+) -> Result<(S, String), Fail> {
+    let (store, answers) = drive(alloc, store, events);
+    let mut lines = String::new(alloc);
+    for answer in &answers {
+        push_answer(alloc, &mut lines, answer)?;
+        lines.push_str("\n")?;
+    }
+    Ok((store, lines))
+}
+
+/// The same where one command is run.
+pub fn play_one(
+    alloc: Global,
+    store: MemoryStore,
+    command: Command,
+) -> Result<(MemoryStore, String), Fail> {
+    play(alloc, store, &[Event::Run(command, moment()?)])
+}
+
+/// Writes an answer as one line, without its end.
+pub fn push_answer(alloc: Global, lines: &mut String, answer: &Answer) -> Result<(), Fail> {
+    match answer {
+        Ok(Reply::Opened) => lines.push_str("opened")?,
+        Ok(Reply::NothingChanged) => lines.push_str("nothing changed")?,
+        Ok(Reply::Changed(paths)) => push_paths(lines, "changed", paths)?,
+        Ok(Reply::Undone(paths)) => push_paths(lines, "undone", paths)?,
+        Ok(Reply::Redone(paths)) => push_paths(lines, "redone", paths)?,
+        Ok(Reply::Log(rows)) => {
+            lines.push_str("log")?;
+            for row in rows.as_slice() {
+                let word = if row.done { "done" } else { "undone" };
+                lines.push_str(format!(in alloc; " {} {word}", row.number)?.as_str())?;
+            }
+        }
+        Err(refusal) => lines.push_str(format!(in alloc; "{refusal}")?.as_str())?,
+    }
+    Ok(())
+}
+
+fn push_paths(lines: &mut String, word: &str, paths: &Paths) -> Result<(), Fail> {
+    lines.push_str(word)?;
+    for path in paths.as_slice() {
+        lines.push_str(" ")?;
+        lines.push_str(path.text())?;
+    }
+    Ok(())
+}
+
+/// A command that adds notices of 2024 and licences to the files of these paths.
+pub fn annotate(
+    alloc: Global,
+    paths: &[&str],
+    holders: &[&str],
+    licences: &[&str],
+    how: How,
+    scope: Scope,
+) -> Result<Command, Fail> {
+    let mut places = Vec::new(alloc);
+    for name in paths {
+        places.push(Place::Path(path(alloc, name)?))?;
+    }
+    let additions = Additions::new(
+        alloc,
+        holders,
+        licences,
+        &[],
+        &["2024"],
+        false,
+        2024,
+        Prefix::Spdx,
+    )?;
+    Ok(Command::Annotate {
+        places: Places::new(places),
+        additions,
+        how,
+        scope,
+    })
+}
+
+pub fn plain_how() -> How {
+    How {
+        form: None,
+        merge: false,
+        replace: true,
+    }
+}
+
+pub fn plain_scope() -> Scope {
+    Scope {
+        recursive: false,
+        style: None,
+        force_dot_license: false,
+        unknown: Unknown::Refuse,
+        skip_existing: false,
+    }
+}
+
+/// Jane Doe's notice of 2024 and `MIT`, for the files of these paths.
+pub fn sign(alloc: Global, paths: &[&str]) -> Result<Command, Fail> {
+    annotate(
+        alloc,
+        paths,
+        &["Jane Doe"],
+        &["MIT"],
+        plain_how(),
+        plain_scope(),
+    )
+}
+
+/// The event of that command.
+pub fn signing(alloc: Global, paths: &[&str]) -> Result<Event, Fail> {
+    Ok(Event::Run(sign(alloc, paths)?, moment()?))
+}
+
+/// A command that adds a licence to the files of these paths.
+pub fn licence(alloc: Global, paths: &[&str], name: &str, scope: Scope) -> Result<Command, Fail> {
+    annotate(alloc, paths, &[], &[name], plain_how(), scope)
+}
+
+/// Runs the command on a tree, and tells the answers and what a file is then.
+pub fn gives(
+    rt: &impl Abort,
+    alloc: Global,
+    files: &[(&str, &[u8])],
+    command: Command,
+    line: &str,
+    after: (&str, &[u8]),
+) -> Result<(), Fail> {
+    let (mut store, lines) = play_one(alloc, tree(alloc, files)?, command)?;
+    assert_eq!(rt; lines.as_str(), line);
+    assert!(rt; holds(alloc, &mut store, after.0, after.1)?);
+    Ok(())
+}

@@ -1,0 +1,265 @@
+//! Command lines from their words to what is printed, over a store in memory.
+mod options;
+mod worked_lines;
+
+use crate::fault::Fault;
+use crate::line::{Line, LineFault};
+use crate::run_line::run_line;
+use crate::status::{exit_status, line_status};
+use crate::words::words_to_command;
+use reuse_session::{LicenceText, LicenceTexts, Moment, Refusal};
+use reuse_text::Bytes;
+use reuse_tree::{MemoryStore, PathText, Reading, Store};
+use std::alloc::Global;
+use std::io::{self, ErrorKind, Write};
+use std::process::Abort;
+use std::test::Fail;
+
+const START_OF_2024: u64 = 1_704_067_200;
+
+const JANE: &[u8] =
+    b"# SPDX-FileCopyrightText: 2024 Jane Doe\n#\n# SPDX-License-Identifier: MIT\n\nprint(1)\n";
+
+/// Reads words, which `|` separates, at this second.
+fn read(alloc: Global, words: &str, second: u64) -> Result<Result<Line, LineFault>, Fail> {
+    let mut all = Vec::new(alloc);
+    all.push(String::from_str(alloc, "reuse-undo")?)?;
+    for word in words.split('|') {
+        all.push(String::from_str(alloc, word)?)?;
+    }
+    let moment = Moment::new(second).ok_or("a moment")?;
+    Ok(words_to_command(alloc, all.as_slice(), moment))
+}
+
+fn read_line(alloc: Global, words: &str) -> Result<Line, Fail> {
+    Ok(read(alloc, words, START_OF_2024)?.or(Err("a line is wanted"))?)
+}
+
+/// A store with one file.
+fn store_of(alloc: Global, path: &str, bytes: &[u8]) -> Result<MemoryStore, Fail> {
+    let mut store = MemoryStore::new();
+    store.put(alloc, &PathText::new(alloc, path)?, bytes)?;
+    Ok(store)
+}
+
+/// Whether the store has just these bytes at the path, where no bytes are no file.
+fn holds(alloc: Global, store: &mut MemoryStore, path: &str, bytes: &[u8]) -> Result<bool, Fail> {
+    match store.read(alloc, &PathText::new(alloc, path)?, 16_777_216)? {
+        Reading::Found(found) => Ok(found.as_slice() == bytes),
+        _ => Ok(bytes.is_empty()),
+    }
+}
+
+/// The text `text` and a line end for the licence MIT, and none for any other.
+fn texts(alloc: Global) -> Result<LicenceTexts, Fail> {
+    let mut texts = Vec::new(alloc);
+    texts.push(LicenceText {
+        id: Bytes::from_slice(alloc, b"MIT")?,
+        text: Some(Bytes::from_slice(alloc, b"text\n")?),
+    })?;
+    Ok(LicenceTexts::new(texts))
+}
+
+/// Carries words out at this second; what is printed on standard output, or the text of the fault.
+fn run_at(
+    alloc: Global,
+    store: MemoryStore,
+    words: &str,
+    second: u64,
+) -> Result<(MemoryStore, Result<String, String>), Fail> {
+    let line = read(alloc, words, second)?.or(Err("a line is wanted"))?;
+    let mut out: Vec<u8> = Vec::new(alloc);
+    let (store, outcome) = run_line(alloc, line, store, texts(alloc)?, &mut out);
+    match outcome {
+        Ok(()) => Ok((store, Ok(String::from_utf8(out).or(Err("text"))?))),
+        Err(fault) => Ok((store, Err(fault.to_string(alloc)?))),
+    }
+}
+
+fn run(
+    alloc: Global,
+    store: MemoryStore,
+    words: &str,
+) -> Result<(MemoryStore, Result<String, String>), Fail> {
+    run_at(alloc, store, words, START_OF_2024)
+}
+
+/// Words that are no line: the status, and what the text of the fault begins with.
+fn refuse(rt: &impl Abort, alloc: Global, words: &str, status: u8, text: &str) -> Result<(), Fail> {
+    let Err(fault) = read(alloc, words, START_OF_2024)? else {
+        return Err("a fault is wanted")?;
+    };
+    assert_eq!(rt; line_status(&fault), status, "{words}");
+    let told = fault.to_string(alloc)?;
+    assert!(rt; told.as_str().starts_with(text), "{words}: {told}");
+    Ok(())
+}
+
+#[test]
+fn tells_help(rt: HostRuntime) -> Result<(), Fail> {
+    let alloc = rt.alloc();
+    for (words, text) in [
+        ("--help", "Adds licensing information"),
+        ("--version", "reuse-undo 1.0.0"),
+        (
+            "annotate|--help",
+            "Adds copyright and licensing information",
+        ),
+    ] {
+        refuse(&rt, alloc, words, 0, text)?;
+    }
+    Ok(())
+}
+
+#[test]
+fn refuses_words(rt: HostRuntime) -> Result<(), Fail> {
+    let alloc = rt.alloc();
+    for words in [
+        "undo|x",
+        "annotate|-l|MIT",
+        "annotate|-l|MIT|--single-line|--multi-line|a.py",
+        "annotate|-l|MIT|--fallback-dot-license|--skip-unrecognised|a",
+        "annotate|-l|MIT|-s|none|a.py",
+        "annotate|-l|MIT|--copyright-prefix|none|a.py",
+        "download|MIT",
+    ] {
+        refuse(&rt, alloc, words, 2, "error: ")?;
+    }
+    assert_eq!(rt; line_status(&LineFault::Memory), 1);
+    assert_eq!(rt;
+        LineFault::Memory.to_string(alloc)?.as_str(),
+        "out of memory"
+    );
+    Ok(())
+}
+
+#[test]
+fn refuses_places_and_additions(rt: HostRuntime) -> Result<(), Fail> {
+    let alloc = rt.alloc();
+    for (words, text) in [
+        ("annotate|a.py", "nothing to add"),
+        (
+            "annotate|-c|A|-y|2024|--exclude-year|a.py",
+            "--year and --exclude-year",
+        ),
+        ("annotate|-c|A|-y|24|a.py", "bad year: 24"),
+        ("annotate|-c| |a.py", "bad text: "),
+        (
+            "annotate|-l|MIT AND|a.py",
+            "bad licence expression at 7: MIT AND",
+        ),
+        ("annotate|-y|24|../a", "bad path: ../a"),
+        ("annotate|-l|MIT|a|/a|b//c", "bad path: /a"),
+    ] {
+        refuse(&rt, alloc, words, 2, text)?;
+    }
+    Ok(())
+}
+
+#[test]
+fn reads_places(rt: HostRuntime) -> Result<(), Fail> {
+    let alloc = rt.alloc();
+    for (word, text) in [
+        ("a.py", "a.py"),
+        ("./a/./b/", "a/b"),
+        ("a.py/", "a.py"),
+        (".", "."),
+        ("./", "."),
+        ("./.", "."),
+        ("a/..b", "a/..b"),
+        ("", ""),
+        ("/", ""),
+        (".//", ""),
+        ("a//", ""),
+        ("a//b", ""),
+        ("a/..", ""),
+    ] {
+        let place = crate::place_word::place_of_word(alloc, word)?;
+        let found = match &place {
+            Some(place) => place.text(),
+            None => "",
+        };
+        assert!(rt; found == text, "{word}");
+    }
+    Ok(())
+}
+
+#[test]
+fn prints_replies(rt: HostRuntime) -> Result<(), Fail> {
+    let alloc = rt.alloc();
+    let store = store_of(alloc, "a.py", b"print(1)\n")?;
+    let words = "annotate|-c|Jane Doe|-l|MIT|a.py";
+    let (mut store, told) = run(alloc, store, words)?;
+    assert!(rt; told.is_ok_and(|text| text.as_str() == "changed a.py\n"));
+    assert!(rt; holds(alloc, &mut store, "a.py", JANE)?);
+    let (store, told) = run(alloc, store, words)?;
+    assert!(rt; told.is_ok_and(|text| text.as_str() == "nothing changed\n"));
+    let (store, told) = run(alloc, store, "annotate|-l|MIT|zz")?;
+    assert!(rt; told.is_err_and(|text| text.as_str() == "zz: no such path"));
+    let (store, told) = run(alloc, store, "download|--texts|x|Foo|MIT")?;
+    assert!(rt; told.is_err_and(|text| text.as_str() == "no text: Foo"));
+    let (mut store, told) = run(alloc, store, "download|--texts|x|MIT")?;
+    assert!(rt; told.is_ok_and(|text| text.as_str() == "changed LICENSES/MIT.txt\n"));
+    assert!(rt; holds(alloc, &mut store, "LICENSES/MIT.txt", b"text\n")?);
+    let (store, told) = run(alloc, store, "undo")?;
+    assert!(rt; told.is_ok_and(|text| text.as_str() == "undone LICENSES/MIT.txt\n"));
+    let (mut store, told) = run(alloc, store, "undo")?;
+    assert!(rt; told.is_ok_and(|text| text.as_str() == "undone a.py\n"));
+    assert!(rt; holds(alloc, &mut store, "a.py", b"print(1)\n")?);
+    let (mut store, told) = run(alloc, store, "redo")?;
+    assert!(rt; told.is_ok_and(|text| text.as_str() == "redone a.py\n"));
+    assert!(rt; holds(alloc, &mut store, "a.py", JANE)?);
+    Ok(())
+}
+
+/// The rows of a log, with the first and the last date that a moment can have.
+#[test]
+fn prints_rows(rt: HostRuntime) -> Result<(), Fail> {
+    let alloc = rt.alloc();
+    let store = store_of(alloc, "a.py", b"print(1)\n")?;
+    let (store, told) = run(alloc, store, "log")?;
+    assert!(rt; told.is_ok_and(|text| text.as_str() == ""));
+    let (store, _) = run_at(alloc, store, "annotate|-l|MIT|a.py", 0)?;
+    let (store, _) = run_at(alloc, store, "annotate|-l|ISC|a.py", START_OF_2024)?;
+    let (store, _) = run_at(alloc, store, "download|--texts|x|MIT", 250_000_000_000)?;
+    let (store, told) = run(alloc, store, "undo")?;
+    assert!(rt; told.is_ok());
+    let (_, told) = run(alloc, store, "log")?;
+    let wanted =
+        "1 1970-01-01 annotate 1 done\n2 2024-01-01 annotate 1 done\n3 9892-03-08 download 1 undone\n";
+    assert!(rt; told.is_ok_and(|text| text.as_str() == wanted));
+    Ok(())
+}
+
+/// A writer that fails.
+#[derive(Drop)]
+struct Full;
+
+impl Write for Full {
+    fn write(&mut self, _: &[u8]) -> io::Result<usize> {
+        Err(io::Error::from(ErrorKind::StorageFull))
+    }
+
+    fn flush(&mut self) -> io::Result<()> {
+        Ok(())
+    }
+}
+
+#[test]
+fn keeps_what_it_cannot_tell(rt: HostRuntime) -> Result<(), Fail> {
+    let alloc = rt.alloc();
+    let store = store_of(alloc, "a.py", b"print(1)\n")?;
+    let line = read_line(alloc, "annotate|-c|Jane Doe|-l|MIT|a.py")?;
+    let (mut store, outcome) = run_line(alloc, line, store, texts(alloc)?, &mut Full);
+    let Err(fault) = outcome else {
+        return Err("a fault is wanted")?;
+    };
+    assert!(rt; matches!(&fault, Fault::Write));
+    assert_eq!(rt; exit_status(&fault), 1);
+    assert_eq!(rt; fault.to_string(alloc)?.as_str(), "write fault");
+    assert!(rt; holds(alloc, &mut store, "a.py", JANE)?);
+    let fault = Fault::Refused(Refusal::NothingToUndo);
+    assert_eq!(rt; fault.to_string(alloc)?.as_str(), "nothing to undo");
+    assert_eq!(rt; Fault::Memory.to_string(alloc)?.as_str(), "out of memory");
+    Ok(())
+}

@@ -1,0 +1,182 @@
+//! What the options of `annotate` set, and which exclude each other.
+use super::{START_OF_2024, holds, read, read_line, run, store_of};
+use crate::status::line_status;
+use std::alloc::Global;
+use std::test::Fail;
+
+/// The line of `annotate -l MIT a.py`, as it is shown.
+const PLAIN: &str = "Line { root: \".\", action: Annotate(Annotate { \
+    places: Places { places: [Path(PathText { text: \"a.py\" })] }, \
+    additions: Additions { notices: Texts { texts: [] }, contributors: Texts { texts: [] }, \
+    licences: Texts { texts: [Bytes { bytes: [77, 73, 84] }] } }, \
+    how: How { form: None, merge: false, replace: true }, \
+    scope: Scope { recursive: false, style: None, force_dot_license: false, unknown: Refuse, \
+    skip_existing: false } }), moment: Moment { since_1970: 1704067200 } }";
+
+/// Words behind `annotate -l MIT`, and which text of the plain line gives way to which.
+const SETTINGS: &[(&str, &str, &str)] = &[
+    ("a.py", "", ""),
+    ("--single-line|a.py", "form: None", "form: Some(Single)"),
+    ("--multi-line|a.py", "form: None", "form: Some(Multi)"),
+    ("--merge-copyrights|a.py", "merge: false", "merge: true"),
+    ("--no-replace|a.py", "replace: true", "replace: false"),
+    ("--recursive|a.py", "recursive: false", "recursive: true"),
+    ("-r|a.py", "recursive: false", "recursive: true"),
+    (
+        "--force-dot-license|a.py",
+        "license: false",
+        "license: true",
+    ),
+    (
+        "--fallback-dot-license|a.py",
+        "unknown: Refuse",
+        "unknown: Neighbour",
+    ),
+    (
+        "--skip-unrecognised|a.py",
+        "unknown: Refuse",
+        "unknown: Skip",
+    ),
+    ("--skip-existing|a.py", "existing: false", "existing: true"),
+    ("--style|python|a.py", "style: None", "style: Some(Python)"),
+    ("-s|c|a.py", "style: None", "style: Some(C)"),
+    ("-s|css|a.py", "style: None", "style: Some(Css)"),
+    ("-s|html|a.py", "style: None", "style: Some(Html)"),
+    ("-s|haskell|a.py", "style: None", "style: Some(Haskell)"),
+    ("-s|tex|a.py", "style: None", "style: Some(Tex)"),
+    ("-s|lisp|a.py", "style: None", "style: Some(Lisp)"),
+    ("-s|semicolon|a.py", "style: None", "style: Some(Semicolon)"),
+    ("-s|ml|a.py", "style: None", "style: Some(Ml)"),
+    ("-s|vim|a.py", "style: None", "style: Some(Vim)"),
+    ("--exclude-year|a.py", "", ""),
+    ("--|a.py", "", ""),
+    ("--|-r", "a.py", "-r"),
+];
+
+/// The line of `annotate -l MIT` with these words, as it is shown.
+fn shown(alloc: Global, words: &str) -> Result<String, Fail> {
+    let words = format!(in alloc; "annotate|-l|MIT|{words}")?;
+    let line = read_line(alloc, words.as_str())?;
+    Ok(format!(in alloc; "{line:?}")?)
+}
+
+/// The text with `new` in the place of the first `old`.
+fn changed(alloc: Global, text: &str, old: &str, new: &str) -> Result<String, Fail> {
+    let (front, back) = text.split_once(old).ok_or("an old text")?;
+    Ok(format!(in alloc; "{front}{new}{back}")?)
+}
+
+#[test]
+fn an_option_sets_one_field(rt: HostRuntime) -> Result<(), Fail> {
+    let alloc = rt.alloc();
+    for (words, old, new) in SETTINGS {
+        let found = shown(alloc, words)?;
+        let wanted = changed(alloc, PLAIN, old, new)?;
+        assert!(rt; found.as_str() == wanted.as_str(), "{words}: {found}");
+    }
+    Ok(())
+}
+
+/// Options that say what is written, by the file that is made of an empty one.
+#[test]
+fn an_option_gives_a_text(rt: HostRuntime) -> Result<(), Fail> {
+    let alloc = rt.alloc();
+    for (words, header) in [
+        ("-c|A", "# SPDX-FileCopyrightText: 2024 A\n"),
+        (
+            "--copyright|A|--exclude-year",
+            "# SPDX-FileCopyrightText: A\n",
+        ),
+        ("-c|A|-y|2020", "# SPDX-FileCopyrightText: 2020 A\n"),
+        (
+            "-c|A|--year|2021|-y|2019|-y|2020",
+            "# SPDX-FileCopyrightText: 2019 - 2021 A\n",
+        ),
+        (
+            "-c|A|-c|B",
+            "# SPDX-FileCopyrightText: 2024 A\n# SPDX-FileCopyrightText: 2024 B\n",
+        ),
+        ("--copyright=-x", "# SPDX-FileCopyrightText: 2024 -x\n"),
+        (
+            "--contributor|B|--contributor|A",
+            "# SPDX-FileContributor: A\n# SPDX-FileContributor: B\n",
+        ),
+        (
+            "-l|MIT|--license|0BSD",
+            "# SPDX-License-Identifier: 0BSD\n# SPDX-License-Identifier: MIT\n",
+        ),
+        (
+            "-c|A|--copyright-prefix|spdx",
+            "# SPDX-FileCopyrightText: 2024 A\n",
+        ),
+        (
+            "-c|A|--copyright-prefix|spdx-c",
+            "# SPDX-FileCopyrightText: (C) 2024 A\n",
+        ),
+        (
+            "-c|A|--copyright-prefix|spdx-symbol",
+            "# SPDX-FileCopyrightText: © 2024 A\n",
+        ),
+        (
+            "-c|A|--copyright-prefix|spdx-string",
+            "# SPDX-FileCopyrightText: Copyright 2024 A\n",
+        ),
+        (
+            "-c|A|--copyright-prefix|spdx-string-c",
+            "# SPDX-FileCopyrightText: Copyright (C) 2024 A\n",
+        ),
+        (
+            "-c|A|--copyright-prefix|spdx-string-symbol",
+            "# SPDX-FileCopyrightText: Copyright © 2024 A\n",
+        ),
+        ("-c|A|--copyright-prefix|string", "# Copyright 2024 A\n"),
+        (
+            "-c|A|--copyright-prefix|string-c",
+            "# Copyright (C) 2024 A\n",
+        ),
+        (
+            "-c|A|--copyright-prefix|string-symbol",
+            "# Copyright © 2024 A\n",
+        ),
+        ("-c|A|--copyright-prefix|symbol", "# © 2024 A\n"),
+    ] {
+        let line = format!(in alloc; "annotate|{words}|a.py")?;
+        let (mut store, told) = run(alloc, store_of(alloc, "a.py", b"")?, line.as_str())?;
+        assert!(rt; told.is_ok(), "{words}");
+        assert!(rt;
+            holds(alloc, &mut store, "a.py", header.as_bytes())?,
+            "{words}"
+        );
+    }
+    Ok(())
+}
+
+#[test]
+fn options_exclude_each_other(rt: HostRuntime) -> Result<(), Fail> {
+    let alloc = rt.alloc();
+    for (words, text) in [
+        ("--single-line|--multi-line", "cannot be used with"),
+        ("--multi-line|--single-line", "cannot be used with"),
+        (
+            "--fallback-dot-license|--skip-unrecognised",
+            "cannot be used with",
+        ),
+        (
+            "--skip-unrecognised|--fallback-dot-license",
+            "cannot be used with",
+        ),
+        ("--style|c|--style|c", "cannot be used multiple times"),
+        ("--exclude-year|-y|2024", "--year and --exclude-year"),
+        ("--texts|x", "unexpected argument"),
+        ("--year", "a value is required"),
+    ] {
+        let line = format!(in alloc; "annotate|-l|MIT|a.py|{words}")?;
+        let Err(fault) = read(alloc, line.as_str(), START_OF_2024)? else {
+            return Err("a fault is wanted")?;
+        };
+        assert_eq!(rt; line_status(&fault), 2, "{words}");
+        let told = fault.to_string(alloc)?;
+        assert!(rt; told.as_str().contains(text), "{words}: {told}");
+    }
+    Ok(())
+}

@@ -1,0 +1,158 @@
+//! From the words of a command line to what they ask for.
+use crate::arguments::whole;
+use crate::date::year_of;
+use crate::line::{Action, Line, LineFault};
+use crate::place_word::place_of_word;
+use crate::prefix_name::prefix_of_name;
+use clap::error::ErrorKind;
+use clap::{ArgMatches, Error};
+use reuse_header::{Form, How, Style};
+use reuse_notice::{Additions, Prefix};
+use reuse_session::{Command, Ids, Moment, Place, Places, Scope, Unknown};
+use reuse_text::Bytes;
+use std::alloc::{AllocError, Global};
+
+/// Reads the words, of which the first is the program's name. The current year is that of the moment.
+///
+/// Faults come in this order: those of the words themselves, the first word that names no place, and those of
+/// what `annotate` is to add.
+pub fn words_to_command(
+    alloc: Global,
+    words: &[String],
+    moment: Moment,
+) -> Result<Line, LineFault> {
+    let command = whole(alloc)?;
+    match command.try_get_matches_from(words) {
+        Ok(matches) => read_line(alloc, &matches, moment),
+        Err(error) => Err(fault_of(alloc, &error)?),
+    }
+}
+
+fn fault_of(alloc: Global, error: &Error) -> Result<LineFault, AllocError> {
+    if error.kind() == ErrorKind::OutOfMemory {
+        return Ok(LineFault::Memory);
+    }
+    let text = error.to_string(alloc)?;
+    if error.use_stderr() {
+        Ok(LineFault::Usage(text))
+    } else {
+        Ok(LineFault::Help(text))
+    }
+}
+
+fn read_line(alloc: Global, matches: &ArgMatches<'_>, moment: Moment) -> Result<Line, LineFault> {
+    let root = String::from_str(alloc, matches.get_str("root").unwrap_or("."))?;
+    match matches.subcommand() {
+        Some((name, inner)) => Ok(Line {
+            root,
+            action: read_action(alloc, name, inner, moment)?,
+            moment,
+        }),
+        None => Err(LineFault::Usage(String::from_str(alloc, "no subcommand")?)),
+    }
+}
+
+fn read_action(
+    alloc: Global,
+    name: &str,
+    matches: &ArgMatches<'_>,
+    moment: Moment,
+) -> Result<Action, LineFault> {
+    match name {
+        "annotate" => Ok(Action::Annotate(read_annotate(alloc, matches, moment)?)),
+        "convert-dep5" => Ok(Action::ConvertDep5),
+        "download" => Ok(Action::Download {
+            folder: String::from_str(alloc, matches.get_str("texts").unwrap_or("."))?,
+            ids: read_ids(alloc, matches)?,
+        }),
+        "undo" => Ok(Action::Undo),
+        "redo" => Ok(Action::Redo),
+        _ => Ok(Action::Log),
+    }
+}
+
+fn read_ids(alloc: Global, matches: &ArgMatches<'_>) -> Result<Ids, AllocError> {
+    let mut ids = Vec::new(alloc);
+    for id in matches.get_strs("ID").unwrap_or(&[]) {
+        ids.push(Bytes::from_slice(alloc, id.as_bytes())?)?;
+    }
+    Ok(Ids::new(ids))
+}
+
+fn read_annotate(
+    alloc: Global,
+    matches: &ArgMatches<'_>,
+    moment: Moment,
+) -> Result<Command, LineFault> {
+    let places = read_places(alloc, matches)?;
+    let additions = Additions::new(
+        alloc,
+        matches.get_strs("copyright").unwrap_or(&[]),
+        matches.get_strs("license").unwrap_or(&[]),
+        matches.get_strs("contributor").unwrap_or(&[]),
+        matches.get_strs("year").unwrap_or(&[]),
+        matches.get_flag("exclude-year"),
+        year_of(moment),
+        read_prefix(matches),
+    )?;
+    Ok(Command::Annotate {
+        places,
+        additions,
+        how: read_how(matches),
+        scope: read_scope(matches),
+    })
+}
+
+fn read_places(alloc: Global, matches: &ArgMatches<'_>) -> Result<Places, LineFault> {
+    let mut places = Vec::new(alloc);
+    for word in matches.get_strs("PATH").unwrap_or(&[]) {
+        places.push(read_place(alloc, word)?)?;
+    }
+    Ok(Places::new(places))
+}
+
+fn read_place(alloc: Global, word: &str) -> Result<Place, LineFault> {
+    match place_of_word(alloc, word)? {
+        Some(place) => Ok(place),
+        None => Err(LineFault::BadPath(String::from_str(alloc, word)?)),
+    }
+}
+
+fn read_prefix(matches: &ArgMatches<'_>) -> Prefix {
+    match matches.get_str("copyright-prefix") {
+        Some(name) => prefix_of_name(name).unwrap_or(Prefix::Spdx),
+        None => Prefix::Spdx,
+    }
+}
+
+fn read_how(matches: &ArgMatches<'_>) -> How {
+    let form = if matches.get_flag("single-line") {
+        Some(Form::Single)
+    } else if matches.get_flag("multi-line") {
+        Some(Form::Multi)
+    } else {
+        None
+    };
+    How {
+        form,
+        merge: matches.get_flag("merge-copyrights"),
+        replace: !matches.get_flag("no-replace"),
+    }
+}
+
+fn read_scope(matches: &ArgMatches<'_>) -> Scope {
+    let unknown = if matches.get_flag("fallback-dot-license") {
+        Unknown::Neighbour
+    } else if matches.get_flag("skip-unrecognised") {
+        Unknown::Skip
+    } else {
+        Unknown::Refuse
+    };
+    Scope {
+        recursive: matches.get_flag("recursive"),
+        style: matches.get_str("style").and_then(Style::of_name),
+        force_dot_license: matches.get_flag("force-dot-license"),
+        unknown,
+        skip_existing: matches.get_flag("skip-existing"),
+    }
+}
