@@ -24,17 +24,8 @@ cp "$top/bench/disk_speed/program.txt" "$crate/src/main.rt"
 (cd "$crate" && rt run -- list /nowhere) > "$build/log" 2>&1 || { tail -20 "$build/log"; exit 1; }
 program=$crate/out/reuse_undo
 
-# 100 files a folder, of 0.4 to 7 kB
-text=
-for size in {1..16}; do
-  for line in {1..16}; do text+="line = $size  # number $line"$'\n'; done
-  texts[size]=$text
-done
-for ((k = 0; k < files; k++)); do
-  folder=$tree/in/package$((k / 1000))/module$((k / 100 % 10))
-  ((k % 100)) || mkdir -p "$folder"
-  printf %s "${texts[k % 16 + 1]}" > "$folder/file$((k % 100)).py"
-done
+. "$top/bench/python_tree.sh"
+make_tree "$tree/in" "$files"
 
 declare -A least
 measure() {

@@ -1,0 +1,85 @@
+#!/usr/bin/env bash
+# Makes each system call of a run fail, one at a time, and kills the program at each; by strace. The next call must open the journal, and find
+# tree and log as they were before the run or as they are after it. The runs are calls on three files and a dep5, and openings after a
+# kill. Prints how many calls failed; ends with status 1 at the first fault.
+# usage: tests/fail_system_calls.sh PROGRAM
+set -euo pipefail
+program=$(realpath "${1:?"usage: $0 PROGRAM"}")
+room=$(mktemp -d /dev/shm/fail_system_calls.XXXXXX)
+trap 'rm -rf "$room"' EXIT
+. "$(dirname "$0")/stopped_calls.sh"
+calls=(openat read write close fchmod statx newfstatat getdents64 rename renameat renameat2 unlink unlinkat mkdir mkdirat)
+
+# Runs the program on the tree with this fault of this system call at its Nth time.
+run_with() {
+  local fault=$1 call=$2 number=$3
+  shift 3
+  # The braces keep bash from telling each kill.
+  {
+    strace -f -qq -o "$room/trace" -e "trace=$call" -e "inject=$call:$fault:when=$number" "$program" --root "$room/tree" "$@" > "$room/out" 2>&1
+  } 2> /dev/null
+}
+
+# Makes `$room/NAME` from `$room/FROM` by a run that is killed when it renames a file the Nth time.
+make_killed() {
+  rm -rf "$room/tree"
+  cp -a "$room/$2" "$room/tree"
+  run_with signal=KILL rename "$3" "${@:4}" || true
+  is_pending "$room/tree" || fail "${*:4} is not pending after a kill at rename $3"
+  mv "$room/tree" "$room/$1"
+}
+
+# Tries each fault of a run that begins with the tree `$room/FROM`.
+try_all() {
+  local from=$1 call fault number status found before after as_before=0 as_after=0
+  shift
+  rm -rf "$room/copy"
+  cp -a "$room/$from" "$room/copy"
+  "$program" --root "$room/copy" "$@" > "$room/out" 2>&1 || fail "$* on $from is refused: $(cat "$room/out")"
+  after=$(state_of "$room/copy")
+  # Opening a tree that a kill has left takes it back.
+  rm -rf "$room/copy"
+  cp -a "$room/$from" "$room/copy"
+  before=$(state_of "$room/copy")
+  for call in "${calls[@]}"; do
+    for fault in error=EIO signal=KILL; do
+      for ((number = 1; ; number++)); do
+        rm -rf "$room/tree"
+        cp -a "$room/$from" "$room/tree"
+        status=0
+        run_with $fault $call $number "$@" || status=$?
+        if ((status != 137)) && ! grep -q INJECTED "$room/trace"; then break; fi
+        found=$(state_of "$room/tree") || fail "$* on $from, $call $number $fault: the log is refused"
+        if [[ $found == "$after" ]]; then
+          as_after=$((as_after + 1))
+        elif [[ $found == "$before" ]] && ((status != 0)); then
+          as_before=$((as_before + 1))
+        else
+          fail "$* on $from, $call $number $fault, status $status: not as it may be"
+        fi
+      done
+    done
+  done
+  echo "$* on $from: $((as_before + as_after)) faults; found as before $as_before, as after $as_after"
+}
+
+mkdir -p "$room/plain"
+echo 'x = 1' > "$room/plain/a.py"
+printf 'int y;\n' > "$room/plain/b.c"
+echo '{}' > "$room/plain/c.json"
+make_dep5 "$room/plain"
+annotate=(annotate -c "Jane Doe" -l MIT -y 2024 -r .)
+cp -a "$room/plain" "$room/done"
+"$program" --root "$room/done" "${annotate[@]}" > "$room/out"
+cp -a "$room/done" "$room/undone"
+"$program" --root "$room/undone" undo > "$room/out"
+# The last renaming of each call is that of the head.
+make_killed killed_annotate plain 6 "${annotate[@]}"
+make_killed killed_undo done 4 undo
+make_killed killed_redo undone 5 redo
+
+try_all plain "${annotate[@]}"
+try_all plain convert-dep5
+try_all done undo
+try_all undone redo
+for name in killed_annotate killed_undo killed_redo; do try_all $name log; done

@@ -1,0 +1,138 @@
+#!/usr/bin/env bash
+# Runs the program on odd folders: an empty one, names with spaces, letters of other scripts and line ends, a name that isn't UTF-8, links that
+# lead out, devices and pipes, a folder that can't be written (as nobody where the caller is root), and files of some bits. Ends with status 1
+# at the first fault.
+# usage: tests/odd_folders.sh PROGRAM
+set -euo pipefail
+program=$(realpath "${1:?"usage: $0 PROGRAM"}")
+room=$(mktemp -d /dev/shm/odd_folders.XXXXXX)
+trap 'rm -rf "$room"' EXIT
+. "$(dirname "$0")/stopped_calls.sh"
+tree=$room/tree
+annotate=(annotate -l MIT -r .)
+header='# SPDX-License-Identifier: MIT'
+
+# Empties the tree.
+anew() {
+  rm -rf "$tree"
+  mkdir "$tree"
+}
+
+# The call prints just this and ends with this status; a second try as nobody needs `as`.
+as=()
+tells() {
+  local status=$1 text=$2 found=0
+  shift 2
+  "${as[@]}" "$program" --root "$tree" "$@" > "$room/out" 2>&1 || found=$?
+  [[ $found == "$status" ]] || fail "$*: status $found, not $status: $(cat "$room/out")"
+  printf %s "$text" | cmp -s - "$room/out" || fail "$*: it tells $(cat "$room/out")"
+}
+
+empty() {
+  anew
+  tells 0 $'nothing changed\n' "${annotate[@]}"
+  tells 0 '' log
+  tells 1 $'reuse-undo: .reuse/dep5: absent\n' convert-dep5
+  [[ -z $(ls -A "$tree") ]] || fail 'an empty folder gets files'
+}
+
+names() {
+  local name before
+  anew
+  mkdir -p "$tree/a b" "$tree/größe"
+  for name in 'a b/c d.py' 'größe/日本語.py' $'a b/line\nend.py' '-r.py' "quote'\".py" 'back\slash.py'; do echo x > "$tree/$name"; done
+  before=$(cd "$tree" && tar --sort=name --mtime=@0 -cf - . | sha256sum)
+  tells 0 $'changed -r.py\nchanged a b/c d.py\nchanged a b/line\nend.py\nchanged back\\slash.py\nchanged größe/日本語.py\nchanged quote\'".py\n' \
+    "${annotate[@]}"
+  [[ $(head -n 1 "$tree/größe/日本語.py") == "$header" ]] || fail 'größe/日本語.py is not annotated'
+  tells 0 $'undone -r.py\nundone a b/c d.py\nundone a b/line\nend.py\nundone back\\slash.py\nundone größe/日本語.py\nundone quote\'".py\n' undo
+  [[ $(cd "$tree" && tar --sort=name --mtime=@0 --exclude=./.reuse -cf - . | sha256sum) == "$before" ]] || fail 'the names are not as before'
+  tells 0 $'changed größe/日本語.py\n' annotate -l MIT größe/日本語.py
+}
+
+# A listing fails; a call that needs none works.
+not_utf8() {
+  anew
+  echo x > "$tree/a.py"
+  tells 0 $'changed a.py\n' "${annotate[@]}"
+  echo x > "$tree/"$'\377.py'
+  tells 1 $'reuse-undo: store fault\n' annotate -l ISC -r .
+  tells 0 "1 $(date -u +%F) annotate 1 done"$'\n' log
+}
+
+links() {
+  anew
+  rm -rf "$room/out_of_tree"
+  mkdir "$room/out_of_tree"
+  echo x > "$room/out_of_tree/a.py"
+  echo x > "$tree/own.py"
+  ln -s ../out_of_tree/a.py "$tree/file.py"
+  ln -s ../out_of_tree "$tree/folder"
+  ln -s /nowhere "$tree/dangling.py"
+  mkfifo "$tree/pipe.py"
+  tells 0 $'changed own.py\n' "${annotate[@]}"
+  for path in file.py folder folder/a.py dangling.py pipe.py; do
+    tells 1 "reuse-undo: $path: no such path"$'\n' annotate -l MIT -r "$path"
+  done
+  printf '\211' > "$tree/p.png"
+  ln -s ../out_of_tree/new "$tree/p.png.license"
+  tells 1 $'reuse-undo: interrupted\n' annotate -l MIT p.png
+  tells 0 $'undone own.py\n' undo
+  [[ $(ls "$room/out_of_tree") == a.py && $(< "$room/out_of_tree/a.py") == x ]] || fail 'a link was followed'
+  # A journal behind a link isn't written.
+  rm -r "$tree/.reuse"
+  ln -s ../out_of_tree "$tree/.reuse"
+  tells 1 $'reuse-undo: store fault\n' annotate -l MIT own.py
+  [[ $(ls "$room/out_of_tree") == a.py && $(< "$tree/own.py") == x ]] || fail 'the journal is written through a link'
+  # The root itself may be a link.
+  rm "$tree/.reuse"
+  ln -s tree "$room/link"
+  "$program" --root "$room/link" annotate -l MIT own.py > "$room/out" || fail 'a link is no root'
+}
+
+bits() {
+  local mode
+  anew
+  for mode in 444 600 755; do
+    echo x > "$tree/$mode.py"
+    chmod $mode "$tree/$mode.py"
+  done
+  tells 0 $'changed 444.py\nchanged 600.py\nchanged 755.py\n' "${annotate[@]}"
+  for mode in 444 600 755; do [[ $(stat -c %a "$tree/$mode.py") == $mode ]] || fail "$mode.py has other bits"; done
+  tells 0 $'undone 444.py\nundone 600.py\nundone 755.py\n' undo
+  for mode in 444 600 755; do [[ $(stat -c %a "$tree/$mode.py") == $mode ]] || fail "$mode.py has other bits after undo"; done
+}
+
+read_only() {
+  local before
+  anew
+  mkdir "$tree/closed" "$tree/.reuse"
+  echo x > "$tree/closed/a.py"
+  echo x > "$tree/b.py"
+  if ((EUID == 0)); then
+    as=(setpriv --reuid=65534 --regid=65534 --clear-groups)
+    cp "$program" "$room/program"
+    program=$room/program
+    chown -R 65534:65534 "$tree"
+    chmod 755 "$room"
+  fi
+  before=$(state_of "$tree")
+  chmod 555 "$tree" "$tree/.reuse"
+  tells 1 $'reuse-undo: store fault\n' annotate -l MIT -r .
+  chmod 755 "$tree" "$tree/.reuse"
+  chmod 555 "$tree/closed"
+  tells 1 $'reuse-undo: interrupted\n' annotate -l MIT -r .
+  chmod 755 "$tree/closed"
+  tells 0 '' log
+  [[ $(state_of "$tree") == "$before" ]] || fail 'a folder that can not be written: files are changed'
+  chmod 000 "$tree/closed"
+  tells 1 $'reuse-undo: store fault\n' annotate -l MIT -r .
+  chmod 755 "$tree/closed"
+  [[ $(state_of "$tree") == "$before" ]] || fail 'a folder that can not be read: files are changed'
+  as=()
+}
+
+for group in empty names not_utf8 links bits read_only; do
+  $group
+  echo "$group: as stated"
+done

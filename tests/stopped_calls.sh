@@ -1,0 +1,26 @@
+# What the scripts that stop calls share; they set `program` and `room`.
+
+# A dep5 file in a tree
+make_dep5() {
+  mkdir -p "$1/.reuse"
+  printf '%s\n' 'Format: https://www.debian.org/doc/packaging-manuals/copyright-format/1.0/' '' 'Files: *.json' \
+    'Copyright: 2020 Jane Doe' 'License: MIT' > "$1/.reuse/dep5"
+}
+
+# The log, and one checksum over all names, bits and bytes of a tree outside of the journal
+state_of() {
+  "$program" --root "$1" log || return 1
+  tar -C "$1" --sort=name --mtime=@0 --exclude=./.reuse/undo -cf - . | sha256sum
+}
+
+# Whether the journal of a tree tells a step that is under way
+is_pending() {
+  grep -q '"pending":{' "$1/.reuse/undo/head.json" 2> /dev/null
+}
+
+# Tells a fault, and keeps the folder.
+fail() {
+  trap - EXIT
+  echo "fault: $1; kept in $room" >&2
+  exit 1
+}
