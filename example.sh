@@ -6,7 +6,7 @@ folder=$(mktemp -d)
 trap 'rm -rf "$folder"' EXIT
 echo 'print(1)' > "$folder/a.py"
 cd "$top/crates/reuse_undo"
-[ -x out/reuse_undo ] || echo "proving and building, which takes some minutes the first time .." >&2
+[ -x out/reuse_undo ] || echo "proving and building, which takes about 40 minutes the first time .." >&2
 log=$(rt run -- --version 2>&1) || [ -x out/reuse_undo ] || { tail -n 20 <<< "$log"; exit 1; }
 call() {
     echo "\$ reuse-undo $*"
