@@ -59,7 +59,7 @@ unfolding lines_lacking
 lacking-more closer content contents e = let h = lacks_here closer content e in rw h (omega arith)
 
 -- what is behind the front of a line lacks what the line lacks
-place_of-drop : (text bytes : List ℕ) (n : ℕ) → place_of text bytes ≡ None → place_of text (drop n bytes) ≡ None
+pub place_of-drop : (text bytes : List ℕ) (n : ℕ) → place_of text bytes ≡ None → place_of text (drop n bytes) ≡ None
 unfolding place_of
 place_of-drop text bytes zero e = e
 place_of-drop text [] (suc n) e = e
@@ -130,12 +130,12 @@ no_count comment line lines passed e is zero low = multi_count-from comment (lin
 no_count comment line lines passed e is (suc k) low =
     multi_count-from comment (drop k lines) (never_closed comment.closer (drop (length comment.opener) line ∷ lines) (suc k) (length comment.opener) e (omega (arith, is, low)))
 
-pub no_count_if : (comment : BlockForm) (line : List ℕ) (lines all : List (List ℕ)) (count : Option ℕ) (passed : ℕ) → all ≡ line ∷ lines
+pub no_count_if : (comment : BlockForm) (line : List ℕ) (lines : List (List ℕ)) (count : Option ℕ) (passed : ℕ)
     → count ≡ count_to_closer comment.closer (drop (length comment.opener) line ∷ lines)
     → IfNone count (passed ≡ lines_lacking comment.closer (drop (length comment.opener) line ∷ lines))
-    → IfNone count (HasNoCount comment passed all)
-no_count_if comment line lines all None passed same e is = λ k low. ap (λ (xs : List (List ℕ)). multi_count comment (drop k xs)) same ∙ no_count comment line lines passed (sym e) is k low
-no_count_if comment line lines all (Some n) passed same e is = tt
+    → IfNone count (HasNoCount comment passed (line ∷ lines))
+no_count_if comment line lines None passed e is = no_count comment line lines passed (sym e) is
+no_count_if comment line lines (Some n) passed e is = tt
 
 -- fewer lines, of which the first are taken away
 pub no_opening_behind : (style : Style) (contents : List (List ℕ)) (count passed : ℕ) → HasNoOpening style count contents → HasNoOpening style (count - passed) (drop passed contents)

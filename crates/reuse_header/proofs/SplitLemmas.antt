@@ -154,7 +154,7 @@ comment_blocks_are_one style contents begins p line =
 
 -- ---- the split
 
-open-cons : (line : ℕ × TextLine) (lines : PlacedLines) → is_barrier line.1.content ≡ false → open_contents (line ∷ lines) ≡ line.1.content ∷ open_contents lines
+pub open-cons : (line : ℕ × TextLine) (lines : PlacedLines) → is_barrier line.1.content ≡ false → open_contents (line ∷ lines) ≡ line.1.content ∷ open_contents lines
 open-cons line lines e = rw e refl
 
 open-barrier : (line : ℕ × TextLine) (lines : PlacedLines) → is_barrier line.1.content ≡ true → open_contents (line ∷ lines) ≡ []

@@ -108,8 +108,7 @@ fn replaced_contents<'a>(
     if !replace {
         return Ok(Vec::new(alloc));
     }
-    let lines = Lines::new(file);
-    collected(alloc, OpenContents { lines })
+    collected(alloc, OpenContents::new(Lines::new(file)))
 }
 
 // The contents that are left, without CR bytes at their ends.

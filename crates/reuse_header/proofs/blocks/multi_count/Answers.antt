@@ -5,9 +5,9 @@ use Rattle.reuse_header.specs.Styles.{block_view}
 use Rattle.reuse_header.proofs.ClosingLemmas.{no_count_if}
 use Rattle.reuse_header.proofs.blocks.multi_count.Goals as goal
 
-pub returns-else-not-starts_with-clause-passed : goal.returns-else-not-starts_with-clause-passed
-returns-else-not-starts_with-clause-passed c =
-    let behind = take_rest c.in-Some.first.now (length c.args.comment.opener.now) in
-    no_count_if (block_view c.args.comment) c.in-Some.first.now (open_left c.next.new.self) (open_left c.args.lines)
-    c.count_to_closer.result.count c.count_to_closer.result.passed c.in-Some.ensures.steps
+pub returns-clause-passed : goal.returns-clause-passed
+returns-clause-passed c =
+    let behind = take_rest c.args.first.now (length c.args.comment.opener.now) in
+    no_count_if (block_view c.args.comment) c.args.first.now (open_left c.args.lines)
+    c.count_to_closer.result.count c.count_to_closer.result.passed
     (rw behind at c.count_to_closer.ensures.count) (rw behind at c.count_to_closer.ensures.passed)
