@@ -22,14 +22,14 @@ use Rattle.reuse_session.proofs.Settling.{none_in_files, none_outside, is_tree}
 no_folder_file : (files tree : Files) (path : List ℕ) → lies_under path journal_folder ≡ false → get (tree_of files) path ≡ get tree path → get tree path ≡ None → get files path ≡ None
 no_folder_file files tree path outside same none = none_in_files files path outside (same ∙ none)
 
-standing_bad : (files : Files) (held : State) → IsStanding files held → (path : List ℕ) → IsFirstBad files path → ⊥
+pub standing_bad : (files : Files) (held : State) → IsStanding files held → (path : List ℕ) → IsFirstBad files path → ⊥
 standing_bad files held standing path bad =
     none_bad files held.journal None
     (no_folder_file files held.tree (codes ".reuse") refl (ap (λ t. get t (codes ".reuse")) standing.tree) standing.good.no_reuse)
     (no_folder_file files held.tree journal_folder refl (ap (λ t. get t journal_folder) standing.tree) standing.good.no_undo)
     standing.journal (All-nil (IsReadable (undo_folder_of files))) path bad
 
-under_way_bad : (files : Files) (way : PendingWay) (step : Recorded) (first : State) → IsUnderWay way step first files → (path : List ℕ) → IsFirstBad files path → ⊥
+pub under_way_bad : (files : Files) (way : PendingWay) (step : Recorded) (first : State) → IsUnderWay way step first files → (path : List ℕ) → IsFirstBad files path → ⊥
 under_way_bad files way step first under path bad =
     let folder = undo_folder_of files in
     let good = entry_good (get folder (entry_path (number_of step))) (entry_in step) under.kept in
@@ -54,6 +54,12 @@ read_standing first second files memory journal read (inr (inl standing)) =
     inr (standing, subst (Remembers memory) (same_journal (undo_folder_of files) journal second.journal None None read.keeps standing.journal).0 read.remembers)
 read_standing first second files memory journal read (inr (inr step)) =
     let e = (same_journal (undo_folder_of files) journal first.journal None (Some (record { entry = number_of step.1; way = step.0 })) read.keeps step.3.journal).1 in
+    absurd (cc)
+
+-- where something is pending, they are no standing
+pub none_pending : (files : Files) (held : State) → IsStanding files held → (pending : Pending) (memory : Memory) (journal : Journal) → IsRead files (Some pending) memory journal → ⊥
+none_pending files held standing pending memory journal read =
+    let e = (same_journal (undo_folder_of files) journal held.journal (Some pending) None read.keeps standing.journal).1 in
     absurd (cc)
 
 -- the step that is pending in files in doubt

@@ -1,9 +1,9 @@
 -- The files of the journal: their paths, what a change of one of them leaves, and when they keep a journal.
-use Rattle.std.proofs.Common.{◌≡◌, ◌≢◌, ◌⊎◌, inl, inr, ⊎_elim, ℕ, ◌+◌, ◌*◌, ◌/◌, ◌%◌, ◌<◌, ◌≤◌, Bool, false, true, not, cond, ◌||◌, nat_eq, List, [], ◌∷◌, ◌++◌, codes, drop, get_or, Option, Some, None, IsSome, is_some, IsTrue, refl, sym, ap, ◌∙◌, subst, append_assoc, arith}
+use Rattle.std.proofs.Common.{◌≡◌, ◌≢◌, inl, inr, ⊎_elim, ℕ, ◌+◌, ◌*◌, ◌/◌, ◌%◌, ◌<◌, ◌≤◌, Bool, false, true, not, cond, ◌||◌, nat_eq, List, ◌∷◌, ◌++◌, codes, drop, get_or, Option, Some, None, IsSome, is_some, refl, sym, ap, ◌∙◌, subst, append_assoc, arith}
 use Rattle.std.specs.List.{All, list_any}
 use Rattle.std.proofs.lemmas.Bool.{false≢true, or_from}
 use Rattle.std.proofs.lemmas.Bool.Decides.{nat_tests}
-use Rattle.std.proofs.lemmas.List.Elements.{All-cons, All-head, All-tail, All-nil}
+use Rattle.std.proofs.lemmas.List.Elements.{All-cons, All-tail, All-nil}
 use Rattle.std.specs.FinMap.{get}
 use Rattle.reuse_tree.specs.Path.{lies_under, journal_folder}
 use Rattle.reuse_tree.specs.Files.{Files, Clashes, tree_of}
@@ -14,7 +14,6 @@ use Rattle.reuse_session.proofs.OfTree.{under_parts, under_from_parts, fronts, s
 use Rattle.reuse_session.specs.Entry.{IsEntry}
 use Rattle.reuse_session.specs.Head.{IsGoodHead, IsSoundHead}
 use Rattle.reuse_session.specs.Journal.{Recorded, Journal}
-use Rattle.reuse_session.specs.Head.{listed}
 use Rattle.reuse_session.specs.JournalFiles.{digit, six_digits, head_path, entry_path, IsJournalPath, IsFree, HeadSays, EntrySays, entry_in, number_of, IsKeptIn, empty_head, head_of, KeepsJournal}
 use Rattle.reuse_session.specs.Session.{IsSameBut}
 use Rattle.reuse_session.specs.Standing.{IsTree, Moves}
@@ -155,6 +154,14 @@ free_stays folder after path is same free p other is_p some below = ⊎_elim
     (λ (here : other ≡ path). false≢true (sym (ap (λ o. lies_under o p) here ∙ paths_apart path p is is_p) ∙ below))
     (λ (ne : other ≢ path). free p other is_p (ap is_some (sym (same other ne)) ∙ some) below)
     (same_or_other other path)
+
+-- the file of an entry changes neither the tree nor whether a path of the journal is a folder
+pub tree_beside : (files after : Files) (number : ℕ) → IsSameBut (entry_path number) files after → tree_of after ≡ tree_of files
+tree_beside files after number same = (same_but_in_folder files after (entry_path number) (entry_in_folder number) same).1
+
+pub free_beside : (files after : Files) (number : ℕ) → IsSameBut (entry_path number) files after → IsFree (undo_folder_of files) → IsFree (undo_folder_of after)
+free_beside files after number same free =
+    free_stays (undo_folder_of files) (undo_folder_of after) (entry_path number) (inr (number, refl)) (same_but_in_folder files after (entry_path number) (entry_in_folder number) same).0 free
 
 -- ---- entries
 

@@ -10,7 +10,7 @@ use Rattle.reuse_tree.specs.declared.store.Reading.TheVariants.{Absent, Found, T
 use Rattle.reuse_session.specs.Decoded.{IsAnswer}
 use Rattle.reuse_session.specs.EntryText.{IsGoodEntry}
 use Rattle.reuse_session.specs.Head.{IsGoodHead}
-use Rattle.reuse_session.specs.JournalFiles.{entry_path, empty_head, HeadSays, EntrySays}
+use Rattle.reuse_session.specs.JournalFiles.{head_path, entry_path, empty_head, HeadSays, EntrySays}
 use Rattle.reuse_session.specs.Session.{IsSameBut}
 use Rattle.reuse_session.specs.Tree.{undo_folder_of}
 use Rattle.reuse_session.specs.declared.journal.entry.Entry.{Entry}
@@ -85,3 +85,10 @@ counted_most path bytes = test (lies_under path journal_folder)
     test : (b : Bool) → cond b (length bytes) 0 ≤ length bytes
     test true = omega arith
     test false = omega arith
+
+-- all bytes for a file of the journal count
+pub counted_entry : (path bytes : List ℕ) (number : ℕ) → path ≡ entry_path number → counted path bytes ≡ length bytes
+counted_entry path bytes number is = ap (λ p. counted p bytes) is
+
+pub counted_head : (path bytes : List ℕ) → path ≡ head_path → counted path bytes ≡ length bytes
+counted_head path bytes is = ap (λ p. counted p bytes) is

@@ -60,7 +60,7 @@ made_all way changes before after leads = record { each = λ k d lt. inr (leads.
 -- ---- a tree that the changes lead to
 
 -- the tree with this at the path
-with_file : Files → List ℕ → Option (List ℕ) → Files
+unfoldable pub with_file : Files → List ℕ → Option (List ℕ) → Files
 with_file tree path None = remove tree path
 with_file tree path (Some bytes) = insert tree path bytes
 
@@ -74,17 +74,18 @@ unfolding with_file
 with_file_elsewhere tree path None other differ = get-removed_other tree path other differ
 with_file_elsewhere tree path (Some bytes) other differ = get-put_other tree path bytes other differ
 
+-- a change is made by its file alone
+pub step_with : (way : Way) (change : Change) (tree : Files) (new : Option (List ℕ)) → TurnsBy way change (get tree (path_of change)) new → Steps way change tree (with_file tree (path_of change) new)
+step_with way change tree new turns = record {
+  here = subst (TurnsBy way change (get tree (path_of change))) (sym (with_file_here tree (path_of change) new)) turns;
+  elsewhere = λ path other. with_file_elsewhere tree (path_of change) new path other;
+}
+
 step_on : (way : Way) (change : Change) (tree : Files) → IsReady way change (get tree (path_of change)) → (after : Files) × Steps way change tree after
-step_on way change tree ready = (
-  with_file tree (path_of change) ready.0,
-  record {
-    here = subst (TurnsBy way change (get tree (path_of change))) (sym (with_file_here tree (path_of change) ready.0)) ready.1;
-    elsewhere = λ path other. with_file_elsewhere tree (path_of change) ready.0 path other;
-  },
-)
+step_on way change tree ready = (with_file tree (path_of change) ready.0, step_with way change tree ready.0 ready.1)
 
 -- the element at a place
-at_place : (changes : List Change) (k : ℕ) → k < length changes → (change : Change) × (change ≡ get_or changes k change)
+pub at_place : (changes : List Change) (k : ℕ) → k < length changes → (change : Change) × (change ≡ get_or changes k change)
 at_place [] k lt = absurd (omega arith)
 at_place (change ∷ changes) zero lt = (change, refl)
 at_place (change ∷ changes) (suc k) lt = let more = at_place changes k (omega arith) in (more.0, more.1)
@@ -122,7 +123,7 @@ returned Do change old new h = h
 returned Undo change old new h = h
 
 -- no file is at both ends of a change
-ready_once : (way : Way) (change : Change) (file : Option (List ℕ)) → IsProper change → IsReady way change file → IsReady (opposite way) change file → ⊥
+pub ready_once : (way : Way) (change : Change) (file : Option (List ℕ)) → IsProper change → IsReady way change file → IsReady (opposite way) change file → ⊥
 ready_once Do change file proper before after = not_both change file proper before after
 ready_once Undo change file proper after before = not_both change file proper before after
 
@@ -150,7 +151,7 @@ module _ (way : Way) (changes : List Change) (good : IsEntry changes) (i : ℕ) 
   not_yet = ap (λ c. touches (take i changes) (path_of c)) is ∙ not_touched changes good i change lt
 
   -- before the change is taken back, its path holds what it held
-  stood : get old (path_of change) ≡ get now (path_of change)
+  pub stood : get old (path_of change) ≡ get now (path_of change)
   stood = back.made.others (path_of change) not_yet
 
   one_more : (after : Files) → ((path : List ℕ) → path ≢ path_of change → get after path ≡ get now path) → IsReady way change (get after (path_of change))

@@ -92,7 +92,7 @@ pub same_head : (file : Option (List ℕ)) (a b : Head) → HeadSays file a → 
 same_head None a b is_a is_b = is_a ∙ sym is_b
 same_head (Some text) a b is_a is_b = one_head text a b is_a is_b
 
-same_step : (a b : Recorded) → number_of a ≡ number_of b → entry_in a ≡ entry_in b → a ≡ b
+pub same_step : (a b : Recorded) → number_of a ≡ number_of b → entry_in a ≡ entry_in b → a ≡ b
 same_step a b number entry = ap (λ n. recorded n (entry_in a)) number ∙ ap (recorded (number_of b)) entry
 
 same_steps : (folder : Files) (a b : List Recorded) → map number_of a ≡ map number_of b → All (IsKeptIn folder) a → All (IsKeptIn folder) b → a ≡ b
@@ -143,16 +143,16 @@ all_readable folder journal p keeps readable =
         All-map (IsReadable folder) number_of (reverse steps)
         (All-weaker (IsKeptIn folder) (λ step. IsReadable folder (number_of step)) (λ step says. (entry_in step, says)) (reverse steps) (All-reverse (IsKeptIn folder) steps kept))
 
-no_file_there : (files : Files) (path other : List ℕ) → get files other ≡ None → path ≡ other → IsSome (get files path) → ⊥
+pub no_file_there : (files : Files) (path other : List ℕ) → get files other ≡ None → path ≡ other → IsSome (get files path) → ⊥
 no_file_there files path other none here some = false≢true (sym (ap is_some (ap (λ p. get files p) here ∙ none)) ∙ some)
 
 -- then no path is at fault
 pub none_bad : (files : Files) (journal : Journal) (p : Option Pending) → get files (codes ".reuse") ≡ None → get files journal_folder ≡ None
     → KeepsJournal (undo_folder_of files) journal p → All (IsReadable (undo_folder_of files)) (pending_numbers p) → (path : List ℕ) → IsFirstBad files path → ⊥
 none_bad files journal p no_reuse no_undo keeps readable path (inl file) = no_file_there files path (codes ".reuse") no_reuse file.0 file.1
-none_bad files journal p no_reuse no_undo keeps readable path (inr (inl file)) = no_file_there files path journal_folder no_undo file.0 file.1
-none_bad files journal p no_reuse no_undo keeps readable path (inr (inr (inl head))) = head.1 (head_of journal p) keeps.head
-none_bad files journal p no_reuse no_undo keeps readable path (inr (inr (inr bad))) =
+none_bad files journal p no_reuse no_undo keeps readable path (inr (inl file)) = no_file_there files path journal_folder no_undo file.1 file.2
+none_bad files journal p no_reuse no_undo keeps readable path (inr (inr (above, inl head))) = head.1 (head_of journal p) keeps.head
+none_bad files journal p no_reuse no_undo keeps readable path (inr (inr (above, inr bad))) =
     let folder = undo_folder_of files in
     let first = bad.2 in
     let same = same_head (get folder head_path) bad.0 (head_of journal p) bad.1 keeps.head in

@@ -1,30 +1,24 @@
 -- What a run answers, from its plan and its step.
-use Rattle.std.proofs.Common.{◌≡◌, ◌≢◌, ℕ, ◌+◌, ◌<◌, ◌≤◌, Bool, true, false, List, [], ◌∷◌, length, Result, Ok, Err, IfErr, MatchResult, refl, sym, ap, subst, ◌∙◌, arith}
-use Rattle.std.specs.List.{sum_by}
+use Rattle.std.proofs.Common.{◌≡◌, ◌+◌, List, length, Result, Ok, Err, IfErr, MatchResult, refl, sym, ap, subst, ◌∙◌}
 use Rattle.std.proofs.lemmas.List.Sorted.{sum_by-IsPermutation}
-use Rattle.reuse_tree.specs.Files.{Files, AreFiles}
+use Rattle.reuse_tree.specs.Files.{Files}
 use Rattle.reuse_tree.specs.declared.change.Change.{Change}
 use Rattle.reuse_tree.specs.declared.fault.StoreFault.TheVariants as faults
-use Rattle.reuse_session.specs.Answer.{TellsNoFault, IsFailure, IsEarly, IsNoClash, IsOfPlan}
-use Rattle.reuse_session.specs.Command.{name_of}
-use Rattle.reuse_session.specs.Entry.{paths_of, change_size, entry_size, IsEntry, LeadsAll}
+use Rattle.reuse_session.specs.Answer.{TellsNoFault, IsFailure, IsEarly, HasClash, IsOfPlan}
+use Rattle.reuse_session.specs.Entry.{change_size, entry_size}
 use Rattle.reuse_session.specs.Journal.{State}
-use Rattle.reuse_session.specs.Machine.{Snapshots, Step, is_full, ran_by}
+use Rattle.reuse_session.specs.Machine.{is_full}
 use Rattle.reuse_session.specs.Outcome.{Edit, recorded_size}
-use Rattle.reuse_session.specs.Plan.{IsPlan, Records}
-use Rattle.reuse_session.specs.Session.{StandsOn, StandsAt, StopsIn, Follows, Holds, IsRun, StopsAfterRun, Remembers, memory_of, store_of}
+use Rattle.reuse_session.specs.Plan.{Records}
+use Rattle.reuse_session.specs.Session.{StandsOn, StopsIn, memory_of, store_of}
 use Rattle.reuse_session.specs.Standing.{InDoubt}
-use Rattle.reuse_session.specs.declared.command.Command.{Command}
 use Rattle.reuse_session.specs.declared.reply.Cause.{Cause}
 use Rattle.reuse_session.specs.declared.reply.Reply.{Reply}
-use Rattle.reuse_session.specs.declared.reply.Reply.TheVariants.{Changed}
 use Rattle.reuse_session.specs.declared.reply.Refusal.{Refusal}
 use Rattle.reuse_session.specs.declared.reply.Refusal.TheVariants.{Memory, Fault, Interrupted}
 use Rattle.reuse_session.specs.declared.session.Session.{Session}
-use Rattle.reuse_session.proofs.Following.{run_follows}
 use Rattle.reuse_session.proofs.MemoryLemmas.{count_done}
 use Rattle.reuse_session.proofs.Planning.{same_sizes}
-use Rattle.reuse_session.proofs.Stepping.{second_of}
 
 -- what a session remembers tells whether the journal is full
 pub full_alike : {S : Type 0} (files : S → Files) (session : Session S) (held : State) → StandsOn files session held
@@ -61,12 +55,12 @@ module _ {S : Type 0} (files : S → Files) (held second : State) (new : Session
 
 -- ---- refusals of the plan
 
-pub plan_no_clash : (refusal : Refusal) → IsOfPlan refusal → (refusal ≡ Fault faults.Clash → ⊥) → IsNoClash refusal
-plan_no_clash (Fault faults.Device) is never = tt
-plan_no_clash (Fault faults.Clash) is never = never refl
-plan_no_clash (Fault faults.Memory) is never = tt
-plan_no_clash (Interrupted cause) is never = absurd is
-plan_no_clash refusal is never = tt
+pub plan_clash : (entry head : Type 0) (refusal : Refusal) → IsOfPlan refusal → (refusal ≡ Fault faults.Clash → entry) → HasClash entry head refusal
+plan_clash entry head (Fault faults.Device) is clash = tt
+plan_clash entry head (Fault faults.Clash) is clash = clash refl
+plan_clash entry head (Fault faults.Memory) is clash = tt
+plan_clash entry head (Interrupted cause) is clash = absurd is
+plan_clash entry head refusal is clash = tt
 
 pub plan_no_stop : (refusal : Refusal) → IsOfPlan refusal → (cause : Cause) → refusal ≡ Interrupted cause → ⊥
 plan_no_stop refusal is cause e = subst IsOfPlan e is

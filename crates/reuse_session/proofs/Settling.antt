@@ -38,7 +38,7 @@ use Rattle.reuse_session.proofs.OpeningLemmas.{recorded, same_journal}
 
 -- ---- the folders above the journal
 
-none_in_tree : (files : Files) (path : List ℕ) → get files path ≡ None → get (tree_of files) path ≡ None
+pub none_in_tree : (files : Files) (path : List ℕ) → get files path ≡ None → get (tree_of files) path ≡ None
 none_in_tree files path none = get-tree files path ∙ at_test (not (lies_under path journal_folder))
   where
     at_test : (b : Bool) → cond b (get files path) None ≡ None
@@ -102,7 +102,7 @@ module _ (before : Files) (pending : Pending) (memory : Memory) (journal : Journ
       )
 
   pub is_stuck : (path : List ℕ) → IsFirstWithout (CanBeSetBack (way_of pending.way) (tree_of before)) entry.changes path → IsStuckAt before path
-  is_stuck path first = record { journal = journal; way = pending.way; step = recorded pending.entry entry; keeps = read.keeps; kept = says; stuck = first }
+  is_stuck path first = record { above = (read.no_reuse, read.no_undo); journal = journal; way = pending.way; step = recorded pending.entry entry; keeps = read.keeps; kept = says; stuck = first }
 
   module _ (step : Recorded) (first : State) (number : number_of step ≡ pending.entry) (under : IsUnderWay pending.way step first before) where
     -- the step that is under way is that of the entry

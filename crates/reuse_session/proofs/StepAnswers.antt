@@ -1,10 +1,12 @@
 -- What the functions of a step answer, from what they call.
-use Rattle.std.proofs.Common.{◌≡◌, ◌≢◌, ◌⊎◌, ℕ, ◌+◌, ◌*◌, ◌<◌, ◌≤◌, Bool, true, false, List, [], ◌∷◌, ◌++◌, length, map, reverse, get_or, cond, Option, Some, None, Result, Ok, Err, IfErr, refl, sym, ap, subst, ◌∙◌, arith}
+use Rattle.std.proofs.Common.{◌≡◌, ◌≢◌, inl, inr, ℕ, ◌+◌, ◌<◌, ◌≤◌, false, ◌||◌, List, [], ◌∷◌, ◌++◌, length, map, reverse, get_or, cond, None, is_some, Result, Ok, Err, IfErr, refl, sym, ap, subst, ◌∙◌, arith}
+use Rattle.std.proofs.lemmas.Bool.{false≢true, or_from}
 use Rattle.std.proofs.lemmas.List.{length-append, length-map, length-reverse, get_or-append-add, append-nil}
 use Rattle.std.specs.FinMap.{get}
+use Rattle.reuse_tree.specs.Path.{lies_under}
 use Rattle.reuse_tree.specs.Files.{Files, Clashes, tree_of}
 use Rattle.reuse_tree.specs.declared.fault.StoreFault.TheVariants as faults
-use Rattle.reuse_session.specs.Answer.{IsReadRefusal, IsPutRefusal, IsTestRefusal, IsFailure, IsGoRefusal, IsNoClash}
+use Rattle.reuse_session.specs.Answer.{IsReadRefusal, IsPutRefusal, IsTestRefusal, IsFailure, IsGoRefusal, HasClash, IsNoClash}
 use Rattle.reuse_session.specs.Entry.{IsFirstStuck}
 use Rattle.reuse_session.specs.Head.{way_of, IsSoundHead}
 use Rattle.reuse_session.specs.History.{Memory}
@@ -12,14 +14,16 @@ use Rattle.reuse_session.specs.Journal.{Recorded, Journal, State}
 use Rattle.reuse_session.specs.JournalFiles.{head_path, entry_path, head_of, number_of, EntrySays, IsFree, IsJournalPath}
 use Rattle.reuse_session.specs.declared.journal.entry.Entry.{Entry}
 use Rattle.reuse_session.specs.Session.{store_of, memory_of, listed_as, listed_count, IsSameBut, Remembers, StandsOn, StopsIn, GoesOn}
-use Rattle.reuse_session.specs.Standing.{IsTree, IsStanding, IsStep, InDoubt, Moves}
+use Rattle.reuse_session.specs.Standing.{IsTree, IsStanding, IsStep, Moves}
 use Rattle.reuse_session.specs.Tree.{undo_folder_of}
 use Rattle.reuse_session.specs.declared.session.Session.{Session}
 use Rattle.reuse_session.specs.declared.journal.head.PendingWay.{PendingWay}
 use Rattle.reuse_session.specs.declared.journal.head.PendingWay.TheVariants.{Do, Undo, Redo}
+use Rattle.reuse_session.specs.declared.reply.Cause.TheVariants as causes
+use Rattle.reuse_session.specs.declared.reply.Reply.{Reply}
 use Rattle.reuse_session.specs.declared.reply.Refusal.{Refusal}
 use Rattle.reuse_session.specs.declared.reply.Refusal.TheVariants.{Memory as OutOfMemory, Moved, Fault, Interrupted, BadJournal}
-use Rattle.reuse_session.proofs.JournalLemmas.{clash_beneath, entry_in_folder}
+use Rattle.reuse_session.proofs.JournalLemmas.{clash_beneath, entry_in_folder, paths_apart}
 use Rattle.reuse_session.proofs.OfTree.{get-folder}
 use Rattle.reuse_session.proofs.Standings.{after_entry}
 use Rattle.reuse_session.proofs.Stepping.{last_number}
@@ -108,30 +112,46 @@ stops_unput files held second session (Fault fault) is stands = stands
 stops_unput files held second session (Interrupted cause) is stands = absurd is
 stops_unput files held second session refusal is stands = stands
 
--- ---- no clash
+-- ---- clashes
 
-pub read_no_clash : (refusal : Refusal) → IsReadRefusal refusal → (refusal ≡ Fault faults.Clash → ⊥) → IsNoClash refusal
-read_no_clash OutOfMemory is never = tt
-read_no_clash (BadJournal path) is never = tt
-read_no_clash (Fault faults.Device) is never = tt
-read_no_clash (Fault faults.Clash) is never = never refl
-read_no_clash (Fault faults.Memory) is never = tt
-read_no_clash refusal is never = absurd is
+module _ (entry head : Type 0) where
+  pub read_clash : (refusal : Refusal) → IsReadRefusal refusal → (refusal ≡ Fault faults.Clash → entry) → HasClash entry head refusal
+  read_clash OutOfMemory is clash = tt
+  read_clash (BadJournal path) is clash = tt
+  read_clash (Fault faults.Device) is clash = tt
+  read_clash (Fault faults.Clash) is clash = clash refl
+  read_clash (Fault faults.Memory) is clash = tt
+  read_clash refusal is clash = absurd is
 
-pub test_no_clash : (refusal : Refusal) → IsTestRefusal refusal → (refusal ≡ Fault faults.Clash → ⊥) → IsNoClash refusal
-test_no_clash OutOfMemory is never = tt
-test_no_clash (Moved path) is never = tt
-test_no_clash (Fault faults.Device) is never = tt
-test_no_clash (Fault faults.Clash) is never = never refl
-test_no_clash (Fault faults.Memory) is never = tt
-test_no_clash refusal is never = absurd is
+  pub test_clash : (refusal : Refusal) → IsTestRefusal refusal → (refusal ≡ Fault faults.Clash → entry) → HasClash entry head refusal
+  test_clash OutOfMemory is clash = tt
+  test_clash (Moved path) is clash = tt
+  test_clash (Fault faults.Device) is clash = tt
+  test_clash (Fault faults.Clash) is clash = clash refl
+  test_clash (Fault faults.Memory) is clash = tt
+  test_clash refusal is clash = absurd is
 
-pub put_no_clash : (refusal : Refusal) → IsPutRefusal refusal → (refusal ≡ Fault faults.Clash → ⊥) → IsNoClash refusal
-put_no_clash OutOfMemory is never = tt
-put_no_clash (Fault faults.Device) is never = tt
-put_no_clash (Fault faults.Clash) is never = never refl
-put_no_clash (Fault faults.Memory) is never = tt
-put_no_clash refusal is never = absurd is
+  pub put_clash : (refusal : Refusal) → IsPutRefusal refusal → (refusal ≡ Fault faults.Clash → entry) → HasClash entry head refusal
+  put_clash OutOfMemory is clash = tt
+  put_clash (Fault faults.Device) is clash = tt
+  put_clash (Fault faults.Clash) is clash = clash refl
+  put_clash (Fault faults.Memory) is clash = tt
+  put_clash refusal is clash = absurd is
+
+  -- a clash that is told of some paths is told of others that clash then
+  pub clash_of : (other more : Type 0) → (entry → other) → (head → more) → (refusal : Refusal) → HasClash entry head refusal → HasClash other more refusal
+  clash_of other more on_entry on_head (Fault faults.Clash) clash = on_entry clash
+  clash_of other more on_entry on_head (Interrupted causes.Clash) clash = on_head clash
+  clash_of other more on_entry on_head (Interrupted causes.Moved) clash = clash
+  clash_of other more on_entry on_head refusal clash = tt
+
+  -- where neither can be, none is told
+  pub never_clashes : (entry → ⊥) → (head → ⊥) → (answer : Result Reply Refusal) → IfErr answer (HasClash entry head) → IfErr answer IsNoClash
+  never_clashes no_entry no_head (Ok reply) clash = tt
+  never_clashes no_entry no_head (Err (Fault faults.Clash)) clash = no_entry clash
+  never_clashes no_entry no_head (Err (Interrupted causes.Clash)) clash = no_head clash
+  never_clashes no_entry no_head (Err (Interrupted causes.Moved)) clash = clash
+  never_clashes no_entry no_head (Err refusal) clash = tt
 
 -- no path of a file of the journal clashes where none is a folder
 pub no_clash_at : (files : Files) (path : List ℕ) → IsTree (tree_of files) → IsJournalPath path → IsFree (undo_folder_of files) → Clashes files path → ⊥
@@ -139,8 +159,28 @@ no_clash_at files path tree is free clash =
     let beneath = clash_beneath files path tree is clash in
     free path beneath.0 is beneath.1 beneath.2
 
+-- the file of an entry makes no folder of the head
+pub head_clash_before : (files put : Files) (number : ℕ) → IsSameBut (entry_path number) files put → Clashes put head_path → Clashes files head_path
+head_clash_before files put number same clash =
+    let apart : (lies_under (entry_path number) head_path || lies_under head_path (entry_path number)) ≡ false =
+    or_from _ _ (paths_apart (entry_path number) head_path (inr (number, refl)) (inl refl)) (paths_apart head_path (entry_path number) (inl refl) (inr (number, refl))) in
+    let other : clash.other ≢ entry_path number = λ is. false≢true (sym apart ∙ ap (λ p. lies_under p head_path || lies_under head_path p) (sym is) ∙ clash.nested) in
+    record { other = clash.other; is_file = ap is_some (sym (same clash.other other)) ∙ clash.is_file; nested = clash.nested }
+
 pub tree_of_standing : (files : Files) (held : State) → IsStanding files held → IsTree (tree_of files)
 tree_of_standing files held standing = subst IsTree (sym standing.tree) standing.good
+
+-- where no path of a file of the journal is a folder, a call tells no clash
+module _ (files : Files) (held : State) (standing : IsStanding files held) (free : IsFree (undo_folder_of files)) (answer : Result Reply Refusal) where
+  head_free : Clashes files head_path → ⊥
+  head_free clash = no_clash_at files head_path (tree_of_standing files held standing) (inl refl) free clash
+
+  pub run_no_clash : (number : ℕ) → IfErr answer (HasClash (Clashes files (entry_path number)) (Clashes files head_path)) → IfErr answer IsNoClash
+  run_no_clash number told =
+      never_clashes (Clashes files (entry_path number)) (Clashes files head_path) (no_clash_at files (entry_path number) (tree_of_standing files held standing) (inr (number, refl)) free) head_free answer told
+
+  pub back_no_clash : IfErr answer (HasClash ⊥ (Clashes files head_path)) → IfErr answer IsNoClash
+  back_no_clash told = never_clashes ⊥ (Clashes files head_path) (λ none. none) head_free answer told
 
 -- ---- numbers
 

@@ -1,14 +1,12 @@
 -- A step from one standing to the next: its heads, and what is remembered then.
-use Rattle.std.proofs.Common.{◌≡◌, ◌≢◌, ◌⊎◌, inl, inr, ℕ, ◌+◌, ◌*◌, ◌<◌, ◌≤◌, Bool, true, false, List, [], ◌∷◌, ◌++◌, length, map, reverse, get_or, Some, None, Result, Ok, refl, sym, ap, subst, ◌∙◌, append_assoc, arith}
-use Rattle.std.specs.List.{All}
-use Rattle.std.proofs.lemmas.Bool.Decides.{nat_tests}
-use Rattle.std.proofs.lemmas.List.{length-append, length-map, length-reverse, map-append, reverse-append}
+use Rattle.std.proofs.Common.{◌≡◌, ℕ, ◌+◌, ◌≤◌, false, List, [], ◌∷◌, ◌++◌, length, map, reverse, get_or, Some, None, Ok, refl, sym, ap, subst, ◌∙◌, append_assoc}
+use Rattle.std.proofs.lemmas.List.{map-append, reverse-append}
 use Rattle.std.proofs.Math.Seq.{get_or-append_seam}
-use Rattle.reuse_tree.specs.Files.{Files, AreFiles, tree_of}
+use Rattle.reuse_tree.specs.Files.{Files}
 use Rattle.reuse_tree.specs.declared.change.Change.{Change}
 use Rattle.reuse_session.specs.Command.{name_of}
 use Rattle.reuse_session.specs.Entry.{IsEntry, LeadsBy}
-use Rattle.reuse_session.specs.Head.{listed, way_of, IsGoodHead, IsSoundHead}
+use Rattle.reuse_session.specs.Head.{way_of, IsGoodHead, IsSoundHead}
 use Rattle.reuse_session.specs.History.{Memory, head_listing, remember_run}
 use Rattle.reuse_session.specs.Journal.{Recorded, Journal, State}
 use Rattle.reuse_session.specs.JournalFiles.{head_of, number_of}
@@ -22,8 +20,8 @@ use Rattle.reuse_session.specs.declared.command.Command.{Command}
 use Rattle.reuse_session.specs.declared.history.ListedEntry.{ListedEntry}
 use Rattle.reuse_session.specs.declared.journal.head.Pending.{Pending}
 use Rattle.reuse_session.specs.declared.journal.head.PendingWay.{PendingWay}
-use Rattle.reuse_session.specs.declared.journal.head.PendingWay.TheVariants.{Do, Undo, Redo}
-use Rattle.reuse_session.specs.Answer.{IsNoClash}
+use Rattle.reuse_session.specs.declared.journal.head.PendingWay.TheVariants.{Do}
+use Rattle.reuse_session.specs.Answer.{HasClash}
 use Rattle.reuse_session.specs.declared.reply.Cause.{Cause}
 use Rattle.reuse_session.specs.declared.reply.Cause.TheVariants as causes
 use Rattle.reuse_session.specs.declared.reply.Refusal.TheVariants.{Interrupted}
@@ -126,9 +124,9 @@ module _ (memory : Memory) (files : Files) (first second : State) (standing : Is
 
 -- ---- causes
 
--- a stop that tells neither a clash nor a file that has moved
-pub is_no_clash : (cause : Cause) → (cause ≡ causes.Moved → ⊥) → (cause ≡ causes.Clash → ⊥) → IsNoClash (Interrupted cause)
-is_no_clash causes.Memory moved clash = tt
-is_no_clash causes.Device moved clash = tt
-is_no_clash causes.Moved moved clash = moved refl
-is_no_clash causes.Clash moved clash = clash refl
+-- a stop that tells a clash only of the head, and no file that has moved
+pub stop_clash : (entry head : Type 0) (cause : Cause) → (cause ≡ causes.Moved → ⊥) → (cause ≡ causes.Clash → head) → HasClash entry head (Interrupted cause)
+stop_clash entry head causes.Memory moved clash = tt
+stop_clash entry head causes.Device moved clash = tt
+stop_clash entry head causes.Moved moved clash = moved refl
+stop_clash entry head causes.Clash moved clash = clash refl

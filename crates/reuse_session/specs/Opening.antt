@@ -1,5 +1,5 @@
 -- What opening a session finds.
-use Rattle.std.specs.Prelude.{◌≡◌, ◌⊎◌, ℕ, ◌+◌, ◌<◌, List, [], ◌∷◌, ◌++◌, length, Option, Some, None, IsSome, codes, nat_lt, if◌then◌else◌}
+use Rattle.std.specs.Prelude.{◌≡◌, ◌⊎◌, ◌↔◌, ℕ, ◌<◌, List, [], ◌∷◌, ◌++◌, length, Option, Some, None, IsSome, Result, Ok, Err, IsOk, codes, nat_lt, if◌then◌else◌}
 use Rattle.std.specs.List.{All, Contains}
 use Rattle.std.specs.FinMap.{get}
 use Rattle.reuse_tree.specs.Path.{journal_folder}
@@ -9,7 +9,7 @@ use Rattle.reuse_session.specs.Head.{listed, way_of}
 use Rattle.reuse_session.specs.History.{Memory}
 use Rattle.reuse_session.specs.Journal.{Recorded, Journal, State}
 use Rattle.reuse_session.specs.JournalFiles.{head_path, entry_path, number_of, HeadSays, EntrySays, IsKeptIn, KeepsJournal}
-use Rattle.reuse_session.specs.Session.{Remembers}
+use Rattle.reuse_session.specs.Session.{store_of, Remembers}
 use Rattle.reuse_session.specs.Standing.{IsStanding, IsUnderWay}
 use Rattle.reuse_session.specs.Tree.{undo_folder_of}
 use Rattle.reuse_session.specs.declared.journal.head.Head.{Head}
@@ -17,6 +17,9 @@ use Rattle.reuse_session.specs.declared.journal.head.Pending.{Pending}
 use Rattle.reuse_session.specs.declared.journal.head.PendingWay.{PendingWay}
 use Rattle.reuse_session.specs.declared.journal.entry.Entry.{Entry}
 use Rattle.reuse_session.specs.declared.history.ListedEntry.{ListedEntry}
+use Rattle.reuse_session.specs.declared.reply.Refusal.{Refusal}
+use Rattle.reuse_session.specs.declared.reply.Refusal.TheVariants.{BadJournal, Moved}
+use Rattle.reuse_session.specs.declared.session.Session.{Session}
 
 -- the number of what is pending
 abbrev pub pending_numbers : Option Pending → List ℕ
@@ -41,17 +44,28 @@ pub record IsLeastUnreadable (folder : Files) (numbers : List ℕ) (number : ℕ
 abbrev pub IsFirstUnreadable : Files → List ℕ → List ℕ → Type 0
 IsFirstUnreadable folder numbers path = (number : ℕ) × (path ≡ entry_path number) × IsLeastUnreadable folder numbers number
 
--- The path is the first at fault: the folder of the journal or the one above it is a file, or the head can't be read, or an entry
--- that it names.
+-- no file stands above the journal: neither `.reuse` nor `.reuse/undo` is one
+abbrev pub NoFileAbove : Files → Type 0
+NoFileAbove files = (get files (codes ".reuse") ≡ None) × (get files journal_folder ≡ None)
+
+-- the path is the first at fault in the folder of the journal: the head where it can't be read, else the entry of the least number
+-- that the head names and whose entry can't be read
+abbrev pub IsFirstBadIn : Files → List ℕ → Type 0
+IsFirstBadIn folder path =
+    ((path ≡ head_path) × ((head : Head) → ¬ (HeadSays (get folder head_path) head)))
+    ⊎ ((head : Head) × HeadSays (get folder head_path) head × IsFirstUnreadable folder (named head) path)
+
+-- the path is the first at fault: `.reuse` where it is a file, else `.reuse/undo` where it is one, else the first in that folder
 abbrev pub IsFirstBad : Files → List ℕ → Type 0
 IsFirstBad files path =
     ((path ≡ codes ".reuse") × IsSome (get files path))
-    ⊎ ((path ≡ journal_folder) × IsSome (get files path))
-    ⊎ ((path ≡ head_path) × ((head : Head) → ¬ (HeadSays (get (undo_folder_of files) head_path) head)))
-    ⊎ ((head : Head) × HeadSays (get (undo_folder_of files) head_path) head × IsFirstUnreadable (undo_folder_of files) (named head) path)
+    ⊎ ((get files (codes ".reuse") ≡ None) × (path ≡ journal_folder) × IsSome (get files path))
+    ⊎ (NoFileAbove files × IsFirstBadIn (undo_folder_of files) path)
 
--- a step is pending, and the path is that of its first change that is neither made nor not made, or that can't be taken back
+-- The journal is without fault and a step is pending in it; the path is that of its first change that is neither made nor not made,
+-- or that can't be taken back.
 pub record IsStuckAt (files : Files) (path : List ℕ) : Type 0 where
+  pub above : NoFileAbove files
   pub journal : Journal
   pub way : PendingWay
   pub step : Recorded
@@ -59,11 +73,37 @@ pub record IsStuckAt (files : Files) (path : List ℕ) : Type 0 where
   pub kept : IsKeptIn (undo_folder_of files) step
   pub stuck : IsFirstWithout (CanBeSetBack (way_of way) (tree_of files)) step.changes path
 
+-- the files are this standing, or a step is under way from it
+abbrev pub CanOpenOn : Files → State → Type 0
+CanOpenOn files held = IsStanding files held ⊎ ((way : PendingWay) × (step : Recorded) × IsUnderWay way step held files)
+
+-- What opening these files answers, where it tells neither a fault of the store nor want of memory: a bad journal exactly at the
+-- first path at fault, else a path that moved exactly where the pending step is stuck, else a session.
+pub record OpensAs {A : Type 0} (files : Files) (answer : Result A Refusal) : Type 0 where
+  pub bad : (path : List ℕ) → (answer ≡ Err (BadJournal path)) ↔ IsFirstBad files path
+  pub moved : (path : List ℕ) → (answer ≡ Err (Moved path)) ↔ IsStuckAt files path
+  pub opened : IsOk answer ↔ ((held : State) × CanOpenOn files held)
+
+-- the answer of an opening, and the store that it gives back
+abbrev pub opening_answer : {S : Type 0} → Result (Session S) (Refusal × S) → Result (Session S) Refusal
+opening_answer (Ok session) = Ok session
+opening_answer (Err refused) = Err refused.0
+
+abbrev pub opening_store : {S : Type 0} → Result (Session S) (Refusal × S) → S
+opening_store (Ok session) = store_of session
+opening_store (Err refused) = refused.1
+
 -- The files were this standing, and are. Or a step was under way from it; then its files are set back.
 abbrev pub OpensOn : Files → State → Files → Type 0
 OpensOn before held after =
     (IsStanding before held × (after ≡ before))
     ⊎ ((way : PendingWay) × (step : Recorded) × IsUnderWay way step held before × IsStanding after held)
+
+-- A step was under way from a standing. It is still, or its files are set back.
+abbrev pub StopsOpening : Files → Files → Type 0
+StopsOpening before after =
+    (held : State) × (way : PendingWay) × (step : Recorded)
+    × IsUnderWay way step held before × (IsStanding after held ⊎ IsUnderWay way step held after)
 
 -- ---- for private clauses
 

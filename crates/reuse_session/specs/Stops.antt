@@ -1,8 +1,9 @@
 -- Runs with stops: what a driven session answers and leaves, whichever calls of the store fail.
-use Rattle.std.specs.Prelude.{◌≡◌, ◌⊎◌, Bool, true, false, List, [], ◌∷◌, Option, Some, None, Result, Ok, Err}
+use Rattle.std.specs.Prelude.{◌≡◌, ◌⊎◌, ◌≤◌, ◌<◌, ℕ, Bool, true, false, List, [], ◌∷◌, Option, Some, None, Result, Ok, Err, IfErr}
 use Rattle.reuse_tree.specs.Files.{Files}
+use Rattle.reuse_session.specs.Answer.{HasCause}
 use Rattle.reuse_session.specs.Journal.{State}
-use Rattle.reuse_session.specs.Machine.{Snapshots, step}
+use Rattle.reuse_session.specs.Machine.{Snapshots, Step, step}
 use Rattle.reuse_session.specs.Session.{store_of, Holds, StandsAt}
 use Rattle.reuse_session.specs.Standing.{IsStanding, InDoubt}
 use Rattle.reuse_session.specs.declared.events.Driven.{Driven}
@@ -39,13 +40,23 @@ Reopens (Err Memory) old new = new ≡ closed old
 Reopens (Err (Interrupted cause)) old new = new ≡ closed old
 Reopens answer old new = ⊥
 
--- An event of an open session. One that a fault of the store or want of memory refused is left out; one that was interrupted closes the
--- session, and is kept or left out; and every other is that of the machine.
+-- An event of an open session that makes a step. One that a fault of the store or want of memory refused is left out; one that was
+-- interrupted closes the session, and is kept or left out; and every other is that of the machine.
+abbrev pub Goes : Step → Result Reply Refusal → Point → Point → Type 0
+Goes next (Err (Fault fault)) old new = new ≡ old
+Goes next (Err Memory) old new = new ≡ old
+Goes next (Err (Interrupted cause)) old new = new ≡ record { is_open = false; state = old.state; next = Some next.1 }
+Goes next answer old new = (answer ≡ next.0) × (new ≡ open_at next.1)
+
+-- a log answers the machine's rows, or memory ran out, and changes nothing
+abbrev pub Lists : Step → Result Reply Refusal → Point → Point → Type 0
+Lists next (Err Memory) old new = new ≡ old
+Lists next answer old new = (answer ≡ next.0) × (new ≡ old)
+
+-- an event of an open session
 abbrev pub Continues : Event → Result Reply Refusal → Point → Point → Type 0
-Continues event (Err (Fault fault)) old new = new ≡ old
-Continues event (Err Memory) old new = new ≡ old
-Continues event (Err (Interrupted cause)) old new = new ≡ record { is_open = false; state = old.state; next = Some (step old.state event).1 }
-Continues event answer old new = (answer ≡ (step old.state event).0) × (new ≡ open_at (step old.state event).1)
+Continues event.Log answer old new = Lists (step old.state event.Log) answer old new
+Continues event answer old new = Goes (step old.state event) answer old new
 
 -- while no session is open, all but an opening is refused as broken
 abbrev pub Answers : Bool → Event → Result Reply Refusal → Point → Point → Type 0
@@ -59,6 +70,12 @@ RunsWithStops [] [] old new = new ≡ old
 RunsWithStops (event ∷ events) (answer ∷ answers) old new = (point : Point) × Answers old.is_open event answer old point × RunsWithStops events answers point new
 RunsWithStops [] (answer ∷ answers) old new = ⊥
 RunsWithStops (event ∷ events) [] old new = ⊥
+
+-- there is a count of the store's failures after each answer, from the first to the last, none less than the one before it; and where
+-- the answer tells a device fault it is greater
+abbrev pub HaveCauses : List (Result Reply Refusal) → ℕ → ℕ → Type 0
+HaveCauses [] first last = first ≤ last
+HaveCauses (answer ∷ answers) first last = (next : ℕ) × (first ≤ next) × IfErr answer (HasCause (first < next)) × HaveCauses answers next last
 
 -- ---- what the files are then
 

@@ -1,6 +1,6 @@
 // What a session remembers of the journal: its entries' labels, and not their changes.
 ghost use Rattle.std.specs.Prelude.{◌≡◌, ◌<◌, ◌≤◌, ◌+◌, ◌*◌, ◌++◌, ◌∷◌, [], Option, None, Some, List, IfOk, length, map, true, false};
-ghost use Rattle.reuse_session.specs.Head.{IsGoodHead, IsSoundHead};
+ghost use Rattle.reuse_session.specs.Head.{head_text, IsGoodHead, IsSoundHead};
 ghost use Rattle.reuse_session.specs.History.{Memory, head_listing, row_listing, rows_listing, remember_run};
 ghost use Rattle.reuse_session.specs.Machine.{is_full};
 ghost use Rattle.reuse_session.specs.declared.history.ListedEntry.{ListedEntry};
@@ -130,6 +130,7 @@ impl History {
 
     /// The text of the head that lists the entries.
     pub fn head_text(&self, alloc: Global, pending: Option<Pending>) -> Result<Vec<u8>, AllocError>
+        ensures text { IfOk result (λ text. text.items ≡ head_text (head_listing self.now pending)) }
         ensures good { IsSoundHead (head_listing self.now pending) → IfOk result (λ text. IsGoodHead text.items (head_listing self.now pending)) }
         ensures bound { IsSoundHead (head_listing self.now pending)
             → IfOk result (λ text. length text.items ≤ 128 + 7 * (length self.now.done + length self.now.undone)) }

@@ -7,8 +7,9 @@ ghost use Rattle.reuse_tree.specs.declared.fault.StoreFault.{StoreFault};
 ghost use Rattle.reuse_tree.specs.declared.fault.StoreFault.TheVariants as faults;
 ghost use Rattle.reuse_session.specs.Answer.{IsReadRefusal, IsPutRefusal, bad_text};
 ghost use Rattle.reuse_session.specs.Entry.{IsEntry, entry_size};
+ghost use Rattle.reuse_session.specs.EntryText.{entry_text};
 ghost use Rattle.reuse_session.specs.Head.{IsSoundHead};
-ghost use Rattle.reuse_session.specs.Session.{IsSameBut};
+ghost use Rattle.reuse_session.specs.Session.{HasEntryText, IsSameBut};
 ghost use Rattle.reuse_session.specs.Tree.{Sets, undo_folder_of};
 ghost use Rattle.reuse_session.specs.JournalFiles.{digit, head_path, entry_path, HeadSays, EntrySays};
 ghost use Rattle.reuse_session.specs.declared.journal.head.Head.{Head};
@@ -20,6 +21,7 @@ use crate::journal::{
 use crate::reply::{Cause, Refusal};
 use reuse_tree::{PathText, Reading, Store, StoreFault};
 use std::alloc::{AllocError, Global};
+use std::marker::Model;
 
 const LONGEST_HEAD: usize = 16_777_216;
 
@@ -30,6 +32,31 @@ pub fn head_path(alloc: Global) -> Result<PathText, AllocError>
     ensures { IfOk result (λ path. path ≡ head_path) }
 {
     path_of_text(alloc, ".reuse/undo/head.json")
+}
+
+/// The path of the head. It is made before the first put, so that want of memory for it is no stop.
+#[derive(Drop)]
+pub struct HeadPath {
+    path: PathText,
+}
+
+impl Model for HeadPath {
+    ghost Value = { List ℕ };
+
+    ghost view = { λ p. p.path };
+
+    ghost invariant = { λ p. p.path ≡ head_path };
+}
+
+impl HeadPath {
+    /// Makes the path.
+    pub fn new(alloc: Global) -> Result<HeadPath, AllocError>
+        ensures { IfOk result (λ path. path ≡ head_path) }
+    {
+        Ok(HeadPath {
+            path: head_path(alloc)?,
+        })
+    }
 }
 
 /// The path of the entry of this number.
@@ -111,6 +138,7 @@ fn head_in(alloc: Global, path: PathText, reading: Reading) -> Result<Head, Refu
 /// The entry of this number.
 pub fn read_entry<S: Store>(alloc: Global, store: &mut S, number: u32) -> Result<Entry, Refusal>
     ensures ok { S.honest store.new → IfOk result (EntrySays (map.get (undo_folder_of (S.files store.old)) (entry_path number))) }
+    ensures good { IfOk result (λ entry. IsEntry entry.changes) }
     ensures bad { S.honest store.new → (path : List ℕ) → result ≡ Err (Refusal.BadJournal path)
         → (path ≡ entry_path number) × ((entry : Entry) → ¬ (EntrySays (map.get (undo_folder_of (S.files store.old)) (entry_path number)) entry)) }
     ensures refusal { IfErr result IsReadRefusal }
@@ -129,6 +157,7 @@ pub fn read_entry<S: Store>(alloc: Global, store: &mut S, number: u32) -> Result
 // The entry that was read at the path.
 fn entry_in(alloc: Global, path: PathText, reading: Reading) -> Result<Entry, Refusal>
     ensures ok { (file : Option (List ℕ)) → reading ≡ reading_of file 268_435_456 → IfOk result (EntrySays file) }
+    ensures good { IfOk result (λ entry. IsEntry entry.changes) }
     ensures bad { (file : Option (List ℕ)) → reading ≡ reading_of file 268_435_456 → (place : List ℕ) → result ≡ Err (Refusal.BadJournal place)
         → (place ≡ path) × ((entry : Entry) → ¬ (EntrySays file entry)) }
     ensures refusal { IfErr result IsReadRefusal }
@@ -162,6 +191,8 @@ pub fn put_entry<S: Store>(
 ) -> Result<(), Refusal>
     ensures ok { S.honest store.new → IsEntry entry.now.changes
         → OnOk result (EntrySays (map.get (S.files store.new) (entry_path number)) entry.now) }
+    ensures text { S.honest store.new → OnOk result (HasEntryText number entry.now (S.files store.new)) }
+    ensures counted { OnOk result (S.written store.new ≡ S.written store.old + length (entry_text entry.now)) }
     // No other path holds something else, whatever it answers.
     ensures others { S.honest store.new → IsSameBut (entry_path number) (S.files store.old) (S.files store.new) }
     ensures refusal { IfErr result IsPutRefusal }
@@ -178,7 +209,12 @@ pub fn put_entry<S: Store>(
 }
 
 /// Puts this text of a head.
-pub fn put_head<S: Store>(alloc: Global, store: &mut S, text: &[u8]) -> Result<(), Cause>
+pub fn put_head<S: Store>(
+    alloc: Global,
+    store: &mut S,
+    head: &HeadPath,
+    text: &[u8],
+) -> Result<(), Cause>
     ensures ok { S.honest store.new → OnOk result (Sets head_path (Some text.now) (S.files store.old) (S.files store.new)) }
     ensures err { S.honest store.new → OnErr result ((S.files store.new ≡ S.files store.old)
         ⊎ Sets head_path (Some text.now) (S.files store.old) (S.files store.new)) }
@@ -187,9 +223,9 @@ pub fn put_head<S: Store>(alloc: Global, store: &mut S, text: &[u8]) -> Result<(
     ensures device { IsErrOf result Cause.Device → S.failures store.old < S.failures store.new }
     ensures failures { S.failures store.old ≤ S.failures store.new }
     ensures written { S.written store.new ≤ S.written store.old + length text.now }
+    ensures counted { S.written store.old + length text.now ≤ S.written store.new }
     ensures was_honest { S.honest store.new → S.honest store.old }
 {
-    let path = head_path(alloc)?;
-    store.put(alloc, &path, text)?;
+    store.put(alloc, &head.path, text)?;
     Ok(())
 }

@@ -9,14 +9,15 @@ ghost use Rattle.reuse_session.specs.Head.{listed, IsSoundHead};
 ghost use Rattle.reuse_session.specs.declared.journal.head.Head.{Head};
 ghost use Rattle.reuse_session.specs.Journal.{Recorded, Journal, State};
 ghost use Rattle.reuse_session.specs.JournalFiles.{head_path, number_of, HeadSays};
-ghost use Rattle.reuse_session.specs.Opening.{least, listed_entry, named, IsReadable, IsListedIn, IsFoundAt, IsLeastFound, IsFirstUnreadable, IsFirstBad, IsRead, IsSettled, IsStuckAt, OpensOn};
-ghost use Rattle.reuse_session.specs.Session.{head_room, listed_count, Remembers};
+ghost use Rattle.reuse_session.specs.Opening.{least, listed_entry, named, IsReadable, IsListedIn, IsFoundAt, IsLeastFound, NoFileAbove, IsFirstUnreadable, IsFirstBad, IsRead, IsSettled, IsStuckAt, OpensOn, StopsOpening};
+ghost use Rattle.reuse_session.specs.Session.{head_room, listed_count, IsSameBut, Remembers};
 ghost use Rattle.reuse_session.specs.Standing.{IsStanding, IsUnderWay, InDoubt};
 ghost use Rattle.reuse_session.specs.Tree.{undo_folder_of};
+ghost use Rattle.reuse_session.specs.declared.reply.Cause.{Cause};
 
 use crate::history::{History, ListedEntry};
 use crate::journal::{Entry, Head, Pending};
-use crate::journal_files::{entry_path, path_of_text, read_entry, read_head};
+use crate::journal_files::{HeadPath, entry_path, path_of_text, read_entry, read_head};
 use crate::reply::Refusal;
 use crate::roll_back::roll_back;
 use reuse_tree::{Reading, Store};
@@ -28,6 +29,8 @@ pub fn open_journal<S: Store>(alloc: Global, store: &mut S) -> Result<History, R
     ensures bad { S.honest store.new → (path : List ℕ) → result ≡ Err (Refusal.BadJournal path) → IsFirstBad (S.files store.old) path }
     ensures moved { S.honest store.new → (path : List ℕ) → result ≡ Err (Refusal.Moved path) → IsStuckAt (S.files store.old) path }
     ensures unchanged { S.honest store.new → IfErr result (λ refusal. IsEarly refusal → S.files store.new ≡ S.files store.old) }
+    // It stops only where a step was under way, which is still, or is set back.
+    ensures interrupted { S.honest store.new → (cause : Cause) → result ≡ Err (Refusal.Interrupted cause) → StopsOpening (S.files store.old) (S.files store.new) }
     // Of files in doubt it makes one of the two standings, or leaves them in doubt where it fails.
     ensures settles { S.honest store.new → (first second : State) → InDoubt first second (S.files store.old)
         → MatchResult result (λ memory. (IsStanding (S.files store.new) first × Remembers memory first.journal) ⊎ (IsStanding (S.files store.new) second × Remembers memory second.journal))
@@ -35,6 +38,10 @@ pub fn open_journal<S: Store>(alloc: Global, store: &mut S) -> Result<History, R
     // At most one head is put.
     ensures written { S.honest store.new → (head : Head) → HeadSays (map.get (undo_folder_of (S.files store.old)) head_path) head
         → S.written store.new ≤ S.written store.old + head_room (length (listed head)) }
+    // No head is put before a refusal, nor where nothing is pending; and nothing else of the journal's folder changes.
+    ensures early { IfErr result (λ refusal. IsEarly refusal → S.written store.new ≡ S.written store.old) }
+    ensures quiet { S.honest store.new → (held : State) → IsStanding (S.files store.old) held → S.written store.new ≡ S.written store.old }
+    ensures folder { S.honest store.new → IsSameBut head_path (undo_folder_of (S.files store.old)) (undo_folder_of (S.files store.new)) }
     ensures refusal { IfErr result IsOpenRefusal }
     ensures clash { S.honest store.new → IfErr result IsNoClash }
     ensures fault { IfErr result (HasCause (S.failures store.old < S.failures store.new)) }
@@ -88,6 +95,11 @@ fn settle<S: Store>(
         → (step : Recorded) → (first : State) → number_of step ≡ pending.entry → IsUnderWay pending.way step first (S.files store.old)
         → MatchResult result (λ done. IsStanding (S.files store.new) first)
         (λ refusal. IsFailure refusal × (IsStanding (S.files store.new) first ⊎ IsUnderWay pending.way step first (S.files store.new))) }
+    ensures interrupted { S.honest store.new → (journal : Journal) → IsRead (S.files store.old) (Some pending) history.now journal
+        → (cause : Cause) → result ≡ Err (Refusal.Interrupted cause) → StopsOpening (S.files store.old) (S.files store.new) }
+    ensures early { IfErr result (λ refusal. IsEarly refusal → S.written store.new ≡ S.written store.old) }
+    ensures folder { S.honest store.new → (journal : Journal) → IsRead (S.files store.old) (Some pending) history.now journal
+        → IsSameBut head_path (undo_folder_of (S.files store.old)) (undo_folder_of (S.files store.new)) }
     ensures no_bad { S.honest store.new → (journal : Journal) → IsRead (S.files store.old) (Some pending) history.now journal
         → (path : List ℕ) → result ≢ Err (Refusal.BadJournal path) }
     ensures written { S.honest store.new → (journal : Journal) → IsRead (S.files store.old) (Some pending) history.now journal
@@ -100,9 +112,11 @@ fn settle<S: Store>(
 {
     let entry = read_entry(alloc, store, pending.entry)?;
     let settled = history.head_text(alloc, None)?;
+    let head = HeadPath::new(alloc)?;
     roll_back(
         alloc,
         store,
+        &head,
         entry.changes.as_slice(),
         pending.way.way(),
         settled.as_slice(),
@@ -111,9 +125,10 @@ fn settle<S: Store>(
 
 // Neither `.reuse` nor `.reuse/undo` is a file.
 fn test_folders<S: Store>(alloc: Global, store: &mut S) -> Result<(), Refusal>
-    ensures ok { S.honest store.new → OnOk result ((map.get (S.files store.old) (codes ".reuse") ≡ None) × (map.get (S.files store.old) journal_folder ≡ None)) }
+    ensures ok { S.honest store.new → OnOk result (NoFileAbove (S.files store.old)) }
     ensures bad { S.honest store.new → (path : List ℕ) → result ≡ Err (Refusal.BadJournal path)
-        → ((path ≡ codes ".reuse") ⊎ (path ≡ journal_folder)) × IsSome (map.get (S.files store.old) path) }
+        → ((path ≡ codes ".reuse") × IsSome (map.get (S.files store.old) path))
+        ⊎ ((map.get (S.files store.old) (codes ".reuse") ≡ None) × (path ≡ journal_folder) × IsSome (map.get (S.files store.old) path)) }
     ensures refusal { IfErr result IsReadRefusal }
     ensures files { S.honest store.new → S.files store.new ≡ S.files store.old }
     ensures clash { S.honest store.new → result ≢ Err (Refusal.Fault faults.Clash) }

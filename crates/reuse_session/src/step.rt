@@ -7,7 +7,7 @@ ghost use Rattle.reuse_session.specs.Carried.{IsCarriedOut, IsStopped};
 ghost use Rattle.reuse_session.specs.JournalFiles.{head_path};
 
 use crate::entry::Way;
-use crate::journal_files::put_head;
+use crate::journal_files::{HeadPath, put_head};
 use crate::perform::perform;
 use crate::reply::Cause;
 use reuse_tree::{Change, Store};
@@ -17,6 +17,7 @@ use std::alloc::Global;
 pub fn carry_out<S: Store>(
     alloc: Global,
     store: &mut S,
+    head: &HeadPath,
     changes: &[Change],
     way: Way,
     pending: &[u8],
@@ -26,15 +27,18 @@ pub fn carry_out<S: Store>(
     ensures stopped { S.honest store.new → IsEntry changes.now → OnErr result ((S.files store.new ≡ S.files store.old)
         ⊎ IsStopped way changes.now pending.now (S.files store.old) (S.files store.new)
         ⊎ IsCarriedOut way changes.now settled.now (S.files store.old) (S.files store.new)) }
-    // Where each change can be made and the head can be put, nothing but the device and memory stops it.
-    ensures cause { S.honest store.new → IsEntry changes.now → All (CanBeMade way (tree_of (S.files store.old))) changes.now
-        → ¬ (Clashes (S.files store.old) head_path) → (result ≢ Err Cause.Moved) × (result ≢ Err Cause.Clash) }
+    // Where each change can be made, no file has moved, and a clash is that of the head.
+    ensures moved { S.honest store.new → IsEntry changes.now → All (CanBeMade way (tree_of (S.files store.old))) changes.now
+        → result ≢ Err Cause.Moved }
+    ensures clash { S.honest store.new → IsEntry changes.now → All (CanBeMade way (tree_of (S.files store.old))) changes.now
+        → result ≡ Err Cause.Clash → Clashes (S.files store.old) head_path }
     ensures device { IsErrOf result Cause.Device → S.failures store.old < S.failures store.new }
     ensures failures { S.failures store.old ≤ S.failures store.new }
+    ensures begun { IsEntry changes.now → S.written store.old + length pending.now ≤ S.written store.new }
     ensures written { IsEntry changes.now → S.written store.new ≤ S.written store.old + length pending.now + length settled.now }
     ensures was_honest { S.honest store.new → S.honest store.old }
 {
-    put_head(alloc, store, pending)?;
+    put_head(alloc, store, head, pending)?;
     perform(alloc, store, changes, way)?;
-    put_head(alloc, store, settled)
+    put_head(alloc, store, head, settled)
 }

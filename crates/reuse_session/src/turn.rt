@@ -6,15 +6,16 @@ ghost use Rattle.reuse_text.specs.Text.{spliced};
 ghost use Rattle.reuse_tree.specs.Files.{Clashes};
 ghost use Rattle.reuse_tree.specs.Change.{path_of, IsProper};
 ghost use Rattle.reuse_session.specs.Tree.{is_of_tree, Sets};
-ghost use Rattle.reuse_session.specs.Entry.{makes, whole_after, IsSmall, IsReady, Steps};
+ghost use Rattle.reuse_session.specs.Entry.{makes, whole_after, held_after, IsSmall, IsReady, Steps, TurnsBy};
 
 use crate::entry::Way;
 use crate::reply::Cause;
 use reuse_text::{Bytes, splice};
 use reuse_tree::{Change, ChangeState, PathText, Reading, Store, StoreFault};
-use std::alloc::Global;
+use std::alloc::{AllocError, Global};
 
-const LONGEST_FILE: usize = 16_777_216;
+/// The most bytes that a file of the tree has.
+pub const LONGEST_FILE: usize = 16_777_216;
 
 /// Whether the change, gone through this way, makes a file.
 pub fn makes(change: &Change, way: Way) -> bool
@@ -26,8 +27,8 @@ pub fn makes(change: &Change, way: Way) -> bool
     }
 }
 
-// Whether the change can be gone through this way where its path holds this.
-fn is_ready(change: &Change, way: Way, file: Option<&[u8]>) -> bool
+/// Whether the change can be gone through this way where its path holds this.
+pub fn is_ready(change: &Change, way: Way, file: Option<&[u8]>) -> bool
     ensures ready { IsTrue result → IsReady way change.now (option_copied file.entry) }
     ensures stuck { IsProper change.now → IsReady way change.now (option_copied file.entry) → IsTrue result }
 {
@@ -84,34 +85,51 @@ fn put_or_remove<S: Store>(
     Ok(())
 }
 
-// Puts the file with new bytes in the place of old ones.
-fn put_spliced<S: Store>(
+// The file with new bytes in the place of old ones.
+fn with_part(
     alloc: Global,
-    store: &mut S,
-    path: &PathText,
     file: &[u8],
     at: usize,
     old: &Bytes,
     new: &Bytes,
-) -> Result<(), Cause>
+) -> Result<Bytes, AllocError>
     requires { at + length old.now ≤ length file.now }
-    ensures ok { S.honest store.new
-        → OnOk result (Sets path.now (Some (spliced file.now at (length old.now) new.now)) (S.files store.old) (S.files store.new)) }
-    ensures err { S.honest store.new → OnErr result ((S.files store.new ≡ S.files store.old)
-        ⊎ Sets path.now (Some (spliced file.now at (length old.now) new.now)) (S.files store.old) (S.files store.new)) }
-    ensures clash { S.honest store.new → result ≡ Err Cause.Clash → Clashes (S.files store.old) path.now }
-    ensures moved { result ≢ Err Cause.Moved }
-    ensures device { IsErrOf result Cause.Device → S.failures store.old < S.failures store.new }
-    ensures failures { S.failures store.old ≤ S.failures store.new }
-    ensures written { is_of_tree path.now ≡ true → S.written store.new ≡ S.written store.old }
-    ensures was_honest { S.honest store.new → S.honest store.old }
+    ensures { IfOk result (λ bytes. bytes ≡ spliced file.now at (length old.now) new.now) }
 {
     // No memory holds more bytes than a number counts.
     if (file.len() - old.len()).checked_add(new.len()).is_none() {
-        return Err(Cause::Memory);
+        return Err(AllocError);
     }
     let bytes = splice(alloc, file, at, old.len(), new.as_slice())?;
-    put_or_remove(alloc, store, path, Some(bytes.as_slice()))
+    Ok(Bytes::from_vec(bytes))
+}
+
+/// What a splice, gone through this way, makes of a file; none where the change is no splice. No store is called, so that want of
+/// memory for it is told before a put.
+pub fn spliced(
+    alloc: Global,
+    change: &Change,
+    way: Way,
+    file: Option<&[u8]>,
+) -> Result<Option<Bytes>, Cause>
+    ensures turns { IfOk result (λ spliced. TurnsBy way change.now (option_copied file.entry) (held_after way change.now spliced)) }
+    ensures moved { IsProper change.now → result ≡ Err Cause.Moved → ¬ (IsReady way change.now (option_copied file.entry)) }
+    ensures clash { result ≢ Err Cause.Clash }
+    ensures device { result ≢ Err Cause.Device }
+{
+    if !is_ready(change, way, file) {
+        return Err(Cause::Moved);
+    }
+    let Change::Splice { at, old, new, .. } = change else {
+        return Ok(None);
+    };
+    let Some(file) = file else {
+        return Err(Cause::Moved);
+    };
+    match way {
+        Way::Do => Ok(Some(with_part(alloc, file, *at, old, new)?)),
+        Way::Undo => Ok(Some(with_part(alloc, file, *at, new, old)?)),
+    }
 }
 
 // What the path of a change that is no splice holds once it is gone through this way.
@@ -122,6 +140,32 @@ fn whole_after<'a>(change: &'a Change, way: Way) -> Option<&'a [u8]>
         (Change::Make { new, .. }, Way::Do) => Some(new.as_slice()),
         (Change::Drop { old, .. }, Way::Undo) => Some(old.as_slice()),
         _ => None,
+    }
+}
+
+/// Makes the change this way by one put or removal, where these bytes are what a splice makes of its file.
+pub fn put_turned<S: Store>(
+    alloc: Global,
+    store: &mut S,
+    change: &Change,
+    way: Way,
+    spliced: Option<Bytes>,
+) -> Result<(), Cause>
+    ensures ok { S.honest store.new → TurnsBy way change.now (map.get (S.files store.old) (path_of change.now)) (held_after way change.now spliced)
+        → OnOk result (Steps way change.now (S.files store.old) (S.files store.new)) }
+    ensures err { S.honest store.new → TurnsBy way change.now (map.get (S.files store.old) (path_of change.now)) (held_after way change.now spliced)
+        → OnErr result ((S.files store.new ≡ S.files store.old) ⊎ Steps way change.now (S.files store.old) (S.files store.new)) }
+    ensures moved { result ≢ Err Cause.Moved }
+    ensures clash { S.honest store.new → TurnsBy way change.now (map.get (S.files store.old) (path_of change.now)) (held_after way change.now spliced)
+        → result ≡ Err Cause.Clash → (makes way change.now ≡ true) × Clashes (S.files store.old) (path_of change.now) }
+    ensures device { IsErrOf result Cause.Device → S.failures store.old < S.failures store.new }
+    ensures failures { S.failures store.old ≤ S.failures store.new }
+    ensures written { is_of_tree (path_of change.now) ≡ true → S.written store.new ≡ S.written store.old }
+    ensures was_honest { S.honest store.new → S.honest store.old }
+{
+    match spliced {
+        Some(bytes) => put_or_remove(alloc, store, change.path(), Some(bytes.as_slice())),
+        None => put_or_remove(alloc, store, change.path(), whole_after(change, way)),
     }
 }
 
@@ -145,26 +189,8 @@ fn turn_from<S: Store>(
     ensures written { is_of_tree (path_of change.now) ≡ true → S.written store.new ≡ S.written store.old }
     ensures was_honest { S.honest store.new → S.honest store.old }
 {
-    if !is_ready(change, way, file) {
-        return Err(Cause::Moved);
-    }
-    let Change::Splice {
-        path,
-        at,
-        old,
-        new,
-        ..
-    } = change
-    else {
-        return put_or_remove(alloc, store, change.path(), whole_after(change, way));
-    };
-    let Some(file) = file else {
-        return Err(Cause::Moved);
-    };
-    match way {
-        Way::Do => put_spliced(alloc, store, path, file, *at, old, new),
-        Way::Undo => put_spliced(alloc, store, path, file, *at, new, old),
-    }
+    let bytes = spliced(alloc, change, way, file)?;
+    put_turned(alloc, store, change, way, bytes)
 }
 
 /// Makes the change this way, by one read and one put or removal.

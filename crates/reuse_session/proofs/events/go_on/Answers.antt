@@ -1,4 +1,4 @@
-use Rattle.std.proofs.Common.{◌≡◌, ◌<◌, IfErr, Some, arith, ap, sym, subst, ◌∙◌}
+use Rattle.std.proofs.Common.{◌<◌, IfErr, Some, arith, ap, sym, subst, ◌∙◌}
 use Rattle.std.proofs.lemmas.Bool.{false≢true}
 use Rattle.reuse_tree.specs.Files.{Files}
 use Rattle.reuse_session.specs.Answer.{HasCause}
@@ -15,15 +15,17 @@ returns-then-is_interrupted-clause-continues g c honest state stands =
     let same = c.into_store.ensures in
     let was = c.is_interrupted.ensures.0 c.if-is_interrupted.true in
     let left = c.ask-answer.ensures.stops (subst store.honest same honest) state stands was.0 was.1 in
-    closes store.files c.args.event.now c.ask-answer.result state c.into_store.result was.0 was.1
+    closes store.files c.args.event.now c.ask-answer.result state c.into_store.result was.0 was.1 c.ask-answer.ensures.log
     (subst (λ (f : Files). AreLeft f state (Some (step state c.args.event.now).1)) (sym (ap store.files same)) left)
 
 pub returns-then-is_interrupted-clause-clash : goal.returns-then-is_interrupted-clause-clash
-returns-then-is_interrupted-clause-clash g c honest state stands free =
+returns-then-is_interrupted-clause-clash g c honest state stands free = c.ask-answer.ensures.clash (subst g.S.Store.honest c.into_store.ensures honest) state stands free
+
+pub returns-then-is_interrupted-clause-free : goal.returns-then-is_interrupted-clause-free
+returns-then-is_interrupted-clause-free g c honest free =
     let store = g.S.Store in
     let same = c.into_store.ensures in
-    let k = c.ask-answer.ensures.clash (subst store.honest same honest) state stands free in
-    (k.0, subst (λ (f : Files). IsFree (undo_folder_of f)) (sym (ap store.files same)) k.1)
+    subst (λ (f : Files). IsFree (undo_folder_of f)) (sym (ap store.files same)) (c.ask-answer.ensures.free (subst store.honest same honest) free)
 
 pub returns-then-is_interrupted-clause-fault : goal.returns-then-is_interrupted-clause-fault
 returns-then-is_interrupted-clause-fault g c =
@@ -37,5 +39,5 @@ returns-then-is_interrupted-clause-was_honest g c honest = c.ask-answer.ensures.
 
 pub returns-clause-continues : goal.returns-clause-continues
 returns-clause-continues g c honest state stands =
-    goes_on g.S.Store.files c.args.event.now c.ask-answer.result state c.ask-answer.new.session (c.ask-answer.ensures.follows honest state stands) (c.ask-answer.ensures.stands honest state stands)
+    goes_on g.S.Store.files c.args.event.now c.ask-answer.result state c.ask-answer.new.session (c.ask-answer.ensures.follows honest state stands) (c.ask-answer.ensures.stands honest state stands) c.ask-answer.ensures.log
     (λ cause is. false≢true (sym c.if-is_interrupted.false ∙ c.is_interrupted.ensures.1 (cause, is)))

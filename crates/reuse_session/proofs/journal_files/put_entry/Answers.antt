@@ -1,5 +1,7 @@
-use Rattle.std.proofs.Common.{arith, ap, length}
-use Rattle.reuse_session.proofs.JournalReading.{put_says, put_beside, failed_beside, counted_most}
+use Rattle.std.proofs.Common.{◌+◌, arith, Some, ap, sym, length, ◌∙◌}
+use Rattle.std.specs.FinMap.{get}
+use Rattle.reuse_session.proofs.JournalReading.{put_says, put_beside, failed_beside, counted_most, counted_entry}
+use Rattle.reuse_session.proofs.Turning.{put_sets}
 use Rattle.reuse_session.proofs.journal_files.put_entry.Goals as goal
 
 pub returns-clause-ok : goal.returns-clause-ok
@@ -7,6 +9,18 @@ returns-clause-ok g c honest entry =
     let files = g.S.Store.files in
     put_says (files c.args.store.now) (files c.put.new.self) c.in_ok-path.path c.as_slice.result.now c.in_ok-text.text.items c.args.number c.args.entry.now
     c.in_ok-path.ensures c.as_slice.ensures.value (c.in_ok-put.ensures.ok honest) (c.in_ok-text.ensures.good entry)
+
+pub returns-clause-text : goal.returns-clause-text
+returns-clause-text g c honest =
+    let old = g.S.Store.files c.args.store.now in
+    let new = g.S.Store.files c.put.new.self in
+    ap (get new) (sym c.in_ok-path.ensures) ∙ (put_sets old new c.in_ok-path.path c.as_slice.result.now (c.in_ok-put.ensures.ok honest)).here
+    ∙ ap (λ b. Some b) (c.as_slice.ensures.value ∙ c.in_ok-text.ensures.text)
+
+pub returns-clause-counted : goal.returns-clause-counted
+returns-clause-counted g c =
+    c.put.ensures.written ∙ ap (λ n. g.S.Store.written c.args.store.now + n)
+    (counted_entry c.in_ok-path.path c.as_slice.result.now c.args.number c.in_ok-path.ensures ∙ ap length (c.as_slice.ensures.value ∙ c.in_ok-text.ensures.text))
 
 pub returns-clause-others : goal.returns-clause-others
 returns-clause-others g c honest =

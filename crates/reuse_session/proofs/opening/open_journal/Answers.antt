@@ -1,11 +1,13 @@
-use Rattle.std.proofs.Common.{◌+◌, ◌≤◌, arith, ◌⊎◌, inl, Some, Err, sym, ap, subst, ◌∙◌}
+use Rattle.std.proofs.Common.{◌≡◌, arith, ◌⊎◌, inl, Some, Err, sym, ap, subst, ◌∙◌}
 use Rattle.std.proofs.lemmas.Result.{err_from_is_err_and}
-use Rattle.reuse_session.specs.Opening.{IsRead, IsSettled}
-use Rattle.reuse_session.specs.Session.{Remembers}
+use Rattle.reuse_session.specs.Opening.{IsRead, IsSettled, StopsOpening}
+use Rattle.reuse_session.specs.Session.{IsSameBut, Remembers}
+use Rattle.reuse_session.specs.JournalFiles.{head_path}
+use Rattle.reuse_session.specs.declared.reply.Refusal.TheVariants.{Interrupted}
 use Rattle.reuse_session.specs.Standing.{IsStanding, InDoubt}
 use Rattle.reuse_session.specs.Tree.{undo_folder_of}
 use Rattle.reuse_session.proofs.OpeningLemmas.{as_many_listed}
-use Rattle.reuse_session.proofs.FilesInDoubt.{doubt_bad, read_pending, read_opens, read_settles, settled_opens, still_in_doubt, left_in_doubt}
+use Rattle.reuse_session.proofs.FilesInDoubt.{doubt_bad, none_pending, read_pending, read_opens, read_settles, settled_opens, still_in_doubt, left_in_doubt}
 use Rattle.reuse_session.proofs.Settling.{read_failure}
 use Rattle.reuse_session.proofs.opening.open_journal.Goals as goal
 
@@ -67,6 +69,62 @@ returns-in_ok-settle-in-Some-clause-opened g c honest =
     let read = subst (λ p. IsRead old p memory r.0) c.in-Some.is r.1 in
     let settled = c.in_ok-settle-in-Some.ensures.done honest r.0 (subst (λ files. IsRead files (Some pending) memory r.0) (sym same) read) in
     settled_opens old new pending memory r.0 read (subst (λ files. IsSettled pending r.0 files new) same settled)
+
+-- where a step is pending, the files are no standing
+pub returns-in_err-settle-in-Some-clause-quiet : goal.returns-in_err-settle-in-Some-clause-quiet
+returns-in_err-settle-in-Some-clause-quiet g c honest held standing =
+    let old = g.S.Store.files c.args.store.now in
+    let pending = c.in-Some.pending in
+    let r = c.in_ok-pending.ensures.ok (c.settle.ensures.was_honest honest) in
+    let read = subst (λ p. IsRead old p c.in_ok-pending.history r.0) c.in-Some.is r.1 in
+    absurd (none_pending old held standing pending c.in_ok-pending.history r.0 read)
+
+pub returns-in_ok-settle-in-Some-clause-quiet : goal.returns-in_ok-settle-in-Some-clause-quiet
+returns-in_ok-settle-in-Some-clause-quiet g c honest held standing =
+    let old = g.S.Store.files c.args.store.now in
+    let pending = c.in-Some.pending in
+    let r = c.in_ok-pending.ensures.ok (c.settle.ensures.was_honest honest) in
+    let read = subst (λ p. IsRead old p c.in_ok-pending.history r.0) c.in-Some.is r.1 in
+    absurd (none_pending old held standing pending c.in_ok-pending.history r.0 read)
+
+pub returns-in_err-settle-in-Some-clause-folder : goal.returns-in_err-settle-in-Some-clause-folder
+returns-in_err-settle-in-Some-clause-folder g c honest =
+    let old = g.S.Store.files c.args.store.now in
+    let new = g.S.Store.files c.settle.new.store in
+    let pending = c.in-Some.pending in
+    let memory = c.in_ok-pending.history in
+    let reading = c.settle.ensures.was_honest honest in
+    let same = c.read_journal.ensures.files reading in
+    let r = c.in_ok-pending.ensures.ok reading in
+    let read = subst (λ files. IsRead files (Some pending) memory r.0) (sym same) (subst (λ p. IsRead old p memory r.0) c.in-Some.is r.1) in
+    subst (λ f. IsSameBut head_path (undo_folder_of f) (undo_folder_of new)) same (c.settle.ensures.folder honest r.0 read)
+
+pub returns-in_ok-settle-in-Some-clause-folder : goal.returns-in_ok-settle-in-Some-clause-folder
+returns-in_ok-settle-in-Some-clause-folder g c honest =
+    let old = g.S.Store.files c.args.store.now in
+    let new = g.S.Store.files c.settle.new.store in
+    let pending = c.in-Some.pending in
+    let memory = c.in_ok-pending.history in
+    let reading = c.settle.ensures.was_honest honest in
+    let same = c.read_journal.ensures.files reading in
+    let r = c.in_ok-pending.ensures.ok reading in
+    let read = subst (λ files. IsRead files (Some pending) memory r.0) (sym same) (subst (λ p. IsRead old p memory r.0) c.in-Some.is r.1) in
+    subst (λ f. IsSameBut head_path (undo_folder_of f) (undo_folder_of new)) same (c.settle.ensures.folder honest r.0 read)
+
+pub returns-in_err-settle-in-Some-clause-interrupted : goal.returns-in_err-settle-in-Some-clause-interrupted
+returns-in_err-settle-in-Some-clause-interrupted g c honest cause e =
+    let old = g.S.Store.files c.args.store.now in
+    let new = g.S.Store.files c.settle.new.store in
+    let pending = c.in-Some.pending in
+    let memory = c.in_ok-pending.history in
+    let reading = c.settle.ensures.was_honest honest in
+    let same = c.read_journal.ensures.files reading in
+    let r = c.in_ok-pending.ensures.ok reading in
+    let read = subst (λ files. IsRead files (Some pending) memory r.0) (sym same) (subst (λ p. IsRead old p memory r.0) c.in-Some.is r.1) in
+    let p = err_from_is_err_and c.from_residual-in_err-settle-in-Some.result c.from_residual-in_err-settle-in-Some.ensures.1 in
+    let given : p.0 ≡ Interrupted cause = let x = sym p.1 ∙ e in cc in
+    let was = c.in_err-settle-in-Some.was ∙ ap (λ x. Err x) (sym p.2 ∙ given) in
+    subst (λ f. StopsOpening f new) same (c.settle.ensures.interrupted honest r.0 read cause was)
 
 pub returns-in_ok-settle-in-Some-clause-settles : goal.returns-in_ok-settle-in-Some-clause-settles
 returns-in_ok-settle-in-Some-clause-settles g c honest first second doubt =

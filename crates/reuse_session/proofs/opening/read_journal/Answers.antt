@@ -18,11 +18,14 @@ returns-in_err-history-clause-bad g c honest path e =
     let given : p.0 ≡ BadJournal path = let x = sym p.1 ∙ e in cc in
     let was = c.in_err-history.was ∙ ap (λ x. Err x) (sym p.2 ∙ given) in
     let first = c.test_folders.ensures.files tested in
-    inr (inr (inr (
-      head,
-      subst (λ files. HeadSays (get (undo_folder_of files) head_path) head) first (c.in_ok-head.ensures.ok with_head),
-      subst (λ files. IsFirstUnreadable (undo_folder_of files) (named head) path) (c.read_head.ensures.files with_head ∙ first) (c.read_entries.ensures.bad honest path was),
-    )))
+    inr (inr (
+      c.in_ok-test_folders.ensures.ok tested,
+      inr (
+        head,
+        subst (λ files. HeadSays (get (undo_folder_of files) head_path) head) first (c.in_ok-head.ensures.ok with_head),
+        subst (λ files. IsFirstUnreadable (undo_folder_of files) (named head) path) (c.read_head.ensures.files with_head ∙ first) (c.read_entries.ensures.bad honest path was),
+      ),
+    ))
 
 pub returns-clause-ok : goal.returns-clause-ok
 returns-clause-ok g c honest =

@@ -1,19 +1,23 @@
-use Rattle.std.proofs.Common.{◌≡◌, ◌+◌, ◌≤◌, arith, length, Some, None, Err, IfErr, OnOk, sym, ap, subst, ◌∙◌}
+use Rattle.std.proofs.Common.{◌≡◌, ◌⊎◌, MatchResult, refl, arith, length, Some, None, Err, IfErr, OnOk, sym, ap, subst, ◌∙◌}
 use Rattle.std.specs.FinMap.{get}
 use Rattle.std.specs.List.{All}
 use Rattle.std.proofs.lemmas.Result.{err_from_is_err_and}
 use Rattle.reuse_tree.specs.Change.{path_of}
 use Rattle.reuse_tree.specs.Files.{Clashes, tree_of}
-use Rattle.reuse_session.specs.Answer.{IsEarly}
+use Rattle.reuse_session.specs.Answer.{IsEarly, IsFailure}
 use Rattle.reuse_session.specs.Carried.{IsRolledBack, StopsRollingBack}
 use Rattle.reuse_session.specs.Entry.{IsEntry, IsReady, SomeMade, CanBeSetBack, IsFirstWithout}
 use Rattle.reuse_session.specs.Head.{way_of, IsGoodHead}
 use Rattle.reuse_session.specs.History.{head_listing}
 use Rattle.reuse_session.specs.JournalFiles.{head_path}
 use Rattle.reuse_session.specs.Opening.{IsSettled}
+use Rattle.reuse_session.specs.Session.{IsSameBut}
+use Rattle.reuse_session.specs.Standing.{IsStanding, IsUnderWay}
 use Rattle.reuse_session.specs.Tree.{undo_folder_of}
 use Rattle.reuse_session.specs.declared.reply.Refusal.TheVariants.{BadJournal, Memory}
 use Rattle.reuse_session.proofs.Settling.{is_entry, is_settled, is_stuck, some_made, all_ready, settles, settled_good, settled_sound, head_fits, at_same, pending_readable, stays_under_way, read_failure}
+use Rattle.reuse_session.proofs.OpeningLemmas.{recorded}
+use Rattle.reuse_session.proofs.TakenBack.{was_under_way}
 use Rattle.reuse_session.proofs.Turning.{on_ok}
 use Rattle.reuse_session.proofs.opening.settle.Goals as goal
 
@@ -39,6 +43,12 @@ returns-in_err-settled-clause-settles g c honest journal read step first number 
     let files = g.S.Store.files in
     let p = err_from_is_err_and c.from_residual-in_err-settled.result c.from_residual-in_err-settled.ensures.1 in
     stays_under_way c.from_residual-in_err-settled.result p.0 Memory c.args.pending.way step first (files c.args.store.now) (files c.read_entry.new.store) p.1 p.2 tt (c.read_entry.ensures.files honest) under
+
+pub returns-in_err-head-clause-settles : goal.returns-in_err-head-clause-settles
+returns-in_err-head-clause-settles g c honest journal read step first number under =
+    let files = g.S.Store.files in
+    let p = err_from_is_err_and c.from_residual-in_err-head.result c.from_residual-in_err-head.ensures.1 in
+    stays_under_way c.from_residual-in_err-head.result p.0 Memory c.args.pending.way step first (files c.args.store.now) (files c.read_entry.new.store) p.1 p.2 tt (c.read_entry.ensures.files honest) under
 
 pub returns-clause-done : goal.returns-clause-done
 returns-clause-done g c honest journal read =
@@ -101,6 +111,36 @@ returns-clause-settles g c honest journal read step first number under =
     (subst (λ f. IfErr result (λ refusal. IsEarly refusal → new ≡ f)) same (c.roll_back.ensures.unchanged honest))
     (λ path e. c.roll_back.ensures.settles honest good first.tree under.good.are_files some ready path e)
     c.roll_back.ensures.refusal
+
+pub returns-clause-interrupted : goal.returns-clause-interrupted
+returns-clause-interrupted g c honest journal read cause e =
+    let files = g.S.Store.files in
+    let old = files c.args.store.now in
+    let new = files c.roll_back.new.store in
+    let pending = c.args.pending in
+    let memory = c.args.history.now in
+    let entry = c.in_ok-entry.entry in
+    let reading = c.roll_back.ensures.was_honest honest in
+    let same = c.read_entry.ensures.files reading in
+    let says = c.in_ok-entry.ensures.ok reading in
+    let changes = c.as_slice.ensures in
+    let good = subst IsEntry (sym changes) (is_entry old pending memory journal read entry says) in
+    let can = at_same (λ f w cs. All (CanBeSetBack w (tree_of f)) cs) (files c.read_entry.new.store) old c.way.result (way_of pending.way) c.as_slice.result.now entry.changes same c.way.ensures changes (c.roll_back.ensures.tested honest good cause e) in
+    let are = g.met.S.Store.are_files c.args.store.now (c.read_entry.ensures.was_honest reading) in
+    let was = was_under_way old pending memory journal read entry says are can in
+    let left = returns-clause-settles g c honest journal read (recorded pending.entry entry) was.0 refl was.1 in
+    let stays = subst (λ r. MatchResult r (λ _. IsStanding new was.0) (λ refusal. IsFailure refusal × (IsStanding new was.0 ⊎ IsUnderWay pending.way (recorded pending.entry entry) was.0 new))) e left in
+    (was.0, pending.way, recorded pending.entry entry, was.1, stays.1)
+
+pub returns-clause-folder : goal.returns-clause-folder
+returns-clause-folder g c honest journal read =
+    let old = g.S.Store.files c.args.store.now in
+    let entry = c.in_ok-entry.entry in
+    let reading = c.roll_back.ensures.was_honest honest in
+    let same = c.read_entry.ensures.files reading in
+    let says = c.in_ok-entry.ensures.ok reading in
+    let good = subst IsEntry (sym c.as_slice.ensures) (is_entry old c.args.pending c.args.history.now journal read entry says) in
+    subst (λ f. IsSameBut head_path (undo_folder_of f) (undo_folder_of (g.S.Store.files c.roll_back.new.store))) same (c.roll_back.ensures.folder honest good)
 
 pub returns-clause-clash : goal.returns-clause-clash
 returns-clause-clash g c honest journal read =

@@ -1,4 +1,4 @@
-use Rattle.std.proofs.Common.{◌≡◌, ◌⊎◌, inl, inr, ⊎_elim, ◌+◌, List, ℕ, Some, length, take, OnErr, true, arith, ap, sym, refl, subst, ◌∙◌}
+use Rattle.std.proofs.Common.{◌≡◌, ◌⊎◌, inl, inr, ⊎_elim, ◌+◌, List, ℕ, Some, length, take, Result, Ok, Err, OnOk, OnErr, true, arith, ap, sym, refl, subst, ◌∙◌}
 use Rattle.std.specs.List.{All}
 use Rattle.std.specs.FinMap.{get}
 use Rattle.std.proofs.Math.Seq.{take-length}
@@ -11,6 +11,7 @@ use Rattle.reuse_session.specs.Carried.{IsRolledBack, StopsRollingBack}
 use Rattle.reuse_session.specs.Tree.{is_of_tree, undo_folder_of, Sets}
 use Rattle.reuse_session.specs.Entry.{IsSmall, IsEntry, IsReady, CanBeSetBack, SomeMade, Steps, opposite}
 use Rattle.reuse_session.specs.JournalFiles.{head_path}
+use Rattle.reuse_session.specs.Session.{IsSameBut}
 use Rattle.reuse_session.proofs.OfTree.{tree_at, step_of_tree, folder_stays, clash_in_tree}
 use Rattle.reuse_session.proofs.MadeLemmas.{AreBack, back_none, back_more, still_made, still_free, set_back_of_tree, folder_stays_back, made_from_start, back_at_start}
 use Rattle.reuse_session.proofs.HeadPuts.{head_sets, head_keeps_tree, head_clashed}
@@ -18,6 +19,7 @@ use Rattle.reuse_session.proofs.roll_back.set_all_back.Goals as goal
 
 pub loop-change-init : goal.loop-change-init
 loop-change-init g c = record {
+  still = λ e. (refl, λ honest. refl);
   written = λ good. refl;
   later = omega arith;
   was_honest = λ honest. honest;
@@ -35,6 +37,10 @@ loop-change-preserved g c =
     let after = store.files c.set_back.new.store in
     let kept = c.loop-change.invariant in
     record {
+      still = λ e.
+          let here = c.set_back.ensures.still e in
+          let before = kept.still here.0 in
+          (here.1 ∙ before.0, λ honest. here.2 honest ∙ before.1 (c.set_back.ensures.was_honest honest));
       written = λ good.
           let of_tree = subst (λ x. is_of_tree (path_of x) ≡ true) (sym c.change-item.is) (good.of_tree i change lt) in
           c.set_back.ensures.written of_tree ∙ kept.written good;
@@ -94,6 +100,32 @@ returns-in_err-set_back-clause-written g c good =
     let b = c.loop-change.invariant.written good in
     omega (arith, a, b)
 
+pub returns-in_err-set_back-clause-folder : goal.returns-in_err-set_back-clause-folder
+returns-in_err-set_back-clause-folder g c honest good =
+    let store = g.S.Store in
+    let i = c.loop-change.change-index in
+    let lt = c.loop-change-test.true in
+    let change = c.change-item.result in
+    let way = c.args.way in
+    let old = store.files c.args.store.now in
+    let now = store.files c.loop-change.store in
+    let after = store.files c.set_back.new.store in
+    let before = c.set_back.ensures.was_honest honest in
+    let proper = subst IsProper (sym c.change-item.is) (good.proper i change lt) in
+    let small = subst IsSmall (sym c.change-item.is) (good.small i change lt) in
+    let of_tree = subst (λ x. is_of_tree (path_of x) ≡ true) (sym c.change-item.is) (good.of_tree i change lt) in
+    let here : undo_folder_of after ≡ undo_folder_of now = ⊎_elim
+    (λ (same : after ≡ now). ap undo_folder_of same)
+    (λ (step : Steps (opposite way) change now after). folder_stays (opposite way) change now after of_tree step)
+    (c.in_err-set_back.ensures.err honest proper small) in
+    λ other differs. ap (λ folder. get folder other) (here ∙ c.loop-change.invariant.folder before good)
+
+pub returns-in_err-set_back-clause-still : goal.returns-in_err-set_back-clause-still
+returns-in_err-set_back-clause-still g c e =
+    let here = c.set_back.ensures.still e in
+    let before = c.loop-change.invariant.still here.0 in
+    (here.1 ∙ before.0, λ honest. here.2 honest ∙ before.1 (c.set_back.ensures.was_honest honest))
+
 -- each change that could be set back can be
 pub returns-in_err-set_back-clause-cause : goal.returns-in_err-set_back-clause-cause
 returns-in_err-set_back-clause-cause g c honest good all free =
@@ -121,6 +153,15 @@ returns-in_err-set_back-clause-cause g c honest good all free =
           let clash = c.set_back.ensures.clash honest proper small (cc) in
           still_free way changes good i lt change c.change-item.is (tree_of old) (tree_of now) back can (λ r. clash.0 (subst (IsReady way change) at r)) clash.1 (clash_in_tree now (path_of change) of_tree clash.2),
     )
+
+-- whatever a put of the head answers, the rest of the journal's folder stays
+put_at : {A E : Type 0} (text : List ℕ) (result : Result A E) (now after : Files) → OnOk result (Sets head_path (Some text) now after)
+    → OnErr result ((after ≡ now) ⊎ Sets head_path (Some text) now after) → IsSameBut head_path (undo_folder_of now) (undo_folder_of after)
+put_at text (Ok x) now after done failed = (head_sets now after (Some text) done).elsewhere
+put_at text (Err e) now after done failed = ⊎_elim
+    (λ (same : after ≡ now). λ other differs. ap (λ files. get (undo_folder_of files) other) same)
+    (λ (sets : Sets head_path (Some text) now after). (head_sets now after (Some text) sets).elsewhere)
+    failed
 
 -- all are taken back, and the head is put
 module _ (way : Way) (changes : List Change) (settled : List ℕ) (good : IsEntry changes) (i : ℕ) (last : i ≡ length changes) (old now after : Files) (made : AreBack way (take i changes) (tree_of old) (tree_of now)) (folder : undo_folder_of now ≡ undo_folder_of old) where
@@ -181,6 +222,15 @@ returns-clause-cause g c honest good all free =
       c.put_head.ensures.moved,
       λ e. free (head_clashed c.args.changes.now good (store.files c.args.store.now) (store.files c.loop-change.store) (λ path none. sym (all_made.made.others path none)) (kept.folder before good) (c.put_head.ensures.clash honest e)),
     )
+
+pub returns-clause-folder : goal.returns-clause-folder
+returns-clause-folder g c honest good =
+    let store = g.S.Store in
+    let now = store.files c.loop-change.store in
+    let after = store.files c.put_head.new.store in
+    let before = c.put_head.ensures.was_honest honest in
+    let here = put_at c.args.settled.now c.put_head.result now after (c.put_head.ensures.ok honest) (c.put_head.ensures.err honest) in
+    λ other differs. here other differs ∙ ap (λ folder. get folder other) (c.loop-change.invariant.folder before good)
 
 pub returns-clause-written : goal.returns-clause-written
 returns-clause-written g c good =

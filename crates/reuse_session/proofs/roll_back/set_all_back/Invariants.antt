@@ -1,4 +1,4 @@
-use Rattle.std.proofs.Common.{◌≡◌, ◌≤◌, take}
+use Rattle.std.proofs.Common.{◌≡◌, ◌≤◌, take, false}
 use Rattle.reuse_tree.specs.Files.{tree_of}
 use Rattle.reuse_session.specs.Tree.{undo_folder_of}
 use Rattle.reuse_session.specs.Entry.{IsEntry}
@@ -10,6 +10,7 @@ abbrev pub invariant-loop-change : goal.invariant-loop-change
 invariant-loop-change g l =
     let store = g.S.Store in
     record {
+      still : l.started ≡ false → (store.written l.store ≡ store.written l.fn.store) × (store.honest l.store → store.files l.store ≡ store.files l.fn.store);
       written : IsEntry l.changes → store.written l.store ≡ store.written l.fn.store;
       later : store.failures l.fn.store ≤ store.failures l.store;
       was_honest : store.honest l.store → store.honest l.fn.store;

@@ -69,8 +69,8 @@ returns-in_err-perform-clause-stopped g c honest good =
     let left = stopped way changes pending settled old started first now (made_of_front way changes front.0 (tree_of started) (tree_of now) front.1 good) (c.perform.ensures.folder honest good) in
     subst (λ r. OnErr r ((now ≡ old) ⊎ IsStopped way changes pending old now ⊎ IsCarriedOut way changes settled old now)) (sym p.1) (inr (inl left))
 
-pub returns-in_err-perform-clause-cause : goal.returns-in_err-perform-clause-cause
-returns-in_err-perform-clause-cause g c honest good all free_before =
+pub returns-in_err-perform-clause-moved : goal.returns-in_err-perform-clause-moved
+returns-in_err-perform-clause-moved g c honest good all e =
     let way = c.args.way in
     let changes = c.args.changes.now in
     let first = c.in_ok-put_head.ensures.ok (c.perform.ensures.was_honest honest) in
@@ -79,8 +79,19 @@ returns-in_err-perform-clause-cause g c honest good all free_before =
     let same = p.2 in
     let was = c.in_err-perform.was in
     let stays = tree_stays way changes c.args.pending.now c.args.settled.now (g.S.Store.files c.args.store.now) (g.S.Store.files c.put_head.new.store) first in
-    let no = c.perform.ensures.cause honest good (subst (λ t. All (CanBeMade way t) changes) (sym stays) all) in
-    (λ e. no.0 (cc), λ e. no.1 (cc))
+    (c.perform.ensures.cause honest good (subst (λ t. All (CanBeMade way t) changes) (sym stays) all)).0 (cc)
+
+pub returns-in_err-perform-clause-clash : goal.returns-in_err-perform-clause-clash
+returns-in_err-perform-clause-clash g c honest good all e =
+    let way = c.args.way in
+    let changes = c.args.changes.now in
+    let first = c.in_ok-put_head.ensures.ok (c.perform.ensures.was_honest honest) in
+    let p = err_from_is_err_and c.from_residual-in_err-perform.result c.from_residual-in_err-perform.ensures.1 in
+    let from = p.1 in
+    let same = p.2 in
+    let was = c.in_err-perform.was in
+    let stays = tree_stays way changes c.args.pending.now c.args.settled.now (g.S.Store.files c.args.store.now) (g.S.Store.files c.put_head.new.store) first in
+    absurd ((c.perform.ensures.cause honest good (subst (λ t. All (CanBeMade way t) changes) (sym stays) all)).1 (cc))
 
 pub returns-clause-done : goal.returns-clause-done
 returns-clause-done g c honest good =
@@ -102,13 +113,14 @@ returns-clause-stopped g c honest good =
     (store.files c.perform.new.store) (store.files c.put_head-2.new.store) (c.in_ok-perform.ensures.done walked good) (c.perform.ensures.folder walked good))
     (c.put_head-2.ensures.err honest)
 
-pub returns-clause-cause : goal.returns-clause-cause
-returns-clause-cause g c honest good all free_before =
+pub returns-clause-moved : goal.returns-clause-moved
+returns-clause-moved g c honest good all = c.put_head-2.ensures.moved
+
+pub returns-clause-clash : goal.returns-clause-clash
+returns-clause-clash g c honest good all e =
     let store = g.S.Store in
     let walked = c.put_head-2.ensures.was_honest honest in
-    let first = c.in_ok-put_head.ensures.ok (c.perform.ensures.was_honest walked) in (
-      c.put_head-2.ensures.moved,
-      λ e. free c.args.way c.args.changes.now c.args.pending.now c.args.settled.now (store.files c.args.store.now) (store.files c.put_head.new.store) first
-          (store.files c.perform.new.store) (store.files c.put_head-2.new.store) (c.in_ok-perform.ensures.done walked good) (c.perform.ensures.folder walked good)
-          (g.met.S.Store.are_files c.perform.new.store walked) (c.put_head-2.ensures.clash honest e),
-    )
+    let first = c.in_ok-put_head.ensures.ok (c.perform.ensures.was_honest walked) in
+    absurd (free c.args.way c.args.changes.now c.args.pending.now c.args.settled.now (store.files c.args.store.now) (store.files c.put_head.new.store) first
+    (store.files c.perform.new.store) (store.files c.put_head-2.new.store) (c.in_ok-perform.ensures.done walked good) (c.perform.ensures.folder walked good)
+    (g.met.S.Store.are_files c.perform.new.store walked) (c.put_head-2.ensures.clash honest e))

@@ -3,7 +3,7 @@ use Rattle.reuse_tree.specs.Files.{Files}
 use Rattle.reuse_session.specs.Answer.{HasCause}
 use Rattle.reuse_session.specs.JournalFiles.{IsFree}
 use Rattle.reuse_session.specs.Session.{store_of}
-use Rattle.reuse_session.specs.Stops.{Point, open_at, Answers, HoldState, AreLeft, store_in}
+use Rattle.reuse_session.specs.Stops.{Point, open_at, Answers, AreLeft, store_in}
 use Rattle.reuse_session.specs.Tree.{undo_folder_of}
 use Rattle.reuse_session.specs.declared.events.Event.{Event}
 use Rattle.reuse_session.specs.declared.reply.Refusal.TheVariants.{Broken}
@@ -17,12 +17,8 @@ returns-in-Reopen-clause-answers g c honest old at =
     let r = c.open.ensures.reopens honest old left in
     (r.0, subst (λ (event : Event). Answers old.is_open event c.open.result.1 old r.0) (sym c.in-Reopen.is) (answers_reopen old.is_open c.open.result.1 old r.0 r.1), r.2)
 
-pub returns-in-Reopen-clause-clash : goal.returns-in-Reopen-clause-clash
-returns-in-Reopen-clause-clash g c honest old at none free =
-    let files = g.S.Store.files in
-    let same = ap files c.into_store.ensures in
-    let held : HoldState (files (store_in c.args.self)) old.state = subst (λ next. AreLeft (files (store_in c.args.self)) old.state next) none (left_at files c.args.self old at) in
-    c.open.ensures.clash honest old.state (subst (λ (f : Files). HoldState f old.state) (sym same) held) (subst (λ (f : Files). IsFree (undo_folder_of f)) (sym same) free)
+pub returns-in-Reopen-clause-free : goal.returns-in-Reopen-clause-free
+returns-in-Reopen-clause-free g c honest free = c.open.ensures.free honest (subst (λ (f : Files). IsFree (undo_folder_of f)) (sym (ap g.S.Store.files c.into_store.ensures)) free)
 
 pub returns-in-Reopen-clause-fault : goal.returns-in-Reopen-clause-fault
 returns-in-Reopen-clause-fault g c =
@@ -45,10 +41,10 @@ returns-in-Open g c =
           let stands = at_open store.files c.args.self session old c.in-Open.is at in
           let r = c.go_on.ensures.continues honest old.state stands.1 in
           (r.0, subst (λ (p : Point). Answers p.is_open c.args.event.now c.go_on.result.1 p r.0) (sym stands.0) (answers_open c.args.event.now c.go_on.result.1 (open_at old.state) r.0 c.in_default.not-Reopen r.1), r.2);
-      clash = λ honest old at none free.
+      clash = λ honest old at free.
           let stands = at_open store.files c.args.self session old c.in-Open.is at in
-          let k = c.go_on.ensures.clash honest old.state stands.1 (subst (λ (f : Files). IsFree (undo_folder_of f)) (ap store.files here) free) in
-          (k.0, λ told. k.1);
+          c.go_on.ensures.clash honest old.state stands.1 (subst (λ (f : Files). IsFree (undo_folder_of f)) (ap store.files here) free);
+      free = λ honest free. c.go_on.ensures.free honest (subst (λ (f : Files). IsFree (undo_folder_of f)) (ap store.files here) free);
       fault = subst (λ n. IfErr c.go_on.result.1 (HasCause (n < store.failures (store_in c.go_on.result.0)))) (sym (ap store.failures here)) c.go_on.ensures.fault;
       failures = omega (arith, ap store.failures here, c.go_on.ensures.failures);
       was_honest = λ honest. subst store.honest (sym here) (c.go_on.ensures.was_honest honest);
@@ -62,7 +58,8 @@ returns-in-Closed g c =
       answers = λ honest old at.
           let left = at_closed store.files c.args.self c.in-Closed.store old c.in-Closed.is at in
           (old, subst (λ b. Answers b c.args.event.now (Err Broken) old old) (sym left.0) (answers_closed c.args.event.now (Err Broken) old c.in_default.not-Reopen refl), left);
-      clash = λ honest old at none free. (tt, λ told. subst (λ (f : Files). IsFree (undo_folder_of f)) (ap store.files here) free);
+      clash = λ honest old at free. tt;
+      free = λ honest free. subst (λ (f : Files). IsFree (undo_folder_of f)) (ap store.files here) free;
       fault = tt;
       failures = omega (arith, ap store.failures here);
       was_honest = λ honest. subst store.honest (sym here) honest;

@@ -1,13 +1,31 @@
-use Rattle.std.proofs.Common.{◌⊎◌, inl, inr, ⊎_elim, refl}
+use Rattle.std.proofs.Common.{inl, inr, ⊎_elim, Err, refl, ap}
 use Rattle.reuse_session.specs.Session.{Remembers}
 use Rattle.reuse_session.specs.Standing.{IsStanding}
 use Rattle.reuse_session.proofs.FilesInDoubt.{opened_standing}
+use Rattle.reuse_session.proofs.OneOpening.{can_open, opens_session, opens_refused}
 use Rattle.reuse_session.proofs.session.Session.open.Goals as goal
 
 pub returns-in-Ok-clause-opened : goal.returns-in-Ok-clause-opened
 returns-in-Ok-clause-opened g c honest =
     let opened = c.in-Ok.ensures.opened honest in
     (opened.0, record { whole = refl; standing = opened_standing (g.S.Store.files c.args.store) opened.0 (g.S.Store.files c.open_journal.new.store) opened.2; remembers = opened.1 }, opened.2)
+
+pub returns-in-Ok-clause-exact : goal.returns-in-Ok-clause-exact
+returns-in-Ok-clause-exact g c honest told =
+    let opened = c.in-Ok.ensures.opened honest in
+    opens_session (g.S.Store.files c.args.store) _ opened.0 (can_open (g.S.Store.files c.args.store) opened.0 (g.S.Store.files c.open_journal.new.store) opened.2)
+
+pub returns-in-Err-clause-moved : goal.returns-in-Err-clause-moved
+returns-in-Err-clause-moved g c honest path e = c.in-Err.ensures.moved honest path (ap (λ refusal. Err refusal) e)
+
+pub returns-in-Err-clause-interrupted : goal.returns-in-Err-clause-interrupted
+returns-in-Err-clause-interrupted g c honest cause e = c.in-Err.ensures.interrupted honest cause (ap (λ refusal. Err refusal) e)
+
+pub returns-in-Err-clause-exact : goal.returns-in-Err-clause-exact
+returns-in-Err-clause-exact g c honest told =
+    opens_refused (g.S.Store.files c.args.store) c.in-Err.refusal c.in-Err.ensures.refusal told
+    (λ path e. c.in-Err.ensures.bad honest path (ap (λ refusal. Err refusal) e))
+    (λ path e. c.in-Err.ensures.moved honest path (ap (λ refusal. Err refusal) e))
 
 pub returns-in-Ok-clause-settles : goal.returns-in-Ok-clause-settles
 returns-in-Ok-clause-settles g c first second doubt honest =

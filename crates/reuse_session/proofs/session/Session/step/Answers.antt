@@ -1,14 +1,18 @@
-use Rattle.std.proofs.Common.{◌≡◌, ◌⊎◌, List, ℕ, Err, sym, ap, subst, ◌∙◌}
+use Rattle.std.proofs.Common.{◌≡◌, ◌⊎◌, List, ℕ, Some, Err, length, arith, refl, sym, ap, subst, ◌∙◌}
 use Rattle.std.specs.List.{All}
-use Rattle.reuse_tree.specs.Files.{tree_of}
+use Rattle.reuse_tree.specs.Files.{Clashes, tree_of}
 use Rattle.reuse_tree.specs.declared.change.Change.{Change}
 use Rattle.reuse_session.specs.Carried.{IsCarriedOut, IsStopped}
 use Rattle.reuse_session.specs.Entry.{IsEntry, CanBeMade}
 use Rattle.reuse_session.specs.Head.{way_of}
+use Rattle.reuse_session.specs.History.{head_listing}
+use Rattle.reuse_session.specs.JournalFiles.{head_path}
 use Rattle.reuse_session.specs.Session.{store_of, memory_of}
 use Rattle.reuse_session.specs.declared.entry.Way.{Way}
+use Rattle.reuse_session.proofs.FolderLemmas.{some_text}
+use Rattle.reuse_session.proofs.JournalReading.{file_in_folder}
 use Rattle.reuse_session.proofs.Standings.{carried, stopped}
-use Rattle.reuse_session.proofs.Stepping.{good_between, good_second, is_no_clash}
+use Rattle.reuse_session.proofs.Stepping.{good_between, good_second, stop_clash}
 use Rattle.reuse_session.proofs.session.Session.step.Goals as goal
 
 pub returns-in-Ok-clause-moves : goal.returns-in-Ok-clause-moves
@@ -46,7 +50,19 @@ returns-in-Err-clause-moves g c honest held second step stands same is kept good
     (good_second (memory_of c.args.self.now) files held second stands.standing stands.remembers c.args.pending.way step is_step.moves low c.args.moved settled remembers room c.in_ok-settled.ensures.good)
 
 pub returns-in-Err-clause-clash : goal.returns-in-Err-clause-clash
-returns-in-Err-clause-clash g c honest good can free =
-    let start = tree_of (g.S.Store.files (store_of c.args.self.now)) in
-    let no = c.carry_out-carried.ensures.cause honest good (subst (λ w. All (CanBeMade w start) c.args.changes.now) (sym c.way.ensures) can) free in
-    is_no_clash c.in-Err.cause (λ e. no.0 (c.in-Err.is ∙ ap (λ x. Err x) e)) (λ e. no.1 (c.in-Err.is ∙ ap (λ x. Err x) e))
+returns-in-Err-clause-clash g c honest good can =
+    let files = g.S.Store.files (store_of c.args.self.now) in
+    let can_now = subst (λ w. All (CanBeMade w (tree_of files)) c.args.changes.now) (sym c.way.ensures) can in
+    stop_clash ⊥ (Clashes files head_path) c.in-Err.cause (λ e. c.carry_out-carried.ensures.moved honest good can_now (c.in-Err.is ∙ ap (λ x. Err x) e))
+    (λ e. c.carry_out-carried.ensures.clash honest good can_now (c.in-Err.is ∙ ap (λ x. Err x) e))
+
+pub returns-in-Ok-clause-texts : goal.returns-in-Ok-clause-texts
+returns-in-Ok-clause-texts g c honest good =
+    let after = g.S.Store.files c.carry_out-carried.new.store in
+    file_in_folder after head_path head_path refl refl ∙ (c.in-Ok.ensures.done honest good).sets.here
+    ∙ ap (λ text. Some text) (c.deref-2.ensures.value ∙ c.in_ok-settled.ensures.text)
+
+pub returns-in-Err-clause-late : goal.returns-in-Err-clause-late
+returns-in-Err-clause-late g c good cause e =
+    let some = some_text c.in_ok-before.before.items (head_listing (memory_of c.args.self.now) (Some c.args.pending)) c.in_ok-before.ensures.text in
+    omega (arith, some, ap length c.deref.ensures.value, c.carry_out-carried.ensures.begun good)

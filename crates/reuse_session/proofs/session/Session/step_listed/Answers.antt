@@ -1,11 +1,12 @@
-use Rattle.std.proofs.Common.{◌≡◌, ◌≢◌, ◌+◌, ◌*◌, ◌≤◌, List, ℕ, Ok, Err, IfErr, None, inl, refl, sym, ap, subst, ◌∙◌, arith}
+use Rattle.std.proofs.Common.{◌≡◌, List, ℕ, Result, Err, IfErr, None, inl, refl, sym, ap, subst, ◌∙◌, arith}
 use Rattle.std.specs.List.{All}
 use Rattle.std.specs.FinMap.{get}
 use Rattle.std.proofs.lemmas.Result.{err_from_is_err_and}
-use Rattle.reuse_tree.specs.Files.{tree_of}
-use Rattle.reuse_session.specs.Answer.{IsNoClash}
+use Rattle.reuse_tree.specs.Files.{Clashes, tree_of}
+use Rattle.reuse_session.specs.Answer.{HasClash}
 use Rattle.reuse_session.specs.Entry.{paths_of, IsEntry, CanBeMade, IsFirstStuck}
-use Rattle.reuse_session.specs.declared.reply.Refusal.TheVariants.{BadJournal, Moved}
+use Rattle.reuse_session.specs.declared.reply.Refusal.{Refusal}
+use Rattle.reuse_session.specs.declared.reply.Refusal.TheVariants.{BadJournal, Moved, Interrupted}
 use Rattle.reuse_session.specs.Head.{way_of}
 use Rattle.reuse_session.specs.Journal.{State}
 use Rattle.reuse_session.specs.JournalFiles.{head_path, entry_path, entry_in, number_of, EntrySays, IsFree, IsKeptIn}
@@ -14,9 +15,11 @@ use Rattle.reuse_session.specs.Standing.{IsStep}
 use Rattle.reuse_session.specs.Tree.{undo_folder_of}
 use Rattle.reuse_session.specs.declared.journal.entry.Entry.{Entry}
 use Rattle.reuse_session.specs.declared.journal.head.Pending.{Pending}
+use Rattle.reuse_session.specs.Session.{IsSameBut}
+use Rattle.reuse_session.proofs.FolderLemmas.{folder_stays}
 use Rattle.reuse_session.proofs.JournalLemmas.{same_entry, entry_good, sound_head, free_stays}
 use Rattle.reuse_session.proofs.MadeLemmas.{can_reach}
-use Rattle.reuse_session.proofs.StepAnswers.{still_stands, goes_unread, goes_untested, goes_stopped, low_of, as_many, no_clash_at, tree_of_standing}
+use Rattle.reuse_session.proofs.StepAnswers.{still_stands, goes_unread, goes_untested, goes_stopped, low_of, as_many, read_clash, test_clash}
 use Rattle.reuse_session.proofs.Stepping.{sound_between, sound_second}
 use Rattle.reuse_session.proofs.session.Session.step_listed.Goals as goal
 
@@ -128,35 +131,48 @@ returns-in_err-step-clause-written g c honest held step stands number kept journ
     let many = as_many c.args.way step held.journal journal (memory_of session) c.args.moved moves not_new stands.remembers remembers in
     omega (arith, most, many, c.prepare.ensures.written, c.read_entry.ensures.written)
 
+pub returns-in_err-entry-clause-clash : goal.returns-in_err-entry-clause-clash
+returns-in_err-entry-clause-clash g c honest =
+    let Head : Type 0 = Clashes (g.S.Store.files (store_of c.args.self.now)) head_path in
+    let p = err_from_is_err_and c.from_residual.result c.from_residual.ensures.1 in
+    subst (λ r. IfErr r (HasClash ⊥ Head)) (sym (p.1 ∙ ap (λ x. Err x) p.2))
+    (read_clash ⊥ Head c.in_err-entry.field-0.0 c.in_err-entry.ensures.refusal (λ e. c.read_entry.ensures.clash honest (c.in_err-entry.was ∙ ap (λ x. Err x) e)))
+
+pub returns-in_err-paths-clause-clash : goal.returns-in_err-paths-clause-clash
+returns-in_err-paths-clause-clash g c honest =
+    let Head : Type 0 = Clashes (g.S.Store.files (store_of c.args.self.now)) head_path in
+    let p = err_from_is_err_and c.from_residual-in_err-paths.result c.from_residual-in_err-paths.ensures.1 in
+    subst (λ r. IfErr r (HasClash ⊥ Head)) (sym (p.1 ∙ ap (λ x. Err x) p.2))
+    (test_clash ⊥ Head c.in_err-paths.field-0.0 c.in_err-paths.ensures.refusal (λ e. c.prepare.ensures.clash honest (c.in_err-paths.was ∙ ap (λ x. Err x) e)))
+
 pub returns-in_err-step-clause-clash : goal.returns-in_err-step-clause-clash
-returns-in_err-step-clause-clash g c honest held step stands number kept free =
+returns-in_err-step-clause-clash g c honest =
     let store = g.S.Store in
-    let session = c.args.self.now in
-    let files = store.files (store_of session) in
-    let folder = undo_folder_of files in
+    let files = store.files (store_of c.args.self.now) in
     let tested = c.step.ensures.was_honest honest in
     let read = c.prepare.ensures.was_honest tested in
-    let unread = c.read_entry.ensures.files read in
-    let kept_there : EntrySays (get folder (entry_path c.args.number)) (entry_in step) = subst (λ n. EntrySays (get folder (entry_path n)) (entry_in step)) number kept in
-    let same : c.in_ok-entry.entry ≡ entry_in step = same_entry (get folder (entry_path c.args.number)) c.in_ok-entry.entry (entry_in step) (c.in_ok-entry.ensures.ok read) kept_there in
-    let good : IsEntry step.changes = entry_good (get folder (entry_path c.args.number)) (entry_in step) kept_there in
-    let changes : c.as_slice-changes.result.now ≡ step.changes = c.as_slice-changes.ensures ∙ ap (λ (e : Entry). e.changes) same in
-    let entry : IsEntry c.as_slice-changes.result.now = subst IsEntry (sym changes) good in
-    let untouched : store.files c.prepare.new.store ≡ files = c.prepare.ensures.files tested ∙ unread in
-    let still = still_stands store.files session c.prepare.new.store held untouched stands in
-    let tree : tree_of (store.files c.read_entry.new.store) ≡ held.tree = ap tree_of unread ∙ stands.standing.tree in
-    let can : All (CanBeMade (way_of c.args.way) held.tree) step.changes =
-    subst (λ w. All (CanBeMade w held.tree) step.changes) c.way.ensures
-    (subst (λ t. All (CanBeMade c.way.result t) step.changes) tree
-    (subst (All (CanBeMade c.way.result (tree_of (store.files c.read_entry.new.store)))) changes (c.in_ok-paths.ensures.ready tested entry))) in
-    let now = record session { store = c.prepare.new.store } in
-    let free_now : IsFree (undo_folder_of (store.files c.prepare.new.store)) = subst (λ f. IsFree (undo_folder_of f)) (sym untouched) free in
-    let can_now : All (CanBeMade (way_of c.args.way) (tree_of (store.files c.prepare.new.store))) c.as_slice-changes.result.now =
-    subst (λ t. All (CanBeMade (way_of c.args.way) t) c.as_slice-changes.result.now) (sym (ap tree_of untouched ∙ stands.standing.tree)) (subst (All (CanBeMade (way_of c.args.way) held.tree)) (sym changes) can) in
-    let free_head = no_clash_at (store.files c.prepare.new.store) head_path (tree_of_standing (store.files c.prepare.new.store) held still.standing) (inl refl) free_now in
-    let free_after = free_stays (undo_folder_of (store.files c.prepare.new.store)) (undo_folder_of (store.files (store_of c.step.new.self))) head_path (inl refl) (c.step.ensures.folder honest entry) free_now in
+    let good = entry_good (get (undo_folder_of (store.files (store_of c.args.self.now))) (entry_path c.args.number)) c.in_ok-entry.entry (c.in_ok-entry.ensures.ok read) in
+    let entry : IsEntry c.as_slice-changes.result.now = subst IsEntry (sym c.as_slice-changes.ensures) good in
+    let untouched : store.files c.prepare.new.store ≡ files = c.prepare.ensures.files tested ∙ c.read_entry.ensures.files read in
+    let changes = c.as_slice-changes.result.now in
+    let can : All (CanBeMade (way_of c.args.way) (tree_of (store.files c.prepare.new.store))) changes =
+    subst (λ w. All (CanBeMade w (tree_of (store.files c.prepare.new.store))) changes) c.way.ensures
+    (subst (λ f. All (CanBeMade c.way.result (tree_of f)) changes) (sym (c.prepare.ensures.files tested)) (c.in_ok-paths.ensures.ready tested entry)) in
     let p = err_from_is_err_and c.from_residual-in_err-step.result c.from_residual-in_err-step.ensures.1 in
-    (subst (λ r. IfErr r IsNoClash) (sym (p.1 ∙ ap (λ x. Err x) p.2)) (c.in_err-step.ensures.clash honest entry can_now free_head), free_after)
+    subst (λ r. IfErr r (HasClash ⊥ (Clashes files head_path))) (sym (p.1 ∙ ap (λ x. Err x) p.2))
+    (subst (λ f. HasClash ⊥ (Clashes f head_path) c.in_err-step.field-0.0) untouched (c.in_err-step.ensures.clash honest entry can))
+
+pub returns-in_err-step-clause-free : goal.returns-in_err-step-clause-free
+returns-in_err-step-clause-free g c honest free =
+    let store = g.S.Store in
+    let files = store.files (store_of c.args.self.now) in
+    let tested = c.step.ensures.was_honest honest in
+    let read = c.prepare.ensures.was_honest tested in
+    let good = entry_good (get (undo_folder_of (store.files (store_of c.args.self.now))) (entry_path c.args.number)) c.in_ok-entry.entry (c.in_ok-entry.ensures.ok read) in
+    let entry : IsEntry c.as_slice-changes.result.now = subst IsEntry (sym c.as_slice-changes.ensures) good in
+    let untouched : store.files c.prepare.new.store ≡ files = c.prepare.ensures.files tested ∙ c.read_entry.ensures.files read in
+    free_stays (undo_folder_of (store.files c.prepare.new.store)) (undo_folder_of (store.files (store_of c.step.new.self))) head_path (inl refl) (c.step.ensures.folder honest entry)
+    (subst (λ f. IsFree (undo_folder_of f)) (sym untouched) free)
 
 pub returns-clause-moves : goal.returns-clause-moves
 returns-clause-moves g c honest held step stands number kept journal moves remembers not_new =
@@ -223,31 +239,64 @@ returns-clause-written g c honest held step stands number kept journal moves rem
     let many = as_many c.args.way step held.journal journal (memory_of session) c.args.moved moves not_new stands.remembers remembers in
     omega (arith, most, many, c.prepare.ensures.written, c.read_entry.ensures.written)
 
-pub returns-clause-clash : goal.returns-clause-clash
-returns-clause-clash g c honest held step stands number kept free =
+pub returns-clause-free : goal.returns-clause-free
+returns-clause-free g c honest free =
     let store = g.S.Store in
-    let session = c.args.self.now in
-    let files = store.files (store_of session) in
-    let folder = undo_folder_of files in
+    let files = store.files (store_of c.args.self.now) in
     let tested = c.step.ensures.was_honest honest in
     let read = c.prepare.ensures.was_honest tested in
-    let unread = c.read_entry.ensures.files read in
-    let kept_there : EntrySays (get folder (entry_path c.args.number)) (entry_in step) = subst (λ n. EntrySays (get folder (entry_path n)) (entry_in step)) number kept in
-    let same : c.in_ok-entry.entry ≡ entry_in step = same_entry (get folder (entry_path c.args.number)) c.in_ok-entry.entry (entry_in step) (c.in_ok-entry.ensures.ok read) kept_there in
-    let good : IsEntry step.changes = entry_good (get folder (entry_path c.args.number)) (entry_in step) kept_there in
-    let changes : c.as_slice-changes.result.now ≡ step.changes = c.as_slice-changes.ensures ∙ ap (λ (e : Entry). e.changes) same in
-    let entry : IsEntry c.as_slice-changes.result.now = subst IsEntry (sym changes) good in
-    let untouched : store.files c.prepare.new.store ≡ files = c.prepare.ensures.files tested ∙ unread in
-    let still = still_stands store.files session c.prepare.new.store held untouched stands in
-    let tree : tree_of (store.files c.read_entry.new.store) ≡ held.tree = ap tree_of unread ∙ stands.standing.tree in
-    let can : All (CanBeMade (way_of c.args.way) held.tree) step.changes =
-    subst (λ w. All (CanBeMade w held.tree) step.changes) c.way.ensures
-    (subst (λ t. All (CanBeMade c.way.result t) step.changes) tree
-    (subst (All (CanBeMade c.way.result (tree_of (store.files c.read_entry.new.store)))) changes (c.in_ok-paths.ensures.ready tested entry))) in
-    let now = record session { store = c.prepare.new.store } in
-    let free_now : IsFree (undo_folder_of (store.files c.prepare.new.store)) = subst (λ f. IsFree (undo_folder_of f)) (sym untouched) free in
-    let can_now : All (CanBeMade (way_of c.args.way) (tree_of (store.files c.prepare.new.store))) c.as_slice-changes.result.now =
-    subst (λ t. All (CanBeMade (way_of c.args.way) t) c.as_slice-changes.result.now) (sym (ap tree_of untouched ∙ stands.standing.tree)) (subst (All (CanBeMade (way_of c.args.way) held.tree)) (sym changes) can) in
-    let free_head = no_clash_at (store.files c.prepare.new.store) head_path (tree_of_standing (store.files c.prepare.new.store) held still.standing) (inl refl) free_now in
-    let free_after = free_stays (undo_folder_of (store.files c.prepare.new.store)) (undo_folder_of (store.files (store_of c.step.new.self))) head_path (inl refl) (c.step.ensures.folder honest entry) free_now in
-    (tt, free_after)
+    let good = entry_good (get (undo_folder_of (store.files (store_of c.args.self.now))) (entry_path c.args.number)) c.in_ok-entry.entry (c.in_ok-entry.ensures.ok read) in
+    let entry : IsEntry c.as_slice-changes.result.now = subst IsEntry (sym c.as_slice-changes.ensures) good in
+    let untouched : store.files c.prepare.new.store ≡ files = c.prepare.ensures.files tested ∙ c.read_entry.ensures.files read in
+    free_stays (undo_folder_of (store.files c.prepare.new.store)) (undo_folder_of (store.files (store_of c.step.new.self))) head_path (inl refl) (c.step.ensures.folder honest entry)
+    (subst (λ f. IsFree (undo_folder_of f)) (sym untouched) free)
+
+pub returns-in_err-entry-clause-folder : goal.returns-in_err-entry-clause-folder
+returns-in_err-entry-clause-folder g c honest =
+    folder_stays (g.S.Store.files (store_of c.args.self.now)) (g.S.Store.files c.read_entry.new.store) head_path (c.read_entry.ensures.files honest)
+
+pub returns-in_err-paths-clause-folder : goal.returns-in_err-paths-clause-folder
+returns-in_err-paths-clause-folder g c honest =
+    folder_stays (g.S.Store.files (store_of c.args.self.now)) (g.S.Store.files c.prepare.new.store) head_path
+    (c.prepare.ensures.files honest ∙ c.read_entry.ensures.files (c.prepare.ensures.was_honest honest))
+
+pub returns-in_err-step-clause-folder : goal.returns-in_err-step-clause-folder
+returns-in_err-step-clause-folder g c honest =
+    let store = g.S.Store in
+    let files = store.files (store_of c.args.self.now) in
+    let tested = c.step.ensures.was_honest honest in
+    let read = c.prepare.ensures.was_honest tested in
+    let good = entry_good (get (undo_folder_of files) (entry_path c.args.number)) c.in_ok-entry.entry (c.in_ok-entry.ensures.ok read) in
+    let entry : IsEntry c.as_slice-changes.result.now = subst IsEntry (sym c.as_slice-changes.ensures) good in
+    let untouched : store.files c.prepare.new.store ≡ files = c.prepare.ensures.files tested ∙ c.read_entry.ensures.files read in
+    subst (λ f. IsSameBut head_path (undo_folder_of f) (undo_folder_of (store.files (store_of c.step.new.self)))) untouched (c.step.ensures.folder honest entry)
+
+pub returns-clause-folder : goal.returns-clause-folder
+returns-clause-folder g c honest =
+    let store = g.S.Store in
+    let files = store.files (store_of c.args.self.now) in
+    let tested = c.step.ensures.was_honest honest in
+    let read = c.prepare.ensures.was_honest tested in
+    let good = entry_good (get (undo_folder_of files) (entry_path c.args.number)) c.in_ok-entry.entry (c.in_ok-entry.ensures.ok read) in
+    let entry : IsEntry c.as_slice-changes.result.now = subst IsEntry (sym c.as_slice-changes.ensures) good in
+    let untouched : store.files c.prepare.new.store ≡ files = c.prepare.ensures.files tested ∙ c.read_entry.ensures.files read in
+    subst (λ f. IsSameBut head_path (undo_folder_of f) (undo_folder_of (store.files (store_of c.step.new.self)))) untouched (c.step.ensures.folder honest entry)
+
+pub returns-clause-texts : goal.returns-clause-texts
+returns-clause-texts g c honest =
+    let store = g.S.Store in
+    let files = store.files (store_of c.args.self.now) in
+    let tested = c.step.ensures.was_honest honest in
+    let read = c.prepare.ensures.was_honest tested in
+    let good = entry_good (get (undo_folder_of files) (entry_path c.args.number)) c.in_ok-entry.entry (c.in_ok-entry.ensures.ok read) in
+    let entry : IsEntry c.as_slice-changes.result.now = subst IsEntry (sym c.as_slice-changes.ensures) good in
+    c.in_ok-step.ensures.texts honest entry
+
+pub returns-in_err-step-clause-late : goal.returns-in_err-step-clause-late
+returns-in_err-step-clause-late g c cause e =
+    let p = err_from_is_err_and c.from_residual-in_err-step.result c.from_residual-in_err-step.ensures.1 in
+    let refusal = c.in_err-step.field-0.0 in
+    let stopped : ◌≡◌ {A = Result (List (List ℕ)) Refusal} (Err refusal) (Err (Interrupted cause)) = sym (p.1 ∙ ap (λ x. Err x) p.2) ∙ e in
+    let interrupted : refusal ≡ Interrupted cause = cc in
+    let entry : IsEntry c.as_slice-changes.result.now = subst IsEntry (sym c.as_slice-changes.ensures) c.in_ok-entry.ensures.good in
+    omega (arith, c.step.ensures.late entry cause (c.in_err-step.was ∙ ap (λ x. Err x) interrupted), c.prepare.ensures.written, c.read_entry.ensures.written)

@@ -1,0 +1,49 @@
+//! Laws of the definitions that the contracts of a session cite.
+ghost use Rattle.std.specs.Prelude.{◌≡◌, ◌≢◌, ◌↔◌, List, map, ℕ, Ok};
+ghost use Rattle.std.specs.Ordering.{nat_cmp};
+ghost use Rattle.std.specs.Cmp.Lexicographic.{slice_cmp};
+ghost use Rattle.std.specs.List.{Contains};
+ghost use Rattle.std.specs.List.Sorted.{IsPermutation, IsStrictlySortedBy};
+ghost use Rattle.std.specs.FinMap.{get};
+ghost use Rattle.reuse_tree.specs.Files.{Files};
+ghost use Rattle.reuse_tree.specs.Change.{inverse_of};
+ghost use Rattle.reuse_tree.specs.declared.change.Change.{Change};
+ghost use Rattle.reuse_session.specs.Entry.{IsEntry, LeadsAll, LeadsBy};
+ghost use Rattle.reuse_session.specs.InTurn.{LeadsInTurn};
+ghost use Rattle.reuse_session.specs.Journal.{State};
+ghost use Rattle.reuse_session.specs.Opening.{IsFirstBad, IsStuckAt, CanOpenOn};
+ghost use Rattle.reuse_session.specs.Outcome.{outcome_of};
+ghost use Rattle.reuse_session.specs.TextsPut.{PutsTexts};
+ghost use Rattle.reuse_session.specs.Tree.{changed_paths};
+ghost use Rattle.reuse_session.specs.declared.command.Command.TheVariants.{Download};
+ghost use Rattle.reuse_session.specs.declared.entry.Way.TheVariants.{Undo};
+ghost use Rattle.reuse_session.specs.declared.licence.LicenceText.{LicenceText};
+
+/// Any files open in one way: at most one path is the first at fault, at most one is where the pending step is stuck, at most one
+/// standing can be opened on, and no two of these three are there.
+pub fn files_open_in_one_way()
+    ensures bad { (files : Files) (path other : List ℕ) → IsFirstBad files path → IsFirstBad files other → path ≡ other }
+    ensures moved { (files : Files) (path other : List ℕ) → IsStuckAt files path → IsStuckAt files other → path ≡ other }
+    ensures opened { (files : Files) (held other : State) → CanOpenOn files held → CanOpenOn files other → held ≡ other }
+    ensures bad_or_moved { (files : Files) (path other : List ℕ) → IsFirstBad files path → ¬ (IsStuckAt files other) }
+    ensures bad_or_opened { (files : Files) (path : List ℕ) (held : State) → IsFirstBad files path → ¬ (CanOpenOn files held) }
+    ensures moved_or_opened { (files : Files) (path : List ℕ) (held : State) → IsStuckAt files path → ¬ (CanOpenOn files held) }
+{}
+
+/// An entry leads from one tree to another exactly where its changes do, one after the other, and back exactly where their inverses
+/// do, one after the other in any order.
+pub fn entries_lead_in_turn()
+    ensures forth { (changes : List Change) (before after : Files) → IsEntry changes → LeadsAll changes before after ↔ LeadsInTurn changes before after }
+    ensures back { (changes others : List Change) (before after : Files) → IsEntry changes → IsPermutation changes others → LeadsBy Undo changes before after ↔ LeadsInTurn (map inverse_of others) before after }
+{}
+
+/// A download that isn't refused puts the text of each id at `LICENSES/ID.txt`, where no file was, and changes no other path.
+pub fn downloads_put_each_text()
+    ensures { (ids : List (List ℕ)) (texts : List LicenceText) (tree after : Files) → outcome_of (Download ids texts) tree ≡ Ok after → PutsTexts ids texts tree after }
+{}
+
+/// The changed paths of two trees are those at which they differ, in byte order and none twice.
+pub fn changed_paths_are_where_trees_differ()
+    ensures paths { (before after : Files) (path : List ℕ) → Contains (changed_paths before after) path ↔ (get before path ≢ get after path) }
+    ensures ascend { (before after : Files) → IsStrictlySortedBy (slice_cmp nat_cmp) (changed_paths before after) }
+{}
