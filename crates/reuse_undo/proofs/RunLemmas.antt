@@ -1,25 +1,25 @@
 -- What comes of a session's one call: from any files, from a state of the machine, and what is told of it.
-use Rattle.std.proofs.Common.{◌≡◌, ◌⊎◌, inl, inr, ⊎_elim, ◌∙◌, ℕ, List, Option, Some, Result, Ok, Err, IfErr, refl, sym, ap, subst}
+use Rattle.std.proofs.Common.{◌≡◌, ◌⊎◌, inl, inr, ⊎_elim, ◌∙◌, ◌+◌, ℕ, List, Option, Some, Result, Ok, Err, IfErr, refl, sym, ap, subst}
 use Rattle.std.specs.Result.{OnOk}
-use Rattle.reuse_tree.specs.Files.{Files}
+use Rattle.reuse_tree.specs.Files.{Files, Clashes}
 use Rattle.reuse_tree.specs.declared.fault.StoreFault.TheVariants as stores
-use Rattle.reuse_session.specs.Answer.{TellsNoFault, IsEarly, IsFailure, HasCause}
-use Rattle.reuse_session.specs.Journal.{State}
-use Rattle.reuse_session.specs.JournalFiles.{IsFree}
+use Rattle.reuse_session.specs.Answer.{TellsNoFault, IsEarly, IsFailure, HasCause, HasClash, IsNoClash, IsBrokenOrMemory}
+use Rattle.reuse_session.specs.Journal.{State, rows_in}
+use Rattle.reuse_session.specs.JournalFiles.{head_path, entry_path}
 use Rattle.reuse_session.specs.Machine.{Snapshots, step}
 use Rattle.reuse_session.specs.Opening.{OpensOn}
 use Rattle.reuse_session.specs.Session.{store_of, Holds, StandsOn, IsKept}
 use Rattle.reuse_session.specs.Standing.{IsStanding, InDoubt}
 use Rattle.reuse_session.specs.Stops.{Point, open_at, closed, Reopens, HoldState, AreLeft}
-use Rattle.reuse_session.specs.Tree.{undo_folder_of}
 use Rattle.reuse_session.specs.declared.events.Event.{Event}
 use Rattle.reuse_session.specs.declared.events.Event.TheVariants as events
 use Rattle.reuse_session.specs.declared.reply.Cause.{Cause}
 use Rattle.reuse_session.specs.declared.reply.Cause.TheVariants as causes
 use Rattle.reuse_session.specs.declared.reply.Reply.{Reply}
 use Rattle.reuse_session.specs.declared.reply.Reply.TheVariants as replies
+use Rattle.reuse_session.specs.declared.reply.Row.{Row}
 use Rattle.reuse_session.specs.declared.reply.Refusal.{Refusal}
-use Rattle.reuse_session.specs.declared.reply.Refusal.TheVariants.{Fault as StoreFailed, Memory, Interrupted}
+use Rattle.reuse_session.specs.declared.reply.Refusal.TheVariants.{Broken, Fault as StoreFailed, Memory, Interrupted}
 use Rattle.reuse_session.specs.declared.session.Session.{Session}
 use Rattle.reuse_session.proofs.Driving.{run_left, undo_left, redo_left, stays_closed, stays_open, stands_still}
 use Rattle.reuse_session.proofs.Following.{undo_follows, redo_follows, log_follows}
@@ -28,15 +28,15 @@ use Rattle.reuse_undo.specs.declared.fault.Fault.{Fault}
 use Rattle.reuse_undo.specs.declared.fault.Fault.TheVariants as faults
 use Rattle.reuse_undo.specs.Lines.{IsReplyText}
 use Rattle.reuse_undo.specs.RowLines.{AppendsSome}
-use Rattle.reuse_undo.specs.RunLine.{Does, IsStopped, Calls, IsUnopened, IsMade, Carries, Steps, Tells, IfRefused}
+use Rattle.reuse_undo.specs.RunLine.{Does, IsStopped, Makes, Calls, HasCallClash, IsUnopened, IsMade, Carries, Steps, Tells, IfRefused}
 use Rattle.reuse_undo.specs.WriterFaults.{IsOfWriter}
 
 -- ---- the call
 
--- a call of a session, by the clauses of that call
+-- a call of a session that makes a step, by the clauses of that call
 pub calls_by : {S : Type 0} (files : S → Files) (event : Event) (held : State) (new : Session S) (answer : Result Reply Refusal)
     → (TellsNoFault answer → (left : State) × StandsOn files new left × Does event held answer left) → IfErr answer (λ refusal. IsEarly refusal → StandsOn files new held)
-    → ((cause : Cause) → answer ≡ Err (Interrupted cause) → IsStopped event held (files (store_of new))) → Calls event held answer (files (store_of new))
+    → ((cause : Cause) → answer ≡ Err (Interrupted cause) → IsStopped event held (files (store_of new))) → Makes event held answer (files (store_of new))
 calls_by files event held new (Ok reply) exact stands stops = let left = exact tt in (left.0, left.2, left.1.standing)
 calls_by files event held new (Err (StoreFailed fault)) exact stands stops = (stands tt).standing
 calls_by files event held new (Err Memory) exact stands stops = (stands tt).standing
@@ -66,10 +66,10 @@ carried files before event session answer after opened settles calls =
 pub found_again : {S : Type 0} (files : S → Files) (before : Files) (session : Session S) (held : State) → IsStanding before held
     → (found : State) × StandsOn files session found × OpensOn before found (files (store_of session))
     → ((first second : State) → InDoubt first second before → StandsOn files session first ⊎ StandsOn files session second)
-    → IsFree (undo_folder_of before) → StandsOn files session held × IsFree (undo_folder_of (files (store_of session)))
-found_again files before session held standing opened settles free = (
+    → StandsOn files session held × (files (store_of session) ≡ before)
+found_again files before session held standing opened settles = (
   ⊎_elim (λ (stands : StandsOn files session held). stands) (λ (stands : StandsOn files session held). stands) (settles held held (inl standing)),
-  subst (λ (f : Files). IsFree (undo_folder_of f)) (sym (stays_open before (files (store_of session)) held opened.0 standing opened.2)) free,
+  stays_open before (files (store_of session)) held opened.0 standing opened.2,
 )
 
 -- a fault that has one cause has the other that follows
@@ -80,7 +80,29 @@ caused Rose Higher on (Err (StoreFailed stores.Memory)) h = h
 caused Rose Higher on (Err (Interrupted causes.Device)) h = on h
 caused Rose Higher on (Err refusal) h = tt
 
+-- ---- clashes
+
+no_clash_of : (entry head : Type 0) (refusal : Refusal) → IsNoClash refusal → HasClash entry head refusal
+no_clash_of entry head (StoreFailed stores.Clash) none = absurd none
+no_clash_of entry head (Interrupted causes.Clash) none = absurd none
+no_clash_of entry head (Interrupted causes.Moved) none = none
+no_clash_of entry head refusal none = tt
+
+-- a refusal that tells no clash
+pub unclashed : (event : Event) (held : State) (files : Files) (refusal : Refusal) → IsNoClash refusal → HasCallClash event held files refusal
+unclashed (events.Run command when) held files refusal none = no_clash_of (Clashes files (entry_path (held.journal.used + 1))) (Clashes files head_path) refusal none
+unclashed event held files refusal none = no_clash_of ⊥ (Clashes files head_path) refusal none
+
+pub log_tells_none : (refusal : Refusal) → IsBrokenOrMemory refusal → IsNoClash refusal
+log_tells_none Broken is = tt
+log_tells_none Memory is = tt
+log_tells_none refusal is = absurd is
+
 -- ---- from a state of the machine
+
+-- a refusal is no reply
+no_row : (refusal : Refusal) (rows : List Row) → Err refusal ≡ Ok (replies.Log rows) → ⊥
+no_row refusal rows is = cc
 
 module _ (held : State) (state : Snapshots) (holds : Holds held state) (before after : Files) (standing : IsStanding before held) where
   -- what a call does is what the machine does
@@ -102,12 +124,26 @@ module _ (held : State) (state : Snapshots) (holds : Holds held state) (before a
       → (answer ≡ (step state event).0) × HoldState after (step state event).1
   did event answer made = let does = does_step event answer made.0 made.1 in (does.0, (made.0, made.2, does.1))
 
+  made : (event : Event) (answer : Result Reply Refusal) → Makes event held answer after → Steps state event answer after
+  made event (Ok reply) makes = did event (Ok reply) makes
+  made event (Err (StoreFailed fault)) makes = (held, makes, holds)
+  made event (Err Memory) makes = (held, makes, holds)
+  made event (Err (Interrupted cause)) makes = inr (stopped_near event makes)
+  made event (Err refusal) makes = did event (Err refusal) makes
+
+  listed : (answer : Result Reply Refusal) → Calls events.Log held answer after → Steps state events.Log answer after
+  listed (Ok reply) calls = did events.Log (Ok reply) calls
+  listed (Err Memory) calls = (held, calls, holds)
+  listed (Err (StoreFailed fault)) calls = absurd (no_row (StoreFailed fault) (rows_in held.journal) calls.1.0)
+  listed (Err (Interrupted cause)) calls = absurd (no_row (Interrupted cause) (rows_in held.journal) calls.1.0)
+  listed (Err refusal) calls = did events.Log (Err refusal) calls
+
   called : (event : Event) (answer : Result Reply Refusal) → Calls event held answer after → Steps state event answer after
-  called event (Ok reply) calls = did event (Ok reply) calls
-  called event (Err (StoreFailed fault)) calls = (held, calls, holds)
-  called event (Err Memory) calls = (held, calls, holds)
-  called event (Err (Interrupted cause)) calls = inr (stopped_near event calls)
-  called event (Err refusal) calls = did event (Err refusal) calls
+  called events.Log answer calls = listed answer calls
+  called (events.Run command when) answer calls = made (events.Run command when) answer calls
+  called events.Undo answer calls = made events.Undo answer calls
+  called events.Redo answer calls = made events.Redo answer calls
+  called events.Reopen answer calls = made events.Reopen answer calls
 
 -- an opening that fails changes nothing where no step is in doubt
 unopened : (refusal : Refusal) (state : Snapshots) (new : Point) → Reopens (Err refusal) (closed (open_at state)) new → new ≡ closed (open_at state)

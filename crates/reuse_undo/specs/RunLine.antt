@@ -1,10 +1,11 @@
 -- What a line asks a session for, and what comes of it.
-use Rattle.std.specs.Prelude.{◌≡◌, ◌⊎◌, List, Option, Some, ℕ, Result, Ok, Err}
-use Rattle.reuse_tree.specs.Files.{Files}
-use Rattle.reuse_session.specs.Answer.{IsEarly, IsFailure, IsNoClash, IsOpenRefusal}
+use Rattle.std.specs.Prelude.{◌≡◌, ◌⊎◌, ◌+◌, List, Option, Some, ℕ, Result, Ok, Err}
+use Rattle.reuse_tree.specs.Files.{Files, Clashes}
+use Rattle.reuse_session.specs.Answer.{IsEarly, IsFailure, HasClash, IsNoClash, IsOpenRefusal}
 use Rattle.reuse_session.specs.Journal.{State, Undoes, Redoes, rows_in}
+use Rattle.reuse_session.specs.JournalFiles.{head_path, entry_path}
 use Rattle.reuse_session.specs.Machine.{Snapshots, step}
-use Rattle.reuse_session.specs.Opening.{IsFirstBad, IsStuckAt, OpensOn}
+use Rattle.reuse_session.specs.Opening.{IsFirstBad, IsStuckAt, OpensOn, StopsOpening}
 use Rattle.reuse_session.specs.Session.{Runs, StopsAfterRun, StopsAfter}
 use Rattle.reuse_session.specs.Standing.{IsStanding, InDoubt}
 use Rattle.reuse_session.specs.Stops.{HoldState, AreLeft}
@@ -13,6 +14,7 @@ use Rattle.reuse_session.specs.declared.events.Event.{Event}
 use Rattle.reuse_session.specs.declared.events.Event.TheVariants as events
 use Rattle.reuse_session.specs.declared.journal.head.PendingWay.TheVariants as ways
 use Rattle.reuse_session.specs.declared.licence.LicenceText.{LicenceText}
+use Rattle.reuse_session.specs.declared.reply.Cause.{Cause}
 use Rattle.reuse_session.specs.declared.reply.Reply.{Reply}
 use Rattle.reuse_session.specs.declared.reply.Reply.TheVariants as replies
 use Rattle.reuse_session.specs.declared.reply.Refusal.{Refusal}
@@ -55,12 +57,23 @@ IsStopped events.Undo old files = StopsAfter ways.Undo old files
 IsStopped events.Redo old files = StopsAfter ways.Redo old files
 IsStopped event old files = ⊥
 
--- What a call answers and leaves from a standing. A fault of the store or want of memory leaves the standing.
+-- What a call that makes a step answers and leaves from a standing. A fault of the store or want of memory leaves the standing.
+abbrev pub Makes : Event → State → Result Reply Refusal → Files → Type 0
+Makes event old (Err (refusals.Fault fault)) files = IsStanding files old
+Makes event old (Err refusals.Memory) files = IsStanding files old
+Makes event old (Err (refusals.Interrupted cause)) files = IsStopped event old files
+Makes event old answer files = (new : State) × Does event old answer new × IsStanding files new
+
+-- what a call answers and leaves from a standing; a log answers its rows, or memory ran out
 abbrev pub Calls : Event → State → Result Reply Refusal → Files → Type 0
-Calls event old (Err (refusals.Fault fault)) files = IsStanding files old
-Calls event old (Err refusals.Memory) files = IsStanding files old
-Calls event old (Err (refusals.Interrupted cause)) files = IsStopped event old files
-Calls event old answer files = (new : State) × Does event old answer new × IsStanding files new
+Calls events.Log old (Err refusals.Memory) files = IsStanding files old
+Calls events.Log old answer files = (new : State) × Does events.Log old answer new × IsStanding files new
+Calls event old answer files = Makes event old answer files
+
+-- a clash that is told is that of the path that is put: of the next entry, which a run alone puts, or of the head
+abbrev pub HasCallClash : Event → State → Files → Refusal → Type 0
+HasCallClash (events.Run command when) old files = HasClash (Clashes files (entry_path (old.journal.used + 1))) (Clashes files head_path)
+HasCallClash event old files = HasClash ⊥ (Clashes files head_path)
 
 -- no session was opened
 pub record IsUnopened (before : Files) (refusal : Refusal) (after : Files) : Type 0 where
@@ -69,6 +82,8 @@ pub record IsUnopened (before : Files) (refusal : Refusal) (after : Files) : Typ
   pub moved : (path : List ℕ) → refusal ≡ refusals.Moved path → IsStuckAt before path
   pub no_clash : IsNoClash refusal
   pub unchanged : IsEarly refusal → after ≡ before
+  -- it stops only where a step was under way
+  pub stopped : (cause : Cause) → refusal ≡ refusals.Interrupted cause → StopsOpening before after
   -- files in doubt stay in doubt between the same two
   pub settles : (first second : State) → InDoubt first second before → IsFailure refusal × InDoubt first second after
 
@@ -94,10 +109,11 @@ Steps state event answer files = (answer ≡ (step state event).0) × HoldState 
 
 -- ---- what is told of it
 
--- The answer is one of these. Of a reply the writer, if it tells its bytes, was given the lines, or it failed; a refusal is handed on.
+-- The answer is one of these. Of a reply the writer, if it tells its bytes, was given the lines, or it failed; a refusal is handed on,
+-- and nothing is written of it.
 abbrev pub Tells : {T : Type 0} → (Result Reply Refusal → Type 0) → Option (List ℕ) → Option (List ℕ) → Result T Fault → Type 0
 Tells IsAnswer old new (Ok done) = (reply : Reply) × IsAnswer (Ok reply) × AppendsSome old new (IsReplyText reply)
-Tells IsAnswer old new (Err (faults.Refused refusal)) = IsAnswer (Err refusal)
+Tells IsAnswer old new (Err (faults.Refused refusal)) = IsAnswer (Err refusal) × (new ≡ old)
 Tells IsAnswer old new (Err faults.Write) = (reply : Reply) × IsAnswer (Ok reply)
 Tells IsAnswer old new (Err faults.Memory) = (reply : Reply) × IsAnswer (Ok reply)
 

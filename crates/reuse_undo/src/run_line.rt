@@ -1,17 +1,15 @@
 //! Carries a line out on a store.
 ghost use Rattle.std.specs.Prelude.{◌≡◌, ◌≤◌, ◌<◌, IfErr, OnOk};
-ghost use Rattle.reuse_session.specs.Answer.{HasCause, IsNoClash};
+ghost use Rattle.reuse_session.specs.Answer.{HasCause};
 ghost use Rattle.reuse_session.specs.Journal.{State};
-ghost use Rattle.reuse_session.specs.JournalFiles.{IsFree};
 ghost use Rattle.reuse_session.specs.Machine.{Snapshots};
 ghost use Rattle.reuse_session.specs.Session.{store_of, StandsOn};
 ghost use Rattle.reuse_session.specs.Standing.{IsStanding};
 ghost use Rattle.reuse_session.specs.Stops.{HoldState};
-ghost use Rattle.reuse_session.specs.Tree.{undo_folder_of};
 ghost use Rattle.reuse_undo.specs.Lines.{IsReplyText};
 ghost use Rattle.reuse_undo.specs.RowLines.{AppendsSome};
 ghost use Rattle.reuse_undo.specs.WriterFaults.{IsOfWriter};
-ghost use Rattle.reuse_undo.specs.RunLine.{asked, Calls, Carries, Steps, Tells, IfRefused};
+ghost use Rattle.reuse_undo.specs.RunLine.{asked, Calls, HasCallClash, Carries, Steps, Tells, IfRefused};
 
 use crate::fault::Fault;
 use crate::line::{Action, Line};
@@ -37,9 +35,11 @@ pub fn run_line<S: Store + Drop, W: Write>(
     // From any state that the files hold it is that of the machine that keeps whole copies.
     ensures machine { S.honest result.0 → (state : Snapshots) → HoldState (S.files store) state
         → Tells (λ answer. Steps state (asked line texts) answer (S.files result.0)) (W.contents out.old) (W.contents out.new) result.1 }
-    // A fault has its cause; where nothing is pending, a clash is told only where a path of a file of the journal is a folder.
+    // A refusal is told before anything is written.
+    ensures quiet { IfRefused result.1 (λ refusal. out.new ≡ out.old) }
+    // A fault has its cause; where nothing is pending, a clash is told only where the path that the call puts clashes.
     ensures fault { IfRefused result.1 (HasCause (S.failures store < S.failures result.0)) }
-    ensures clash { S.honest result.0 → (held : State) → IsStanding (S.files store) held → IsFree (undo_folder_of (S.files store)) → IfRefused result.1 IsNoClash }
+    ensures clash { S.honest result.0 → (held : State) → IsStanding (S.files store) held → IfRefused result.1 (HasCallClash (asked line texts) held (S.files store)) }
     ensures failures { S.failures store ≤ S.failures result.0 }
     ensures was_honest { S.honest result.0 → S.honest store }
 {
@@ -55,7 +55,7 @@ pub fn run_line<S: Store + Drop, W: Write>(
 fn call<S: Store + Drop>(alloc: Global, store: S, event: &Event) -> (S, Answer)
     ensures carries { S.honest result.0 → Carries (S.files store) event.now result.1 (S.files result.0) }
     ensures fault { IfErr result.1 (HasCause (S.failures store < S.failures result.0)) }
-    ensures clash { S.honest result.0 → (held : State) → IsStanding (S.files store) held → IsFree (undo_folder_of (S.files store)) → IfErr result.1 IsNoClash }
+    ensures clash { S.honest result.0 → (held : State) → IsStanding (S.files store) held → IfErr result.1 (HasCallClash event.now held (S.files store)) }
     ensures failures { S.failures store ≤ S.failures result.0 }
     ensures was_honest { S.honest result.0 → S.honest store }
 {
@@ -74,7 +74,7 @@ fn ask<S: Store + Drop>(alloc: Global, session: &mut Session<S>, event: &Event) 
     ensures calls { S.honest (store_of session.new) → (held : State) → StandsOn S.files session.old held → Calls event.now held result (S.files (store_of session.new)) }
     ensures fault { IfErr result (HasCause (S.failures (store_of session.old) < S.failures (store_of session.new))) }
     ensures clash { S.honest (store_of session.new) → (held : State) → StandsOn S.files session.old held
-        → IsFree (undo_folder_of (S.files (store_of session.old))) → IfErr result IsNoClash }
+        → IfErr result (HasCallClash event.now held (S.files (store_of session.old))) }
     ensures failures { S.failures (store_of session.old) ≤ S.failures (store_of session.new) }
     ensures was_honest { S.honest (store_of session.new) → S.honest (store_of session.old) }
 {

@@ -32,7 +32,18 @@ fn read(alloc: Global, words: &str, second: u64) -> Result<Result<Line, LineFaul
 }
 
 fn read_line(alloc: Global, words: &str) -> Result<Line, Fail> {
-    Ok(read(alloc, words, START_OF_2024)?.or(Err("a line is wanted"))?)
+    match read(alloc, words, START_OF_2024)? {
+        Ok(line) => Ok(line),
+        Err(_) => Err("a line is wanted")?,
+    }
+}
+
+/// The status of words that are no line, and the text of the fault.
+fn fault_of(alloc: Global, words: &str) -> Result<(u8, String), Fail> {
+    match read(alloc, words, START_OF_2024)? {
+        Ok(_) => Err("a fault is wanted")?,
+        Err(fault) => Ok((line_status(&fault), fault.to_string(alloc)?)),
+    }
 }
 
 /// A store with one file.
@@ -60,6 +71,18 @@ fn texts(alloc: Global) -> Result<LicenceTexts, Fail> {
     Ok(LicenceTexts::new(texts))
 }
 
+/// What was printed, or the text of the fault.
+fn told(
+    alloc: Global,
+    outcome: Result<(), Fault>,
+    printed: Vec<u8>,
+) -> Result<Result<String, String>, Fail> {
+    match outcome {
+        Ok(()) => Ok(Ok(String::from_utf8(printed).or(Err("text"))?)),
+        Err(fault) => Ok(Err(fault.to_string(alloc)?)),
+    }
+}
+
 /// Carries words out at this second; what is printed on standard output, or the text of the fault.
 fn run_at(
     alloc: Global,
@@ -68,12 +91,11 @@ fn run_at(
     second: u64,
 ) -> Result<(MemoryStore, Result<String, String>), Fail> {
     let line = read(alloc, words, second)?.or(Err("a line is wanted"))?;
+    let texts = texts(alloc)?;
     let mut out: Vec<u8> = Vec::new(alloc);
-    let (store, outcome) = run_line(alloc, line, store, texts(alloc)?, &mut out);
-    match outcome {
-        Ok(()) => Ok((store, Ok(String::from_utf8(out).or(Err("text"))?))),
-        Err(fault) => Ok((store, Err(fault.to_string(alloc)?))),
-    }
+    let (store, outcome) = run_line(alloc, line, store, texts, &mut out);
+    let told = told(alloc, outcome, out)?;
+    Ok((store, told))
 }
 
 fn run(
@@ -84,13 +106,47 @@ fn run(
     run_at(alloc, store, words, START_OF_2024)
 }
 
+/// Carries words out at this second, where this is printed; the store then.
+fn prints_at(
+    rt: &impl Abort,
+    alloc: Global,
+    store: MemoryStore,
+    words: &str,
+    second: u64,
+    text: &str,
+) -> Result<MemoryStore, Fail> {
+    let (store, told) = run_at(alloc, store, words, second)?;
+    assert!(rt; told.is_ok_and(|told| told.as_str() == text), "{words}");
+    Ok(store)
+}
+
+fn prints(
+    rt: &impl Abort,
+    alloc: Global,
+    store: MemoryStore,
+    words: &str,
+    text: &str,
+) -> Result<MemoryStore, Fail> {
+    prints_at(rt, alloc, store, words, START_OF_2024, text)
+}
+
+/// Carries words out, where they are refused with this text; the store then.
+fn refuses(
+    rt: &impl Abort,
+    alloc: Global,
+    store: MemoryStore,
+    words: &str,
+    text: &str,
+) -> Result<MemoryStore, Fail> {
+    let (store, told) = run(alloc, store, words)?;
+    assert!(rt; told.is_err_and(|told| told.as_str() == text), "{words}");
+    Ok(store)
+}
+
 /// Words that are no line: the status, and what the text of the fault begins with.
 fn refuse(rt: &impl Abort, alloc: Global, words: &str, status: u8, text: &str) -> Result<(), Fail> {
-    let Err(fault) = read(alloc, words, START_OF_2024)? else {
-        return Err("a fault is wanted")?;
-    };
-    assert_eq!(rt; line_status(&fault), status, "{words}");
-    let told = fault.to_string(alloc)?;
+    let (found, told) = fault_of(alloc, words)?;
+    assert_eq!(rt; found, status, "{words}");
     assert!(rt; told.as_str().starts_with(text), "{words}: {told}");
     Ok(())
 }
@@ -185,30 +241,37 @@ fn reads_places(rt: HostRuntime) -> Result<(), Fail> {
 }
 
 #[test]
-fn prints_replies(rt: HostRuntime) -> Result<(), Fail> {
+fn prints_what_annotations_change(rt: HostRuntime) -> Result<(), Fail> {
     let alloc = rt.alloc();
-    let store = store_of(alloc, "a.py", b"print(1)\n")?;
     let words = "annotate|-c|Jane Doe|-l|MIT|a.py";
-    let (mut store, told) = run(alloc, store, words)?;
-    assert!(rt; told.is_ok_and(|text| text.as_str() == "changed a.py\n"));
+    let store = store_of(alloc, "a.py", b"print(1)\n")?;
+    let mut store = prints(&rt, alloc, store, words, "changed a.py\n")?;
     assert!(rt; holds(alloc, &mut store, "a.py", JANE)?);
-    let (store, told) = run(alloc, store, words)?;
-    assert!(rt; told.is_ok_and(|text| text.as_str() == "nothing changed\n"));
-    let (store, told) = run(alloc, store, "annotate|-l|MIT|zz")?;
-    assert!(rt; told.is_err_and(|text| text.as_str() == "zz: no such path"));
-    let (store, told) = run(alloc, store, "download|--texts|x|Foo|MIT")?;
-    assert!(rt; told.is_err_and(|text| text.as_str() == "no text: Foo"));
-    let (mut store, told) = run(alloc, store, "download|--texts|x|MIT")?;
-    assert!(rt; told.is_ok_and(|text| text.as_str() == "changed LICENSES/MIT.txt\n"));
-    assert!(rt; holds(alloc, &mut store, "LICENSES/MIT.txt", b"text\n")?);
-    let (store, told) = run(alloc, store, "undo")?;
-    assert!(rt; told.is_ok_and(|text| text.as_str() == "undone LICENSES/MIT.txt\n"));
-    let (mut store, told) = run(alloc, store, "undo")?;
-    assert!(rt; told.is_ok_and(|text| text.as_str() == "undone a.py\n"));
+    let store = prints(&rt, alloc, store, words, "nothing changed\n")?;
+    let store = refuses(&rt, alloc, store, "annotate|-l|MIT|zz", "zz: no such path")?;
+    let mut store = prints(&rt, alloc, store, "undo", "undone a.py\n")?;
     assert!(rt; holds(alloc, &mut store, "a.py", b"print(1)\n")?);
-    let (mut store, told) = run(alloc, store, "redo")?;
-    assert!(rt; told.is_ok_and(|text| text.as_str() == "redone a.py\n"));
+    let mut store = prints(&rt, alloc, store, "redo", "redone a.py\n")?;
     assert!(rt; holds(alloc, &mut store, "a.py", JANE)?);
+    Ok(())
+}
+
+#[test]
+fn prints_what_downloads_change(rt: HostRuntime) -> Result<(), Fail> {
+    let alloc = rt.alloc();
+    let (words, file) = ("download|--texts|x|MIT", "LICENSES/MIT.txt");
+    let store = MemoryStore::new();
+    let store = refuses(
+        &rt,
+        alloc,
+        store,
+        "download|--texts|x|Foo|MIT",
+        "no text: Foo",
+    )?;
+    let mut store = prints(&rt, alloc, store, words, "changed LICENSES/MIT.txt\n")?;
+    assert!(rt; holds(alloc, &mut store, file, b"text\n")?);
+    let mut store = prints(&rt, alloc, store, "undo", "undone LICENSES/MIT.txt\n")?;
+    assert!(rt; holds(alloc, &mut store, file, b"")?);
     Ok(())
 }
 
@@ -217,17 +280,14 @@ fn prints_replies(rt: HostRuntime) -> Result<(), Fail> {
 fn prints_rows(rt: HostRuntime) -> Result<(), Fail> {
     let alloc = rt.alloc();
     let store = store_of(alloc, "a.py", b"print(1)\n")?;
-    let (store, told) = run(alloc, store, "log")?;
-    assert!(rt; told.is_ok_and(|text| text.as_str() == ""));
+    let store = prints(&rt, alloc, store, "log", "")?;
     let (store, _) = run_at(alloc, store, "annotate|-l|MIT|a.py", 0)?;
     let (store, _) = run_at(alloc, store, "annotate|-l|ISC|a.py", START_OF_2024)?;
     let (store, _) = run_at(alloc, store, "download|--texts|x|MIT", 250_000_000_000)?;
-    let (store, told) = run(alloc, store, "undo")?;
-    assert!(rt; told.is_ok());
-    let (_, told) = run(alloc, store, "log")?;
+    let store = prints(&rt, alloc, store, "undo", "undone LICENSES/MIT.txt\n")?;
     let wanted =
         "1 1970-01-01 annotate 1 done\n2 2024-01-01 annotate 1 done\n3 9892-03-08 download 1 undone\n";
-    assert!(rt; told.is_ok_and(|text| text.as_str() == wanted));
+    prints(&rt, alloc, store, "log", wanted)?;
     Ok(())
 }
 
@@ -245,21 +305,38 @@ impl Write for Full {
     }
 }
 
+/// Annotates a file where the reply can't be printed; the store then, and the fault.
+fn annotate_untold(alloc: Global) -> Result<(MemoryStore, Fault), Fail> {
+    let line = read_line(alloc, "annotate|-c|Jane Doe|-l|MIT|a.py")?;
+    let store = store_of(alloc, "a.py", b"print(1)\n")?;
+    let texts = texts(alloc)?;
+    match run_line(alloc, line, store, texts, &mut Full) {
+        (store, Err(fault)) => Ok((store, fault)),
+        _ => Err("a fault is wanted")?,
+    }
+}
+
 #[test]
 fn keeps_what_it_cannot_tell(rt: HostRuntime) -> Result<(), Fail> {
     let alloc = rt.alloc();
-    let store = store_of(alloc, "a.py", b"print(1)\n")?;
-    let line = read_line(alloc, "annotate|-c|Jane Doe|-l|MIT|a.py")?;
-    let (mut store, outcome) = run_line(alloc, line, store, texts(alloc)?, &mut Full);
-    let Err(fault) = outcome else {
-        return Err("a fault is wanted")?;
-    };
-    assert!(rt; matches!(&fault, Fault::Write));
+    let (mut store, fault) = annotate_untold(alloc)?;
     assert_eq!(rt; exit_status(&fault), 1);
     assert_eq!(rt; fault.to_string(alloc)?.as_str(), "write fault");
     assert!(rt; holds(alloc, &mut store, "a.py", JANE)?);
-    let fault = Fault::Refused(Refusal::NothingToUndo);
-    assert_eq!(rt; fault.to_string(alloc)?.as_str(), "nothing to undo");
-    assert_eq!(rt; Fault::Memory.to_string(alloc)?.as_str(), "out of memory");
     Ok(())
+}
+
+fn is_told_as(rt: &impl Abort, alloc: Global, fault: Fault, text: &str) -> Result<(), Fail> {
+    let found = fault.to_string(alloc)?;
+    assert_eq!(rt; found.as_str(), text);
+    Ok(())
+}
+
+#[test]
+fn tells_faults(rt: HostRuntime) -> Result<(), Fail> {
+    let alloc = rt.alloc();
+    let refused = Fault::Refused(Refusal::NothingToUndo);
+    is_told_as(&rt, alloc, refused, "nothing to undo")?;
+    is_told_as(&rt, alloc, Fault::Memory, "out of memory")?;
+    is_told_as(&rt, alloc, Fault::Write, "write fault")
 }

@@ -10,18 +10,14 @@ ghost use Rattle.reuse_undo.specs.Within.{IsWithin};
 use crate::disk::fault::FolderFault;
 use crate::disk::kept_out::{NEW, is_kept_out};
 use crate::disk::listing::list_below;
-use crate::disk::new_file::write_file;
-use crate::disk::place::{FullPath, Place, check_root};
+use crate::disk::new_file::NewFile;
+use crate::disk::place::{FileStatus, FullPath, Place, check_root};
 use reuse_text::Bytes;
 use reuse_tree::{PathText, Reading};
 use std::alloc::Global;
 use std::fs;
-use std::io::Read;
-use std::os::unix::fs::PermissionsExt;
+use std::io::{self, ErrorKind, Read};
 use std::rt::Files;
-
-/// The bits of a file's mode that a rewritten file keeps: who may read, write and run it.
-const KEPT_BITS: u32 = 0o777;
 
 /// The folder that a tree of files lies in. Nothing outside of it is read or written: no link below it
 /// is followed.
@@ -32,8 +28,10 @@ pub struct RootFolder<R: Files + AllocGlobal + Clone + Drop> {
     /// A folder that was looked at, with all that is above it, since the last listing: a file beside the
     /// last one needs no second look.
     seen: String,
-    /// Whether the folder of the new file was looked at since the last listing or fault.
-    has_new_folder: bool,
+    /// The regular file that the last call has read: a call for it needs no second look.
+    last_read: Option<(FullPath, FileStatus)>,
+    /// The place of new files, where its folder was looked at since the last listing or fault.
+    new_file: Option<NewFile>,
 }
 
 impl<R: Files + AllocGlobal + Clone + Drop> RootFolder<R> {
@@ -44,7 +42,8 @@ impl<R: Files + AllocGlobal + Clone + Drop> RootFolder<R> {
             rt,
             root,
             seen,
-            has_new_folder: false,
+            last_read: None,
+            new_file: None,
         }
     }
 
@@ -67,8 +66,14 @@ impl<R: Files + AllocGlobal + Clone + Drop> RootFolder<R> {
     fn look(&mut self, path: &PathText, full: &FullPath) -> Result<Place, FolderFault>
         ensures { IsTrue (is_kept_out path.now) → result ≡ Ok Place.Other }
     {
+        let last_read = self.last_read.take();
         if is_kept_out(path.text()) {
             return Ok(Place::Other);
+        }
+        if let Some((last, status)) = last_read
+            && last.text() == full.text()
+        {
+            return Ok(Place::File(status));
         }
         if self.seen.as_str() != full.folder() {
             match full.look_above(&self.rt)? {
@@ -95,7 +100,8 @@ impl<R: Files + AllocGlobal + Clone + Drop> RootFolder<R> {
             return Err(FolderFault::Device);
         }
         self.seen.clear();
-        self.has_new_folder = false;
+        self.last_read = None;
+        self.new_file = None;
         list_below(&self.rt, alloc, self.root.as_str(), "")
     }
 
@@ -111,8 +117,10 @@ impl<R: Files + AllocGlobal + Clone + Drop> RootFolder<R> {
     {
         let full = self.full(alloc, path.text())?;
         match self.look(path, &full)? {
-            Place::File(metadata) => {
-                read_file(&self.rt, alloc, full.text(), metadata.len(), limit)
+            Place::File(status) => {
+                let reading = read_file(&self.rt, alloc, full.text(), status.len, limit)?;
+                self.last_read = Some((full, status));
+                Ok(reading)
             }
             Place::Nothing | Place::BelowFile | Place::Folder | Place::Other => {
                 Ok(Reading::Absent)
@@ -131,10 +139,7 @@ impl<R: Files + AllocGlobal + Clone + Drop> RootFolder<R> {
                 full.make_folders(&self.rt)?;
                 self.write(alloc, &full, None, bytes)
             }
-            Place::File(metadata) => {
-                let mode = metadata.permissions().mode() & KEPT_BITS;
-                self.write(alloc, &full, Some(mode), bytes)
-            }
+            Place::File(status) => self.write(alloc, &full, Some(status.mode), bytes),
             Place::BelowFile => Err(FolderFault::Clash),
             Place::Folder => self.refuse_folder(alloc, path),
             Place::Other => Err(FolderFault::Device),
@@ -148,13 +153,13 @@ impl<R: Files + AllocGlobal + Clone + Drop> RootFolder<R> {
         mode: Option<u32>,
         bytes: &[u8],
     ) -> Result<(), FolderFault> {
-        let new = self.full(alloc, NEW)?;
-        if !self.has_new_folder {
-            new.make_folders(&self.rt)?;
-        }
-        let written = write_file(&self.rt, new.text(), full.text(), mode, bytes);
-        self.has_new_folder = written.is_ok();
-        Ok(written?)
+        let mut new_file = match self.new_file.take() {
+            Some(new_file) => new_file,
+            None => NewFile::at(&self.rt, self.full(alloc, NEW)?)?,
+        };
+        new_file.write(&self.rt, full.text(), mode, bytes)?;
+        self.new_file = Some(new_file);
+        Ok(())
     }
 
     /// Why no file can take the place of this folder: one without files is no clash.
@@ -191,11 +196,28 @@ fn read_file(
     if len >= most {
         return Ok(Reading::TooLong);
     }
-    let room = usize::try_from(len).unwrap_or(0).saturating_add(1);
-    let mut bytes = Vec::with_capacity(alloc, room)?;
-    fs::open(rt, full)?.take(most).read_to_end(&mut bytes)?;
+    let len = usize::try_from(len).unwrap_or(0);
+    let bytes = read_whole(fs::open(rt, full)?.take(most), alloc, len)?;
     if bytes.len() > limit {
         return Ok(Reading::TooLong);
     }
     Ok(Reading::Found(Bytes::from_vec(bytes)))
+}
+
+/// The bytes of a file that is said to have this length. It is asked for one byte more: if it gives as many as
+/// were said, it ends there, as a regular file gives fewer than it is asked for only at its end. Else it is
+/// read on, since it may be longer.
+fn read_whole(mut file: impl Read + Drop, alloc: Global, len: usize) -> io::Result<Vec<u8>> {
+    let mut bytes = vec![in alloc; 0; len.saturating_add(1)]?;
+    match file.read(&mut bytes) {
+        Ok(count) if count == len => {
+            bytes.truncate(count);
+            return Ok(bytes);
+        }
+        Ok(count) => bytes.truncate(count),
+        Err(error) if error.kind() == ErrorKind::Interrupted => bytes.clear(),
+        Err(error) => return Err(error),
+    }
+    file.read_to_end(&mut bytes)?;
+    Ok(bytes)
 }

@@ -1,53 +1,86 @@
 //! Writing a file as a whole or not at all: a new one is written aside and then given its name.
+use crate::disk::fault::FolderFault;
+use crate::disk::place::{FullPath, kept_bits};
 use std::fs::{self, OpenFile, OpenOptions, Permissions};
 use std::io::{self, ErrorKind, Write};
 use std::os::unix::fs::{OpenOptionsExt, PermissionsExt};
 use std::rt::Files;
 
-/// An empty file. One that a stopped run has left there is removed first; a link there is not followed.
-fn create<R: Files>(rt: &R, new: &str, mode: Option<u32>) -> io::Result<R::File> {
-    let mut options = OpenOptions::new();
-    options.write(true).create_new(true);
-    if let Some(mode) = mode {
-        options.mode(mode);
+/// The place where each file is written before it is given its name.
+#[derive(Drop)]
+pub struct NewFile {
+    full: FullPath,
+    /// A mode that a file was created with here, and that it was seen to have.
+    granted: Option<u32>,
+}
+
+impl NewFile {
+    /// The new file at this path; the folders above it are made as needed.
+    pub fn at(rt: &impl Files, full: FullPath) -> Result<NewFile, FolderFault> {
+        full.make_folders(rt)?;
+        Ok(NewFile {
+            full,
+            granted: None,
+        })
     }
-    match options.open(rt, new) {
-        Err(error) if error.kind() == ErrorKind::AlreadyExists => {
-            fs::remove_file(rt, new)?;
-            options.open(rt, new)
+
+    /// An empty file. One that a stopped run has left there is removed first; a link there is not followed.
+    fn create<R: Files>(&self, rt: &R, mode: Option<u32>) -> io::Result<R::File> {
+        let mut options = OpenOptions::new();
+        options.write(true).create_new(true);
+        if let Some(mode) = mode {
+            options.mode(mode);
         }
-        opened => opened,
+        match options.open(rt, self.full.text()) {
+            Err(error) if error.kind() == ErrorKind::AlreadyExists => {
+                fs::remove_file(rt, self.full.text())?;
+                options.open(rt, self.full.text())
+            }
+            opened => opened,
+        }
     }
-}
 
-fn write_and_rename<R: Files>(
-    rt: &R,
-    new: &str,
-    name: &str,
-    mode: Option<u32>,
-    bytes: &[u8],
-) -> io::Result<()> {
-    let mut file = create(rt, new, mode)?;
-    file.write_all(bytes)?;
-    if let Some(mode) = mode {
-        // The mode that a file is created with loses what the user's mask takes away.
-        file.set_permissions(Permissions::from_mode(mode))?;
+    /// Gives these bits to a file that was created with them here. It lacks those that the user's mask
+    /// takes away; a mode that was granted once is granted again.
+    fn set_mode(&mut self, file: &impl OpenFile, mode: u32) -> io::Result<()> {
+        if self.granted == Some(mode) {
+            return Ok(());
+        }
+        if kept_bits(&file.metadata()?) == mode {
+            self.granted = Some(mode);
+            return Ok(());
+        }
+        file.set_permissions(Permissions::from_mode(mode))
     }
-    fs::rename(rt, new, name)
-}
 
-/// Writes the bytes to `new` and renames it to `name`, with these permission bits or those of a new file.
-pub fn write_file<R: Files>(
-    rt: &R,
-    new: &str,
-    name: &str,
-    mode: Option<u32>,
-    bytes: &[u8],
-) -> io::Result<()> {
-    let written = write_and_rename(rt, new, name, mode, bytes);
-    if written.is_err() {
-        // What is left of the new file is of no use, and a fault of its removal tells no more.
-        let _ = fs::remove_file(rt, new);
+    fn write_and_rename<R: Files>(
+        &mut self,
+        rt: &R,
+        name: &str,
+        mode: Option<u32>,
+        bytes: &[u8],
+    ) -> io::Result<()> {
+        let mut file = self.create(rt, mode)?;
+        file.write_all(bytes)?;
+        if let Some(mode) = mode {
+            self.set_mode(&file, mode)?;
+        }
+        fs::rename(rt, self.full.text(), name)
     }
-    written
+
+    /// Writes the bytes and renames the file to `name`, with these permission bits or those of a new file.
+    pub fn write(
+        &mut self,
+        rt: &impl Files,
+        name: &str,
+        mode: Option<u32>,
+        bytes: &[u8],
+    ) -> io::Result<()> {
+        let written = self.write_and_rename(rt, name, mode, bytes);
+        if written.is_err() {
+            // What is left of the new file is of no use, and a fault of its removal tells no more.
+            let _ = fs::remove_file(rt, self.full.text());
+        }
+        written
+    }
 }

@@ -6,7 +6,34 @@ use std::alloc::{AllocError, Global};
 use std::fs::{self, Metadata};
 use std::io::ErrorKind;
 use std::marker::Model;
+use std::os::unix::fs::PermissionsExt;
 use std::rt::Files;
+
+/// The bits of a file's mode that a rewritten file keeps: who may read, write and run it.
+const KEPT_BITS: u32 = 0o777;
+
+/// What the system tells of a regular file.
+#[derive(Clone, Copy)]
+pub struct FileStatus {
+    /// How many bytes it has.
+    pub len: u64,
+    /// The bits of its mode that a rewritten file keeps.
+    pub mode: u32,
+}
+
+impl FileStatus {
+    fn of(metadata: &Metadata) -> FileStatus {
+        FileStatus {
+            len: metadata.len(),
+            mode: kept_bits(metadata),
+        }
+    }
+}
+
+/// The bits of a file's mode that a rewritten file keeps.
+pub fn kept_bits(metadata: &Metadata) -> u32 {
+    metadata.permissions().mode() & KEPT_BITS
+}
 
 /// What stands at a path.
 #[derive(Drop)]
@@ -16,7 +43,7 @@ pub enum Place {
     /// Nothing, since a part above the path is a regular file.
     BelowFile,
     /// A regular file.
-    File(Metadata),
+    File(FileStatus),
     /// A folder.
     Folder,
     /// A link, a device or a pipe stands there or above it.
@@ -41,9 +68,10 @@ impl FullPath {
     pub fn new(alloc: Global, root: &str, path: &str) -> Result<FullPath, AllocError>
         ensures { IfOk result (λ full. full ≡ root.now ++ 47 ∷ path.now) }
     {
-        let mut text = String::from_str(alloc, root)?;
+        let start = root.len().saturating_add(1);
+        let mut text = String::with_capacity(alloc, start.saturating_add(path.len()))?;
+        text.push_str(root)?;
         text.push('/')?;
-        let start = text.len();
         text.push_str(path)?;
         Ok(FullPath { text, start })
     }
@@ -110,7 +138,7 @@ impl FullPath {
 /// What this place is, whatever is above it.
 fn look_at(rt: &impl Files, full: &str) -> Result<Place, FolderFault> {
     match fs::symlink_metadata(rt, full) {
-        Ok(metadata) if metadata.is_file() => Ok(Place::File(metadata)),
+        Ok(metadata) if metadata.is_file() => Ok(Place::File(FileStatus::of(&metadata))),
         Ok(metadata) if metadata.is_dir() => Ok(Place::Folder),
         Ok(_) => Ok(Place::Other),
         Err(error) if error.kind() == ErrorKind::NotFound => Ok(Place::Nothing),

@@ -192,6 +192,21 @@ fn reads_puts_and_removes(rt: HostRuntime) -> Result<(), Fail> {
     scratch.remove()
 }
 
+/// The system's own files seem to be empty.
+#[test]
+fn reads_a_file_that_is_longer_than_it_seems(rt: HostRuntime) -> Result<(), Fail> {
+    let root = String::from_str(rt.alloc(), "/proc/sys/kernel")?;
+    let system = Scratch { rt, root };
+    system.ask(
+        "",
+        &[
+            ("read 9", "ostype", "Linux\n"),
+            ("read 6", "ostype", "Linux\n"),
+            ("read 5", "ostype", "too long"),
+        ],
+    )
+}
+
 #[test]
 fn takes_an_empty_tree(rt: HostRuntime) -> Result<(), Fail> {
     let scratch = Scratch::new(rt, "empty_tree")?;
@@ -324,6 +339,66 @@ fn keeps_permission_bits(rt: HostRuntime) -> Result<(), Fail> {
 }
 
 #[test]
+fn keeps_permission_bits_of_each_file(rt: HostRuntime) -> Result<(), Fail> {
+    let scratch = Scratch::new(rt, "many_modes")?;
+    let modes = [
+        ("a", 0o755),
+        ("b", 0o755),
+        ("c", 0o666),
+        ("d", 0o600),
+        ("e", 0o666),
+    ];
+    for (path, mode) in modes {
+        scratch.write(&[path])?;
+        scratch.set_mode(path, mode)?;
+    }
+    scratch.ask(
+        "",
+        &[
+            ("put y", "a", "done"),
+            ("read 9", "b", "x"),
+            ("put y", "b", "done"),
+            ("put y", "c", "done"),
+            ("read 9", "a", "y"),
+            ("put y", "d", "done"),
+            ("put y", "e", "done"),
+        ],
+    )?;
+    for (path, mode) in modes {
+        assert_eq!(scratch.rt; scratch.mode(path)?, mode);
+    }
+    scratch.remove()
+}
+
+#[test]
+fn looks_again_after_a_change(rt: HostRuntime) -> Result<(), Fail> {
+    let scratch = Scratch::new(rt, "looks_again")?;
+    scratch.make_folders(&["folder"])?;
+    scratch.write(&["folder/a", "plain"])?;
+    scratch.set_mode("folder/a", 0o755)?;
+    scratch.ask(
+        "",
+        &[
+            ("read 9", "folder/a", "x"),
+            ("put longer", "folder/a", "done"),
+            ("read 9", "folder/a", "longer"),
+            ("read 5", "folder/a", "too long"),
+            ("put y", "folder/made", "done"),
+            ("read 9", "folder/a", "longer"),
+            ("remove", "folder/a", "done"),
+            ("read 9", "folder/a", "absent"),
+            ("read 9", "plain", "x"),
+            ("put y", "folder/a", "done"),
+            ("read 9", "folder/a", "y"),
+        ],
+    )?;
+    for path in ["folder/a", "folder/made"] {
+        assert_eq!(scratch.rt; scratch.mode(path)?, scratch.mode("plain")?);
+    }
+    scratch.remove()
+}
+
+#[test]
 fn takes_no_bits_of_a_new_file_that_was_left(rt: HostRuntime) -> Result<(), Fail> {
     let scratch = Scratch::new(rt, "left_over")?;
     scratch.make_folders(&[".reuse", ".reuse/undo"])?;
@@ -401,15 +476,19 @@ fn fails_where_the_root_is_read_only(rt: HostRuntime) -> Result<(), Fail> {
     scratch.remove()
 }
 
+/// A store over the folder, on a disk without room.
+fn on_a_full_disk(scratch: &Scratch) -> Result<DiskStore<FullDisk>, Fail> {
+    let rt = scratch.rt.clone()?;
+    Ok(DiskStore::at(FullDisk { rt }, scratch.at("")?))
+}
+
 #[test]
 fn keeps_the_files_of_a_full_disk(rt: HostRuntime) -> Result<(), Fail> {
     let scratch = Scratch::new(rt, "full")?;
-    let alloc = scratch.rt.alloc();
     scratch.write(&["a"])?;
-    let rt = scratch.rt.clone()?;
-    let mut full = DiskStore::at(FullDisk { rt }, scratch.at("")?);
+    let mut full = on_a_full_disk(&scratch)?;
     for path in ["a", "b/c"] {
-        let found = answer(&mut full, alloc, "put y", path)?;
+        let found = answer(&mut full, scratch.rt.alloc(), "put y", path)?;
         assert_eq!(scratch.rt; found.as_str(), "device fault");
     }
     scratch.ask("", &[("list", "", "a "), ("read 9", "a", "x")])?;
@@ -418,19 +497,21 @@ fn keeps_the_files_of_a_full_disk(rt: HostRuntime) -> Result<(), Fail> {
 }
 
 #[test]
-fn fails_on_odd_names(rt: HostRuntime) -> Result<(), Fail> {
-    let scratch = Scratch::new(rt, "names")?;
-    let alloc = scratch.rt.alloc();
-    let mut name = String::new(alloc);
-    for _ in 0..255u8 {
-        name.push('x')?;
-    }
-    scratch.ask("", &[("put y", name.as_str(), "done")])?;
-    name.push('x')?;
-    scratch.ask("", &[("put y", name.as_str(), "device fault")])?;
-    let rt = scratch.rt.clone()?;
-    let mut odd = DiskStore::at(OddName { rt }, String::from_str(alloc, "root")?);
-    let found = listed(&mut odd, alloc)?;
-    assert_eq!(scratch.rt; found.as_str(), "device fault");
+fn fails_on_long_names(rt: HostRuntime) -> Result<(), Fail> {
+    let scratch = Scratch::new(rt, "long_names")?;
+    let longer = "x".repeat(scratch.rt.alloc(), 256)?;
+    let (_, longest) = longer.as_str().split_once("x").ok_or("a longest name")?;
+    scratch.ask("", &[("put y", longest, "done")])?;
+    scratch.ask("", &[("put y", longer.as_str(), "device fault")])?;
     scratch.remove()
+}
+
+#[test]
+fn fails_on_odd_names(rt: HostRuntime) -> Result<(), Fail> {
+    let alloc = rt.alloc();
+    let root = String::from_str(alloc, "root")?;
+    let mut odd = DiskStore::at(OddName { rt: rt.clone()? }, root);
+    let found = listed(&mut odd, alloc)?;
+    assert_eq!(rt; found.as_str(), "device fault");
+    Ok(())
 }

@@ -1,8 +1,8 @@
 // Downloads and conversions over a store in memory, with worked values.
-use crate::session_tests::trees::{holds, lacks, moment, path, play};
+use crate::session_tests::trees::{gives, has_just, holds, moment, play, plays, runs};
 use reuse_session::{Command, Event, Ids, LicenceText, LicenceTexts, is_id};
 use reuse_text::Bytes;
-use reuse_tree::{MemoryStore, Store};
+use reuse_tree::MemoryStore;
 use std::alloc::Global;
 use std::test::Fail;
 
@@ -33,23 +33,6 @@ SPDX-License-Identifier = \"MIT\"
 const QUESTION: &str =
     "Format: x\nUpstream-Name: y\nSource: z\nComment: w\n\nFiles: a?.c\nCopyright: J\nLicense: MIT\n";
 
-// What is answered to the commands, run on a store that has these files, and the store then.
-fn run_on(
-    alloc: Global,
-    files: &[(&str, &str)],
-    commands: Vec<Command>,
-) -> Result<(MemoryStore, String), Fail> {
-    let mut store = MemoryStore::new();
-    for (name, text) in files {
-        store.put(alloc, &path(alloc, name)?, text.as_bytes())?;
-    }
-    let mut events = Vec::new(alloc);
-    for command in commands {
-        events.push(Event::Run(command, moment()?))?;
-    }
-    play(alloc, store, &events)
-}
-
 /// A download of these licences. A text was found for `MIT` alone, and given twice.
 pub fn download(alloc: Global, ids: &[&str]) -> Result<Command, Fail> {
     let mut given = Vec::new(alloc);
@@ -68,16 +51,26 @@ pub fn download(alloc: Global, ids: &[&str]) -> Result<Command, Fail> {
     })
 }
 
+// The events of these downloads.
+fn downloads(alloc: Global, calls: &[&[&str]]) -> Result<Vec<Event>, Fail> {
+    let mut events = Vec::new(alloc);
+    for ids in calls {
+        events.push(Event::Run(download(alloc, ids)?, moment()?))?;
+    }
+    Ok(events)
+}
+
 #[test]
 fn texts_of_licences_become_files(rt: HostRuntime) -> Result<(), Fail> {
     let alloc = rt.alloc();
     assert!(rt; is_id("GPL-2.0"));
-    let mut commands = Vec::new(alloc);
-    commands.push(download(alloc, &["MIT", "Foo"])?)?;
-    commands.push(download(alloc, &["MIT", "MIT"])?)?;
-    commands.push(download(alloc, &["MIT"])?)?;
-    commands.push(download(alloc, &["MIT", "GPL-2.0+"])?)?;
-    let (mut store, lines) = run_on(alloc, &[], commands)?;
+    let calls: [&[&str]; 4] = [
+        &["MIT", "Foo"],
+        &["MIT", "MIT"],
+        &["MIT"],
+        &["MIT", "GPL-2.0+"],
+    ];
+    let (mut store, lines) = play(alloc, MemoryStore::new(), &downloads(alloc, &calls)?)?;
     assert_eq!(rt;
         lines.as_str(),
         "opened\nno text: Foo\nchanged LICENSES/MIT.txt\nLICENSES/MIT.txt: exists\nbad id: GPL-2.0+\n"
@@ -86,15 +79,10 @@ fn texts_of_licences_become_files(rt: HostRuntime) -> Result<(), Fail> {
     Ok(())
 }
 
-// What is answered to a conversion of a store that has these files, and the store then.
-fn convert(alloc: Global, files: &[(&str, &str)]) -> Result<(MemoryStore, String), Fail> {
-    run_on(alloc, files, vec![in alloc; Command::ConvertDep5]?)
-}
-
 #[test]
 fn a_conversion_may_be_refused(rt: HostRuntime) -> Result<(), Fail> {
     let alloc = rt.alloc();
-    for (name, text, other, line) in [
+    for (name, text, other, lines) in [
         ("a", "", "b", "opened\n.reuse/dep5: absent\n"),
         (
             ".reuse/dep5",
@@ -115,9 +103,9 @@ fn a_conversion_may_be_refused(rt: HostRuntime) -> Result<(), Fail> {
             "opened\nREUSE.toml: clash\n",
         ),
     ] {
-        let (mut store, lines) = convert(alloc, &[(name, text), (other, "")])?;
-        assert_eq!(rt; lines.as_str(), line);
-        assert!(rt; holds(alloc, &mut store, name, text.as_bytes())?);
+        let file = (name, text.as_bytes());
+        let files = [file, (other, b"")];
+        gives(&rt, alloc, &files, Command::ConvertDep5, lines, file)?;
     }
     Ok(())
 }
@@ -125,16 +113,22 @@ fn a_conversion_may_be_refused(rt: HostRuntime) -> Result<(), Fail> {
 #[test]
 fn a_dep5_becomes_a_reuse_toml(rt: HostRuntime) -> Result<(), Fail> {
     let alloc = rt.alloc();
-    let (mut store, lines) = convert(alloc, &[(".reuse/dep5", DEP5)])?;
-    assert_eq!(rt; lines.as_str(), "opened\nchanged .reuse/dep5 REUSE.toml\n");
-    assert!(rt; holds(alloc, &mut store, "REUSE.toml", TOML)?);
-    assert!(rt; lacks(alloc, &mut store, ".reuse/dep5")?);
-    let (mut store, lines) = play(alloc, store, &[Event::Undo])?;
-    assert_eq!(rt; lines.as_str(), "opened\nundone .reuse/dep5 REUSE.toml\n");
-    assert!(rt; holds(alloc, &mut store, ".reuse/dep5", DEP5.as_bytes())?);
-    assert!(rt; lacks(alloc, &mut store, "REUSE.toml")?);
+    let (old, new) = ([(".reuse/dep5", DEP5.as_bytes())], [("REUSE.toml", TOML)]);
+    let lines = "opened\nchanged .reuse/dep5 REUSE.toml\n";
+    let mut store = runs(&rt, alloc, &old, Command::ConvertDep5, lines)?;
+    assert!(rt; has_just(alloc, &mut store, &new)?);
+    let lines = "opened\nundone .reuse/dep5 REUSE.toml\n";
+    let mut store = plays(&rt, alloc, store, &["undo"], lines)?;
+    assert!(rt; has_just(alloc, &mut store, &old)?);
+    Ok(())
+}
+
+#[test]
+fn a_dep5_without_question_marks_is_converted(rt: HostRuntime) -> Result<(), Fail> {
+    let alloc = rt.alloc();
     let plain = QUESTION.replace(alloc, "?", "")?;
-    let (_, lines) = convert(alloc, &[(".reuse/dep5", plain.as_str())])?;
-    assert_eq!(rt; lines.as_str(), "opened\nchanged .reuse/dep5 REUSE.toml\n");
+    let files = [(".reuse/dep5", plain.as_bytes())];
+    let lines = "opened\nchanged .reuse/dep5 REUSE.toml\n";
+    runs(&rt, alloc, &files, Command::ConvertDep5, lines)?;
     Ok(())
 }

@@ -1,7 +1,8 @@
-//! Sessions whose calls run out of memory, at each growth past what was held before: the next opening finds the tree and the history of before the call or
-//! of after it.
+//! Sessions whose calls run out of memory, before, between, in and after the calls of their store: the next opening finds the tree
+//! and the history of before the call or of after it.
 use crate::session_tests::downloads_and_conversions::{DEP5, TOML, download};
 use crate::session_tests::scarce_memory::{GRAIN, PIECE, ScarceMemory};
+use crate::session_tests::scarce_store::ScarceStore;
 use crate::session_tests::stops::{before_the_last_head, call};
 use crate::session_tests::trees::{
     ANNOTATED, PLAIN, annotate, copy, dump, licence, moment, path, plain_how, plain_scope, play,
@@ -14,9 +15,6 @@ use std::process::Abort;
 use std::rt::Files;
 use std::test::Fail;
 
-/// After so many right answers nothing is refused any more.
-const ENOUGH: u32 = 8;
-
 const UNDO_FOLDER: &str = ".reuse/undo/";
 
 const OLD_HEADER: &[u8] = b"/* SPDX-License-Identifier: GPL-2.0 */\nint a;\n";
@@ -26,22 +24,59 @@ const NEW_HEADER: &[u8] =
 
 const TAG: &[u8] = b"SPDX-License-Identifier: MIT\n";
 
+const PICTURE: &[u8] = b"\x89\x00";
+
+/// The files of a command before and after it, and the paths that it names.
+#[derive(Clone, Copy)]
+struct Example<'a> {
+    old: &'a [(&'a str, &'a [u8])],
+    new: &'a [(&'a str, &'a [u8])],
+    paths: &'a str,
+}
+
 /// A call: the store that it starts from, its right answer, and the standings before and after it.
 #[derive(Drop)]
 struct Call<'a> {
     start: MemoryStore,
     event: &'a Event,
     answer: String,
-    before: &'a [u8],
-    after: &'a [u8],
+    before: Vec<u8>,
+    after: Vec<u8>,
 }
 
-/// How often a call told want of memory, was interrupted by it, and answered something else.
+/// What a call answered.
+#[derive(Clone, Copy, PartialEq, Eq)]
+enum Told {
+    WantOfMemory,
+    Interruption,
+    RightAnswer,
+    WrongAnswer,
+}
+
+/// How often a call told want of memory, was interrupted by it, and was answered right in spite of it.
 #[derive(Drop)]
 struct Tally {
     refused: u32,
     interrupted: u32,
     answered: u32,
+}
+
+impl Tally {
+    fn new() -> Tally {
+        Tally {
+            refused: 0,
+            interrupted: 0,
+            answered: 0,
+        }
+    }
+
+    fn count(&mut self, told: Told) {
+        match told {
+            Told::WantOfMemory => self.refused = self.refused.saturating_add(1),
+            Told::Interruption => self.interrupted = self.interrupted.saturating_add(1),
+            _ => self.answered = self.answered.saturating_add(1),
+        }
+    }
 }
 
 /// The files and two more, of which the first has these bytes.
@@ -83,147 +118,258 @@ fn find_standing(alloc: Global, store: MemoryStore) -> Result<Vec<u8>, Fail> {
     Ok(text)
 }
 
-/// What an opening answers where so many bytes are left, and the store then.
-fn open_in(
-    alloc: Global,
-    scarce: &mut ScarceMemory,
-    bytes: usize,
-    store: MemoryStore,
-) -> Result<(MemoryStore, Answer), Fail> {
-    scarce.leave(alloc, bytes)?;
-    let opened = Session::open(alloc, store);
-    scarce.release();
-    Ok(match opened {
-        Ok(session) => (session.into_store(), Ok(Reply::Opened)),
-        Err((refusal, store)) => (store, Err(refusal)),
-    })
+/// What an answer is, where this line is the right one.
+fn tell(alloc: Global, answer: &Answer, line: &str) -> Result<Told, Fail> {
+    match answer {
+        Err(Refusal::Memory) => Ok(Told::WantOfMemory),
+        Err(Refusal::Interrupted(Cause::Memory)) => Ok(Told::Interruption),
+        _ => {
+            let mut found = String::new(alloc);
+            push_answer(alloc, &mut found, answer)?;
+            if found.as_str() == line {
+                Ok(Told::RightAnswer)
+            } else {
+                Ok(Told::WrongAnswer)
+            }
+        }
+    }
 }
 
-/// What an event answers where so many bytes are left, and the store then. A session is open before, but for a reopening.
-fn answer_in(
+/// Opens a session on the store where memory gets scarce at a point; what is answered, and the store then.
+fn open_at(
     alloc: Global,
-    scarce: &mut ScarceMemory,
+    memory: &ScarceMemory,
+    store: MemoryStore,
+    point: u32,
     bytes: usize,
+) -> (MemoryStore, Answer) {
+    let store = ScarceStore::new(store, memory);
+    memory.leave_at(alloc, point, bytes);
+    let opened = Session::open(alloc, store);
+    memory.release(alloc);
+    match opened {
+        Ok(session) => (session.into_store().into_inner(), Ok(Reply::Opened)),
+        Err((refusal, store)) => (store.into_inner(), Err(refusal)),
+    }
+}
+
+/// Makes a call of a session on the store where memory gets scarce at a point; what is answered, and the store then.
+fn call_at(
+    alloc: Global,
+    memory: &ScarceMemory,
     store: MemoryStore,
     event: &Event,
-) -> Result<(MemoryStore, Answer), Fail> {
-    if matches!(event, Event::Reopen) {
-        return open_in(alloc, scarce, bytes, store);
+    point: u32,
+    bytes: usize,
+) -> (MemoryStore, Answer) {
+    match Session::open(alloc, ScarceStore::new(store, memory)) {
+        Ok(session) => {
+            let mut session = session;
+            memory.leave_at(alloc, point, bytes);
+            let answer = call(alloc, &mut session, event);
+            memory.release(alloc);
+            (session.into_store().into_inner(), answer)
+        }
+        Err((refusal, store)) => (store.into_inner(), Err(refusal)),
     }
-    let Ok(session) = Session::open(alloc, store) else {
-        return Err("not opened")?;
-    };
-    let mut session = session;
-    scarce.leave(alloc, bytes)?;
-    let answer = call(alloc, &mut session, event);
-    scarce.release();
-    Ok((session.into_store(), answer))
 }
 
-/// Whether an answer and the standing that the next opening finds go together.
-fn is_right(
+/// Makes the call where memory gets scarce at a point; what is told, and the store then.
+fn make_at(
     alloc: Global,
-    call: &Call,
-    answer: &Answer,
-    found: &[u8],
+    memory: &ScarceMemory,
+    call: &mut Call,
+    point: u32,
+    bytes: usize,
+) -> Result<(MemoryStore, Told), Fail> {
+    let store = copy(alloc, &mut call.start)?;
+    let (store, answer) = match call.event {
+        Event::Reopen => open_at(alloc, memory, store, point, bytes),
+        event => call_at(alloc, memory, store, event, point, bytes),
+    };
+    let told = tell(alloc, &answer, call.answer.as_str())?;
+    Ok((store, told))
+}
+
+/// Whether what was told and the standing that the next opening finds go together.
+fn is_right(call: &Call, told: Told, found: &[u8]) -> bool {
+    let is_before = found == call.before.as_slice();
+    let is_after = found == call.after.as_slice();
+    match told {
+        Told::WantOfMemory => is_before,
+        Told::Interruption => is_before || is_after,
+        Told::RightAnswer => is_after,
+        Told::WrongAnswer => false,
+    }
+}
+
+/// How many points the call passes.
+fn points_of(alloc: Global, memory: &ScarceMemory, call: &mut Call) -> Result<u32, Fail> {
+    let _ = make_at(alloc, memory, call, u32::MAX, 0)?;
+    Ok(memory.passed())
+}
+
+/// Makes the call where this many bytes are left at a point. Whether it passes the next point or is answered.
+fn passes_on(
+    rt: &impl Abort,
+    alloc: Global,
+    memory: &ScarceMemory,
+    call: &mut Call,
+    point: u32,
+    bytes: usize,
     tally: &mut Tally,
 ) -> Result<bool, Fail> {
-    match answer {
-        Err(Refusal::Memory) => {
-            tally.refused = tally.refused.saturating_add(1);
-            Ok(found == call.before)
-        }
-        Err(Refusal::Interrupted(Cause::Memory)) => {
-            tally.interrupted = tally.interrupted.saturating_add(1);
-            Ok(found == call.before || found == call.after)
-        }
-        _ => {
-            tally.answered = tally.answered.saturating_add(1);
-            let mut line = String::new(alloc);
-            push_answer(alloc, &mut line, answer)?;
-            Ok(line.as_str() == call.answer.as_str() && found == call.after)
-        }
-    }
+    let (store, told) = make_at(alloc, memory, call, point, bytes)?;
+    let passes = memory.passed() > point || told == Told::RightAnswer;
+    let found = find_standing(alloc, store)?;
+    let right = is_right(call, told, &found);
+    assert!(rt; right, "{}: {bytes} bytes left at {point}", call.answer);
+    tally.count(told);
+    Ok(passes)
 }
 
-/// Makes the call in ever more memory, until nothing is refused any more. What is refused first is a growth past what was held
-/// before, so a call that holds most before its step is pending is never interrupted.
+/// Makes the call with ever more bytes left at a point, until the growths before the next point are no more refused.
+fn refuse_growths_at(
+    rt: &impl Abort,
+    alloc: Global,
+    memory: &ScarceMemory,
+    call: &mut Call,
+    point: u32,
+    tally: &mut Tally,
+) -> Result<(), Fail> {
+    for step in 0..PIECE / GRAIN {
+        if passes_on(rt, alloc, memory, call, point, step * GRAIN, tally)? {
+            return Ok(());
+        }
+    }
+    Err("a growth is refused for good")?
+}
+
+/// Refuses the growths after the call's start, and before and after each call of its store.
 fn refuse_growths(
     rt: &(impl Abort + Eprint),
     alloc: Global,
-    scarce: &mut ScarceMemory,
+    memory: &ScarceMemory,
     call: Call,
 ) -> Result<(), Fail> {
     let mut call = call;
-    let mut tally = Tally {
-        refused: 0,
-        interrupted: 0,
-        answered: 0,
-    };
-    for step in 0..PIECE / GRAIN {
-        if tally.answered < ENOUGH {
-            let bytes = step * GRAIN;
-            let store = copy(alloc, &mut call.start)?;
-            let (store, answer) = answer_in(alloc, scarce, bytes, store, call.event)?;
-            let found = find_standing(alloc, store)?;
-            let right = is_right(alloc, &call, &answer, &found, &mut tally)?;
-            assert!(rt; right, "{}: {bytes} bytes left", call.answer);
-        }
+    let mut tally = Tally::new();
+    let points = points_of(alloc, memory, &mut call)?;
+    for point in 0..=points {
+        refuse_growths_at(rt, alloc, memory, &mut call, point, &mut tally)?;
     }
-    assert_eq!(rt; tally.answered, ENOUGH, "{}", call.answer);
-    if scarce.refuses() {
+    if memory.refuses() {
         eprintln!(rt;
-            "{}: {} refused, {} interrupted",
-            call.answer, tally.refused, tally.interrupted
+            "{}: {} refused, {} interrupted, {} answered",
+            call.answer, tally.refused, tally.interrupted, tally.answered
         )?;
-        assert!(rt; tally.refused > 0, "{}", call.answer);
+        assert!(rt;
+            tally.refused > 0 && tally.interrupted > 0,
+            "{}",
+            call.answer
+        );
     }
     Ok(())
 }
 
-/// Refuses each growth of a run that changes these paths, of its undo and redo, and of an opening where the run stopped.
+fn refuse_run(
+    rt: &(impl Abort + Eprint),
+    alloc: Global,
+    memory: &ScarceMemory,
+    example: Example,
+    run: &[Event; 1],
+) -> Result<(), Fail> {
+    let call = Call {
+        start: with_history(alloc, example.old)?,
+        event: &run[0],
+        answer: format!(in alloc; "changed {}", example.paths)?,
+        before: standing_of(alloc, example.old, "1 done 2 undone")?,
+        after: standing_of(alloc, example.new, "1 done 3 done")?,
+    };
+    refuse_growths(rt, alloc, memory, call)
+}
+
+fn refuse_undo(
+    rt: &(impl Abort + Eprint),
+    alloc: Global,
+    memory: &ScarceMemory,
+    example: Example,
+    run: &[Event; 1],
+) -> Result<(), Fail> {
+    let (start, _) = drive(alloc, with_history(alloc, example.old)?, run);
+    let call = Call {
+        start,
+        event: &Event::Undo,
+        answer: format!(in alloc; "undone {}", example.paths)?,
+        before: standing_of(alloc, example.new, "1 done 3 done")?,
+        after: standing_of(alloc, example.old, "1 done 3 undone")?,
+    };
+    refuse_growths(rt, alloc, memory, call)
+}
+
+fn refuse_redo(
+    rt: &(impl Abort + Eprint),
+    alloc: Global,
+    memory: &ScarceMemory,
+    example: Example,
+    run: &[Event; 1],
+) -> Result<(), Fail> {
+    let (ran, _) = drive(alloc, with_history(alloc, example.old)?, run);
+    let (start, _) = drive(alloc, ran, &[Event::Undo]);
+    let call = Call {
+        start,
+        event: &Event::Redo,
+        answer: format!(in alloc; "redone {}", example.paths)?,
+        before: standing_of(alloc, example.old, "1 done 3 undone")?,
+        after: standing_of(alloc, example.new, "1 done 3 done")?,
+    };
+    refuse_growths(rt, alloc, memory, call)
+}
+
+/// Refuses the growths of an opening where the run stopped.
+fn refuse_opening(
+    rt: &(impl Abort + Eprint),
+    alloc: Global,
+    memory: &ScarceMemory,
+    example: Example,
+    run: &[Event; 1],
+) -> Result<(), Fail> {
+    let mut start = with_history(alloc, example.old)?;
+    let call = Call {
+        start: before_the_last_head(alloc, &mut start, run)?,
+        event: &Event::Reopen,
+        answer: String::from_str(alloc, "opened")?,
+        before: standing_of(alloc, example.old, "1 done 2 undone")?,
+        after: standing_of(alloc, example.old, "1 done 2 undone")?,
+    };
+    refuse_growths(rt, alloc, memory, call)
+}
+
+/// Refuses the growths of a run, of its undo and redo, and of an opening where the run stopped.
 fn refuse_each_growth<R: Abort + Eprint + Files + Alloc>(
     rt: &R,
     alloc: Global,
     command: Command,
-    old: &[(&str, &[u8])],
-    new: &[(&str, &[u8])],
-    paths: &str,
+    example: Example,
 ) -> Result<(), Fail> {
     let run = [Event::Run(command, moment()?)];
-    let mut start = with_history(alloc, old)?;
-    let stopped = before_the_last_head(alloc, &mut start, &run)?;
-    let (mut ran, _) = drive(alloc, copy(alloc, &mut start)?, &run);
-    let (undone, _) = drive(alloc, copy(alloc, &mut ran)?, &[Event::Undo]);
-    let before = standing_of(alloc, old, "1 done 2 undone")?;
-    let with = standing_of(alloc, new, "1 done 3 done")?;
-    let without = standing_of(alloc, old, "1 done 3 undone")?;
-    let mut scarce = ScarceMemory::new(rt, alloc)?;
-    for (start, event, word, before, after) in [
-        (start, &run[0], "changed ", &before, &with),
-        (ran, &Event::Undo, "undone ", &with, &without),
-        (undone, &Event::Redo, "redone ", &without, &with),
-        (stopped, &Event::Reopen, "opened", &before, &before),
-    ] {
-        let paths = if word == "opened" { "" } else { paths };
-        let call = Call {
-            start,
-            event,
-            answer: format!(in alloc; "{word}{paths}")?,
-            before,
-            after,
-        };
-        refuse_growths(rt, alloc, &mut scarce, call)?;
-    }
-    Ok(())
+    let memory = ScarceMemory::new(rt, alloc)?;
+    refuse_run(rt, alloc, &memory, example, &run)?;
+    refuse_undo(rt, alloc, &memory, example, &run)?;
+    refuse_redo(rt, alloc, &memory, example, &run)?;
+    refuse_opening(rt, alloc, &memory, example, &run)
 }
 
 #[test]
 fn a_header_is_added_in_scarce_memory(rt: HostRuntime) -> Result<(), Fail> {
     let alloc = rt.alloc();
     let command = sign(alloc, &["a.py"])?;
-    let (old, new) = (("a.py", PLAIN), ("a.py", ANNOTATED));
-    refuse_each_growth(&rt, alloc, command, &[old], &[new], "a.py")
+    let example = Example {
+        old: &[("a.py", PLAIN)],
+        new: &[("a.py", ANNOTATED)],
+        paths: "a.py",
+    };
+    refuse_each_growth(&rt, alloc, command, example)
 }
 
 #[test]
@@ -231,31 +377,44 @@ fn a_header_is_replaced_in_scarce_memory(rt: HostRuntime) -> Result<(), Fail> {
     let alloc = rt.alloc();
     let (how, scope) = (plain_how(), plain_scope());
     let command = annotate(alloc, &["k.h"], &["Jane Doe"], &[], how, scope)?;
-    let (old, new) = (("k.h", OLD_HEADER), ("k.h", NEW_HEADER));
-    refuse_each_growth(&rt, alloc, command, &[old], &[new], "k.h")
+    let example = Example {
+        old: &[("k.h", OLD_HEADER)],
+        new: &[("k.h", NEW_HEADER)],
+        paths: "k.h",
+    };
+    refuse_each_growth(&rt, alloc, command, example)
 }
 
 #[test]
 fn a_picture_gets_a_neighbour_in_scarce_memory(rt: HostRuntime) -> Result<(), Fail> {
     let alloc = rt.alloc();
     let command = licence(alloc, &["p.png"], "MIT", plain_scope())?;
-    let picture = ("p.png", b"\x89\x00".as_slice());
-    let new = [picture, ("p.png.license", TAG)];
-    refuse_each_growth(&rt, alloc, command, &[picture], &new, "p.png.license")
+    let example = Example {
+        old: &[("p.png", PICTURE)],
+        new: &[("p.png", PICTURE), ("p.png.license", TAG)],
+        paths: "p.png.license",
+    };
+    refuse_each_growth(&rt, alloc, command, example)
 }
 
 #[test]
 fn a_dep5_is_converted_in_scarce_memory(rt: HostRuntime) -> Result<(), Fail> {
-    let alloc = rt.alloc();
-    let (old, new) = ((".reuse/dep5", DEP5.as_bytes()), ("REUSE.toml", TOML));
-    let paths = ".reuse/dep5 REUSE.toml";
-    refuse_each_growth(&rt, alloc, Command::ConvertDep5, &[old], &[new], paths)
+    let example = Example {
+        old: &[(".reuse/dep5", DEP5.as_bytes())],
+        new: &[("REUSE.toml", TOML)],
+        paths: ".reuse/dep5 REUSE.toml",
+    };
+    refuse_each_growth(&rt, rt.alloc(), Command::ConvertDep5, example)
 }
 
 #[test]
 fn a_text_becomes_a_file_in_scarce_memory(rt: HostRuntime) -> Result<(), Fail> {
     let alloc = rt.alloc();
     let command = download(alloc, &["MIT"])?;
-    let new = ("LICENSES/MIT.txt", b"text\n".as_slice());
-    refuse_each_growth(&rt, alloc, command, &[], &[new], "LICENSES/MIT.txt")
+    let example = Example {
+        old: &[],
+        new: &[("LICENSES/MIT.txt", b"text\n")],
+        paths: "LICENSES/MIT.txt",
+    };
+    refuse_each_growth(&rt, alloc, command, example)
 }

@@ -1,9 +1,8 @@
 // What an annotation makes of the header of a file.
 use crate::session_tests::trees::{
-    annotate, gives, holds, licence, plain_how, plain_scope, play, play_one, tree,
+    annotate, gives, has_just, licence, plain_how, plain_scope, plays, runs,
 };
 use reuse_header::How;
-use reuse_session::Event;
 use std::alloc::Global;
 use std::process::Abort;
 use std::test::Fail;
@@ -68,11 +67,11 @@ fn a_mark_stays_in_front(rt: HostRuntime) -> Result<(), Fail> {
 fn an_empty_file_is_empty_again(rt: HostRuntime) -> Result<(), Fail> {
     let alloc = rt.alloc();
     let command = licence(alloc, &["e.py"], "MIT", plain_scope())?;
-    let (mut store, lines) = play_one(alloc, tree(alloc, &[("e.py", b"")])?, command)?;
-    assert_eq!(rt; lines.as_str(), "opened\nchanged e.py\n");
-    assert!(rt; holds(alloc, &mut store, "e.py", PYTHON_TAG)?);
-    let (mut store, lines) = play(alloc, store, &[Event::Undo])?;
-    assert_eq!(rt; lines.as_str(), "opened\nundone e.py\n");
-    assert!(rt; holds(alloc, &mut store, "e.py", b"")?);
+    let (old, new) = ([("e.py", b"".as_slice())], [("e.py", PYTHON_TAG)]);
+    let lines = "opened\nchanged e.py\n";
+    let mut store = runs(&rt, alloc, &old, command, lines)?;
+    assert!(rt; has_just(alloc, &mut store, &new)?);
+    let mut store = plays(&rt, alloc, store, &["undo"], "opened\nundone e.py\n")?;
+    assert!(rt; has_just(alloc, &mut store, &old)?);
     Ok(())
 }

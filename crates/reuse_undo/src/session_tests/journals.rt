@@ -1,8 +1,9 @@
 // Journals in files: what a session writes, and what it makes of what is there.
 use crate::session_tests::trees::{
-    ANNOTATED, ENTRY, FIRST, HEAD, PLAIN, copy, dump, holds, lacks, path, play, signing, tree,
+    ANNOTATED, ENTRY, FIRST, HEAD, PLAIN, copy, dump, events_of, holds, lacks, leaves, path, plays,
+    signing, tree,
 };
-use reuse_session::{Event, drive};
+use reuse_session::drive;
 use reuse_tree::{FuseStore, MemoryStore, Store};
 use std::alloc::Global;
 use std::process::Abort;
@@ -27,8 +28,11 @@ const FIRST_AND_THIRD: &[u8] =
 
 // A store of one annotated file, with its journal.
 fn signed(alloc: Global) -> Result<MemoryStore, Fail> {
-    let start = tree(alloc, &[("a.py", PLAIN)])?;
-    let (store, _) = play(alloc, start, &[signing(alloc, &["a.py"])?])?;
+    let (store, _) = drive(
+        alloc,
+        tree(alloc, &[("a.py", PLAIN)])?,
+        &events_of(alloc, &["a.py"])?,
+    );
     Ok(store)
 }
 
@@ -78,21 +82,26 @@ fn a_run_puts_its_files_in_order(rt: HostRuntime) -> Result<(), Fail> {
     Ok(())
 }
 
+// The annotated file, changed to this.
+fn changed_to(alloc: Global, bytes: &[u8]) -> Result<MemoryStore, Fail> {
+    let mut store = signed(alloc)?;
+    store.put(alloc, &path(alloc, "a.py")?, bytes)?;
+    Ok(store)
+}
+
 #[test]
 fn a_moved_file_is_not_undone(rt: HostRuntime) -> Result<(), Fail> {
     let alloc = rt.alloc();
-    let mut store = signed(alloc)?;
     let longer =
         b"# SPDX-FileCopyrightText: 2024 Jane Doe\n#\n# SPDX-License-Identifier: MIT\n\nprint(1)\n\n";
-    store.put(alloc, &path(alloc, "a.py")?, longer)?;
-    let (mut store, lines) = play(alloc, store, &[Event::Undo, Event::Log])?;
-    assert_eq!(rt; lines.as_str(), "opened\na.py: moved\nlog 1 done\n");
+    let store = changed_to(alloc, longer)?;
+    let lines = "opened\na.py: moved\nlog 1 done\n";
+    let mut store = plays(&rt, alloc, store, &["undo", "log"], lines)?;
     assert!(rt; holds(alloc, &mut store, "a.py", longer)?);
     assert!(rt; holds(alloc, &mut store, ENTRY, FIRST.as_bytes())?);
     assert!(rt; holds(alloc, &mut store, HEAD, DONE)?);
     store.put(alloc, &path(alloc, "a.py")?, ANNOTATED)?;
-    let (mut store, lines) = play(alloc, store, &[Event::Undo])?;
-    assert_eq!(rt; lines.as_str(), "opened\nundone a.py\n");
+    let mut store = plays(&rt, alloc, store, &["undo"], "opened\nundone a.py\n")?;
     assert!(rt; holds(alloc, &mut store, "a.py", PLAIN)?);
     Ok(())
 }
@@ -100,12 +109,10 @@ fn a_moved_file_is_not_undone(rt: HostRuntime) -> Result<(), Fail> {
 #[test]
 fn bytes_beside_a_header_may_change(rt: HostRuntime) -> Result<(), Fail> {
     let alloc = rt.alloc();
-    let mut store = signed(alloc)?;
     let another =
         b"# SPDX-FileCopyrightText: 2024 Jane Doe\n#\n# SPDX-License-Identifier: MIT\n\nprint(2)\n";
-    store.put(alloc, &path(alloc, "a.py")?, another)?;
-    let (mut store, lines) = play(alloc, store, &[Event::Undo])?;
-    assert_eq!(rt; lines.as_str(), "opened\nundone a.py\n");
+    let store = changed_to(alloc, another)?;
+    let mut store = plays(&rt, alloc, store, &["undo"], "opened\nundone a.py\n")?;
     assert!(rt; holds(alloc, &mut store, "a.py", b"print(2)\n")?);
     Ok(())
 }
@@ -114,39 +121,21 @@ fn bytes_beside_a_header_may_change(rt: HostRuntime) -> Result<(), Fail> {
 fn numbers_are_given_out_once(rt: HostRuntime) -> Result<(), Fail> {
     let alloc = rt.alloc();
     let start = tree(alloc, &[("a.py", PLAIN), ("b.py", PLAIN), ("c.py", PLAIN)])?;
-    let events = [
-        signing(alloc, &["a.py"])?,
-        signing(alloc, &["b.py"])?,
-        Event::Undo,
-        signing(alloc, &["c.py"])?,
-        Event::Log,
-    ];
-    let (mut store, lines) = play(alloc, start, &events)?;
-    assert_eq!(rt;
-        lines.as_str(),
-        "opened\nchanged a.py\nchanged b.py\nundone b.py\nchanged c.py\nlog 1 done 3 done\n"
-    );
+    let words = ["a.py", "b.py", "undo", "c.py", "log"];
+    let lines =
+        "opened\nchanged a.py\nchanged b.py\nundone b.py\nchanged c.py\nlog 1 done 3 done\n";
+    let mut store = plays(&rt, alloc, start, &words, lines)?;
     assert!(rt; holds(alloc, &mut store, HEAD, FIRST_AND_THIRD)?);
     Ok(())
 }
 
 #[test]
 fn a_command_without_changes_keeps_the_redo_list(rt: HostRuntime) -> Result<(), Fail> {
-    let alloc = rt.alloc();
-    let start = tree(alloc, &[("a.py", PLAIN), ("b.py", PLAIN)])?;
-    let events = [
-        signing(alloc, &["a.py"])?,
-        signing(alloc, &["b.py"])?,
-        Event::Undo,
-        signing(alloc, &["a.py"])?,
-        Event::Redo,
-    ];
-    let (_, lines) = play(alloc, start, &events)?;
-    assert_eq!(rt;
-        lines.as_str(),
-        "opened\nchanged a.py\nchanged b.py\nundone b.py\nnothing changed\nredone b.py\n"
-    );
-    Ok(())
+    let old = [("a.py", PLAIN), ("b.py", PLAIN)];
+    let new = [("a.py", ANNOTATED), ("b.py", ANNOTATED)];
+    let words = ["a.py", "b.py", "undo", "a.py", "redo"];
+    let lines = "opened\nchanged a.py\nchanged b.py\nundone b.py\nnothing changed\nredone b.py\n";
+    leaves(&rt, rt.alloc(), &old, &words, lines, &new)
 }
 
 // Opens a session on these files, and tells its answer. They stay.
@@ -157,8 +146,7 @@ fn refuses(
     line: &str,
 ) -> Result<(), Fail> {
     let mut start = tree(alloc, files)?;
-    let (mut store, lines) = play(alloc, copy(alloc, &mut start)?, &[])?;
-    assert_eq!(rt; lines.as_str(), line);
+    let mut store = plays(rt, alloc, copy(alloc, &mut start)?, &[], line)?;
     assert!(rt; dump(alloc, &mut store)? == dump(alloc, &mut start)?);
     Ok(())
 }
@@ -219,8 +207,7 @@ fn a_head_may_be_spelled_another_way(rt: HostRuntime) -> Result<(), Fail> {
             (ENTRY, FIRST.as_bytes()),
         ],
     )?;
-    let (mut store, lines) = play(alloc, start, &[Event::Undo])?;
-    assert_eq!(rt; lines.as_str(), "opened\nundone a.py\n");
+    let mut store = plays(&rt, alloc, start, &["undo"], "opened\nundone a.py\n")?;
     assert!(rt; holds(alloc, &mut store, "a.py", PLAIN)?);
     Ok(())
 }
@@ -229,9 +216,8 @@ fn a_head_may_be_spelled_another_way(rt: HostRuntime) -> Result<(), Fail> {
 fn numbers_are_used_up(rt: HostRuntime) -> Result<(), Fail> {
     let alloc = rt.alloc();
     let start = tree(alloc, &[("a.py", PLAIN), (HEAD, USED_UP)])?;
-    let events = [signing(alloc, &["a.py"])?, Event::Undo];
-    let (mut store, lines) = play(alloc, start, &events)?;
-    assert_eq!(rt; lines.as_str(), "opened\njournal full\nnothing to undo\n");
+    let lines = "opened\njournal full\nnothing to undo\n";
+    let mut store = plays(&rt, alloc, start, &["a.py", "undo"], lines)?;
     assert!(rt; holds(alloc, &mut store, "a.py", PLAIN)?);
     assert!(rt; lacks(alloc, &mut store, ENTRY)?);
     Ok(())

@@ -1,9 +1,10 @@
 // Which place an annotation writes, and what stands there then.
 use crate::session_tests::trees::{
-    annotate, gives, holds, lacks, licence, moment, plain_how, plain_scope, play, tree,
+    annotate, gives, has_just, licence, moment, plain_how, plain_scope, plays, runs, tree,
 };
 use reuse_header::How;
 use reuse_session::{Event, HeaderFault, Refusal, Scope, Unknown, drive};
+use reuse_tree::MemoryStore;
 use std::alloc::Global;
 use std::process::Abort;
 use std::test::Fail;
@@ -16,14 +17,13 @@ const PYTHON_FILE: &[u8] = b"# SPDX-License-Identifier: MIT\n\nx\n";
 fn a_picture_gets_a_neighbour(rt: HostRuntime) -> Result<(), Fail> {
     let alloc = rt.alloc();
     let command = licence(alloc, &["p.png"], "MIT", plain_scope())?;
-    let start = tree(alloc, &[("p.png", b"\x89\x00")])?;
-    let (mut store, lines) = play(alloc, start, &[Event::Run(command, moment()?)])?;
-    assert_eq!(rt; lines.as_str(), "opened\nchanged p.png.license\n");
-    assert!(rt; holds(alloc, &mut store, "p.png.license", TAG)?);
-    let (mut store, lines) = play(alloc, store, &[Event::Undo])?;
-    assert_eq!(rt; lines.as_str(), "opened\nundone p.png.license\n");
-    assert!(rt; lacks(alloc, &mut store, "p.png.license")?);
-    assert!(rt; holds(alloc, &mut store, "p.png", b"\x89\x00")?);
+    let picture = ("p.png", b"\x89\x00".as_slice());
+    let lines = "opened\nchanged p.png.license\n";
+    let mut store = runs(&rt, alloc, &[picture], command, lines)?;
+    assert!(rt; has_just(alloc, &mut store, &[picture, ("p.png.license", TAG)])?);
+    let lines = "opened\nundone p.png.license\n";
+    let mut store = plays(&rt, alloc, store, &["undo"], lines)?;
+    assert!(rt; has_just(alloc, &mut store, &[picture])?);
     Ok(())
 }
 
@@ -111,13 +111,18 @@ fn places_are_covered_files(rt: HostRuntime) -> Result<(), Fail> {
     Ok(())
 }
 
-// The refusal of `MIT` for a file of so many bytes.
-fn refusal_of_long(alloc: Global, count: usize) -> Result<Refusal, Fail> {
+// A file of so many bytes.
+fn big(alloc: Global, count: usize) -> Result<MemoryStore, Fail> {
     let mut bytes = Vec::new(alloc);
     bytes.resize(count, b'x')?;
-    let start = tree(alloc, &[("big.py", bytes.as_slice())])?;
+    tree(alloc, &[("big.py", bytes.as_slice())])
+}
+
+// The refusal of `MIT` for it.
+fn refusal_of_big(alloc: Global, count: usize) -> Result<Refusal, Fail> {
     let command = licence(alloc, &["big.py"], "MIT", plain_scope())?;
-    let (_, mut answers) = drive(alloc, start, &[Event::Run(command, moment()?)]);
+    let run = [Event::Run(command, moment()?)];
+    let (_, mut answers) = drive(alloc, big(alloc, count)?, &run);
     match answers.pop() {
         Some(Err(refusal)) => Ok(refusal),
         _ => Err("accepted")?,
@@ -127,11 +132,11 @@ fn refusal_of_long(alloc: Global, count: usize) -> Result<Refusal, Fail> {
 #[test]
 fn long_files_are_refused(rt: HostRuntime) -> Result<(), Fail> {
     let alloc = rt.alloc();
-    let Refusal::Header(path, HeaderFault::TooLong) = refusal_of_long(alloc, 16_777_216)? else {
+    let Refusal::Header(path, HeaderFault::TooLong) = refusal_of_big(alloc, 16_777_216)? else {
         return Err("not the header")?;
     };
     assert_eq!(rt; path.text(), "big.py");
-    let Refusal::TooLong(path) = refusal_of_long(alloc, 16_777_217)? else {
+    let Refusal::TooLong(path) = refusal_of_big(alloc, 16_777_217)? else {
         return Err("not the file")?;
     };
     assert_eq!(rt; path.text(), "big.py");

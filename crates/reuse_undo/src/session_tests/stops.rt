@@ -97,8 +97,8 @@ fn changing_calls(
     Ok(marks)
 }
 
-// Stops the event at each call.
-fn stops_everywhere(
+// Stops the events at each call.
+fn stops_at_each(
     rt: &impl Abort,
     alloc: Global,
     start: &mut MemoryStore,
@@ -112,6 +112,19 @@ fn stops_everywhere(
         let done = stop(alloc, start, events, left, true)?;
         assert!(rt; is_one_of(alloc, done, before, after)?);
     }
+    Ok(())
+}
+
+// Stops the events at each call, and lets them end.
+fn stops_everywhere(
+    rt: &impl Abort,
+    alloc: Global,
+    start: &mut MemoryStore,
+    events: &[Event],
+    before: Standing,
+    after: Standing,
+) -> Result<(), Fail> {
+    stops_at_each(rt, alloc, start, events, before, after)?;
     let whole = stop(alloc, start, events, CALLS, false)?;
     assert!(rt; is_one_of(alloc, whole, after, after)?);
     Ok(())
@@ -168,22 +181,29 @@ pub fn before_the_last_head(
     Ok(found)
 }
 
+// The store that a run leaves which stops just before the put of its last head.
+fn before_the_head_of_a_run(alloc: Global) -> Result<MemoryStore, Fail> {
+    let run = [signing(alloc, &PATHS)?];
+    before_the_last_head(alloc, &mut after(alloc, &[])?, &run)
+}
+
+#[test]
+fn an_opening_changes_what_a_run_changed(rt: HostRuntime) -> Result<(), Fail> {
+    let alloc = rt.alloc();
+    let mut stopped = before_the_head_of_a_run(alloc)?;
+    assert!(rt; has_just(alloc, &mut stopped, NEW)?);
+    assert_eq!(rt; changing_calls(alloc, &mut stopped, &[])?.as_str(), "++++");
+    Ok(())
+}
+
 #[test]
 fn an_opening_stops_at_any_call(rt: HostRuntime) -> Result<(), Fail> {
     let alloc = rt.alloc();
     let run = [signing(alloc, &PATHS)?];
     let mut start = after(alloc, &[])?;
-    let mut stopped = before_the_last_head(alloc, &mut start, &run)?;
-    assert!(rt; has_just(alloc, &mut stopped, NEW)?);
-    assert_eq!(rt; changing_calls(alloc, &mut stopped, &[])?.as_str(), "++++");
     for left in 0..CALLS {
         let mut stopped = stop(alloc, &mut start, &run, left, true)?;
-        for calls in 0..CALLS {
-            let undone = stop(alloc, &mut stopped, &[], calls, false)?;
-            assert!(rt; is_one_of(alloc, undone, EMPTY, DONE)?);
-            let done = stop(alloc, &mut stopped, &[], calls, true)?;
-            assert!(rt; is_one_of(alloc, done, EMPTY, DONE)?);
-        }
+        stops_at_each(&rt, alloc, &mut stopped, &[], EMPTY, DONE)?;
     }
     Ok(())
 }
@@ -198,20 +218,37 @@ pub fn call<S: Store + Drop>(alloc: Global, session: &mut Session<S>, event: &Ev
     }
 }
 
-fn is_broken<S: Store + Drop>(
+fn tells_interruption(answer: Answer) -> bool {
+    matches!(answer, Err(Refusal::Interrupted(_)))
+}
+
+fn tells_broken(answer: Answer) -> bool {
+    matches!(answer, Err(Refusal::Broken))
+}
+
+// Whether each call is refused.
+fn is_broken<S: Store + Drop>(alloc: Global, session: &mut Session<S>, event: &Event) -> bool {
+    for event in [event, &Event::Undo, &Event::Redo, &Event::Log] {
+        if !tells_broken(call(alloc, session, event)) {
+            return false;
+        }
+    }
+    true
+}
+
+// Makes the call. Where it is interrupted, each further one is refused.
+fn breaks_if_interrupted<S: Store + Drop>(
+    rt: &impl Abort,
     alloc: Global,
     session: &mut Session<S>,
     event: &Event,
-) -> Result<bool, Fail> {
-    Ok(
-        matches!(call(alloc, session, event), Err(Refusal::Broken))
-            && matches!(session.undo(alloc), Err(Refusal::Broken))
-            && matches!(session.redo(alloc), Err(Refusal::Broken))
-            && matches!(session.log(alloc), Err(Refusal::Broken)),
-    )
+) {
+    if tells_interruption(call(alloc, session, event)) {
+        assert!(rt; is_broken(alloc, session, event));
+    }
 }
 
-// The store that an opening and the event leave where one call fails. A call after an interrupted one is refused.
+// The store that an opening and the event leave where one call fails.
 fn fail_once(
     rt: &impl Abort,
     alloc: Global,
@@ -224,9 +261,7 @@ fn fail_once(
     match Session::open(alloc, once) {
         Ok(session) => {
             let mut session = session;
-            if let Err(Refusal::Interrupted(_)) = call(alloc, &mut session, event) {
-                assert!(rt; is_broken(alloc, &mut session, event)?);
-            }
+            breaks_if_interrupted(rt, alloc, &mut session, event);
             Ok(session.into_store().into_inner())
         }
         Err((_, once)) => Ok(once.into_inner()),
@@ -251,15 +286,29 @@ fn fails_everywhere(
 }
 
 #[test]
-fn one_call_fails_anywhere(rt: HostRuntime) -> Result<(), Fail> {
+fn one_call_of_a_run_fails(rt: HostRuntime) -> Result<(), Fail> {
     let alloc = rt.alloc();
     let run = signing(alloc, &PATHS)?;
-    let mut start = after(alloc, &[])?;
-    fails_everywhere(&rt, alloc, &mut start, &run, EMPTY, DONE)?;
-    let mut stopped = before_the_last_head(alloc, &mut start, &[signing(alloc, &PATHS)?])?;
-    fails_everywhere(&rt, alloc, &mut stopped, &Event::Log, EMPTY, DONE)?;
+    fails_everywhere(&rt, alloc, &mut after(alloc, &[])?, &run, EMPTY, DONE)
+}
+
+#[test]
+fn one_call_of_an_opening_fails(rt: HostRuntime) -> Result<(), Fail> {
+    let alloc = rt.alloc();
+    let mut stopped = before_the_head_of_a_run(alloc)?;
+    fails_everywhere(&rt, alloc, &mut stopped, &Event::Log, EMPTY, DONE)
+}
+
+#[test]
+fn one_call_of_an_undo_fails(rt: HostRuntime) -> Result<(), Fail> {
+    let alloc = rt.alloc();
     let mut start = after(alloc, &[signing(alloc, &PATHS)?])?;
-    fails_everywhere(&rt, alloc, &mut start, &Event::Undo, DONE, UNDONE)?;
+    fails_everywhere(&rt, alloc, &mut start, &Event::Undo, DONE, UNDONE)
+}
+
+#[test]
+fn one_call_of_a_redo_fails(rt: HostRuntime) -> Result<(), Fail> {
+    let alloc = rt.alloc();
     let mut start = after(alloc, &[signing(alloc, &PATHS)?, Event::Undo])?;
     fails_everywhere(&rt, alloc, &mut start, &Event::Redo, UNDONE, DONE)
 }
@@ -307,19 +356,20 @@ fn a_made_file_is_undone_or_not_at_any_stop(rt: HostRuntime) -> Result<(), Fail>
     Ok(())
 }
 
+fn fails_to_remove<S: Store>(alloc: Global, store: &mut S) -> Result<bool, Fail> {
+    let removed = store.remove(alloc, &path(alloc, "a.py")?);
+    Ok(matches!(removed, Err(StoreFault::Device)))
+}
+
 #[test]
 fn a_removal_that_fails_takes_effect_or_not(rt: HostRuntime) -> Result<(), Fail> {
     let alloc = rt.alloc();
-    let file = path(alloc, "a.py")?;
     for takes_effect in [false, true] {
-        let start = tree(alloc, &[("a.py", PLAIN)])?;
-        let mut fuse = FuseStore::new(start, 0, takes_effect);
-        assert!(rt; matches!(fuse.remove(alloc, &file), Err(StoreFault::Device)));
-        let mut start = fuse.into_inner();
-        assert_eq!(rt; lacks(alloc, &mut start, "a.py")?, takes_effect);
-        start.put(alloc, &file, PLAIN)?;
-        let mut once = OnceStore::new(start, 0, takes_effect);
-        assert!(rt; matches!(once.remove(alloc, &file), Err(StoreFault::Device)));
+        let mut fuse = FuseStore::new(tree(alloc, &[("a.py", PLAIN)])?, 0, takes_effect);
+        assert!(rt; fails_to_remove(alloc, &mut fuse)?);
+        assert_eq!(rt; lacks(alloc, &mut fuse.into_inner(), "a.py")?, takes_effect);
+        let mut once = OnceStore::new(tree(alloc, &[("a.py", PLAIN)])?, 0, takes_effect);
+        assert!(rt; fails_to_remove(alloc, &mut once)?);
         assert_eq!(rt; lacks(alloc, &mut once, "a.py")?, takes_effect);
     }
     Ok(())

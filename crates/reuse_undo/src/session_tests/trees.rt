@@ -103,6 +103,16 @@ pub fn dump(alloc: Global, store: &mut MemoryStore) -> Result<Vec<u8>, Fail> {
     Ok(all)
 }
 
+/// Each answer as a line.
+fn lines_of(alloc: Global, answers: &[Answer]) -> Result<String, Fail> {
+    let mut lines = String::new(alloc);
+    for answer in answers {
+        push_answer(alloc, &mut lines, answer)?;
+        lines.push_str("\n")?;
+    }
+    Ok(lines)
+}
+
 /// Each answer as a line: of a session that is opened on the store, and of the events.
 pub fn play<S: Store + Drop>(
     alloc: Global,
@@ -110,21 +120,55 @@ pub fn play<S: Store + Drop>(
     events: &[Event],
 ) -> Result<(S, String), Fail> {
     let (store, answers) = drive(alloc, store, events);
-    let mut lines = String::new(alloc);
-    for answer in &answers {
-        push_answer(alloc, &mut lines, answer)?;
-        lines.push_str("\n")?;
-    }
+    let lines = lines_of(alloc, &answers)?;
     Ok((store, lines))
 }
 
-/// The same where one command is run.
-pub fn play_one(
+/// An event by a word: `undo`, `redo`, `log`, or the path of a file that is signed.
+fn event_of(alloc: Global, word: &str) -> Result<Event, Fail> {
+    match word {
+        "undo" => Ok(Event::Undo),
+        "redo" => Ok(Event::Redo),
+        "log" => Ok(Event::Log),
+        path => signing(alloc, &[path]),
+    }
+}
+
+/// Events by such words.
+pub fn events_of(alloc: Global, words: &[&str]) -> Result<Vec<Event>, Fail> {
+    let mut events = Vec::new(alloc);
+    for word in words {
+        events.push(event_of(alloc, word)?)?;
+    }
+    Ok(events)
+}
+
+/// Plays events by such words, where these lines are answered; the store then.
+pub fn plays<S: Store + Drop>(
+    rt: &impl Abort,
     alloc: Global,
-    store: MemoryStore,
-    command: Command,
-) -> Result<(MemoryStore, String), Fail> {
-    play(alloc, store, &[Event::Run(command, moment()?)])
+    store: S,
+    words: &[&str],
+    lines: &str,
+) -> Result<S, Fail> {
+    let events = events_of(alloc, words)?;
+    let (store, found) = play(alloc, store, &events)?;
+    assert!(rt; found.as_str() == lines, "{words:?}: {found}");
+    Ok(store)
+}
+
+/// Plays events by such words on a tree, where these lines are answered and these files are left.
+pub fn leaves(
+    rt: &impl Abort,
+    alloc: Global,
+    old: &[(&str, &[u8])],
+    words: &[&str],
+    lines: &str,
+    new: &[(&str, &[u8])],
+) -> Result<(), Fail> {
+    let mut store = plays(rt, alloc, tree(alloc, old)?, words, lines)?;
+    assert!(rt; has_just(alloc, &mut store, new)?, "{words:?}");
+    Ok(())
 }
 
 /// Writes an answer as one line, without its end.
@@ -227,17 +271,30 @@ pub fn licence(alloc: Global, paths: &[&str], name: &str, scope: Scope) -> Resul
     annotate(alloc, paths, &[], &[name], plain_how(), scope)
 }
 
-/// Runs the command on a tree, and tells the answers and what a file is then.
+/// Runs the command on a tree, where these lines are answered; the store then.
+pub fn runs(
+    rt: &impl Abort,
+    alloc: Global,
+    files: &[(&str, &[u8])],
+    command: Command,
+    lines: &str,
+) -> Result<MemoryStore, Fail> {
+    let run = [Event::Run(command, moment()?)];
+    let (store, found) = play(alloc, tree(alloc, files)?, &run)?;
+    assert!(rt; found.as_str() == lines, "{found}");
+    Ok(store)
+}
+
+/// Runs the command on a tree, where these lines are answered and a file is this then.
 pub fn gives(
     rt: &impl Abort,
     alloc: Global,
     files: &[(&str, &[u8])],
     command: Command,
-    line: &str,
+    lines: &str,
     after: (&str, &[u8]),
 ) -> Result<(), Fail> {
-    let (mut store, lines) = play_one(alloc, tree(alloc, files)?, command)?;
-    assert_eq!(rt; lines.as_str(), line);
-    assert!(rt; holds(alloc, &mut store, after.0, after.1)?);
+    let mut store = runs(rt, alloc, files, command, lines)?;
+    assert!(rt; holds(alloc, &mut store, after.0, after.1)?, "{lines}");
     Ok(())
 }

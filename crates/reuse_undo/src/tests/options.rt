@@ -1,6 +1,5 @@
 //! What the options of `annotate` set, and which exclude each other.
-use super::{START_OF_2024, holds, read, read_line, run, store_of};
-use crate::status::line_status;
+use super::{fault_of, holds, prints, read_line, store_of};
 use std::alloc::Global;
 use std::test::Fail;
 
@@ -53,6 +52,67 @@ const SETTINGS: &[(&str, &str, &str)] = &[
     ("--|-r", "a.py", "-r"),
 ];
 
+/// Options that say what is written, and the header that they make in an empty file.
+const TEXTS: &[(&str, &str)] = &[
+    ("-c|A", "# SPDX-FileCopyrightText: 2024 A\n"),
+    (
+        "--copyright|A|--exclude-year",
+        "# SPDX-FileCopyrightText: A\n",
+    ),
+    ("-c|A|-y|2020", "# SPDX-FileCopyrightText: 2020 A\n"),
+    (
+        "-c|A|--year|2021|-y|2019|-y|2020",
+        "# SPDX-FileCopyrightText: 2019 - 2021 A\n",
+    ),
+    (
+        "-c|A|-c|B",
+        "# SPDX-FileCopyrightText: 2024 A\n# SPDX-FileCopyrightText: 2024 B\n",
+    ),
+    ("--copyright=-x", "# SPDX-FileCopyrightText: 2024 -x\n"),
+    (
+        "--contributor|B|--contributor|A",
+        "# SPDX-FileContributor: A\n# SPDX-FileContributor: B\n",
+    ),
+    (
+        "-l|MIT|--license|0BSD",
+        "# SPDX-License-Identifier: 0BSD\n# SPDX-License-Identifier: MIT\n",
+    ),
+    (
+        "-c|A|--copyright-prefix|spdx",
+        "# SPDX-FileCopyrightText: 2024 A\n",
+    ),
+    (
+        "-c|A|--copyright-prefix|spdx-c",
+        "# SPDX-FileCopyrightText: (C) 2024 A\n",
+    ),
+    (
+        "-c|A|--copyright-prefix|spdx-symbol",
+        "# SPDX-FileCopyrightText: © 2024 A\n",
+    ),
+    (
+        "-c|A|--copyright-prefix|spdx-string",
+        "# SPDX-FileCopyrightText: Copyright 2024 A\n",
+    ),
+    (
+        "-c|A|--copyright-prefix|spdx-string-c",
+        "# SPDX-FileCopyrightText: Copyright (C) 2024 A\n",
+    ),
+    (
+        "-c|A|--copyright-prefix|spdx-string-symbol",
+        "# SPDX-FileCopyrightText: Copyright © 2024 A\n",
+    ),
+    ("-c|A|--copyright-prefix|string", "# Copyright 2024 A\n"),
+    (
+        "-c|A|--copyright-prefix|string-c",
+        "# Copyright (C) 2024 A\n",
+    ),
+    (
+        "-c|A|--copyright-prefix|string-symbol",
+        "# Copyright © 2024 A\n",
+    ),
+    ("-c|A|--copyright-prefix|symbol", "# © 2024 A\n"),
+];
+
 /// The line of `annotate -l MIT` with these words, as it is shown.
 fn shown(alloc: Global, words: &str) -> Result<String, Fail> {
     let words = format!(in alloc; "annotate|-l|MIT|{words}")?;
@@ -77,76 +137,15 @@ fn an_option_sets_one_field(rt: HostRuntime) -> Result<(), Fail> {
     Ok(())
 }
 
-/// Options that say what is written, by the file that is made of an empty one.
 #[test]
 fn an_option_gives_a_text(rt: HostRuntime) -> Result<(), Fail> {
     let alloc = rt.alloc();
-    for (words, header) in [
-        ("-c|A", "# SPDX-FileCopyrightText: 2024 A\n"),
-        (
-            "--copyright|A|--exclude-year",
-            "# SPDX-FileCopyrightText: A\n",
-        ),
-        ("-c|A|-y|2020", "# SPDX-FileCopyrightText: 2020 A\n"),
-        (
-            "-c|A|--year|2021|-y|2019|-y|2020",
-            "# SPDX-FileCopyrightText: 2019 - 2021 A\n",
-        ),
-        (
-            "-c|A|-c|B",
-            "# SPDX-FileCopyrightText: 2024 A\n# SPDX-FileCopyrightText: 2024 B\n",
-        ),
-        ("--copyright=-x", "# SPDX-FileCopyrightText: 2024 -x\n"),
-        (
-            "--contributor|B|--contributor|A",
-            "# SPDX-FileContributor: A\n# SPDX-FileContributor: B\n",
-        ),
-        (
-            "-l|MIT|--license|0BSD",
-            "# SPDX-License-Identifier: 0BSD\n# SPDX-License-Identifier: MIT\n",
-        ),
-        (
-            "-c|A|--copyright-prefix|spdx",
-            "# SPDX-FileCopyrightText: 2024 A\n",
-        ),
-        (
-            "-c|A|--copyright-prefix|spdx-c",
-            "# SPDX-FileCopyrightText: (C) 2024 A\n",
-        ),
-        (
-            "-c|A|--copyright-prefix|spdx-symbol",
-            "# SPDX-FileCopyrightText: © 2024 A\n",
-        ),
-        (
-            "-c|A|--copyright-prefix|spdx-string",
-            "# SPDX-FileCopyrightText: Copyright 2024 A\n",
-        ),
-        (
-            "-c|A|--copyright-prefix|spdx-string-c",
-            "# SPDX-FileCopyrightText: Copyright (C) 2024 A\n",
-        ),
-        (
-            "-c|A|--copyright-prefix|spdx-string-symbol",
-            "# SPDX-FileCopyrightText: Copyright © 2024 A\n",
-        ),
-        ("-c|A|--copyright-prefix|string", "# Copyright 2024 A\n"),
-        (
-            "-c|A|--copyright-prefix|string-c",
-            "# Copyright (C) 2024 A\n",
-        ),
-        (
-            "-c|A|--copyright-prefix|string-symbol",
-            "# Copyright © 2024 A\n",
-        ),
-        ("-c|A|--copyright-prefix|symbol", "# © 2024 A\n"),
-    ] {
+    for (words, header) in TEXTS {
         let line = format!(in alloc; "annotate|{words}|a.py")?;
-        let (mut store, told) = run(alloc, store_of(alloc, "a.py", b"")?, line.as_str())?;
-        assert!(rt; told.is_ok(), "{words}");
-        assert!(rt;
-            holds(alloc, &mut store, "a.py", header.as_bytes())?,
-            "{words}"
-        );
+        let store = store_of(alloc, "a.py", b"")?;
+        let mut store = prints(&rt, alloc, store, line.as_str(), "changed a.py\n")?;
+        let written = holds(alloc, &mut store, "a.py", header.as_bytes())?;
+        assert!(rt; written, "{words}");
     }
     Ok(())
 }
@@ -171,11 +170,8 @@ fn options_exclude_each_other(rt: HostRuntime) -> Result<(), Fail> {
         ("--year", "a value is required"),
     ] {
         let line = format!(in alloc; "annotate|-l|MIT|a.py|{words}")?;
-        let Err(fault) = read(alloc, line.as_str(), START_OF_2024)? else {
-            return Err("a fault is wanted")?;
-        };
-        assert_eq!(rt; line_status(&fault), 2, "{words}");
-        let told = fault.to_string(alloc)?;
+        let (status, told) = fault_of(alloc, line.as_str())?;
+        assert_eq!(rt; status, 2, "{words}");
         assert!(rt; told.as_str().contains(text), "{words}: {told}");
     }
     Ok(())

@@ -1,5 +1,5 @@
 //! Worked command lines: the files that they find, what is told, and the files that they leave.
-use super::{START_OF_2024, holds, run, run_at};
+use super::{START_OF_2024, holds, prints, refuses, run, run_at};
 use crate::session_tests::trees::{has_just, tree};
 use reuse_tree::MemoryStore;
 use std::alloc::Global;
@@ -24,7 +24,7 @@ const TAG: &[u8] = b"SPDX-License-Identifier: MIT\n";
 const PYTHON_TAG: &[u8] = b"# SPDX-License-Identifier: MIT\n\nx\n";
 
 /// What becomes of the header of a file.
-const HEADERS: [Case; 17] = [
+const HEADERS: &[Case] = &[
     // Each line ends as the file's first one does.
     Case {
         words: "annotate|-c|Jane Doe|-y|2024|-l|MIT|run.sh",
@@ -186,7 +186,7 @@ const HEADERS: [Case; 17] = [
 ];
 
 /// Which place is written for a path.
-const PLACES: [Case; 12] = [
+const PLACES: &[Case] = &[
     // The neighbour: where it is asked for, where it is there, and where the file is no text.
     Case {
         words: "annotate|--force-dot-license|-l|MIT|a.py",
@@ -336,12 +336,12 @@ fn stand_and_are_undone(rt: &impl Abort, alloc: Global, cases: &[Case]) -> Resul
 
 #[test]
 fn headers_are_written_and_undone(rt: HostRuntime) -> Result<(), Fail> {
-    stand_and_are_undone(&rt, rt.alloc(), &HEADERS)
+    stand_and_are_undone(&rt, rt.alloc(), HEADERS)
 }
 
 #[test]
 fn places_are_chosen_and_undone(rt: HostRuntime) -> Result<(), Fail> {
-    stand_and_are_undone(&rt, rt.alloc(), &PLACES)
+    stand_and_are_undone(&rt, rt.alloc(), PLACES)
 }
 
 /// Where the neighbour is asked for, or there, it doesn't matter that the file is longer than is read.
@@ -350,15 +350,31 @@ fn a_file_beside_its_neighbour_is_not_read(rt: HostRuntime) -> Result<(), Fail> 
     let alloc = rt.alloc();
     let long = vec![in alloc; b'x'; 16_777_217]?;
     let store = tree(alloc, &[("big.py", long.as_slice())])?;
-    let (store, told) = tell(alloc, store, "annotate|-l|MIT|big.py")?;
-    assert_eq!(rt; told.as_str(), "big.py: too long");
-    let (mut store, told) = tell(alloc, store, "annotate|--force-dot-license|-l|MIT|big.py")?;
-    assert_eq!(rt; told.as_str(), "changed big.py.license\n");
+    let words = "annotate|-l|MIT|big.py";
+    let store = refuses(&rt, alloc, store, words, "big.py: too long")?;
+    let words = "annotate|--force-dot-license|-l|MIT|big.py";
+    let mut store = prints(&rt, alloc, store, words, "changed big.py.license\n")?;
     assert!(rt; holds(alloc, &mut store, "big.py.license", TAG)?);
-    let (mut store, told) = tell(alloc, store, "annotate|-l|ISC|big.py")?;
-    assert_eq!(rt; told.as_str(), "changed big.py.license\n");
+    let words = "annotate|-l|ISC|big.py";
+    let mut store = prints(&rt, alloc, store, words, "changed big.py.license\n")?;
     let both = b"SPDX-License-Identifier: ISC\nSPDX-License-Identifier: MIT\n";
     assert!(rt; holds(alloc, &mut store, "big.py.license", both)?);
+    Ok(())
+}
+
+/// Annotates a picture of this path, where it is told in this text between two others.
+fn is_told_in(
+    rt: &impl Abort,
+    alloc: Global,
+    path: &str,
+    front: &str,
+    back: &str,
+) -> Result<(), Fail> {
+    let store = tree(alloc, &[(path, b"\x00")])?;
+    let words = format!(in alloc; "annotate|-l|MIT|{path}")?;
+    let (_, told) = tell(alloc, store, words.as_str())?;
+    let wanted = format!(in alloc; "{front}{path}{back}")?;
+    assert_eq!(rt; told.as_str(), wanted.as_str());
     Ok(())
 }
 
@@ -366,26 +382,10 @@ fn a_file_beside_its_neighbour_is_not_read(rt: HostRuntime) -> Result<(), Fail> 
 #[test]
 fn a_neighbours_path_is_bounded(rt: HostRuntime) -> Result<(), Fail> {
     let alloc = rt.alloc();
-    let name = "a".repeat(alloc, 4_084)?;
-    let longest = format!(in alloc; "{name}.png")?;
-    let store = tree(alloc, &[(longest.as_str(), b"\x00")])?;
-    let (_, told) = tell(
-        alloc,
-        store,
-        format!(in alloc; "annotate|-l|MIT|{longest}")?.as_str(),
-    )?;
-    let wanted = format!(in alloc; "changed {longest}.license\n")?;
-    assert_eq!(rt; told.as_str(), wanted.as_str());
-    let longer = format!(in alloc; "a{longest}")?;
-    let store = tree(alloc, &[(longer.as_str(), b"\x00")])?;
-    let (_, told) = tell(
-        alloc,
-        store,
-        format!(in alloc; "annotate|-l|MIT|{longer}")?.as_str(),
-    )?;
-    let wanted = format!(in alloc; "{longer}: too long")?;
-    assert_eq!(rt; told.as_str(), wanted.as_str());
-    Ok(())
+    let longer = format!(in alloc; "{}.png", "a".repeat(alloc, 4_085)?)?;
+    let (_, longest) = longer.as_str().split_once("a").ok_or("a longest path")?;
+    is_told_in(&rt, alloc, longest, "changed ", ".license\n")?;
+    is_told_in(&rt, alloc, longer.as_str(), "", ": too long")
 }
 
 #[test]
@@ -397,10 +397,7 @@ fn a_log_has_done_and_undone_steps(rt: HostRuntime) -> Result<(), Fail> {
     let words = "annotate|-c|Jane Doe|-l|MIT|-y|2024|b.py";
     let (store, _) = run_at(alloc, store, words, START_OF_2024)?;
     let (store, _) = tell(alloc, store, "undo")?;
-    let (_, told) = tell(alloc, store, "log")?;
-    assert_eq!(rt;
-        told.as_str(),
-        "1 1970-01-01 annotate 1 done\n2 2024-01-01 annotate 1 undone\n"
-    );
+    let rows = "1 1970-01-01 annotate 1 done\n2 2024-01-01 annotate 1 undone\n";
+    prints(&rt, alloc, store, "log", rows)?;
     Ok(())
 }

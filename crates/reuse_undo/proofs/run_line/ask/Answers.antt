@@ -1,10 +1,13 @@
-use Rattle.std.proofs.Common.{Ok, refl, sym, ap, subst}
+use Rattle.std.proofs.Common.{◌+◌, Ok, IfErr, refl, sym, ap, subst}
+use Rattle.reuse_tree.specs.Files.{Clashes}
+use Rattle.reuse_session.specs.Answer.{HasClash}
+use Rattle.reuse_session.specs.JournalFiles.{head_path, entry_path}
 use Rattle.reuse_session.specs.Session.{store_of}
 use Rattle.reuse_session.specs.declared.events.Event.{Event}
 use Rattle.reuse_session.specs.declared.events.Event.TheVariants as events
 use Rattle.reuse_session.specs.declared.reply.Reply.TheVariants as replies
-use Rattle.reuse_undo.specs.RunLine.{Calls}
-use Rattle.reuse_undo.proofs.RunLemmas.{calls_by, stands_on}
+use Rattle.reuse_undo.specs.RunLine.{Calls, HasCallClash}
+use Rattle.reuse_undo.proofs.RunLemmas.{calls_by, stands_on, unclashed, log_tells_none}
 use Rattle.reuse_undo.proofs.run_line.ask.Goals as goal
 
 pub returns-in-Run-clause-calls : goal.returns-in-Run-clause-calls
@@ -14,6 +17,12 @@ returns-in-Run-clause-calls g c honest held stands =
     subst (λ (e : Event). Calls e held c.run.result (files new.store)) (sym c.in-Run.is)
     (calls_by files (events.Run c.in-Run.command c.in-Run.when) held new c.run.result (c.run.ensures.exact honest held stands) (c.run.ensures.stands honest held stands) (c.run.ensures.doubt honest held stands))
 
+pub returns-in-Run-clause-clash : goal.returns-in-Run-clause-clash
+returns-in-Run-clause-clash g c honest held stands =
+    let files = g.S.Store.files (store_of c.args.session.now) in
+    subst (λ (e : Event). IfErr c.run.result (HasCallClash e held files)) (sym c.in-Run.is)
+    (subst (λ n. IfErr c.run.result (HasClash (Clashes files (entry_path (n + 1))) (Clashes files head_path))) stands.remembers.used (c.run.ensures.clash honest))
+
 pub returns-in-Undo-clause-calls : goal.returns-in-Undo-clause-calls
 returns-in-Undo-clause-calls g c honest held stands =
     let files = g.S.Store.files in
@@ -21,6 +30,10 @@ returns-in-Undo-clause-calls g c honest held stands =
     let kept = stands_on files c.args.session.now new held c.undo.result stands c.undo.ensures.refused (c.undo.ensures.unchanged honest) in
     subst (λ (e : Event). Calls e held c.undo.result (files new.store)) (sym c.in-Undo.is)
     (calls_by files events.Undo held new c.undo.result (c.undo.ensures.exact honest held stands) kept (c.undo.ensures.doubt honest held stands))
+
+pub returns-in-Undo-clause-clash : goal.returns-in-Undo-clause-clash
+returns-in-Undo-clause-clash g c honest held stands =
+    subst (λ (e : Event). IfErr c.undo.result (HasCallClash e held (g.S.Store.files (store_of c.args.session.now)))) (sym c.in-Undo.is) (c.undo.ensures.clash honest)
 
 pub returns-in-Redo-clause-calls : goal.returns-in-Redo-clause-calls
 returns-in-Redo-clause-calls g c honest held stands =
@@ -30,10 +43,18 @@ returns-in-Redo-clause-calls g c honest held stands =
     subst (λ (e : Event). Calls e held c.redo.result (files new.store)) (sym c.in-Redo.is)
     (calls_by files events.Redo held new c.redo.result (c.redo.ensures.exact honest held stands) kept (c.redo.ensures.doubt honest held stands))
 
+pub returns-in-Redo-clause-clash : goal.returns-in-Redo-clause-clash
+returns-in-Redo-clause-clash g c honest held stands =
+    subst (λ (e : Event). IfErr c.redo.result (HasCallClash e held (g.S.Store.files (store_of c.args.session.now)))) (sym c.in-Redo.is) (c.redo.ensures.clash honest)
+
 pub returns-in-Ok-clause-calls : goal.returns-in-Ok-clause-calls
 returns-in-Ok-clause-calls g c honest held stands =
     subst (λ (e : Event). Calls e held (Ok (replies.Log c.in-Ok.rows)) (g.S.Store.files (store_of c.args.session.now))) (sym c.in-Log.is)
     (held, (ap (λ rows. Ok (replies.Log rows)) (c.in-Ok.ensures.exact held stands), refl), stands.standing)
+
+pub returns-in-Err-clause-clash : goal.returns-in-Err-clause-clash
+returns-in-Err-clause-clash g c honest held stands =
+    unclashed c.args.event.now held (g.S.Store.files (store_of c.args.session.now)) c.in-Err.refusal (log_tells_none c.in-Err.refusal c.in-Err.ensures.refusal)
 
 pub returns-in-Reopen-clause-calls : goal.returns-in-Reopen-clause-calls
 returns-in-Reopen-clause-calls g c honest held stands =

@@ -1,8 +1,8 @@
 use Rattle.std.proofs.Common.{◌<◌, inl, IfErr, refl, sym, subst, arith}
 use Rattle.reuse_session.specs.Answer.{HasCause}
 use Rattle.reuse_session.specs.Session.{store_of}
-use Rattle.reuse_undo.specs.RunLine.{Carries}
-use Rattle.reuse_undo.proofs.RunLemmas.{carried, found_again, caused}
+use Rattle.reuse_undo.specs.RunLine.{Carries, HasCallClash}
+use Rattle.reuse_undo.proofs.RunLemmas.{carried, found_again, caused, unclashed}
 use Rattle.reuse_undo.proofs.run_line.call.Goals as goal
 
 pub returns-in-Ok-clause-carries : goal.returns-in-Ok-clause-carries
@@ -20,13 +20,16 @@ returns-in-Ok-clause-carries g c honest =
     (c.ask-answer.ensures.calls is_honest))
 
 pub returns-in-Ok-clause-clash : goal.returns-in-Ok-clause-clash
-returns-in-Ok-clause-clash g c honest held standing free =
+returns-in-Ok-clause-clash g c honest held standing =
     let files = g.S.Store.files in
     let is_honest = subst g.S.Store.honest c.into_store.ensures honest in
     let was_honest = c.ask-answer.ensures.was_honest is_honest in
     let found =
-    found_again files (files c.args.store) c.in-Ok.opened held standing (c.in-Ok.ensures.opened was_honest) (λ first second doubt. c.in-Ok.ensures.settles first second doubt was_honest) free in
-    c.ask-answer.ensures.clash is_honest held found.0 found.1
+    found_again files (files c.args.store) c.in-Ok.opened held standing (c.in-Ok.ensures.opened was_honest) (λ first second doubt. c.in-Ok.ensures.settles first second doubt was_honest) in
+    subst (λ f. IfErr c.ask-answer.result (HasCallClash c.args.event.now held f)) found.1 (c.ask-answer.ensures.clash is_honest held found.0)
+
+pub returns-in-Err-clause-clash : goal.returns-in-Err-clause-clash
+returns-in-Err-clause-clash g c honest held standing = unclashed c.args.event.now held (g.S.Store.files c.args.store) c.in-Err.refusal (c.in-Err.ensures.clash honest)
 
 pub returns-in-Ok-clause-fault : goal.returns-in-Ok-clause-fault
 returns-in-Ok-clause-fault g c =
@@ -48,6 +51,7 @@ returns-in-Err-clause-carries g c honest =
         moved = c.in-Err.ensures.moved honest;
         no_clash = c.in-Err.ensures.clash honest;
         unchanged = c.in-Err.ensures.unchanged honest;
+        stopped = c.in-Err.ensures.interrupted honest;
         settles = λ first second doubt. c.in-Err.ensures.settles first second doubt honest;
       },
     )

@@ -1,6 +1,5 @@
-use Rattle.std.proofs.Common.{Ok, Err}
-use Rattle.reuse_session.specs.Answer.{IsNoClash}
-use Rattle.reuse_undo.specs.RunLine.{asked, Carries, Steps}
+use Rattle.std.proofs.Common.{◌≡◌, Ok, Err, IfErr, refl, subst}
+use Rattle.reuse_undo.specs.RunLine.{asked, HasCallClash, Carries, Steps}
 use Rattle.reuse_undo.proofs.RunLemmas.{carries_as, carries_step, told_reply, no_refusal}
 use Rattle.reuse_undo.proofs.run_line.run_line.Goals as goal
 
@@ -25,12 +24,24 @@ pub returns-in-Ok-clause-fault : goal.returns-in-Ok-clause-fault
 returns-in-Ok-clause-fault g c = no_refusal c.print.result _ c.print.ensures.fault
 
 pub returns-in-Ok-clause-clash : goal.returns-in-Ok-clause-clash
-returns-in-Ok-clause-clash g c honest held standing free = no_refusal c.print.result IsNoClash c.print.ensures.fault
+returns-in-Ok-clause-clash g c honest held standing =
+    no_refusal c.print.result (HasCallClash (asked c.args.line c.args.texts) held (g.S.Store.files c.args.store)) c.print.ensures.fault
+
+pub returns-in-Ok-clause-quiet : goal.returns-in-Ok-clause-quiet
+returns-in-Ok-clause-quiet g c = no_refusal c.print.result (λ refusal. c.print.new.out ≡ c.args.out.now) c.print.ensures.fault
 
 pub returns-clause-machine : goal.returns-clause-machine
 returns-clause-machine g c honest state held =
     let before = g.S.Store.files c.args.store in
     let after = g.S.Store.files c.call-store.result.0 in
-    let event = asked c.args.line c.args.texts in
-    carries_step state before event (Err c.in-Err.refusal) after held
-    (carries_as before after c.event_of-event.result event c.call-store.result.1 (Err c.in-Err.refusal) (c.call-store.ensures.carries honest) c.event_of-event.ensures c.in-Err.is)
+    let event = asked c.args.line c.args.texts in (
+      carries_step state before event (Err c.in-Err.refusal) after held
+          (carries_as before after c.event_of-event.result event c.call-store.result.1 (Err c.in-Err.refusal) (c.call-store.ensures.carries honest) c.event_of-event.ensures c.in-Err.is),
+      refl,
+    )
+
+pub returns-clause-clash : goal.returns-clause-clash
+returns-clause-clash g c honest held standing =
+    let before = g.S.Store.files c.args.store in
+    subst (λ event. HasCallClash event held before c.in-Err.refusal) c.event_of-event.ensures
+    (subst (λ answer. IfErr answer (HasCallClash c.event_of-event.result held before)) c.in-Err.is (c.call-store.ensures.clash honest held standing))

@@ -2,32 +2,35 @@
 //! with each that it has.
 use super::Scratch;
 use crate::disk::DiskStore;
-use crate::session_tests::trees::{ANNOTATED, FIRST, HEAD, PLAIN, play, signing};
-use reuse_session::Event;
+use crate::session_tests::trees::{ANNOTATED, FIRST, HEAD, PLAIN, events_of, play};
 use std::fs;
 use std::test::Fail;
 
 const MOST_DONE: u32 = 4096;
 
-/// A folder of an annotated file and another, whose journal is full: the first entry under each number.
-fn full(rt: HostRuntime) -> Result<Scratch, Fail> {
-    let alloc = rt.alloc();
-    let scratch = Scratch::new(rt, "full_journal")?;
-    scratch.make_folders(&[".reuse", ".reuse/undo"])?;
-    let mut done = String::new(alloc);
+/// Writes the first entry under each number; the numbers, a comma between two.
+fn write_entries(scratch: &Scratch) -> Result<String, Fail> {
+    let alloc = scratch.rt.alloc();
+    let mut numbers = String::new(alloc);
     for number in 1..=MOST_DONE {
         let entry = format!(in alloc; ".reuse/undo/{number:06}.json")?;
-        write(&scratch, entry.as_str(), FIRST.as_bytes())?;
+        write(scratch, entry.as_str(), FIRST.as_bytes())?;
         let comma = if number == 1 { "" } else { "," };
-        done.push_str(format!(in alloc; "{comma}{number}")?.as_str())?;
+        numbers.push_str(format!(in alloc; "{comma}{number}")?.as_str())?;
     }
-    let head = format!(in alloc;
+    Ok(numbers)
+}
+
+/// Makes a tree of an annotated file and another, whose journal is full.
+fn fill(scratch: &Scratch) -> Result<(), Fail> {
+    scratch.make_folders(&[".reuse", ".reuse/undo"])?;
+    let done = write_entries(scratch)?;
+    let head = format!(in scratch.rt.alloc();
         "{{\"done\":[{done}],\"format\":1,\"next\":4097,\"pending\":null,\"undone\":[]}}"
     )?;
-    write(&scratch, HEAD, head.as_bytes())?;
-    write(&scratch, "a.py", ANNOTATED)?;
-    write(&scratch, "b.py", PLAIN)?;
-    Ok(scratch)
+    write(scratch, HEAD, head.as_bytes())?;
+    write(scratch, "a.py", ANNOTATED)?;
+    write(scratch, "b.py", PLAIN)
 }
 
 fn write(scratch: &Scratch, path: &str, bytes: &[u8]) -> Result<(), Fail> {
@@ -35,21 +38,24 @@ fn write(scratch: &Scratch, path: &str, bytes: &[u8]) -> Result<(), Fail> {
     Ok(())
 }
 
+/// What is answered to events by their words on the folder.
+fn answers_in(scratch: &Scratch, words: &[&str]) -> Result<String, Fail> {
+    let alloc = scratch.rt.alloc();
+    let events = events_of(alloc, words)?;
+    let store = DiskStore::at(scratch.rt.clone()?, scratch.at("")?);
+    let (_, lines) = play(alloc, store, &events)?;
+    Ok(lines)
+}
+
 #[test]
 fn a_full_journal_takes_no_step(rt: HostRuntime) -> Result<(), Fail> {
-    let alloc = rt.alloc();
-    let scratch = full(rt.clone()?)?;
-    let store = DiskStore::at(rt.clone()?, scratch.at("")?);
-    let events = [
-        signing(alloc, &["b.py"])?,
-        Event::Undo,
-        signing(alloc, &["b.py"])?,
-    ];
-    let (_, lines) = play(alloc, store, &events)?;
-    assert_eq!(rt;
+    let scratch = Scratch::new(rt, "full_journal")?;
+    fill(&scratch)?;
+    let lines = answers_in(&scratch, &["b.py", "undo", "b.py"])?;
+    assert_eq!(scratch.rt;
         lines.as_str(),
         "opened\njournal full\nundone a.py\nchanged b.py\n"
     );
-    assert!(rt; scratch.holds("a.py", "print(1)\n")?);
+    assert!(scratch.rt; scratch.holds("a.py", "print(1)\n")?);
     scratch.remove()
 }
