@@ -4,10 +4,7 @@
 # kill. Prints how many calls failed; ends with status 1 at the first fault.
 # usage: tests/fail_system_calls.sh PROGRAM
 set -euo pipefail
-program=$(realpath "${1:?"usage: $0 PROGRAM"}")
-room=$(mktemp -d /dev/shm/fail_system_calls.XXXXXX)
-trap 'rm -rf "$room"' EXIT
-. "$(dirname "$0")/stopped_calls.sh"
+. "$(dirname "$0")/common.sh"
 calls=(openat read write close fchmod statx newfstatat getdents64 rename renameat renameat2 unlink unlinkat mkdir mkdirat)
 
 # Runs the program on the tree with this fault of this system call at its Nth time.

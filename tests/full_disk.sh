@@ -4,12 +4,10 @@
 # next call on the full disk. Prints how many calls met which end; ends with status 1 at the first fault.
 # usage: tests/full_disk.sh PROGRAM
 set -euo pipefail
-program=$(realpath "${1:?"usage: $0 PROGRAM"}")
-room=$(mktemp -d /dev/shm/full_disk.XXXXXX)
+. "$(dirname "$0")/common.sh"
 disk=$room/disk
 mkdir "$disk"
 trap 'umount "$disk" 2> /dev/null; rm -rf "$room"' EXIT
-. "$(dirname "$0")/stopped_calls.sh"
 mount -t tmpfs -o size=1m tmpfs "$disk"
 annotate=(annotate -c "Jane Doe" -l MIT -y 2024 -r .)
 pages=$(($(getconf PAGESIZE) / 1024))

@@ -3,11 +3,8 @@
 # killed or as they are after it. In some rounds the opening is killed too. Prints what was seen; ends with status 1 at the first fault.
 # usage: tests/kill_at_random.sh PROGRAM [ROUNDS]      (300 rounds by default)
 set -euo pipefail
-program=$(realpath "${1:?"usage: $0 PROGRAM [ROUNDS]"}")
+. "$(dirname "$0")/common.sh"
 rounds=${2:-300}
-room=$(mktemp -d /dev/shm/kill_at_random.XXXXXX)
-trap 'rm -rf "$room"' EXIT
-. "$(dirname "$0")/stopped_calls.sh"
 
 # Some hundred files, and a dep5
 for k in {1..16}; do

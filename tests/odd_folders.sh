@@ -4,10 +4,7 @@
 # at the first fault.
 # usage: tests/odd_folders.sh PROGRAM
 set -euo pipefail
-program=$(realpath "${1:?"usage: $0 PROGRAM"}")
-room=$(mktemp -d /dev/shm/odd_folders.XXXXXX)
-trap 'rm -rf "$room"' EXIT
-. "$(dirname "$0")/stopped_calls.sh"
+. "$(dirname "$0")/common.sh"
 tree=$room/tree
 annotate=(annotate -l MIT -r .)
 header='# SPDX-License-Identifier: MIT'

@@ -5,10 +5,7 @@
 # of the program.
 # usage: tests/refusals.sh PROGRAM
 set -euo pipefail
-program=$(realpath "${1:?"usage: $0 PROGRAM"}")
-room=$(mktemp -d /dev/shm/refusals.XXXXXX)
-trap 'rm -rf "$room"' EXIT
-. "$(dirname "$0")/stopped_calls.sh"
+. "$(dirname "$0")/common.sh"
 tree=$room/tree
 texts=$room/texts
 jane=(-c "Jane Doe" -y 2024)

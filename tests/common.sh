@@ -1,4 +1,8 @@
-# What the scripts that stop calls share; they set `program` and `room`.
+# What the scripts that run the program share: `program`, which the first argument names; `room`, a folder that is removed at the end; and
+# some functions.
+program=$(realpath "${1:?"usage: $0 PROGRAM"}")
+room=$(mktemp -d "/dev/shm/$(basename "$0" .sh).XXXXXX")
+trap 'rm -rf "$room"' EXIT
 
 # A dep5 file in a tree
 make_dep5() {
