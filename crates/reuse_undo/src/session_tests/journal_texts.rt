@@ -1,6 +1,10 @@
 // Texts of the journal, with worked values.
 use crate::session_tests::trees::FIRST;
 use reuse_session::journal::laws::{written_entries_are_good, written_heads_are_good};
+use reuse_session::laws::{
+    changed_paths_are_where_trees_differ, downloads_put_each_text, entries_lead_in_turn,
+    files_open_in_one_way,
+};
 use reuse_session::{
     Changes, CommandName, DecodeFault, Entry, EntryNumbers, Head, Moment, Pending, PendingWay,
     decode_entry, decode_head, encode_entry, encode_head,
@@ -160,4 +164,12 @@ fn bad_entries_are_refused(rt: HostRuntime) -> Result<(), Fail> {
         assert!(rt; matches!(found, Err(DecodeFault::NotGood)), "{to}");
     }
     Ok(())
+}
+
+#[test]
+fn laws_of_sessions_can_be_called() {
+    files_open_in_one_way();
+    entries_lead_in_turn();
+    downloads_put_each_text();
+    changed_paths_are_where_trees_differ();
 }
