@@ -17,7 +17,7 @@ use Rattle.reuse_dep5.proofs.NameLemmas.{continuation_no_field}
 use Rattle.reuse_dep5.proofs.ReadingLemmas.{bind_ok, bind_err, unless_ok, unless_err, cond_ok, cond_err, patterns_ok, patterns_err, files_ok, files_err, later_ok, later_err, laters_ok, laters_err}
 
 -- tests of emptiness
-nil_from : {A : Type 0} (xs : List A) → is_nil xs ≡ true → xs ≡ []
+pub nil_from : {A : Type 0} (xs : List A) → is_nil xs ≡ true → xs ≡ []
 nil_from [] e = refl
 nil_from (x ∷ xs) e = absurd (false≢true e)
 
@@ -39,7 +39,7 @@ module _ (before : List NumberedLine) (line : NumberedLine) where
   abbrev again_in : Bool
   again_in = list_any (λ (l : NumberedLine). has_name (field_name line.content) l.content) before
 
-  some_cause : (cause : Dep5Cause) → line_cause before line.content ≡ Some cause → IsLineFault before line cause
+  pub some_cause : (cause : Dep5Cause) → line_cause before line.content ≡ Some cause → IsLineFault before line cause
   some_cause cause e = by_tests (is_continuation line.content) refl (is_nil before) refl (is_field line.content) refl again_in refl e
     where
       by_tests : (k : Bool) → is_continuation line.content ≡ k → (n : Bool) → is_nil before ≡ n → (f : Bool) → is_field line.content ≡ f → (r : Bool) → again_in ≡ r → cond k (cond n (Some Orphan) None) (cond (not f) (Some NoField) (cond r (Some Repeated) None)) ≡ Some cause → IsLineFault before line cause
@@ -72,7 +72,7 @@ or_next_some number None next d e = inr (refl, e)
 or_next_some number (Some c) next d e = inl (c, refl, cc)
 
 -- the lines behind some lines are fields
-abbrev AreFieldsBehind : List NumberedLine → List NumberedLine → Type 0
+abbrev pub AreFieldsBehind : List NumberedLine → List NumberedLine → Type 0
 AreFieldsBehind front p = (before : List NumberedLine) (line : NumberedLine) (after : List NumberedLine) → p ≡ before ++ line ∷ after → (cause : Dep5Cause) → ¬ IsLineFault (front ++ before) line cause
 
 fields_nil : (front : List NumberedLine) → AreFieldsBehind front []
@@ -139,7 +139,7 @@ fault_from front (line ∷ p) d e =
     ]
 
 -- a fault with its refusal
-abbrev Names : (ℕ → Dep5Cause → Type 0) → Dep5Refusal → Type 0
+abbrev pub Names : (ℕ → Dep5Cause → Type 0) → Dep5Refusal → Type 0
 Names IsFault d = (number : ℕ) × (cause : Dep5Cause) × (BadDep5 number cause ≡ d) × IsFault number cause
 
 line_named : (p : List NumberedLine) (d : Dep5Refusal) → line_fault [] p ≡ Some d → Names (IsFirstLineFault p) d
@@ -151,7 +151,7 @@ no_line_fault : (p : List NumberedLine) (number : ℕ) (cause : Dep5Cause) → A
 no_line_fault p number cause fields f = fields f.before f.line f.after f.stands cause f.fault
 
 -- a test of which the answer is one or the other
-ok_or_err : {A : Type 0} (r : Result A Dep5Refusal) → ((x : A) × (r ≡ Ok x)) ⊎ ((d : Dep5Refusal) × (r ≡ Err d))
+pub ok_or_err : {A : Type 0} (r : Result A Dep5Refusal) → ((x : A) × (r ≡ Ok x)) ⊎ ((d : Dep5Refusal) × (r ≡ Err d))
 ok_or_err (Ok x) = inl (x, refl)
 ok_or_err (Err d) = inr (d, refl)
 
@@ -171,7 +171,7 @@ header_accepted p header e =
     let whole = cond_ok (is_nil (text_of (format_value p))) (BadDep5 (first_number p) NoFormat) _ header sound.1 in
     record { fields = are_fields p sound.0; format = some_from (text_of (format_value p)) whole.0 }
 
-header_refused : (p : List NumberedLine) (d : Dep5Refusal) → header_of p ≡ Err d → Names (IsHeaderFault p) d
+pub header_refused : (p : List NumberedLine) (d : Dep5Refusal) → header_of p ≡ Err d → Names (IsHeaderFault p) d
 unfolding header_of header_made
 header_refused p d e =
     elim (unless_err (line_fault [] p) (cond (is_nil (text_of (format_value p))) (Err (BadDep5 (first_number p) NoFormat)) (Ok (header_made p))) d e) [
@@ -185,7 +185,7 @@ header_refused p d e =
           ]
     ]
 
-no_header_fault : (p : List NumberedLine) (number : ℕ) (cause : Dep5Cause) → IsHeader p → ¬ IsHeaderFault p number cause
+pub no_header_fault : (p : List NumberedLine) (number : ℕ) (cause : Dep5Cause) → IsHeader p → ¬ IsHeaderFault p number cause
 no_header_fault p number cause header (inl line) = no_line_fault p number cause header.fields line
 no_header_fault p number cause header (inr none) = header.format none.1
 
@@ -194,7 +194,7 @@ or_parts : (a b : Bool) → (a || b) ≡ false → (a ≡ false) × (b ≡ false
 or_parts true b e = absurd (false≢true (sym e))
 or_parts false b e = (refl, e)
 
-has_parts : (p : List NumberedLine) → is_incomplete p ≡ false → HasParts p
+pub has_parts : (p : List NumberedLine) → is_incomplete p ≡ false → HasParts p
 has_parts p e =
     let w = is_nil (words_of (files_value p)) in
     let n = is_nil (nonempty_lines (copyright_value p)) in
@@ -258,7 +258,7 @@ later_accepted p fs e =
           inl (record { fields = are_fields p found.0; files = some_from (files_value p) some.0; parts = has_parts p read.0; patterns = patterns_accepted (words_of (files_value p)) some.1.0.patterns read.1 }))
     ]
 
-later_refused : (p : List NumberedLine) (d : Dep5Refusal) → later_of p ≡ Err d → Names (IsLaterFault p) d
+pub later_refused : (p : List NumberedLine) (d : Dep5Refusal) → later_of p ≡ Err d → Names (IsLaterFault p) d
 later_refused p d e =
     elim (later_err p d e) [
       | inl line ↦ (let r = line_named p d line in (r.0, r.1, r.2, inl r.3))
@@ -277,7 +277,7 @@ later_refused p d e =
           ]
     ]
 
-no_later_fault : (p : List NumberedLine) (number : ℕ) (cause : Dep5Cause) → IsLater p → ¬ IsLaterFault p number cause
+pub no_later_fault : (p : List NumberedLine) (number : ℕ) (cause : Dep5Cause) → IsLater p → ¬ IsLaterFault p number cause
 no_later_fault p number cause (inl files) (inl line) = no_line_fault p number cause files.fields line
 no_later_fault p number cause (inr alone) (inl line) = no_line_fault p number cause alone.fields line
 no_later_fault p number cause (inl files) (inr part) = by_cause cause part.1

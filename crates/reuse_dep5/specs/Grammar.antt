@@ -1,9 +1,12 @@
 -- The grammar of a dep5 over its paragraphs, and the first fault of one that is none (Debian copyright format 1.0).
 use Rattle.std.specs.Prelude.{◌≡◌, ◌≢◌, ◌⊎◌, ℕ, true, List, [], ◌∷◌, ◌++◌, None}
 use Rattle.std.specs.List.{list_any}
+use Rattle.std.specs.Str.{IsUtf8}
+use Rattle.reuse_dep5.specs.declared.refusal.Dep5Refusal.{Dep5Refusal}
+use Rattle.reuse_dep5.specs.declared.refusal.Dep5Refusal.TheVariants.{NotUtf8, BadDep5, Question, NotToml, TooLong, Memory}
 use Rattle.reuse_dep5.specs.declared.refusal.Dep5Cause.{Dep5Cause}
 use Rattle.reuse_dep5.specs.declared.refusal.Dep5Cause.TheVariants.{Empty, NoField, Orphan, Repeated, NoFormat, NoKind, Missing, BadEscape}
-use Rattle.reuse_dep5.specs.SourceText.{NumberedLine, is_continuation}
+use Rattle.reuse_dep5.specs.SourceText.{NumberedLine, is_continuation, dep5_lines, paragraphs}
 use Rattle.reuse_dep5.specs.Fields.{is_field, field_name, has_name, text_of, nonempty_lines, first_line}
 use Rattle.reuse_dep5.specs.PatternText.{words_of, word_pieces}
 use Rattle.reuse_dep5.specs.Dep5.{first_number, format_value, files_value, copyright_value, license_value}
@@ -125,3 +128,16 @@ pub record IsFirstLaterFault (ps : List (List NumberedLine)) (number : ℕ) (cau
 abbrev pub IsFirstFault : List (List NumberedLine) → ℕ → Dep5Cause → Type 0
 IsFirstFault [] number cause = (number ≡ 1) × (cause ≡ Empty)
 IsFirstFault (p ∷ ps) number cause = IsHeaderFault p number cause ⊎ (IsHeader p × IsFirstLaterFault ps number cause)
+
+-- the text of a dep5
+abbrev pub IsDep5Text : List ℕ → Type 0
+IsDep5Text bytes = IsUtf8 bytes × IsGrammatical (paragraphs (dep5_lines bytes))
+
+-- what is wrong with a text that is none: it is no UTF-8, else the first fault of its paragraphs
+abbrev pub IsTextFault : List ℕ → Dep5Refusal → Type 0
+IsTextFault bytes NotUtf8 = ¬ IsUtf8 bytes
+IsTextFault bytes (BadDep5 number cause) = IsUtf8 bytes × IsFirstFault (paragraphs (dep5_lines bytes)) number cause
+IsTextFault bytes (Question number) = ⊥
+IsTextFault bytes NotToml = ⊥
+IsTextFault bytes TooLong = ⊥
+IsTextFault bytes Memory = ⊥

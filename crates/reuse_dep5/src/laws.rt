@@ -7,7 +7,7 @@ ghost use Rattle.reuse_dep5.specs.PatternText.{words_of};
 ghost use Rattle.reuse_dep5.specs.LastMatch.{EachPasses};
 ghost use Rattle.toml.specs.Data.{Members};
 ghost use Rattle.reuse_dep5.specs.Dep5.{Dep5Value, paragraphs_of, dep5_of};
-ghost use Rattle.reuse_dep5.specs.Grammar.{IsGrammatical, IsFirstFault};
+ghost use Rattle.reuse_dep5.specs.Grammar.{IsGrammatical, IsFirstFault, IsDep5Text, IsTextFault};
 ghost use Rattle.reuse_dep5.specs.GlobText.{glob_text, read_glob, glob_literals, HasRunsApart};
 ghost use Rattle.reuse_dep5.specs.ReadBack.{table_of};
 ghost use Rattle.reuse_dep5.specs.ReuseToml.{IsReuseToml, IsTomlRefusal};
@@ -17,11 +17,20 @@ ghost use Rattle.reuse_dep5.specs.Conversion.{converted};
 use crate::glob::GlobPiece;
 use crate::refusal::{Dep5Cause, Dep5Refusal};
 
-/// Paragraphs are read as a dep5 exactly where they are grammatical, and else refused by their first fault.
+/// Paragraphs are read as a dep5 exactly where they are grammatical, and refused exactly by their first fault.
 pub fn dep5_is_grammatical()
     ensures accepted { (ps : List (List NumberedLine)) → ((dep5 : Dep5Value) × (paragraphs_of ps ≡ Ok dep5)) ↔ IsGrammatical ps }
-    ensures refused { (ps : List (List NumberedLine)) (e : Dep5Refusal) → paragraphs_of ps ≡ Err e
-        → (number : ℕ) × (cause : Dep5Cause) × (Dep5Refusal.BadDep5 number cause ≡ e) × IsFirstFault ps number cause }
+    ensures refused { (ps : List (List NumberedLine)) (e : Dep5Refusal) → (paragraphs_of ps ≡ Err e)
+        ↔ ((number : ℕ) × (cause : Dep5Cause) × (Dep5Refusal.BadDep5 number cause ≡ e) × IsFirstFault ps number cause) }
+{}
+
+/// A text is the text of a dep5, or there is one thing that is wrong with it, and then it is refused for that.
+pub fn texts_have_one_answer()
+    ensures accepted { (bytes : List ℕ) → ((dep5 : Dep5Value) × (dep5_of bytes ≡ Ok dep5)) ↔ IsDep5Text bytes }
+    ensures refused { (bytes : List ℕ) (e : Dep5Refusal) → (dep5_of bytes ≡ Err e) ↔ IsTextFault bytes e }
+    ensures some { (bytes : List ℕ) → IsDep5Text bytes ⊎ ((e : Dep5Refusal) × IsTextFault bytes e) }
+    ensures either { (bytes : List ℕ) (e : Dep5Refusal) → IsTextFault bytes e → ¬ IsDep5Text bytes }
+    ensures one { (bytes : List ℕ) (e other : Dep5Refusal) → IsTextFault bytes e → IsTextFault bytes other → e ≡ other }
 {}
 
 /// Each line of each value of a UTF-8 text, and each word of it, is UTF-8. So a word is refused for a backslash alone.

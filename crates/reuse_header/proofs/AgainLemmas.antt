@@ -22,7 +22,7 @@ use Rattle.reuse_header.specs.Annotation.{Edit, edited, text_start, text_end, st
 use Rattle.reuse_notice.specs.declared.infos.Info.{Info}
 use Rattle.reuse_notice.specs.Tags.{drop_end}
 use Rattle.reuse_header.specs.Writing.{ended_by, contributor_text, licence_text, joined, set_off, separator_of, holder_lines, licence_lines, free_lines, inner_lines, block_lines}
-use Rattle.reuse_header.proofs.TrimLemmas.{truth}
+use Rattle.std.proofs.lemmas.Bool.{cases_Bool as truth}
 use Rattle.reuse_header.proofs.SplitLemmas.{begins_in-nil, begins_in-within}
 use Rattle.reuse_header.proofs.CountLemmas.{block_at-within}
 use Rattle.reuse_header.proofs.ClosingLemmas.{open_contents-drop}

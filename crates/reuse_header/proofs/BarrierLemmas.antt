@@ -10,7 +10,7 @@ use Rattle.reuse_header.specs.Blocks.{without_returns}
 use Rattle.reuse_header.specs.Split.{bytes_of}
 use Rattle.reuse_header.specs.Neighbour.{closed_lines, neighbour_end}
 use Rattle.reuse_header.specs.Laws.{part, BeginsClosed, IsCutAtBarrier}
-use Rattle.reuse_header.proofs.TrimLemmas.{truth}
+use Rattle.std.proofs.lemmas.Bool.{cases_Bool as truth}
 use Rattle.reuse_header.proofs.CutLemmas.{bytes_of-append, bytes_of-placed, place_behind, mark_within}
 
 -- the lines before the first barrier

@@ -6,7 +6,7 @@ use Rattle.std.proofs.lemmas.Bool.Decides.{nat_tests}
 use Rattle.reuse_header.specs.declared.writer.LineWriter.{LineWriter}
 use Rattle.reuse_header.specs.Writing.{ended_by}
 use Rattle.reuse_header.specs.Bounded.{with_more, written, Writes}
-use Rattle.reuse_header.proofs.TrimLemmas.{truth}
+use Rattle.std.proofs.lemmas.Bool.{cases_Bool as truth}
 use Rattle.reuse_header.proofs.WritingLemmas.{ended_by-append}
 
 -- no bytes more

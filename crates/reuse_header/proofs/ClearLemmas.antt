@@ -10,7 +10,7 @@ use Rattle.reuse_header.specs.declared.style.Style.{Style}
 use Rattle.reuse_header.specs.Search.{place_of, holds}
 use Rattle.reuse_header.specs.Body.{PlacedLines, is_barrier, has_barrier, body_lines, open_contents}
 use Rattle.reuse_header.specs.Header.{header_in}
-use Rattle.reuse_header.proofs.TrimLemmas.{truth}
+use Rattle.std.proofs.lemmas.Bool.{cases_Bool as truth}
 use Rattle.reuse_header.proofs.HeaderLemmas.{header_in-nil, header_in-barrier}
 use Rattle.reuse_header.proofs.ClosingLemmas.{place_of-drop}
 use Rattle.reuse_header.proofs.CutLemmas.{before_body}

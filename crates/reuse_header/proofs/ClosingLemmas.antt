@@ -13,7 +13,7 @@ use Rattle.reuse_header.specs.Search.{place_of}
 use Rattle.reuse_header.specs.Body.{PlacedLines, is_barrier, open_contents}
 use Rattle.reuse_header.specs.Header.{header_in}
 use Rattle.reuse_header.specs.Blocks.{ends_block, count_from, count_to_closer, multi_count, multi_lines, HasNoCount, HasNoOpening, lacks_closer, lines_lacking}
-use Rattle.reuse_header.proofs.TrimLemmas.{truth}
+use Rattle.std.proofs.lemmas.Bool.{cases_Bool as truth}
 
 none_is_some : {X : Type 0} (x : X) → None ≡ Some x → ⊥
 none_is_some x e = cc

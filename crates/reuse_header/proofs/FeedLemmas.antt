@@ -26,7 +26,7 @@ use Rattle.reuse_header.specs.Body.{PlacedLines, is_shebang, is_declaration, is_
 use Rattle.reuse_header.specs.Blocks.{without_returns, without_star, between_marks, is_blank_content as is_blank_line, single_content, multi_content, line_content, contents_from}
 use Rattle.reuse_header.specs.Header.{Header, HeaderSpan, span_in, header_of, neighbour_contents}
 use Rattle.reuse_header.specs.Writing.{new_info}
-use Rattle.reuse_header.proofs.TrimLemmas.{truth}
+use Rattle.std.proofs.lemmas.Bool.{cases_Bool as truth}
 use Rattle.reuse_header.proofs.SplitLemmas.{split_found}
 use Rattle.reuse_header.proofs.SayableLemmas.{Each, all_of_each, each_of_all, each_both, each_front, each_end, each_set, notice_whole, contributor_is, licence_is}
 use Rattle.reuse_header.proofs.MergedLemmas.{Merges, merged_each}

@@ -29,7 +29,7 @@ use Rattle.reuse_header.specs.Annotation.{replaced_block, old_contents}
 use Rattle.reuse_header.specs.Neighbour.{replaced_contents}
 use Rattle.reuse_header.specs.Reading.{IsSayable}
 use Rattle.reuse_header.specs.Laws.{AreContents, info_written, neighbour_info_written}
-use Rattle.reuse_header.proofs.TrimLemmas.{truth}
+use Rattle.std.proofs.lemmas.Bool.{cases_Bool as truth}
 use Rattle.reuse_header.proofs.SayableLemmas.{Each, all_of_each, each_of_all, each_both, end_again, notice_whole, value_whole, contributor_read, licence_read, info_sayable, union_sayable, found_clean, neighbour_clean}
 use Rattle.reuse_header.proofs.PlainLemmas.{NoFillers, letters, no_letters, additions_sayable}
 use Rattle.reuse_header.proofs.MergedLemmas.{Merges, merged_sayable}
@@ -87,7 +87,9 @@ fit_contributor punct v f e =
 fit_licence : (punct v : List ℕ) → Feedless v → licence_value (tag_of punct (licence_text v)) ≡ Some v → Fit (licence_text v)
 unfolding Fit
 fit_licence punct v f e =
+    -- REUSE-IgnoreStart
     fit_append (codes "SPDX-License-Identifier: ") v (refl, refl) (f, ends_kept is_blank refl v (value_whole v (licence_read (stripped punct (licence_text v)) v e)))
+    -- REUSE-IgnoreEnd
 
 fit_free : (content : List ℕ) → Feedless content → without_returns content ≡ content → Fit content
 unfolding Fit

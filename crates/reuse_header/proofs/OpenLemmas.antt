@@ -1,10 +1,10 @@
 -- The same call on the neighbour file that annotating made.
-use Rattle.std.proofs.Common.{◌≡◌, ℕ, suc, ◌+◌, ◌-◌, ◌<◌, Bool, true, false, List, [], ◌∷◌, ◌++◌, length, length-append, length-take, take, drop, map, Option, None, Some, refl, sym, ap, subst, ◌∙◌, inl, inr, arith}
-use Rattle.std.specs.Prelude.{Result, Ok, Err, ◌&&◌, ◌==◌, if◌then◌else◌, nat_lt}
-use Rattle.std.proofs.lemmas.Bool.{eqb-true, eq-eqb, and_parts}
-use Rattle.std.proofs.lemmas.List.{append-nil}
+use Rattle.std.proofs.Common.{◌≡◌, ℕ, suc, ◌+◌, ◌-◌, ◌<◌, ◌≤◌, Bool, true, false, List, [], ◌∷◌, ◌++◌, length, length-append, length-take, take, drop, map, Option, None, Some, refl, sym, ap, subst, ◌∙◌, inl, inr, arith}
+use Rattle.std.specs.Prelude.{Result, Ok, Err, ◌&&◌, ◌==◌, if◌then◌else◌, nat_lt, nat_le}
+use Rattle.std.proofs.lemmas.Bool.{eqb-true, eq-eqb, and_parts, leb-true, false≢true}
+use Rattle.std.proofs.lemmas.List.{append-nil, map-append, length-map}
 use Rattle.std.proofs.lemmas.List.Concat.{flat_map-append}
-use Rattle.std.proofs.Math.Seq.{drop-append_seam}
+use Rattle.std.proofs.Math.Seq.{drop-append_seam, take-append_seam}
 use Rattle.reuse_text.specs.declared.LineKind.{LineKind}
 use Rattle.reuse_text.specs.declared.LineKind.TheVariants.{Lf, Crlf}
 use Rattle.reuse_text.specs.Text.{TextLine, IsLine, AreLines, line_bytes, ending_bytes, lines_of, placed, file_lines, after_mark, mark_len_of, text_of, ends_in_return, spliced}
@@ -18,6 +18,7 @@ use Rattle.reuse_header.specs.declared.annotation.Splice.{Splice}
 use Rattle.reuse_header.specs.declared.annotation.HeaderRefusal.{HeaderRefusal}
 use Rattle.reuse_header.specs.declared.annotation.HeaderRefusal.TheVariants.{NotText}
 use Rattle.reuse_header.specs.Body.{is_barrier, open_contents, place_in}
+use Rattle.reuse_header.specs.Header.{neighbour_contents}
 use Rattle.reuse_header.specs.Blocks.{without_returns}
 use Rattle.reuse_header.specs.Writing.{new_info, neighbour_marks, inner_lines, block_lines, block_text, ended_by}
 use Rattle.reuse_header.specs.Annotation.{Edit, edited, text_start, text_end, size_limit, settled, replacement, insertion, kind_of_file, made_by}
@@ -25,7 +26,7 @@ use Rattle.reuse_header.specs.Neighbour.{is_text, closed_lines, neighbour_end, r
 use Rattle.reuse_header.specs.Splices.{answer_of}
 use Rattle.reuse_header.specs.Reading.{IsSayable}
 use Rattle.reuse_header.specs.Laws.{AreContents, neighbour_info_written}
-use Rattle.reuse_header.proofs.TrimLemmas.{truth}
+use Rattle.std.proofs.lemmas.Bool.{cases_Bool as truth}
 use Rattle.reuse_header.proofs.CutLemmas.{file_size, mark_within}
 use Rattle.reuse_header.proofs.SpanLemmas.{last-place, last-closed}
 use Rattle.reuse_header.proofs.AgainLemmas.{ended_lines, ended_lines-text, parts_again}
@@ -105,6 +106,36 @@ open_made laws made rest kind contents is good place =
     ap (λ (xs : List TextLine). open_contents (placed (mark_len_of made) xs)) same
     ∙ open_written made kind contents (lines_of rest) (mark_len_of made) (laws.well rest) (omega (arith, size, n)) (at ∙ place)
 
+-- the same where what is written stands before the first barrier
+open_inserted : (made : List ℕ) (kind : LineKind) (contents : List (List ℕ)) (lines : List TextLine) (start : ℕ)
+    → start + length (ended_by kind contents) ≤ place_in made (closed_lines (placed start (ended_lines kind contents ++ lines)))
+    → (rest : List (List ℕ)) × (open_contents (placed start (ended_lines kind contents ++ lines)) ≡ contents ++ rest)
+unfolding ended_lines
+open_inserted made kind [] lines start place = (open_contents (placed start lines), refl)
+open_inserted made kind (c ∷ contents) lines start place = elim (truth (is_barrier c)) [
+  | inl e ↦ (let first = rw e at place in
+      let n = length-append (c ++ ending_bytes (Some kind)) (ended_by kind contents) in
+      let m = length-append c (ending_bytes (Some kind)) in
+      let some = ending_some kind in
+      absurd (omega (arith, first, n, m, some)))
+  | inr e ↦ (let behind = rw e at place in
+      let n = length-append (c ++ ending_bytes (Some kind)) (ended_by kind contents) in
+      let deep = open_inserted made kind contents lines (start + length (c ++ ending_bytes (Some kind))) (omega (arith, behind, n)) in
+      rw e (deep.0, ap (λ (cs : List (List ℕ)). c ∷ cs) deep.1))
+]
+
+-- the lines of the neighbour that was made, behind which others may stand
+open_begun : Laws → (made rest : List ℕ) (kind : LineKind) (contents : List (List ℕ)) → after_mark made ≡ ended_by kind contents ++ rest → AreContents kind contents
+    → mark_len_of made + length (ended_by kind contents) ≤ neighbour_end made → (more : List (List ℕ)) × (open_contents (file_lines made) ≡ contents ++ more)
+open_begun laws made rest kind contents is good place =
+    let ls = ended_lines kind contents ++ lines_of rest in
+    let are = written_are kind contents (lines_of rest) good (laws.well rest) in
+    let text : text_of ls ≡ after_mark made = written_text kind contents (lines_of rest) ∙ ap (λ (xs : List ℕ). ended_by kind contents ++ xs) (laws.joined rest) ∙ sym is in
+    let same : lines_of (after_mark made) ≡ ls = sym (laws.only (after_mark made) ls are text) in
+    let at = ap (λ (xs : List TextLine). place_in made (closed_lines (placed (mark_len_of made) xs))) same in
+    let begun = open_inserted made kind contents (lines_of rest) (mark_len_of made) (omega (arith, at, place)) in
+    (begun.0, ap (λ (xs : List TextLine). open_contents (placed (mark_len_of made) xs)) same ∙ begun.1)
+
 -- ---- a second call
 
 is_replacement : (replace : Bool) (file text : List ℕ) → replace ≡ true → neighbour_edit replace file text ≡ replacement (mark_len_of file) (neighbour_end file) text
@@ -116,6 +147,30 @@ standing : (replace : Bool) (made : List ℕ) (start end : ℕ) → replace ≡ 
 standing replace made start end e stands =
     let both = and_parts (mark_len_of made == start) (neighbour_end made == end) (ap (λ (r : Bool). neighbour_stands r made start end) (sym e) ∙ stands) in
     (eqb-true (mark_len_of made) start both.0, eqb-true (neighbour_end made) end both.1)
+
+is_insertion : (replace : Bool) (file text : List ℕ) → replace ≡ false
+    → (let edit = neighbour_edit replace file text in (edit.start ≡ mark_len_of file) × (edit.front ≡ []) × (edit.text ≡ text))
+unfolding neighbour_edit
+is_insertion true file text e = absurd (false≢true (sym e))
+is_insertion false file text e = (refl, refl, refl)
+
+standing_first : (replace : Bool) (made : List ℕ) (start end : ℕ) → replace ≡ false → neighbour_stands replace made start end ≡ true → (mark_len_of made ≡ start) × (end ≤ neighbour_end made)
+standing_first replace made start end e stands =
+    let both = and_parts (mark_len_of made == start) (nat_le end (neighbour_end made)) (ap (λ (r : Bool). neighbour_stands r made start end) (sym e) ∙ stands) in
+    (eqb-true (mark_len_of made) start both.0, leb-true end (neighbour_end made) both.1)
+
+-- behind the mark of what is made stands the text
+text_behind : (file made : List ℕ) (edit : Edit) → made ≡ edited file edit → edit.start ≡ mark_len_of file → edit.front ≡ [] → mark_len_of made ≡ text_start edit
+    → after_mark made ≡ edit.text ++ (edit.back ++ drop (edit.start + edit.old_len) file)
+text_behind file made edit is start front there =
+    let fits = mark_within file in
+    let n : length (take edit.start file) ≡ edit.start = simp length-take (omega (arith, start, fits)) in
+    let a = take edit.start file ++ edit.front in
+    let d = edit.back ++ drop (edit.start + edit.old_len) file in
+    let size = length-append (take edit.start file) edit.front in
+    let parts : made ≡ a ++ (edit.text ++ d) = is ∙ parts_again (take edit.start file) edit.front edit.text edit.back (drop (edit.start + edit.old_len) file) in
+    let at : mark_len_of made ≡ length a = omega (arith, there, n, size) in
+    ap (λ (k : ℕ). drop k made) at ∙ ap (drop (length a)) parts ∙ drop-append_seam a (edit.text ++ d)
 
 stands_yes : (made : List ℕ) (start end : ℕ) → mark_len_of made ≡ start → neighbour_end made ≡ end → neighbour_stands true made start end ≡ true
 stands_yes made start end p q =
@@ -143,6 +198,50 @@ read_back laws info s =
     ap (λ (lines : List (List ℕ)). info_of [] (map without_returns lines)) (append-nil (inner_lines neighbour_marks info))
     ∙ reads_back laws.sets [] (λ line. without_returns line) neighbour_marks info neighbour_reader s
 
+-- what is read of the neighbour that was made, where the block is replaced
+pub neighbour_opened : Known → Laws → (how : How) (arguments : Arguments) (file : List ℕ) (edit : Edit) → how.replace ≡ true → ArePlain (additions_of arguments)
+    → neighbour_annotation_of how (additions_of arguments) file ≡ Ok edit → info_of [] (neighbour_contents (edited file edit)) ≡ neighbour_info_written how (additions_of arguments) file
+neighbour_opened known laws how arguments file edit replace plain e =
+    let info = neighbour_info_written how (additions_of arguments) file in
+    let made = edited file edit in
+    let kind = kind_of_file file in
+    let lines = block_lines neighbour_marks info in
+    let w = neighbour_ok how (additions_of arguments) file edit e in
+    let written = neighbour_sayable known laws.well how arguments file kind plain in
+    let same = w.same ∙ is_replacement how.replace file (block_text neighbour_marks kind info) replace in
+    let text_is : edit.text ≡ ended_by kind lines = ap (λ (x : Edit). x.text) same ∙ text_lines neighbour_marks kind info in
+    let there = standing how.replace made (text_start edit) (text_end edit) replace w.stands in
+    let d = edit.back ++ drop (edit.start + edit.old_len) file in
+    let after = text_behind file made edit refl (ap (λ (x : Edit). x.start) same) (ap (λ (x : Edit). x.front) same) there.0 ∙ ap (λ (t : List ℕ). t ++ d) text_is in
+    let wide = ap length text_is in
+    ap (λ (cs : List (List ℕ)). info_of [] (map without_returns cs)) (open_made laws made d kind lines after written.1 (omega (arith, there.0, there.1, wide)))
+    ∙ read_back laws info written.0
+
+-- and where it is put in front of others
+pub neighbour_begun : Known → Laws → (how : How) (arguments : Arguments) (file : List ℕ) (edit : Edit) → how.replace ≡ false → ArePlain (additions_of arguments)
+    → neighbour_annotation_of how (additions_of arguments) file ≡ Ok edit
+    → (let info = neighbour_info_written how (additions_of arguments) file in info_of [] (take (length (block_lines neighbour_marks info)) (neighbour_contents (edited file edit))) ≡ info)
+neighbour_begun known laws how arguments file edit add plain e =
+    let info = neighbour_info_written how (additions_of arguments) file in
+    let made = edited file edit in
+    let kind = kind_of_file file in
+    let lines = block_lines neighbour_marks info in
+    let w = neighbour_ok how (additions_of arguments) file edit e in
+    let written = neighbour_sayable known laws.well how arguments file kind plain in
+    let is = is_insertion how.replace file (block_text neighbour_marks kind info) add in
+    let text_is : edit.text ≡ ended_by kind lines = ap (λ (x : Edit). x.text) w.same ∙ is.2 ∙ text_lines neighbour_marks kind info in
+    let there = standing_first how.replace made (text_start edit) (text_end edit) add w.stands in
+    let d = edit.back ++ drop (edit.start + edit.old_len) file in
+    let after = text_behind file made edit refl (ap (λ (x : Edit). x.start) w.same ∙ is.0) (ap (λ (x : Edit). x.front) w.same ∙ is.1) there.0 ∙ ap (λ (t : List ℕ). t ++ d) text_is in
+    let wide = ap length text_is in
+    let begun = open_begun laws made d kind lines after written.1 (omega (arith, there.0, there.1, wide)) in
+    let contents : neighbour_contents made ≡ map without_returns lines ++ map without_returns begun.0 = ap (map without_returns) begun.1 ∙ map-append without_returns lines begun.0 in
+    let n : length lines ≡ length (map without_returns lines) = sym (length-map lines without_returns) in
+    ap (λ (cs : List (List ℕ)). info_of [] (take (length lines) cs)) contents
+    ∙ ap (λ (k : ℕ). info_of [] (take k (map without_returns lines ++ map without_returns begun.0))) n
+    ∙ ap (info_of []) (take-append_seam (map without_returns lines) (map without_returns begun.0))
+    ∙ read_back laws info written.0
+
 quiet_edit : (made text : List ℕ) (start end : ℕ) → spliced made start (end - start) ([] ++ (text ++ [])) ≡ made
     → (let edit = replacement start end text in (edited made edit ≡ made) × (answer_of made (Ok edit) ≡ Ok None) × (text_start edit ≡ start) × (text_end edit ≡ start + length text))
 quiet_edit made text start end e = (e, ap (λ (s : Option Splice). Ok s) (no_splice made start (end - start) ([] ++ (text ++ [])) e), (omega arith), (omega arith))
@@ -161,8 +260,6 @@ edit_again known laws how arguments file edit replace plain is_text_too e =
     let front : edit.front ≡ [] = ap (λ (x : Edit). x.front) same in
     let text_is : edit.text ≡ block_text neighbour_marks kind info = ap (λ (x : Edit). x.text) same in
     let there = standing how.replace made (text_start edit) (text_end edit) replace w.stands in
-    let lines = block_lines neighbour_marks info in
-    let text_lines_are : edit.text ≡ ended_by kind lines = text_is ∙ text_lines neighbour_marks kind info in
     let fits = mark_within file in
     let n : length (take edit.start file) ≡ edit.start = simp length-take (omega (arith, start, fits)) in
     let a = take edit.start file ++ edit.front in
@@ -170,13 +267,8 @@ edit_again known laws how arguments file edit replace plain is_text_too e =
     let size = length-append (take edit.start file) edit.front in
     let parts : made ≡ a ++ (edit.text ++ d) = parts_again (take edit.start file) edit.front edit.text edit.back (drop (edit.start + edit.old_len) file) in
     let at : mark_len_of made ≡ length a = omega (arith, there.0, n, size) in
-    let after : after_mark made ≡ ended_by kind lines ++ d =
-    ap (λ (k : ℕ). drop k made) at ∙ ap (drop (length a)) parts ∙ drop-append_seam a (edit.text ++ d) ∙ ap (λ (t : List ℕ). t ++ d) text_lines_are in
-    let wide = ap length text_lines_are in
-    let opened = open_made laws made d kind lines after written.1 (omega (arith, there.0, there.1, wide)) in
-    let contents : replaced_contents how.replace made ≡ map without_returns lines =
-    ap (λ (r : Bool). replaced_contents r made) replace ∙ ap (map without_returns) opened in
-    let says = same_info laws [] (replaced_contents how.replace file) (replaced_contents how.replace made) how.merge additions (ap (info_of []) contents ∙ read_back laws info written.0) in
+    let reads = ap (λ (r : Bool). info_of [] (replaced_contents r made)) replace ∙ neighbour_opened known laws how arguments file edit replace plain e in
+    let says = same_info laws [] (replaced_contents how.replace file) (replaced_contents how.replace made) how.merge additions reads in
     let begins = subst (Begins kind) (sym front) (replacement_begins kind) in
     let plain_front : Feedless (take edit.start file) → ends_in_return (take edit.start file) ≡ false = λ f. ap (λ (k : ℕ). ends_in_return (take k file)) start ∙ (mark_plain file).1 in
     let again = same_text file edit neighbour_marks info text_is written.1 begins plain_front in

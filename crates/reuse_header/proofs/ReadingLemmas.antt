@@ -21,7 +21,7 @@ use Rattle.reuse_header.specs.Marks.{LineMarks, marks_of}
 use Rattle.reuse_header.specs.Blocks.{without_returns, without_star, between_marks, single_content, multi_content, contents_from, contents_of}
 use Rattle.reuse_header.specs.Writing.{neighbour_marks, contributor_text, licence_text, joined, set_off, separator_of, holder_lines, licence_lines, free_lines, inner_lines, block_lines}
 use Rattle.reuse_header.specs.Reading.{IsSayable}
-use Rattle.reuse_header.proofs.TrimLemmas.{truth}
+use Rattle.std.proofs.lemmas.Bool.{cases_Bool as truth}
 
 -- ---- bytes without those at their ends
 

@@ -26,7 +26,7 @@ use Rattle.reuse_header.specs.Split.{size_of}
 use Rattle.reuse_header.proofs.SplitLemmas.{split_found}
 use Rattle.reuse_header.specs.Writing.{contributor_text, licence_text}
 use Rattle.reuse_header.specs.Reading.{IsSayable, AreSayable}
-use Rattle.reuse_header.proofs.TrimLemmas.{truth}
+use Rattle.std.proofs.lemmas.Bool.{cases_Bool as truth}
 
 -- ---- lists without what passes a test at their ends
 

@@ -7,7 +7,7 @@ use Rattle.reuse_text.specs.Text.{TextLine, line_bytes, text_of, lines_of, place
 use Rattle.reuse_header.specs.declared.style.Style.{Style}
 use Rattle.reuse_header.specs.Body.{PlacedLines, is_shebang, is_declaration, is_barrier, without_first, body_lines, place_in}
 use Rattle.reuse_header.specs.Neighbour.{closed_lines, neighbour_end}
-use Rattle.reuse_header.proofs.TrimLemmas.{truth}
+use Rattle.std.proofs.lemmas.Bool.{cases_Bool as truth}
 
 -- the last lines of a file, from a place on, and not before another one
 pub record AreLast (file : List ℕ) (least : ℕ) (lines : PlacedLines) : Type 0 where

@@ -11,7 +11,7 @@ use Rattle.reuse_header.specs.Body.{PlacedLines, is_barrier, open_contents}
 use Rattle.reuse_header.specs.Blocks.{block_at, contents_of}
 use Rattle.reuse_header.specs.Header.{Header, lines_inside, header_in}
 use Rattle.reuse_header.specs.Split.{AreCommentBlocks, IsSplitBy, IsSplit, begins_in, comment_blocks, is_tagged, size_of}
-use Rattle.reuse_header.proofs.TrimLemmas.{truth}
+use Rattle.std.proofs.lemmas.Bool.{cases_Bool as truth}
 use Rattle.reuse_header.proofs.CountLemmas.{block_at-within, block_at-nil}
 use Rattle.reuse_header.proofs.HeaderLemmas.{header_in-cons, header_in-barrier, none_here, tagged-true, tagged-false}
 

@@ -11,7 +11,7 @@ use Rattle.reuse_header.specs.Styles.{BlockForm}
 use Rattle.reuse_header.specs.Search.{place_of}
 use Rattle.reuse_header.specs.Blocks.{ends_block, count_from, count_to_closer, multi_count}
 use Rattle.reuse_header.specs.Laws.{StandsAt, StandsNowhere, IsFirstPlace, IsEndedBy, IsEnclosed}
-use Rattle.reuse_header.proofs.TrimLemmas.{truth}
+use Rattle.std.proofs.lemmas.Bool.{cases_Bool as truth}
 
 some_is_none : {X : Type 0} (x : X) → None ≡ Some x → ⊥
 some_is_none x e = cc

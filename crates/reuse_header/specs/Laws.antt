@@ -1,5 +1,5 @@
 -- Words of the laws (this project's own).
-use Rattle.std.specs.Prelude.{◌≡◌, ℕ, ◌+◌, ◌-◌, ◌<◌, Bool, true, false, List, [], ◌∷◌, ◌++◌, length, map, take, drop, Contains, All, ◌⊎◌, None, Some}
+use Rattle.std.specs.Prelude.{◌≡◌, ℕ, ◌+◌, ◌-◌, ◌<◌, Bool, true, false, List, [], ◌∷◌, ◌++◌, length, map, take, drop, Contains, All, ◌⊎◌, Option, None, Some}
 use Rattle.reuse_text.specs.declared.LineKind.{LineKind}
 use Rattle.reuse_notice.specs.declared.infos.Info.{Info}
 use Rattle.reuse_notice.specs.Keeping.{IsKeptBy}
@@ -102,6 +102,10 @@ pub record ReadsAs (style : Style) (file : List ℕ) (start end : ℕ) (form : F
   pub ends : span.end ≡ end
   pub same_form : span.form ≡ form
   pub says : info_of (punctuation_of style) span.contents ≡ info
+
+-- what the header block of a file says, if it has one
+abbrev pub information_in : Style → List ℕ → Option Info
+information_in style file = option_map (λ header. info_of (punctuation_of style) header.contents) (header_of style file)
 
 -- each text is the content of a line with that ending
 abbrev pub AreContents : LineKind → List (List ℕ) → Type 0

@@ -1,3 +1,4 @@
+// The tags below are data: REUSE-IgnoreStart
 use super::*;
 use reuse_notice::{Additions, Prefix};
 use std::alloc::Global;

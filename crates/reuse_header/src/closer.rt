@@ -1,4 +1,4 @@
-// Whether a line of a new block would end it.
+//! Whether a line of a new block would end it.
 ghost use Rattle.std.specs.Prelude.{◌≡◌, ◌++◌, map, IfOk, not, ◌&&◌, ◌||◌};
 ghost use Rattle.std.specs.List.{list_any};
 ghost use Rattle.reuse_header.specs.Search.{holds};
@@ -30,7 +30,9 @@ fn any_line_holds(alloc: Global, text: &[u8], marks: Marks, info: &Info) -> Resu
     let notices = line_holds(alloc, text, marks.lead, b"", info.notices())?;
     let tag = b"SPDX-FileContributor: ";
     let contributors = line_holds(alloc, text, marks.lead, tag, info.contributors())?;
+    // REUSE-IgnoreStart
     let tag = b"SPDX-License-Identifier: ";
+    // REUSE-IgnoreEnd
     let licences = line_holds(alloc, text, marks.lead, tag, info.licences())?;
     let free = line_holds(alloc, text, marks.mark, b"", info.free())?;
     Ok(separator | notices | contributors | licences | free)

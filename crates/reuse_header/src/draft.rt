@@ -1,4 +1,4 @@
-// The edit that writes a header block, before it is seen whether the block would be found again.
+//! The edit that writes a header block, before it is seen whether the block would be found again.
 ghost use Rattle.std.specs.Prelude.{◌+◌, ◌≤◌, length};
 ghost use Rattle.reuse_header.specs.Marks.{marks_view};
 ghost use Rattle.reuse_header.specs.Writing.{block_text};

@@ -23,7 +23,7 @@ ghost use Rattle.reuse_notice.specs.declared.infos.Info.{Info};
 ghost use Rattle.reuse_notice.specs.Infos.{info_of, union_of, merged_of};
 ghost use Rattle.reuse_text.specs.declared.LineKind.{LineKind};
 ghost use Rattle.reuse_text.specs.Text.{file_lines, mark_len_of};
-ghost use Rattle.reuse_header.specs.Laws.{part, IsFirstPlace, StandsNowhere, IsEndedBy, IsEnclosed, IsCutAtBarrier, IsInsertion, Keeps, IsBlockText, ReadsAs, AreContents, EndsPlainly, info_written, neighbour_info_written};
+ghost use Rattle.reuse_header.specs.Laws.{part, IsFirstPlace, StandsNowhere, IsEndedBy, IsEnclosed, IsCutAtBarrier, IsInsertion, Keeps, IsBlockText, ReadsAs, AreContents, EndsPlainly, information_in, info_written, neighbour_info_written};
 ghost use Rattle.reuse_header.specs.Splices.{answer_of};
 ghost use Rattle.reuse_header.specs.Split.{AreCommentBlocks, comment_blocks, IsSplit, IsHeaderBlock, HasNoHeader};
 
@@ -187,6 +187,25 @@ pub fn written_information_is_sayable()
     longest_prefix_counts();
     merged_notices_are_written();
     holders_are_values();
+}
+
+/// What is read of the file that annotating made is the information that was to be written: its header block says that, or a
+/// neighbour's contents, or, where old ones are not to be replaced, the first of them, which are the lines of the new block.
+pub fn annotated_files_read_back()
+    ensures files { (style : Style) (how : How) (arguments : Arguments) (file made : List ℕ) → ArePlain (additions_of arguments) → annotated style how (additions_of arguments) file ≡ Ok made
+        → information_in style made ≡ Some (info_written style how (additions_of arguments) file) }
+    ensures neighbours { (how : How) (arguments : Arguments) (file made : List ℕ) → how.replace ≡ true → ArePlain (additions_of arguments) → neighbour_annotated how (additions_of arguments) file ≡ Ok made
+        → info_of [] (neighbour_contents made) ≡ neighbour_info_written how (additions_of arguments) file }
+    ensures begun_neighbours { (how : How) (arguments : Arguments) (file made : List ℕ) → how.replace ≡ false → ArePlain (additions_of arguments) → neighbour_annotated how (additions_of arguments) file ≡ Ok made
+        → let info = neighbour_info_written how (additions_of arguments) file in
+        info_of [] (take (length (block_lines neighbour_marks info)) (neighbour_contents made)) ≡ info }
+{
+    lines_are_one();
+    sets_are_one();
+    longest_prefix_counts();
+    merged_notices_are_written();
+    holders_are_values();
+    repeating_adds_nothing();
 }
 
 /// Where old blocks are replaced, the same call on the file that annotating made changes nothing. One file is

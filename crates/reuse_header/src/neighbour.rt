@@ -1,4 +1,4 @@
-// The change that adds licensing information to a neighbour file.
+//! The change that adds licensing information to a neighbour file.
 ghost use Rattle.std.specs.Prelude.{◌≡◌, ◌≤◌, IfOk, length, map};
 ghost use Rattle.reuse_header.specs.Open.{open_left};
 ghost use Rattle.reuse_header.specs.Blocks.{without_returns};

@@ -1,4 +1,4 @@
-// Where the text of a header block goes in a file, and which endings set it off.
+//! Where the text of a header block goes in a file, and which endings set it off.
 ghost use Rattle.std.specs.Prelude.{◌≡◌, ℕ, List, ◌+◌, ◌-◌, ◌≤◌, length, true, false, is_some, None};
 ghost use Rattle.std.specs.Option.{option_map, option_map_or, option_to_list};
 ghost use Rattle.reuse_text.specs.Text.{file_lines, mark_len_of};

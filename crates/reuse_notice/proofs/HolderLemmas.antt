@@ -10,7 +10,7 @@ use Rattle.reuse_notice.specs.Prefixes.{prefix_text, longest_first}
 use Rattle.reuse_notice.specs.Tags.{NoticeText, is_blank, all_blank, drop_front, drop_end, trimmed, needs_no_space, leaves_value, prefix_of, years_written, years_in, years_or, years_front, notice_behind, notice_of}
 use Rattle.reuse_notice.specs.Merging.{class_of, class_text, class_prefix, class_years, merged_as, merged}
 use Rattle.reuse_notice.specs.Keeping.{IsWrittenOf}
-use Rattle.reuse_notice.proofs.BlankLemmas.{truth}
+use Rattle.std.proofs.lemmas.Bool.{cases_Bool as truth}
 use Rattle.reuse_notice.proofs.PlainLemmas.{and-parts, all-drop_end, drop_end-twice, drop_front-kept}
 use Rattle.reuse_notice.proofs.PrefixLemmas.{found_passes}
 use Rattle.reuse_notice.proofs.SetLemmas.{In-from_contains, Contains-from_in, In-set_of}

@@ -15,7 +15,7 @@ use Rattle.reuse_notice.specs.Adding.{Refusal, bad_expression, bad_licence, is_c
 use Rattle.reuse_notice.specs.Expressions.{is_word_byte, word_len, has_plus, word_token, token_at, token_len, tokens_from}
 use Rattle.reuse_notice.specs.ExpressionSteps.{step_at, step_of, fault_from, fault_of, start}
 use Rattle.reuse_notice.specs.Plain.{IsPlain}
-use Rattle.reuse_notice.proofs.BlankLemmas.{truth}
+use Rattle.std.proofs.lemmas.Bool.{cases_Bool as truth}
 use Rattle.reuse_notice.proofs.PlainLemmas.{trimmed-twice, or-none, or-parts}
 
 no-stray : (s : State) → step_of s Stray ≡ None

@@ -17,7 +17,7 @@ use Rattle.reuse_notice.specs.Tags.{drop_front, drop_end, year_of}
 use Rattle.reuse_notice.specs.Texts.{texts_of}
 use Rattle.reuse_notice.specs.Adding.{is_space, is_control, is_bad_text, holds, ignore_start, snippet_begin, without_spaces, four_digits, years_text, chosen_years, notice_written}
 use Rattle.reuse_notice.specs.Plain.{IsPlain}
-use Rattle.reuse_notice.proofs.BlankLemmas.{truth}
+use Rattle.std.proofs.lemmas.Bool.{cases_Bool as truth}
 
 -- ---- what is left at the ends
 

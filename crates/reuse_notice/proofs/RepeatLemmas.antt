@@ -75,7 +75,7 @@ same_filters p xs ys sx sy f g =
     (λ t h. let k = In-from_filter p xs t h in In-filter p ys t (f t k.1 k.0) k.1)
     (λ t h. let k = In-from_filter p ys t h in In-filter p xs t (g t k.1 k.0) k.1)
 
-among_yes : (texts : List (List ℕ)) (t : List ℕ) → In t texts → is_among texts t ≡ true
+pub among_yes : (texts : List (List ℕ)) (t : List ℕ) → In t texts → is_among texts t ≡ true
 among_yes [] t h = absurd h
 among_yes (x ∷ texts) t (inl e) = here (bytes_eq x t) ((bytes_eq-Decides x t).1 (sym e))
   where
@@ -88,7 +88,7 @@ among_yes (x ∷ texts) t (inr h) = behind (bytes_eq x t) (among_yes texts t h)
     behind true e = refl
     behind false e = e
 
-among_in : (texts : List (List ℕ)) (t : List ℕ) → is_among texts t ≡ true → In t texts
+pub among_in : (texts : List (List ℕ)) (t : List ℕ) → is_among texts t ≡ true → In t texts
 among_in [] t e = absurd (cc e)
 among_in (x ∷ texts) t e = by (bytes_eq x t) refl e (λ f. among_in texts t f)
   where
@@ -98,7 +98,7 @@ among_in (x ∷ texts) t e = by (bytes_eq x t) refl e (λ f. among_in texts t f)
 
 -- ---- notices and their classes
 
-text_kept : (text : List ℕ) (n : NoticeText) → notice_of text ≡ Some n → n.text ≡ text
+pub text_kept : (text : List ℕ) (n : NoticeText) → notice_of text ≡ Some n → n.text ≡ text
 text_kept text n e = by (prefix_of text) e
   where
     by : (o : Option Prefix) → option_map (notice_behind text) o ≡ Some n → n.text ≡ text
@@ -109,10 +109,10 @@ text_kept text n e = by (prefix_of text) e
 abbrev names : List ℕ → List ℕ → Bool
 names holder text = is_some (member holder text)
 
-held : (holder text : List ℕ) (n : NoticeText) → notice_of text ≡ Some n → n.holder ≡ holder → member holder text ≡ Some n
+pub held : (holder text : List ℕ) (n : NoticeText) → notice_of text ≡ Some n → n.holder ≡ holder → member holder text ≡ Some n
 held holder text n is of = ap (option_and_then (with_holder holder)) is ∙ ap (λ b. cond b (Some n) None) ((bytes_eq-Decides n.holder holder).1 of)
 
-named : (holder text : List ℕ) (n : NoticeText) → member holder text ≡ Some n → (notice_of text ≡ Some n) × (n.holder ≡ holder)
+pub named : (holder text : List ℕ) (n : NoticeText) → member holder text ≡ Some n → (notice_of text ≡ Some n) × (n.holder ≡ holder)
 named holder text n e = by (notice_of text) refl e
   where
     by_holder : (m : NoticeText) → notice_of text ≡ Some m → (b : Bool) → bytes_eq m.holder holder ≡ b → cond b (Some m) None ≡ Some n → (notice_of text ≡ Some n) × (n.holder ≡ holder)

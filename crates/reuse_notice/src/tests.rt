@@ -1,55 +1,64 @@
+// The tags below are data: REUSE-IgnoreStart
 use super::*;
 use reuse_text::Bytes;
 use std::alloc::{AllocError, Global};
 use std::test::Fail;
 
-// The bytes of a text, and none past the end.
-fn text_at(texts: &[Bytes], i: usize) -> &[u8] {
-    match texts.get(i) {
-        Some(text) => text.as_slice(),
-        None => &[],
+/// Whether these are the texts: this one alone.
+fn is_one(texts: &[Bytes], only: &[u8]) -> bool {
+    match texts {
+        [text] => text.as_slice() == only,
+        _ => false,
     }
 }
 
-fn notice_in<'a>(content: &'a [u8]) -> Result<Notice<'a>, Fail> {
+/// Whether these are the texts: these two, in order.
+fn are_two(texts: &[Bytes], first: &[u8], second: &[u8]) -> bool {
+    match texts {
+        [one, other] => one.as_slice() == first && other.as_slice() == second,
+        _ => false,
+    }
+}
+
+/// Whether the content is read as this notice.
+fn is_notice(content: &[u8], prefix: Prefix, years: Option<Years>, holder: &[u8]) -> bool {
     match read_tag(content, b"#") {
-        Some(Tag::Notice(notice)) => Ok(notice),
-        _ => Err("no notice")?,
+        Some(Tag::Notice(notice)) => {
+            notice.prefix == prefix && notice.years == years && notice.holder == holder
+        }
+        _ => false,
     }
 }
 
 #[test]
-fn reads_years_and_holder(rt: HostRuntime) -> Result<(), Fail> {
-    let notice = notice_in(b" SPDX-FileCopyrightText: 2019 - 2020 Jo")?;
-    assert_eq!(rt; notice.prefix, Prefix::Spdx);
-    assert_eq!(rt;
-        notice.years,
-        Some(Years {
-            low: 2019,
-            high: 2020
-        })
+fn reads_years_and_holder(rt: HostRuntime) {
+    let content = b" SPDX-FileCopyrightText: 2019 - 2020 Jo";
+    let years = Years {
+        low: 2019,
+        high: 2020,
+    };
+    assert!(rt; is_notice(content, Prefix::Spdx, Some(years), b"Jo"));
+}
+
+#[test]
+fn takes_the_longest_prefix_with_a_value(rt: HostRuntime) {
+    assert!(rt; is_notice(b" Copyright (C)", Prefix::String, None, b"(C)"));
+    match read_tag(b" Copyright (C)", b"#") {
+        Some(Tag::Notice(notice)) => assert!(rt; notice.text == b"Copyright (C)".as_slice()),
+        _ => assert!(rt; false),
+    }
+}
+
+#[test]
+fn keeps_a_lone_year_as_holder(rt: HostRuntime) {
+    assert!(rt;
+        is_notice(
+            b" SPDX-FileCopyrightText: 2019",
+            Prefix::Spdx,
+            None,
+            b"2019"
+        )
     );
-    assert_eq!(rt; notice.holder, b"Jo".as_slice());
-    Ok(())
-}
-
-#[test]
-fn takes_the_longest_prefix_with_a_value(rt: HostRuntime) -> Result<(), Fail> {
-    let notice = notice_in(b" Copyright (C)")?;
-    assert_eq!(rt; notice.prefix, Prefix::String);
-    assert_eq!(rt; notice.years, None);
-    assert_eq!(rt; notice.holder, b"(C)".as_slice());
-    assert_eq!(rt; notice.text, b"Copyright (C)".as_slice());
-    Ok(())
-}
-
-#[test]
-fn keeps_a_lone_year_as_holder(rt: HostRuntime) -> Result<(), Fail> {
-    let notice = notice_in(b" SPDX-FileCopyrightText: 2019")?;
-    assert_eq!(rt; notice.prefix, Prefix::Spdx);
-    assert_eq!(rt; notice.years, None);
-    assert_eq!(rt; notice.holder, b"2019".as_slice());
-    Ok(())
 }
 
 #[test]
@@ -60,24 +69,32 @@ fn reads_no_tag_without_a_value(rt: HostRuntime) {
 }
 
 fn fault(text: &str) -> Option<usize> {
-    check_expression(text).err().map(|fault| fault.place)
+    match check_expression(text) {
+        Ok(()) => None,
+        Err(fault) => Some(fault.place),
+    }
 }
 
 #[test]
 fn checks_expressions(rt: HostRuntime) {
-    assert_eq!(rt; fault("(MIT OR ISC) AND GPL-2.0+ WITH x"), None);
-    assert_eq!(rt; fault("MIT AND"), Some(7));
-    assert_eq!(rt; fault("MIT ISC"), Some(4));
-    assert_eq!(rt; fault("MIT++"), Some(4));
-    assert_eq!(rt; fault(""), Some(0));
-    assert_eq!(rt; fault("MIT And ISC"), Some(4));
-    assert_eq!(rt; fault("(MIT) WITH x"), Some(6));
-    assert_eq!(rt; fault("MIT WITH x+"), Some(9));
-    assert_eq!(rt; fault("(MIT"), Some(4));
-    assert_eq!(rt; fault("MIT)"), Some(3));
-    assert_eq!(rt; fault("a+b"), Some(2));
-    assert_eq!(rt; fault("MIT ISC$"), Some(4));
-    assert_eq!(rt; fault("MIT\tor ISC"), Some(3));
+    let cases = [
+        ("(MIT OR ISC) AND GPL-2.0+ WITH x", None),
+        ("MIT AND", Some(7)),
+        ("MIT ISC", Some(4)),
+        ("MIT++", Some(4)),
+        ("", Some(0)),
+        ("MIT And ISC", Some(4)),
+        ("(MIT) WITH x", Some(6)),
+        ("MIT WITH x+", Some(9)),
+        ("(MIT", Some(4)),
+        ("MIT)", Some(3)),
+        ("a+b", Some(2)),
+        ("MIT ISC$", Some(4)),
+        ("MIT\tor ISC", Some(3)),
+    ];
+    for (text, place) in cases {
+        assert_eq!(rt; fault(text), place);
+    }
 }
 
 #[test]
@@ -103,50 +120,41 @@ fn reads_information(rt: HostRuntime) -> Result<(), Fail> {
         b" #",
     ];
     let info = Info::read(rt.alloc(), &contents, b"#")?;
-    assert_eq!(rt; info.licences().len(), 2);
-    assert_eq!(rt; text_at(info.licences(), 0), b"ISC".as_slice());
-    assert_eq!(rt; text_at(info.licences(), 1), b"MIT".as_slice());
-    assert_eq!(rt; info.free().len(), 1);
-    assert_eq!(rt; text_at(info.free(), 0), b" x".as_slice());
-    assert_eq!(rt; info.notices().len(), 1);
-    assert_eq!(rt;
-        text_at(info.notices(), 0),
-        b"Copyright 2020 Jane".as_slice()
-    );
-    assert_eq!(rt; info.contributors().len(), 1);
-    assert_eq!(rt; text_at(info.contributors(), 0), b"Jo".as_slice());
+    assert!(rt; are_two(info.licences(), b"ISC", b"MIT"));
+    assert!(rt; is_one(info.free(), b" x"));
+    assert!(rt; is_one(info.notices(), b"Copyright 2020 Jane"));
+    assert!(rt; is_one(info.contributors(), b"Jo"));
     Ok(())
 }
 
 #[test]
-fn adds_arguments(rt: HostRuntime) -> Result<(), Fail> {
-    let spdx = Prefix::Spdx;
-    let nothing = Additions::new(rt.alloc(), &[], &[], &[], &[], false, 2024, spdx);
-    assert_eq!(rt; told(rt.alloc(), nothing)?.as_str(), "nothing to add");
-    let added = Additions::new(
-        rt.alloc(),
-        &["Jo"],
-        &[],
-        &[],
-        &["2018", "2016"],
-        false,
-        2024,
-        spdx,
-    )?;
-    assert_eq!(rt; added.notices.as_slice().len(), 1);
-    assert_eq!(rt;
-        text_at(added.notices.as_slice(), 0),
-        b"SPDX-FileCopyrightText: 2016 - 2018 Jo".as_slice()
+fn adds_years(rt: HostRuntime) -> Result<(), Fail> {
+    let years = ["2018", "2016"];
+    let alloc = rt.alloc();
+    let added = Additions::new(alloc, &["Jo"], &[], &[], &years, false, 2024, Prefix::Spdx)?;
+    assert!(rt;
+        is_one(
+            added.notices.as_slice(),
+            b"SPDX-FileCopyrightText: 2016 - 2018 Jo"
+        )
     );
-    let info = Info::read(rt.alloc(), &[b" SPDX-License-Identifier: MIT", b" x"], b"#")?;
-    let added = Additions::new(rt.alloc(), &[], &["ISC"], &[], &[], false, 2024, spdx)?;
-    let info = info.union(rt.alloc(), &added)?;
-    let info = info.merge(rt.alloc(), &added)?;
-    assert_eq!(rt; info.licences().len(), 2);
-    assert_eq!(rt; text_at(info.licences(), 0), b"ISC".as_slice());
-    assert_eq!(rt; text_at(info.licences(), 1), b"MIT".as_slice());
-    assert_eq!(rt; info.free().len(), 1);
-    assert_eq!(rt; text_at(info.free(), 0), b" x".as_slice());
+    Ok(())
+}
+
+/// What the additions make of a block that holds these contents.
+fn merged(alloc: Global, contents: &[&[u8]], added: &Additions) -> Result<Info, AllocError> {
+    let info = Info::read(alloc, contents, b"#")?;
+    info.union(alloc, added)?.merge(alloc, added)
+}
+
+#[test]
+fn adds_a_licence(rt: HostRuntime) -> Result<(), Fail> {
+    let alloc = rt.alloc();
+    let spdx = Prefix::Spdx;
+    let added = Additions::new(alloc, &[], &["ISC"], &[], &[], false, 2024, spdx)?;
+    let info = merged(alloc, &[b" SPDX-License-Identifier: MIT", b" x"], &added)?;
+    assert!(rt; are_two(info.licences(), b"ISC", b"MIT"));
+    assert!(rt; is_one(info.free(), b" x"));
     Ok(())
 }
 
@@ -157,8 +165,9 @@ fn merges_one_holder(rt: HostRuntime) -> Result<(), Fail> {
         b" Copyright 2016-2017 Jane Doe",
         b" Copyright Jo",
     ];
+    let alloc = rt.alloc();
     let added = Additions::new(
-        rt.alloc(),
+        alloc,
         &["Jane Doe"],
         &[],
         &[],
@@ -167,57 +176,62 @@ fn merges_one_holder(rt: HostRuntime) -> Result<(), Fail> {
         2024,
         Prefix::Spdx,
     )?;
-    let info = Info::read(rt.alloc(), &contents, b"#")?;
-    let info = info.union(rt.alloc(), &added)?.merge(rt.alloc(), &added)?;
-    assert_eq!(rt; info.notices().len(), 2);
-    assert_eq!(rt; text_at(info.notices(), 0), b"Copyright Jo".as_slice());
-    assert_eq!(rt;
-        text_at(info.notices(), 1),
-        b"SPDX-FileCopyrightText: 2016 - 2024 Jane Doe".as_slice()
-    );
+    let info = merged(alloc, &contents, &added)?;
+    let jane = b"SPDX-FileCopyrightText: 2016 - 2024 Jane Doe";
+    assert!(rt; are_two(info.notices(), b"Copyright Jo", jane));
     Ok(())
 }
 
-// The text of a refusal.
-fn told(alloc: Global, answer: Result<Additions, NoticeRefusal>) -> Result<String, AllocError> {
-    match answer {
-        Ok(_) => String::from_str(alloc, "added"),
-        Err(refusal) => format!(in alloc; "{refusal}"),
+/// Whether the additions are refused with this text.
+fn is_refused(
+    alloc: Global,
+    copyrights: &[&str],
+    licences: &[&str],
+    years: &[&str],
+    without_year: bool,
+    wanted: &str,
+) -> bool {
+    let spdx = Prefix::Spdx;
+    match Additions::new(
+        alloc,
+        copyrights,
+        licences,
+        &[],
+        years,
+        without_year,
+        2024,
+        spdx,
+    ) {
+        Ok(_) => false,
+        Err(refusal) => is_shown_as(alloc, &refusal, wanted),
+    }
+}
+
+fn is_shown_as(alloc: Global, refusal: &NoticeRefusal, wanted: &str) -> bool {
+    match format!(in alloc; "{refusal}") {
+        Ok(text) => text.as_str() == wanted,
+        Err(_) => false,
     }
 }
 
 #[test]
-fn refuses_in_order(rt: HostRuntime) -> Result<(), Fail> {
-    let spdx = Prefix::Spdx;
+fn refuses_in_order(rt: HostRuntime) {
     let alloc = rt.alloc();
-    let answer = Additions::new(
-        alloc,
-        &["Jo"],
-        &["MIT AND "],
-        &[],
-        &["2018"],
-        true,
-        2024,
-        spdx,
+    let licence = ["MIT AND "];
+    let both = ["Jo", " "];
+    assert!(rt; is_refused(alloc, &[], &[], &[], false, "nothing to add"));
+    assert!(rt;
+        is_refused(
+            alloc,
+            &["Jo"],
+            &licence,
+            &["2018"],
+            true,
+            "--year and --exclude-year"
+        )
     );
-    assert_eq!(rt; told(alloc, answer)?.as_str(), "--year and --exclude-year");
-    let answer = Additions::new(alloc, &["Jo", " "], &[], &[], &[" 018"], false, 2024, spdx);
-    assert_eq!(rt; told(alloc, answer)?.as_str(), "bad year: 018");
-    let answer = Additions::new(
-        alloc,
-        &["Jo", " "],
-        &["MIT AND "],
-        &[],
-        &[],
-        false,
-        2024,
-        spdx,
-    );
-    assert_eq!(rt; told(alloc, answer)?.as_str(), "bad text: ");
-    let answer = Additions::new(alloc, &["Jo"], &["MIT AND "], &[], &[], true, 2024, spdx);
-    assert_eq!(rt;
-        told(alloc, answer)?.as_str(),
-        "bad licence expression at 7: MIT AND"
-    );
-    Ok(())
+    assert!(rt; is_refused(alloc, &both, &[], &[" 018"], false, "bad year: 018"));
+    assert!(rt; is_refused(alloc, &both, &licence, &[], false, "bad text: "));
+    let wanted = "bad licence expression at 7: MIT AND";
+    assert!(rt; is_refused(alloc, &["Jo"], &licence, &[], true, wanted));
 }
