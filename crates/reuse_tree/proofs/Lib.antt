@@ -3,3 +3,4 @@ pub mod GoodFiles
 pub mod Contents
 pub mod Parts
 pub mod Turning
+pub mod AskedLemmas

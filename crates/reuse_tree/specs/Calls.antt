@@ -50,3 +50,11 @@ written_of (ListCall answer ∷ calls) = written_of calls
 written_of (ReadCall path limit answer ∷ calls) = written_of calls
 written_of (PutCall path bytes answer took ∷ calls) = written_of calls + counted path bytes
 written_of (RemoveCall path answer took ∷ calls) = written_of calls
+
+-- how many puts and removals there were
+abbrev pub moves_of : List Call → ℕ
+moves_of [] = 0
+moves_of (ListCall answer ∷ calls) = moves_of calls
+moves_of (ReadCall path limit answer ∷ calls) = moves_of calls
+moves_of (PutCall path bytes answer took ∷ calls) = moves_of calls + 1
+moves_of (RemoveCall path answer took ∷ calls) = moves_of calls + 1

@@ -2,8 +2,9 @@ pub mod Path
 pub mod Files
 pub mod Change
 pub mod Store
+pub mod StoreLaws
+pub mod Asked
 pub mod Calls
 pub mod CallParts
 pub mod FileMap
-pub mod FuseStore
-pub mod OnceStore
+pub mod FaultyStore

@@ -1,5 +1,5 @@
 // Files in a map by their paths, none of which is a folder of another.
-ghost use Rattle.std.specs.Prelude.{◌≡◌, ◌≢◌, ◌||◌, IfOk, IfErr, OnOk, IsErrOf};
+ghost use Rattle.std.specs.Prelude.{◌≡◌, ◌≢◌, ◌++◌, ◌||◌, IfOk, IfErr, OnOk, IsErrOf};
 ghost use Rattle.std.specs.FinMap as map;
 ghost use Rattle.std.specs.List.{list_any};
 ghost use Rattle.std.specs.BTreeMap.{keys, IsOrdered};
@@ -65,22 +65,24 @@ impl FileMap {
         }
     }
 
-    /// Makes the path's file these bytes. An `Err` changes nothing.
-    pub(crate) fn put(
+    /// Makes the path's file these three parts joined. An `Err` changes nothing.
+    pub(crate) fn put_parts(
         &mut self,
         alloc: Global,
         path: &PathText,
-        bytes: &[u8],
+        front: &[u8],
+        middle: &[u8],
+        back: &[u8],
     ) -> Result<(), StoreFault>
-        ensures ok { OnOk result (Puts path.now bytes.now (files_of self.old) (files_of self.new)) }
-        ensures err { IfErr result (λ fault. PutFails fault path.now bytes.now (files_of self.old) (files_of self.new)) }
+        ensures ok { OnOk result (Puts path.now (front.now ++ middle.now ++ back.now) (files_of self.old) (files_of self.new)) }
+        ensures err { IfErr result (λ fault. PutFails fault path.now (front.now ++ middle.now ++ back.now) (files_of self.old) (files_of self.new)) }
         ensures no_device { result ≢ Err StoreFault.Device }
     {
         if self.clashes(path) {
             return Err(StoreFault::Clash);
         }
         let path = path.try_clone(alloc)?;
-        let bytes = Bytes::from_slice(alloc, bytes)?;
+        let bytes = joined(alloc, front, middle, back)?;
         self.contents.insert(path, bytes)?;
         Ok(())
     }
@@ -101,4 +103,22 @@ impl FileMap {
             .keys()
             .any(|other| other.lies_under(path) || path.lies_under(other))
     }
+}
+
+// The parts joined, as the bytes of one file.
+fn joined(alloc: Global, front: &[u8], middle: &[u8], back: &[u8]) -> Result<Bytes, AllocError>
+    ensures { IfOk result (λ bytes. bytes ≡ front.now ++ middle.now ++ back.now) }
+{
+    // No memory holds more bytes than a number counts.
+    let Some(start) = front.len().checked_add(middle.len()) else {
+        return Err(AllocError);
+    };
+    let Some(len) = start.checked_add(back.len()) else {
+        return Err(AllocError);
+    };
+    let mut bytes = Vec::with_capacity(alloc, len)?;
+    bytes.extend_from_slice(front)?;
+    bytes.extend_from_slice(middle)?;
+    bytes.extend_from_slice(back)?;
+    Ok(Bytes::from_vec(bytes))
 }

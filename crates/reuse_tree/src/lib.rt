@@ -3,11 +3,10 @@
 
 mod change;
 mod fault;
+mod faulty;
 mod file_map;
-mod fuse;
 pub mod laws;
 mod memory;
-mod once;
 mod path;
 mod record;
 mod store;
@@ -16,9 +15,8 @@ mod tests;
 
 pub use change::{Change, ChangeState};
 pub use fault::StoreFault;
-pub use fuse::FuseStore;
+pub use faulty::{FaultyStore, FuseStore, OnceStore};
 pub use memory::MemoryStore;
-pub use once::OnceStore;
 pub use path::{PathError, PathText};
 pub use record::CallRecord;
 pub use store::{Reading, Store};

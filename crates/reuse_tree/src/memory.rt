@@ -15,11 +15,14 @@ pub struct MemoryStore {
 }
 
 impl MemoryStore {
+    ghost use Rattle.reuse_tree.specs.FileMap.{files_in};
+
     /// No files, and nothing written.
     pub fn new() -> MemoryStore
         ensures files { ⟦<MemoryStore as Store>⟧.files result ≡ map.empty }
         ensures failures { ⟦<MemoryStore as Store>⟧.failures result ≡ 0 }
         ensures written { ⟦<MemoryStore as Store>⟧.written result ≡ 0 }
+        ensures moves { ⟦<MemoryStore as Store>⟧.moves result ≡ 0 }
         ensures honest { ⟦<MemoryStore as Store>⟧.honest result }
     {
         MemoryStore {
@@ -27,17 +30,29 @@ impl MemoryStore {
             calls: CallRecord::new(),
         }
     }
+
+    // Removes the path's file, if there is one. No call is noted.
+    fn forget(&mut self, path: &PathText)
+        ensures files { files_in self.new.files ≡ map.remove (files_in self.old.files) path.now }
+        ensures calls { self.new.calls ≡ self.old.calls }
+    {
+        if let Some(files) = &mut self.files {
+            files.remove(path);
+        }
+    }
 }
 
 impl Store for MemoryStore {
     ghost use Rattle.reuse_tree.specs.FileMap.{files_in, files_in_are_files};
-    ghost use Rattle.reuse_tree.specs.Calls.{written_of};
+    ghost use Rattle.reuse_tree.specs.Calls.{written_of, moves_of};
 
     ghost files = { λ store. files_in store.files };
 
     ghost failures = { λ _. 0 };
 
     ghost written = { λ store. written_of store.calls.calls };
+
+    ghost moves = { λ store. moves_of store.calls.calls };
 
     ghost honest = { λ _. ⊤ };
 
@@ -60,25 +75,33 @@ impl Store for MemoryStore {
         }
     }
 
-    fn put(&mut self, alloc: Global, path: &PathText, bytes: &[u8]) -> Result<(), StoreFault> {
+    fn put_parts(
+        &mut self,
+        alloc: Global,
+        path: &PathText,
+        front: &[u8],
+        middle: &[u8],
+        back: &[u8],
+    ) -> Result<(), StoreFault> {
         let answer = match &mut self.files {
-            Some(files) => files.put(alloc, path, bytes),
+            Some(files) => files.put_parts(alloc, path, front, middle, back),
             None => {
                 let mut files = FileMap::new(alloc);
-                let answer = files.put(alloc, path, bytes);
+                let answer = files.put_parts(alloc, path, front, middle, back);
                 self.files = Some(files);
                 answer
             }
         };
-        self.calls.note_put(path, bytes, &answer);
+        self.calls
+            .note_put_parts(path, front, middle, back, &answer);
         answer
     }
 
     fn remove(&mut self, alloc: Global, path: &PathText) -> Result<(), StoreFault> {
-        if let Some(files) = &mut self.files {
-            files.remove(path);
-        }
-        Ok(())
+        self.forget(path);
+        let answer = Ok(());
+        self.calls.note_remove(path, &answer);
+        answer
     }
 
     ghost are_files = { λ store _. files_in_are_files store.files };

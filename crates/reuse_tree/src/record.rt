@@ -1,5 +1,5 @@
 // The calls of a store, which only contracts see.
-ghost use Rattle.std.specs.Prelude.{◌≡◌, Bool, List, [], ◌∷◌};
+ghost use Rattle.std.specs.Prelude.{◌≡◌, ◌++◌, Bool, List, [], ◌∷◌};
 ghost use Rattle.std.specs.Borrow.{ftrue};
 ghost use Rattle.std.specs.FinMap as map;
 ghost use Rattle.std.specs.Coded.{coded_list, coded_ℕ, coded_bool};
@@ -58,8 +58,8 @@ impl CallRecord {
         ensures { self.new ≡ record self.old { calls = ListCall (result_map_both (λ paths. paths.items) (λ fault. fault) answer.now) ∷ self.old.calls } }
     {
         match answer {
-            Ok(paths) => self.note(&CallKind::Listed, b"", b"", 0, paths.as_slice()),
-            Err(fault) => self.note(&CallKind::ListFailed(*fault), b"", b"", 0, &[]),
+            Ok(paths) => self.note(&CallKind::Listed, b"", b"", b"", b"", 0, paths.as_slice()),
+            Err(fault) => self.note(&CallKind::ListFailed(*fault), b"", b"", b"", b"", 0, &[]),
         }
     }
 
@@ -69,22 +69,41 @@ impl CallRecord {
     {
         let path = path.as_bytes();
         match answer {
-            Ok(Reading::Absent) => self.note(&CallKind::ReadAbsent, path, b"", limit, &[]),
-            Ok(Reading::Found(bytes)) => {
-                self.note(&CallKind::ReadFound, path, bytes.as_slice(), limit, &[])
+            Ok(Reading::Absent) => {
+                self.note(&CallKind::ReadAbsent, path, b"", b"", b"", limit, &[])
             }
-            Ok(Reading::TooLong) => self.note(&CallKind::ReadTooLong, path, b"", limit, &[]),
-            Err(fault) => self.note(&CallKind::ReadFailed(*fault), path, b"", limit, &[]),
+            Ok(Reading::Found(bytes)) => {
+                let bytes = bytes.as_slice();
+                self.note(&CallKind::ReadFound, path, bytes, b"", b"", limit, &[])
+            }
+            Ok(Reading::TooLong) => {
+                self.note(&CallKind::ReadTooLong, path, b"", b"", b"", limit, &[])
+            }
+            Err(fault) => {
+                let kind = CallKind::ReadFailed(*fault);
+                self.note(&kind, path, b"", b"", b"", limit, &[])
+            }
         }
     }
 
-    /// Notes a call of `put` and its answer. Whether one that failed took effect is its fate.
-    pub fn note_put(&mut self, path: &PathText, bytes: &[u8], answer: &Result<(), StoreFault>)
-        ensures { self.new ≡ record self.old { calls = PutCall path.now bytes.now answer.now (took_effect self.old.fates self.old.calls) ∷ self.old.calls } }
+    /// Notes that the path was to be made these three parts joined, and the answer. Whether a put that failed took effect is its fate.
+    pub fn note_put_parts(
+        &mut self,
+        path: &PathText,
+        front: &[u8],
+        middle: &[u8],
+        back: &[u8],
+        answer: &Result<(), StoreFault>,
+    )
+        ensures { self.new ≡ record self.old { calls = PutCall path.now (front.now ++ middle.now ++ back.now) answer.now (took_effect self.old.fates self.old.calls) ∷ self.old.calls } }
     {
+        let path = path.as_bytes();
         match answer {
-            Ok(()) => self.note(&CallKind::Put, path.as_bytes(), bytes, 0, &[]),
-            Err(fault) => self.note(&CallKind::PutFailed(*fault), path.as_bytes(), bytes, 0, &[]),
+            Ok(()) => self.note(&CallKind::Put, path, front, middle, back, 0, &[]),
+            Err(fault) => {
+                let kind = CallKind::PutFailed(*fault);
+                self.note(&kind, path, front, middle, back, 0, &[])
+            }
         }
     }
 
@@ -92,29 +111,26 @@ impl CallRecord {
     pub fn note_remove(&mut self, path: &PathText, answer: &Result<(), StoreFault>)
         ensures { self.new ≡ record self.old { calls = RemoveCall path.now answer.now (took_effect self.old.fates self.old.calls) ∷ self.old.calls } }
     {
+        let path = path.as_bytes();
         match answer {
-            Ok(()) => self.note(&CallKind::Removed, path.as_bytes(), b"", 0, &[]),
-            Err(fault) => self.note(
-                &CallKind::RemoveFailed(*fault),
-                path.as_bytes(),
-                b"",
-                0,
-                &[],
-            ),
+            Ok(()) => self.note(&CallKind::Removed, path, b"", b"", b"", 0, &[]),
+            Err(fault) => self.note(&CallKind::RemoveFailed(*fault), path, b"", b"", b"", 0, &[]),
         }
     }
 
-    // Notes a call by the parts that its kind has.
+    // Notes a call by the parts that its kind has. Its bytes are the three parts joined.
     fn note(
         &mut self,
         _kind: &CallKind,
         _path: &[u8],
-        _bytes: &[u8],
+        _front: &[u8],
+        _middle: &[u8],
+        _back: &[u8],
         _limit: usize,
         _paths: &[PathText],
     )
         ensures { self.new ≡ record self.old {
-          calls = call_of _kind.now _path.now _bytes.now _limit _paths.now (took_effect self.old.fates self.old.calls) ∷ self.old.calls;
+          calls = call_of _kind.now _path.now (_front.now ++ _middle.now ++ _back.now) _limit _paths.now (took_effect self.old.fates self.old.calls) ∷ self.old.calls;
         } }
     {}
 }

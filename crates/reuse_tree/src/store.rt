@@ -1,7 +1,7 @@
 // A store of files, as the code above asks it, path by path.
-ghost use Rattle.std.specs.Prelude.{◌≡◌, ◌≢◌, ℕ, ◌+◌, ◌<◌, ◌≤◌, MatchResult, IfOk, IfErr, OnOk, IsErrOf};
+ghost use Rattle.std.specs.Prelude.{◌≡◌, ◌≢◌, ℕ, ◌++◌, MatchResult, IfOk};
 ghost use Rattle.std.specs.FinMap as map;
-ghost use Rattle.reuse_tree.specs.Files.{Files, Clashes, AreFiles};
+ghost use Rattle.reuse_tree.specs.Files.{Files, AreFiles};
 
 use crate::{PathText, StoreFault};
 use reuse_text::Bytes;
@@ -19,9 +19,10 @@ pub enum Reading {
 }
 
 /// Files by their paths. What is said of `files` and of a clash holds where the store is honest after
-/// the call; what is said of `failures` and `written` holds always.
+/// the call; what is said of `failures`, `written` and `moves` holds always.
 pub trait Store {
-    ghost use Rattle.reuse_tree.specs.Store.{reading_of, counted, Puts, PutFails, RemoveFails};
+    ghost use Rattle.reuse_tree.specs.Store.{reading_of};
+    ghost use Rattle.reuse_tree.specs.StoreLaws.{OnlyReads, IsLater, FailsAsRead, IsPut, IsRemoval};
 
     /// What each path holds.
     ghost files: { Self → Files };
@@ -29,8 +30,11 @@ pub trait Store {
     /// How often the device has failed. It never falls.
     ghost failures: { Self → ℕ };
 
-    /// How many bytes were handed to `put` for paths under `.reuse/undo/`.
+    /// How many bytes were handed to `put` and `put_parts` for paths under `.reuse/undo/`.
     ghost written: { Self → ℕ };
+
+    /// How many puts and removals were asked for, whatever was answered.
+    ghost moves: { Self → ℕ };
 
     /// So far nobody else has written the files, and what was read is what was written. A call can
     /// lose this, and never gain it; one that is answered as these files ask keeps it. A put or a
@@ -39,45 +43,42 @@ pub trait Store {
 
     /// All paths, in byte order.
     fn list(&mut self, alloc: Global) -> Result<Vec<PathText>, StoreFault>
-        ensures was_honest { honest self.new → honest self.old }
         ensures kept { honest self.old → MatchResult result (λ paths. paths.items ≡ map.keys (files self.old) → honest self.new) (λ fault. fault ≢ StoreFault.Clash → honest self.new) }
         ensures paths { honest self.new → IfOk result (λ paths. paths.items ≡ map.keys (files self.old)) }
-        ensures files { honest self.new → files self.new ≡ files self.old }
-        ensures no_clash { honest self.new → result ≢ Err StoreFault.Clash }
-        ensures device { IsErrOf result StoreFault.Device → failures self.old < failures self.new }
-        ensures failures { failures self.old ≤ failures self.new }
-        ensures written { written self.new ≡ written self.old };
+        ensures fails { FailsAsRead failures honest self.old self.new result }
+        ensures reads { OnlyReads files failures written moves honest self.old self.new };
 
     /// What the path holds, if it is no longer than the limit in bytes.
     fn read(&mut self, alloc: Global, path: &PathText, limit: usize) -> Result<Reading, StoreFault>
-        ensures was_honest { honest self.new → honest self.old }
         ensures kept { honest self.old → MatchResult result (λ reading. reading ≡ reading_of (map.get (files self.old) path.now) limit → honest self.new) (λ fault. fault ≢ StoreFault.Clash → honest self.new) }
         ensures reading { honest self.new → IfOk result (λ reading. reading ≡ reading_of (map.get (files self.old) path.now) limit) }
-        ensures files { honest self.new → files self.new ≡ files self.old }
-        ensures no_clash { honest self.new → result ≢ Err StoreFault.Clash }
-        ensures device { IsErrOf result StoreFault.Device → failures self.old < failures self.new }
-        ensures failures { failures self.old ≤ failures self.new }
-        ensures written { written self.new ≡ written self.old };
+        ensures fails { FailsAsRead failures honest self.old self.new result }
+        ensures reads { OnlyReads files failures written moves honest self.old self.new };
+
+    /// Makes the path's file these three parts joined, and folders as needed.
+    fn put_parts(
+        &mut self,
+        alloc: Global,
+        path: &PathText,
+        front: &[u8],
+        middle: &[u8],
+        back: &[u8],
+    ) -> Result<(), StoreFault>
+        ensures puts { IsPut files failures written moves honest path.now (front.now ++ middle.now ++ back.now) self.old self.new result }
+        ensures later { IsLater failures written moves honest self.old self.new };
 
     /// Makes the path's file these bytes, and folders as needed.
     fn put(&mut self, alloc: Global, path: &PathText, bytes: &[u8]) -> Result<(), StoreFault>
-        ensures was_honest { honest self.new → honest self.old }
-        ensures kept { honest self.old → MatchResult result (λ _. ¬ (Clashes (files self.old) path.now) → honest self.new) (λ fault. fault ≡ StoreFault.Clash → Clashes (files self.old) path.now → honest self.new) }
-        ensures ok { honest self.new → OnOk result (Puts path.now bytes.now (files self.old) (files self.new)) }
-        ensures err { honest self.new → IfErr result (λ fault. PutFails fault path.now bytes.now (files self.old) (files self.new)) }
-        ensures device { IsErrOf result StoreFault.Device → failures self.old < failures self.new }
-        ensures failures { failures self.old ≤ failures self.new }
-        ensures written { written self.new ≡ written self.old + counted path.now bytes.now };
+        ensures puts { IsPut files failures written moves honest path.now bytes.now self.old self.new result }
+        ensures later { IsLater failures written moves honest self.old self.new }
+    {
+        self.put_parts(alloc, path, bytes, b"", b"")
+    }
 
     /// Removes the path's file, if there is one.
     fn remove(&mut self, alloc: Global, path: &PathText) -> Result<(), StoreFault>
-        ensures was_honest { honest self.new → honest self.old }
-        ensures kept { honest self.old → OnOk result (honest self.new) }
-        ensures ok { honest self.new → OnOk result (files self.new ≡ map.remove (files self.old) path.now) }
-        ensures err { honest self.new → IfErr result (λ fault. RemoveFails fault path.now (files self.old) (files self.new)) }
-        ensures device { IsErrOf result StoreFault.Device → failures self.old < failures self.new }
-        ensures failures { failures self.old ≤ failures self.new }
-        ensures written { written self.new ≡ written self.old };
+        ensures removes { IsRemoval files failures written moves honest path.now self.old self.new result }
+        ensures later { IsLater failures written moves honest self.old self.new };
 
     /// Paths are good, and none is a folder of another.
     ghost are_files: { (store : Self) → honest store → AreFiles (files store) };

@@ -115,3 +115,28 @@ fn a_fault_comes_once(rt: HostRuntime) -> Result<(), Fail> {
     once.remove(alloc, &path)?;
     keeps_a_file(&rt, alloc, &mut once)
 }
+
+#[test]
+fn parts_are_put_joined(rt: HostRuntime) -> Result<(), Fail> {
+    let alloc = rt.alloc();
+    let path = PathText::new(alloc, "a")?;
+    let mut store = MemoryStore::new();
+    store.put_parts(alloc, &path, b"ab", b"", b"c")?;
+    let Reading::Found(bytes) = store.read(alloc, &path, 3)? else {
+        return Err("not found")?;
+    };
+    assert_eq!(rt; bytes.as_slice(), b"abc".as_slice());
+    Ok(())
+}
+
+#[test]
+fn a_removal_that_fails_takes_effect_where_told(rt: HostRuntime) -> Result<(), Fail> {
+    let alloc = rt.alloc();
+    let path = PathText::new(alloc, "a")?;
+    let mut store = MemoryStore::new();
+    store.put(alloc, &path, b"x")?;
+    let mut once = OnceStore::new(store, 0, true);
+    assert!(rt; matches!(once.remove(alloc, &path), Err(StoreFault::Device)));
+    assert_eq!(rt; once.list(alloc)?.len(), 0);
+    Ok(())
+}

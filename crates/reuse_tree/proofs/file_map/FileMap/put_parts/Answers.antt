@@ -5,7 +5,7 @@ use Rattle.std.proofs.lemmas.Bool.{false≢true}
 use Rattle.reuse_tree.specs.Path.{is_path}
 use Rattle.reuse_tree.specs.Files.{Clashes}
 use Rattle.reuse_tree.proofs.Contents.{one_put, inserted, clashes_contents}
-use Rattle.reuse_tree.proofs.file_map.FileMap.put.Goals as goal
+use Rattle.reuse_tree.proofs.file_map.FileMap.put_parts.Goals as goal
 
 pub returns-then-clashes-clause-err : goal.returns-then-clashes-clause-err
 returns-then-clashes-clause-err c =
