@@ -124,7 +124,7 @@ in_reuse path rest covered e =
     false≢true (sym (starts_reuse path covered) ∙ ap (is_in (codes ".reuse")) c.1 ∙ or_true _)
 
 -- a covered file's neighbour is of the tree
-neighbour_of_tree : (path : List ℕ) → is_covered path ≡ true → is_of_tree (path ++ ending) ≡ true
+pub neighbour_of_tree : (path : List ℕ) → is_covered path ≡ true → is_of_tree (path ++ ending) ≡ true
 neighbour_of_tree path covered =
     and_all (bytes_eq (path ++ ending) (codes ".reuse")) (bytes_eq (path ++ ending) journal_folder) (lies_under (path ++ ending) journal_folder)
     (refuted _ (λ e. let size = ap length ((bytes_eq-Decides (path ++ ending) (codes ".reuse")).0 e) in omega (arith, size, length-append path ending)))

@@ -1,19 +1,14 @@
 -- What a call leaves of the journal's folder, from what its parts leave.
-use Rattle.std.proofs.Common.{◌≡◌, ℕ, ◌<◌, List, length, arith, cond, None, Result, Ok, Err, IfOk, IfErr, refl, sym, ap, ◌∙◌}
+use Rattle.std.proofs.Common.{◌≡◌, ℕ, ◌<◌, List, length, arith, cond, None, refl, sym, ap, ◌∙◌}
 use Rattle.std.specs.FinMap.{get}
 use Rattle.reuse_tree.specs.Files.{Files}
 use Rattle.reuse_tree.specs.Path.{lies_under, journal_folder}
-use Rattle.reuse_session.specs.Answer.{IsFailure, IsNoStep}
 use Rattle.reuse_session.specs.Head.{head_text}
 use Rattle.reuse_session.specs.JournalFiles.{head_path, entry_path}
 use Rattle.reuse_session.specs.Session.{HasEntryText, IsSameBut, IsSameButTwo}
 use Rattle.reuse_session.specs.Tree.{undo_folder_of}
 use Rattle.reuse_session.specs.declared.journal.entry.Entry.{Entry}
 use Rattle.reuse_session.specs.declared.journal.head.Head.{Head}
-use Rattle.reuse_session.specs.declared.reply.Reply.{Reply}
-use Rattle.reuse_session.specs.declared.reply.Reply.TheVariants.{Changed}
-use Rattle.reuse_session.specs.declared.reply.Refusal.{Refusal}
-use Rattle.reuse_session.specs.declared.reply.Refusal.TheVariants.{Memory, Fault, Interrupted}
 use Rattle.reuse_session.proofs.JournalLemmas.{entry_in_folder, entry_path_is_not_head}
 use Rattle.reuse_session.proofs.JournalReading.{file_in_folder}
 use Rattle.reuse_session.proofs.OfTree.{get-folder}
@@ -21,9 +16,6 @@ use Rattle.reuse_session.proofs.OfTree.{get-folder}
 -- where the files stay, so does the folder
 pub folder_stays : (files new : Files) (path : List ℕ) → new ≡ files → IsSameBut path (undo_folder_of files) (undo_folder_of new)
 folder_stays files new path same other ne = ap (λ f. get (undo_folder_of f) other) same
-
-pub folder_stays_two : (files new : Files) (one two : List ℕ) → new ≡ files → IsSameButTwo one two (undo_folder_of files) (undo_folder_of new)
-folder_stays_two files new one two same other ne neither = ap (λ f. get (undo_folder_of f) other) same
 
 module _ (files put : Files) (number : ℕ) (others : IsSameBut (entry_path number) files put) where
   -- an entry was put
@@ -43,15 +35,6 @@ entry_text_stays put after number entry same here =
     let path = entry_path number in
     file_in_folder after path path refl (entry_in_folder number) ∙ same path (entry_path_is_not_head number)
     ∙ sym (file_in_folder put path path refl (entry_in_folder number)) ∙ here
-
--- a step that was begun either answers its paths or fails
-pub step_was_begun : (result : Result Reply Refusal) (paths : List (List ℕ)) → IfOk result (λ reply. reply ≡ Changed paths) → IfErr result IsFailure → IsNoStep result → ⊥
-step_was_begun (Ok (Changed given)) paths is kind none = none
-step_was_begun (Ok reply) paths is kind none = cc
-step_was_begun (Err Memory) paths is kind none = none
-step_was_begun (Err (Fault fault)) paths is kind none = none
-step_was_begun (Err (Interrupted cause)) paths is kind none = none
-step_was_begun (Err refusal) paths is kind none = kind
 
 -- a text of a head is not empty
 pub some_text : (text : List ℕ) (head : Head) → text ≡ head_text head → 0 < length text

@@ -1,7 +1,7 @@
 -- Heads that list a journal, before, on and after a step.
-use Rattle.std.proofs.Common.{◌≡◌, ◌≢◌, ◌⊎◌, inl, inr, ℕ, suc, ◌+◌, ◌-◌, ◌<◌, ◌≤◌, Bool, true, false, ◌||◌, nat_le, leb, List, [], ◌∷◌, ◌++◌, length, map, reverse, get_or, slice_get, Option, Some, None, refl, sym, ap, ◌∙◌, subst, append_assoc, arith}
+use Rattle.std.proofs.Common.{◌≡◌, ◌≢◌, ℕ, suc, ◌+◌, ◌-◌, ◌<◌, ◌≤◌, Bool, true, false, ◌||◌, leb, List, [], ◌∷◌, ◌++◌, length, map, reverse, get_or, Option, Some, None, refl, sym, ap, ◌∙◌, subst, append_assoc, arith}
 use Rattle.std.specs.List.{All, AllPairs, AllByRecursion}
-use Rattle.std.proofs.lemmas.List.{append-nil, length-append, length-map, length-reverse, reverse-append, reverse-reverse, get_or-reverse, get_or-map, map-append, get_or_push}
+use Rattle.std.proofs.lemmas.List.{append-nil, length-append, length-map, length-reverse, reverse-append, get_or-reverse, get_or-map, map-append, get_or_push}
 use Rattle.std.proofs.lemmas.List.Elements.{All-from_recursion, recursion_from_All}
 use Rattle.std.proofs.lemmas.List.Kept.{AllPairs-cons}
 use Rattle.std.proofs.lemmas.Option.{slice_get-get_or}
@@ -165,7 +165,7 @@ sound_pending journal new way step sound moves low = record {
     fits Undo (steps, was, is) = last_number journal.done steps step was
     fits Redo (steps, was, is) = last_number journal.undone steps step was
 
-below : (done used : ℕ) → is_full done used ≡ false → (done < 4096) × (used < 999_999)
+pub below : (done used : ℕ) → is_full done used ≡ false → (done < 4096) × (used < 999_999)
 below done used room = of_tests (leb 4096 done) refl (leb 999_999 used) refl room
   where
     of_tests : (a : Bool) → leb 4096 done ≡ a → (b : Bool) → leb 999_999 used ≡ b → (a || b) ≡ false → (done < 4096) × (used < 999_999)

@@ -1,10 +1,12 @@
 -- What a session remembers of a journal.
-use Rattle.std.proofs.Common.{◌≡◌, ◌↔◌, ℕ, ◌+◌, true, false, List, [], ◌∷◌, ◌++◌, length, map, reverse, Option, refl, sym, ap, ap₂, ◌∙◌, subst, arith}
+use Rattle.std.proofs.Common.{◌≡◌, ◌↔◌, ◌+◌, true, false, List, [], ◌∷◌, ◌++◌, length, map, reverse, Option, refl, sym, ap, ap₂, ◌∙◌, arith}
 use Rattle.std.proofs.lemmas.List.{length-append, length-map, length-reverse, reverse-append, reverse-reverse, map-append, same_from_push, nil_from_length}
-use Rattle.reuse_session.specs.History.{Memory, head_listing, row_listing, rows_listing}
-use Rattle.reuse_session.specs.Journal.{Recorded, Journal, rows_in}
-use Rattle.reuse_session.specs.JournalFiles.{number_of, head_of}
+use Rattle.reuse_session.specs.History.{Memory, head_listing, row_listing, rows_listing, entries_ahead}
+use Rattle.reuse_session.specs.Journal.{Recorded, Journal, ahead, rows_in}
+use Rattle.reuse_session.specs.JournalFiles.{head_of}
 use Rattle.reuse_session.specs.Session.{listed_as, Remembers}
+use Rattle.reuse_session.specs.declared.entry.Way.{Way}
+use Rattle.reuse_session.specs.declared.entry.Way.TheVariants.{Do, Undo}
 use Rattle.reuse_session.specs.declared.history.ListedEntry.{ListedEntry}
 use Rattle.reuse_session.specs.declared.journal.head.Head.{Head}
 use Rattle.reuse_session.specs.declared.journal.head.Pending.{Pending}
@@ -54,21 +56,19 @@ none_listed entries steps are = (
   λ none. nil_from_length entries (count_listed entries steps are ∙ ap length none),
 )
 
--- the last entry done, as a step
-pub moved_back : (memory : Memory) (journal : Journal) (entry : ListedEntry) (front : List ListedEntry) → Remembers memory journal → memory.done ≡ front ++ entry ∷ []
-    → (step : Recorded) × (steps : List Recorded) × (journal.done ≡ step ∷ steps) × (entry ≡ listed_as step) × (front ≡ map listed_as (reverse steps))
-moved_back memory journal entry front remembers last = last_step memory.done journal.done entry front remembers.done last
+-- the entries that a way goes on with are listed as its steps
+ahead_listed : (way : Way) (memory : Memory) (journal : Journal) → Remembers memory journal → entries_ahead way memory ≡ map listed_as (reverse (ahead way journal))
+ahead_listed Undo memory journal remembers = remembers.done
+ahead_listed Do memory journal remembers = remembers.undone
 
--- the next to be redone
-pub moved_on : (memory : Memory) (journal : Journal) (entry : ListedEntry) (front : List ListedEntry) → Remembers memory journal → memory.undone ≡ front ++ entry ∷ []
-    → (step : Recorded) × (steps : List Recorded) × (journal.undone ≡ step ∷ steps) × (entry ≡ listed_as step) × (front ≡ map listed_as (reverse steps))
-moved_on memory journal entry front remembers last = last_step memory.undone journal.undone entry front remembers.undone last
+-- the next of them, as a step
+pub next_step : (way : Way) (memory : Memory) (journal : Journal) (entry : ListedEntry) (front : List ListedEntry) → Remembers memory journal → entries_ahead way memory ≡ front ++ entry ∷ []
+    → (step : Recorded) × (steps : List Recorded) × (ahead way journal ≡ step ∷ steps) × (entry ≡ listed_as step) × (front ≡ map listed_as (reverse steps))
+next_step way memory journal entry front remembers last =
+    last_step (entries_ahead way memory) (ahead way journal) entry front (ahead_listed way memory journal remembers) last
 
-pub none_done : (memory : Memory) (journal : Journal) → Remembers memory journal → (memory.done ≡ []) ↔ (journal.done ≡ [])
-none_done memory journal remembers = none_listed memory.done journal.done remembers.done
-
-pub none_undone : (memory : Memory) (journal : Journal) → Remembers memory journal → (memory.undone ≡ []) ↔ (journal.undone ≡ [])
-none_undone memory journal remembers = none_listed memory.undone journal.undone remembers.undone
+pub none_ahead : (way : Way) (memory : Memory) (journal : Journal) → Remembers memory journal → (entries_ahead way memory ≡ []) ↔ (ahead way journal ≡ [])
+none_ahead way memory journal remembers = none_listed (entries_ahead way memory) (ahead way journal) (ahead_listed way memory journal remembers)
 
 pub count_done : (memory : Memory) (journal : Journal) → Remembers memory journal → length memory.done ≡ length journal.done
 count_done memory journal remembers = count_listed memory.done journal.done remembers.done

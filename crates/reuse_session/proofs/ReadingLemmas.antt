@@ -1,5 +1,5 @@
 -- What was read of a path says what the path has.
-use Rattle.std.proofs.Common.{◌≡◌, ℕ, ◌<◌, ◌≤◌, Bool, true, false, cond, nat_le, List, length, Option, Some, None, refl, ap, subst, arith}
+use Rattle.std.proofs.Common.{◌≡◌, ℕ, ◌<◌, ◌≤◌, Bool, true, false, cond, nat_le, List, length, Option, Some, None, IsSome, refl, ap, subst, arith}
 use Rattle.std.proofs.lemmas.Bool.Decides.{nat_tests}
 use Rattle.reuse_tree.specs.declared.store.Reading.TheVariants.{Absent, Found, TooLong}
 use Rattle.reuse_tree.specs.Store.{reading_of}
@@ -33,3 +33,8 @@ found_is (Some other) limit bytes e = by_test (nat_le (length other) limit) refl
         small : (n : ℕ) → nat_le n limit ≡ true → n ≤ limit
         small n t = grind (arith, nat_tests)
     by_test false t e = absurd (cc)
+
+-- where what is read isn't absent, a file is there
+pub there_is : (file : Option (List ℕ)) (limit : ℕ) → (reading_of file limit ≡ Absent → ⊥) → IsSome file
+there_is None limit h = absurd (h refl)
+there_is (Some bytes) limit h = refl

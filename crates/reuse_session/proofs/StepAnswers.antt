@@ -6,19 +6,18 @@ use Rattle.std.specs.FinMap.{get}
 use Rattle.reuse_tree.specs.Path.{lies_under}
 use Rattle.reuse_tree.specs.Files.{Files, Clashes, tree_of}
 use Rattle.reuse_tree.specs.declared.fault.StoreFault.TheVariants as faults
-use Rattle.reuse_session.specs.Answer.{IsReadRefusal, IsPutRefusal, IsTestRefusal, IsFailure, IsGoRefusal, HasClash, IsNoClash}
-use Rattle.reuse_session.specs.Entry.{IsFirstStuck}
-use Rattle.reuse_session.specs.Head.{way_of, IsSoundHead}
+use Rattle.reuse_session.specs.Answer.{TellsNoFault, IsReadRefusal, IsPutRefusal, IsTestRefusal, IsFailure, HasClash, IsNoClash}
+use Rattle.reuse_session.specs.Head.{IsSoundHead}
 use Rattle.reuse_session.specs.History.{Memory}
-use Rattle.reuse_session.specs.Journal.{Recorded, Journal, State}
+use Rattle.reuse_session.specs.Journal.{Recorded, Journal, State, ahead, moved_on}
 use Rattle.reuse_session.specs.JournalFiles.{head_path, entry_path, head_of, number_of, EntrySays, IsFree, IsJournalPath}
 use Rattle.reuse_session.specs.declared.journal.entry.Entry.{Entry}
-use Rattle.reuse_session.specs.Session.{store_of, memory_of, listed_as, listed_count, IsSameBut, Remembers, StandsOn, StopsIn, GoesOn}
-use Rattle.reuse_session.specs.Standing.{IsTree, IsStanding, IsStep, Moves}
+use Rattle.reuse_session.specs.Session.{store_of, memory_of, listed_as, listed_count, IsSameBut, Remembers, StandsOn}
+use Rattle.reuse_session.specs.Standing.{IsTree, IsStanding}
 use Rattle.reuse_session.specs.Tree.{undo_folder_of}
 use Rattle.reuse_session.specs.declared.session.Session.{Session}
-use Rattle.reuse_session.specs.declared.journal.head.PendingWay.{PendingWay}
-use Rattle.reuse_session.specs.declared.journal.head.PendingWay.TheVariants.{Do, Undo, Redo}
+use Rattle.reuse_session.specs.declared.entry.Way.{Way}
+use Rattle.reuse_session.specs.declared.entry.Way.TheVariants.{Do, Undo}
 use Rattle.reuse_session.specs.declared.reply.Cause.TheVariants as causes
 use Rattle.reuse_session.specs.declared.reply.Reply.{Reply}
 use Rattle.reuse_session.specs.declared.reply.Refusal.{Refusal}
@@ -51,52 +50,19 @@ stands_beside files session store held room same stands = record {
 
 -- ---- refusals of a listed entry's step
 
-module _ {S : Type 0} (files : S → Files) (way : PendingWay) (step : Recorded) (held : State) (journal : Journal) (session : Session S) where
-  pub goes_unread : (refusal : Refusal) → IsReadRefusal refusal → ((path : List ℕ) → refusal ≡ BadJournal path → ⊥) → StandsOn files session held → GoesOn files way step held journal session (Err refusal)
-  goes_unread OutOfMemory is never stands = stands
-  goes_unread (BadJournal path) is never stands = never path refl
-  goes_unread (Fault fault) is never stands = stands
-  goes_unread (Moved path) is never stands = absurd is
-  goes_unread (Interrupted cause) is never stands = absurd is
-  goes_unread refusal is never stands = absurd is
+-- none of these is told without a fault
+pub read_told : (refusal : Refusal) → IsReadRefusal refusal → TellsNoFault {A = Reply} (Err refusal) → ((path : List ℕ) → refusal ≡ BadJournal path → ⊥) → ⊥
+read_told OutOfMemory is told never = told
+read_told (BadJournal path) is told never = never path refl
+read_told (Fault fault) is told never = told
+read_told (Interrupted cause) is told never = told
+read_told refusal is told never = is
 
-  pub goes_untested : (refusal : Refusal) → IsTestRefusal refusal → StandsOn files session held → ((path : List ℕ) → refusal ≡ Moved path → IsFirstStuck (way_of way) held.tree step.changes path)
-      → GoesOn files way step held journal session (Err refusal)
-  goes_untested OutOfMemory is stands moved = stands
-  goes_untested (Moved path) is stands moved = (moved path refl, stands)
-  goes_untested (Fault fault) is stands moved = stands
-  goes_untested (BadJournal path) is stands moved = absurd is
-  goes_untested (Interrupted cause) is stands moved = absurd is
-  goes_untested refusal is stands moved = absurd is
-
-  pub goes_stopped : (second : State) (refusal : Refusal) → IsFailure refusal → IsStep way step held second → StopsIn files held second session refusal → GoesOn files way step held journal session (Err refusal)
-  goes_stopped second OutOfMemory is is_step stops = stops
-  goes_stopped second (Fault fault) is is_step stops = stops
-  goes_stopped second (Interrupted cause) is is_step stops = (second, step, is_step, stops)
-  goes_stopped second refusal is is_step stops = absurd is
-
-pub is_go_read : (refusal : Refusal) → IsReadRefusal refusal → IsGoRefusal refusal
-is_go_read OutOfMemory is = tt
-is_go_read (BadJournal path) is = tt
-is_go_read (Fault fault) is = tt
-is_go_read refusal is = absurd is
-
-pub is_go_test : (refusal : Refusal) → IsTestRefusal refusal → IsGoRefusal refusal
-is_go_test OutOfMemory is = tt
-is_go_test (Moved path) is = tt
-is_go_test (Fault fault) is = tt
-is_go_test refusal is = absurd is
-
-pub is_go_failure : (refusal : Refusal) → IsFailure refusal → IsGoRefusal refusal
-is_go_failure OutOfMemory is = tt
-is_go_failure (Fault fault) is = tt
-is_go_failure (Interrupted cause) is = tt
-is_go_failure refusal is = absurd is
-
-pub is_put_failure : (refusal : Refusal) → IsPutRefusal refusal → IsFailure refusal
-is_put_failure OutOfMemory is = tt
-is_put_failure (Fault fault) is = tt
-is_put_failure refusal is = absurd is
+pub failure_told : (refusal : Refusal) → IsFailure refusal → TellsNoFault {A = Reply} (Err refusal) → ⊥
+failure_told OutOfMemory is told = told
+failure_told (Fault fault) is told = told
+failure_told (Interrupted cause) is told = told
+failure_told refusal is told = is
 
 -- an entry's file that was put is in the folder of the journal
 pub kept_put : (files : Files) (number : ℕ) (entry : Entry) → EntrySays (get files (entry_path number)) entry → EntrySays (get (undo_folder_of files) (entry_path number)) entry
@@ -104,13 +70,6 @@ kept_put files number entry says =
     let here : get (undo_folder_of files) (entry_path number) ≡ get files (entry_path number) =
     get-folder files (entry_path number) ∙ ap (λ b. cond b (get files (entry_path number)) None) (entry_in_folder number) in
     subst (λ file. EntrySays file entry) (sym here) says
-
--- an entry that couldn't be put leaves the session where it stood
-pub stops_unput : {S : Type 0} (files : S → Files) (held second : State) (session : Session S) (refusal : Refusal) → IsPutRefusal refusal → StandsOn files session held → StopsIn files held second session refusal
-stops_unput files held second session OutOfMemory is stands = stands
-stops_unput files held second session (Fault fault) is stands = stands
-stops_unput files held second session (Interrupted cause) is stands = absurd is
-stops_unput files held second session refusal is stands = stands
 
 -- ---- clashes
 
@@ -185,30 +144,29 @@ module _ (files : Files) (held : State) (standing : IsStanding files held) (free
 -- ---- numbers
 
 -- the number of a listed step is in range
-pub low_of : (way : PendingWay) (step : Recorded) (old new : Journal) → Moves way step old new → way ≢ Do → IsSoundHead (head_of old None) → number_of step ≤ 999_999
-low_of Do step old new moves not_new sound = absurd (not_new refl)
-low_of Undo step old new moves not_new sound =
+pub low_of : (way : Way) (step : Recorded) (steps : List Recorded) (old : Journal) → ahead way old ≡ step ∷ steps → IsSoundHead (head_of old None) → number_of step ≤ 999_999
+low_of Undo step steps old list sound =
     let undone = map number_of (reverse old.undone) in
-    let done : map number_of (reverse old.done) ≡ map number_of (reverse (step ∷ moves.0)) = ap (λ steps. map number_of (reverse steps)) moves.1 in
-    let here = last_number moves.0 step undone in
-    let i = length (map number_of (reverse moves.0)) in
-    let count : length (map number_of (reverse (step ∷ moves.0)) ++ undone) ≡ length moves.0 + 1 + length undone =
-    length-append (map number_of (reverse (step ∷ moves.0))) undone ∙ ap (λ n. n + length undone) (length-map (reverse (step ∷ moves.0)) number_of ∙ length-reverse (step ∷ moves.0) ∙ omega arith) in
-    let lt : i < length (map number_of (reverse old.done) ++ undone) = omega (arith, count, ap (λ ns. length (ns ++ undone)) done, length-map (reverse moves.0) number_of, length-reverse moves.0) in
+    let done : map number_of (reverse old.done) ≡ map number_of (reverse (step ∷ steps)) = ap (λ steps. map number_of (reverse steps)) list in
+    let here = last_number steps step undone in
+    let i = length (map number_of (reverse steps)) in
+    let count : length (map number_of (reverse (step ∷ steps)) ++ undone) ≡ length steps + 1 + length undone =
+    length-append (map number_of (reverse (step ∷ steps))) undone ∙ ap (λ n. n + length undone) (length-map (reverse (step ∷ steps)) number_of ∙ length-reverse (step ∷ steps) ∙ omega arith) in
+    let lt : i < length (map number_of (reverse old.done) ++ undone) = omega (arith, count, ap (λ ns. length (ns ++ undone)) done, length-map (reverse steps) number_of, length-reverse steps) in
     let given = sound.given_out i 0 lt in
     let at : get_or (map number_of (reverse old.done) ++ undone) i 0 ≡ number_of step = ap (λ ns. get_or (ns ++ undone) i 0) done ∙ here in
     omega (arith, given.1, at, sound.next.1)
-low_of Redo step old new moves not_new sound =
+low_of Do step steps old list sound =
     let front = map number_of (reverse old.done) in
-    let undone : map number_of (reverse old.undone) ≡ map number_of (reverse (step ∷ moves.0)) = ap (λ steps. map number_of (reverse steps)) moves.1 in
-    let i = length front + length (map number_of (reverse moves.0)) in
-    let here : get_or (front ++ map number_of (reverse (step ∷ moves.0))) i 0 ≡ number_of step =
-    get_or-append-add front (map number_of (reverse (step ∷ moves.0))) (length (map number_of (reverse moves.0))) 0
-    ∙ ap (λ ns. get_or ns (length (map number_of (reverse moves.0))) 0) (sym (append-nil (map number_of (reverse (step ∷ moves.0)))))
-    ∙ last_number moves.0 step [] in
-    let count : length (front ++ map number_of (reverse (step ∷ moves.0))) ≡ length front + (length moves.0 + 1) =
-    length-append front (map number_of (reverse (step ∷ moves.0))) ∙ ap (λ n. length front + n) (length-map (reverse (step ∷ moves.0)) number_of ∙ length-reverse (step ∷ moves.0) ∙ omega arith) in
-    let lt : i < length (front ++ map number_of (reverse old.undone)) = omega (arith, count, ap (λ ns. length (front ++ ns)) undone, length-map (reverse moves.0) number_of, length-reverse moves.0) in
+    let undone : map number_of (reverse old.undone) ≡ map number_of (reverse (step ∷ steps)) = ap (λ steps. map number_of (reverse steps)) list in
+    let i = length front + length (map number_of (reverse steps)) in
+    let here : get_or (front ++ map number_of (reverse (step ∷ steps))) i 0 ≡ number_of step =
+    get_or-append-add front (map number_of (reverse (step ∷ steps))) (length (map number_of (reverse steps))) 0
+    ∙ ap (λ ns. get_or ns (length (map number_of (reverse steps))) 0) (sym (append-nil (map number_of (reverse (step ∷ steps)))))
+    ∙ last_number steps step [] in
+    let count : length (front ++ map number_of (reverse (step ∷ steps))) ≡ length front + (length steps + 1) =
+    length-append front (map number_of (reverse (step ∷ steps))) ∙ ap (λ n. length front + n) (length-map (reverse (step ∷ steps)) number_of ∙ length-reverse (step ∷ steps) ∙ omega arith) in
+    let lt : i < length (front ++ map number_of (reverse old.undone)) = omega (arith, count, ap (λ ns. length (front ++ ns)) undone, length-map (reverse steps) number_of, length-reverse steps) in
     let given = sound.given_out i 0 lt in
     let at : get_or (front ++ map number_of (reverse old.undone)) i 0 ≡ number_of step = ap (λ ns. get_or (front ++ ns) i 0) undone ∙ here in
     omega (arith, given.1, at, sound.next.1)
@@ -219,13 +177,7 @@ counted memory journal r =
     ap (λ es. length es + length memory.undone) r.done ∙ ap (λ es. length (map listed_as (reverse journal.done)) + length es) r.undone
     ∙ omega (arith, length-map (reverse journal.done) listed_as, length-reverse journal.done, length-map (reverse journal.undone) listed_as, length-reverse journal.undone)
 
-pub as_many : (way : PendingWay) (step : Recorded) (old new : Journal) (memory moved : Memory) → Moves way step old new → way ≢ Do → Remembers memory old → Remembers moved new → listed_count moved ≡ listed_count memory
-as_many Do step old new memory moved moves not_new r s = absurd (not_new refl)
-as_many Undo step old new memory moved moves not_new r s =
-    let done : length old.done ≡ length moves.0 + 1 = ap length moves.1 ∙ omega arith in
-    let after : length new.done + length new.undone ≡ length moves.0 + (length old.undone + 1) = ap (λ j. length j.done + length j.undone) moves.2 ∙ omega arith in
-    counted moved new s ∙ omega (arith, done, after) ∙ sym (counted memory old r)
-as_many Redo step old new memory moved moves not_new r s =
-    let undone : length old.undone ≡ length moves.0 + 1 = ap length moves.1 ∙ omega arith in
-    let after : length new.done + length new.undone ≡ length old.done + 1 + length moves.0 = ap (λ j. length j.done + length j.undone) moves.2 ∙ omega arith in
-    counted moved new s ∙ omega (arith, undone, after) ∙ sym (counted memory old r)
+pub as_many : (way : Way) (step : Recorded) (steps : List Recorded) (old : Journal) (memory moved : Memory) → ahead way old ≡ step ∷ steps → Remembers memory old
+    → Remembers moved (moved_on way step steps old) → listed_count moved ≡ listed_count memory
+as_many Undo step steps old memory moved list r s = omega (arith, counted moved (moved_on Undo step steps old) s, counted memory old r, ap length list)
+as_many Do step steps old memory moved list r s = omega (arith, counted moved (moved_on Do step steps old) s, counted memory old r, ap length list)

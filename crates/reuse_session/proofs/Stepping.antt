@@ -1,5 +1,5 @@
 -- A step from one standing to the next: its heads, and what is remembered then.
-use Rattle.std.proofs.Common.{◌≡◌, ℕ, ◌+◌, ◌≤◌, false, List, [], ◌∷◌, ◌++◌, length, map, reverse, get_or, Some, None, Ok, refl, sym, ap, subst, ◌∙◌, append_assoc}
+use Rattle.std.proofs.Common.{◌≡◌, ℕ, ◌+◌, false, List, [], ◌∷◌, ◌++◌, length, map, reverse, get_or, Some, None, Ok, refl, sym, ap, subst, ◌∙◌, append_assoc}
 use Rattle.std.proofs.lemmas.List.{map-append, reverse-append}
 use Rattle.std.proofs.Math.Seq.{get_or-append_seam}
 use Rattle.reuse_tree.specs.Files.{Files}
@@ -7,19 +7,20 @@ use Rattle.reuse_tree.specs.declared.change.Change.{Change}
 use Rattle.reuse_session.specs.Command.{name_of}
 use Rattle.reuse_session.specs.Entry.{IsEntry, LeadsBy}
 use Rattle.reuse_session.specs.Head.{way_of, IsGoodHead, IsSoundHead}
-use Rattle.reuse_session.specs.History.{Memory, head_listing, remember_run}
-use Rattle.reuse_session.specs.Journal.{Recorded, Journal, State}
+use Rattle.reuse_session.specs.History.{Memory, head_listing, remember_run, remember_moved}
+use Rattle.reuse_session.specs.Journal.{Recorded, Journal, State, moved_on}
 use Rattle.reuse_session.specs.JournalFiles.{head_of, number_of}
 use Rattle.reuse_session.specs.Machine.{is_full}
 use Rattle.reuse_session.specs.Outcome.{edits_of, outcome_of}
 use Rattle.reuse_session.specs.Plan.{IsPlan, Records}
-use Rattle.reuse_session.specs.Session.{listed_as, new_step, IsRun, Remembers}
-use Rattle.reuse_session.specs.Standing.{IsStanding, IsStep, Moves}
+use Rattle.reuse_session.specs.Session.{listed_as, IsRun, IsStepOf, Remembers}
+use Rattle.reuse_session.specs.Standing.{IsStanding, IsStep}
 use Rattle.reuse_session.specs.Tree.{undo_folder_of}
 use Rattle.reuse_session.specs.declared.command.Command.{Command}
+use Rattle.reuse_session.specs.declared.entry.Way.{Way}
+use Rattle.reuse_session.specs.declared.entry.Way.TheVariants as go
 use Rattle.reuse_session.specs.declared.history.ListedEntry.{ListedEntry}
 use Rattle.reuse_session.specs.declared.journal.head.Pending.{Pending}
-use Rattle.reuse_session.specs.declared.journal.head.PendingWay.{PendingWay}
 use Rattle.reuse_session.specs.declared.journal.head.PendingWay.TheVariants.{Do}
 use Rattle.reuse_session.specs.Answer.{HasClash}
 use Rattle.reuse_session.specs.declared.reply.Cause.{Cause}
@@ -33,7 +34,7 @@ use Rattle.reuse_session.proofs.MemoryLemmas.{listing_of}
 
 -- the step of a run
 abbrev pub step_of : Command → ℕ → State → List Change → Recorded
-step_of command when held changes = new_step (name_of command) when held changes
+step_of command when held changes = record { label = record { number = held.journal.used + 1; when = when; command = name_of command }; changes = changes }
 
 -- the standing after it
 abbrev pub second_of : Command → ℕ → State → List Change → Files → State
@@ -72,19 +73,15 @@ remembers_run memory journal step entry r is = record {
   used = ap (λ n. n + 1) r.used;
 }
 
-pub remembers_undo : (memory : Memory) (journal : Journal) (step : Recorded) (steps : List Recorded) (entry : ListedEntry) (front : List ListedEntry) → Remembers memory journal
-    → entry ≡ listed_as step → front ≡ map listed_as (reverse steps)
-    → Remembers (record { done = front; undone = memory.undone ++ entry ∷ []; used = memory.used }) (record { done = steps; undone = step ∷ journal.undone; used = journal.used })
-remembers_undo memory journal step steps entry front r is rest = record {
+-- the next entry this way moves from the end of its list to that of the other
+pub remembers_moved : (way : Way) (memory : Memory) (journal : Journal) (step : Recorded) (steps : List Recorded) (entry : ListedEntry) (front : List ListedEntry) → Remembers memory journal
+    → entry ≡ listed_as step → front ≡ map listed_as (reverse steps) → Remembers (remember_moved way front entry memory) (moved_on way step steps journal)
+remembers_moved go.Undo memory journal step steps entry front r is rest = record {
   done = rest;
   undone = ap (λ es. es ++ entry ∷ []) r.undone ∙ ap (λ e. map listed_as (reverse journal.undone) ++ e ∷ []) is ∙ sym (listed_more journal.undone step);
   used = r.used;
 }
-
-pub remembers_redo : (memory : Memory) (journal : Journal) (step : Recorded) (steps : List Recorded) (entry : ListedEntry) (front : List ListedEntry) → Remembers memory journal
-    → entry ≡ listed_as step → front ≡ map listed_as (reverse steps)
-    → Remembers (record { done = memory.done ++ entry ∷ []; undone = front; used = memory.used }) (record { done = step ∷ journal.done; undone = steps; used = journal.used })
-remembers_redo memory journal step steps entry front r is rest = record {
+remembers_moved go.Do memory journal step steps entry front r is rest = record {
   done = ap (λ es. es ++ entry ∷ []) r.done ∙ ap (λ e. map listed_as (reverse journal.done) ++ e ∷ []) is ∙ sym (listed_more journal.done step);
   undone = rest;
   used = r.used;
@@ -100,27 +97,29 @@ last_number steps step behind =
 
 -- ---- the heads of a step
 
-module _ (memory : Memory) (files : Files) (first second : State) (standing : IsStanding files first) (remembers : Remembers memory first.journal) (way : PendingWay) (step : Recorded) (moves : Moves way step first.journal second.journal) (low : number_of step ≤ 999_999) where
+module _ (memory : Memory) (files : Files) (first second : State) (standing : IsStanding files first) (remembers : Remembers memory first.journal) {made : List Change} {pending : Pending} {moved : Memory} (is : IsStepOf (undo_folder_of files) made pending moved first second) where
   -- the head before it
-  pub sound_first : IsSoundHead (head_of first.journal None)
+  sound_first : IsSoundHead (head_of first.journal None)
   sound_first = sound_head (undo_folder_of files) first.journal None standing.journal
 
-  pub sound_between : (pending : Pending) → pending ≡ record { entry = number_of step; way = way } → IsSoundHead (head_listing memory (Some pending))
-  sound_between pending is =
+  pending_is : pending ≡ record { entry = number_of is.step; way = pending.way }
+  pending_is = λ i. record { entry = is.number i; way = pending.way }
+
+  pub sound_between : IsSoundHead (head_listing memory (Some pending))
+  sound_between =
       subst IsSoundHead (sym (listing_of memory first.journal (Some pending) remembers))
-      (subst (λ p. IsSoundHead (head_of first.journal (Some p))) (sym is) (sound_pending first.journal second.journal way step sound_first moves low))
+      (subst (λ p. IsSoundHead (head_of first.journal (Some p))) (sym pending_is) (sound_pending first.journal second.journal pending.way is.step sound_first is.is_step.moves is.low))
 
-  pub good_between : (pending : Pending) (text : List ℕ) → pending ≡ record { entry = number_of step; way = way } → (IsSoundHead (head_listing memory (Some pending)) → IsGoodHead text (head_listing memory (Some pending)))
-      → IsGoodHead text (head_of first.journal (Some (record { entry = number_of step; way = way })))
-  good_between pending text is good =
-      subst (λ p. IsGoodHead text (head_of first.journal (Some p))) is (subst (IsGoodHead text) (listing_of memory first.journal (Some pending) remembers) (good (sound_between pending is)))
+  pub good_between : (text : List ℕ) → (IsSoundHead (head_listing memory (Some pending)) → IsGoodHead text (head_listing memory (Some pending)))
+      → IsGoodHead text (head_of first.journal (Some (record { entry = number_of is.step; way = pending.way })))
+  good_between text good =
+      subst (λ p. IsGoodHead text (head_of first.journal (Some p))) pending_is (subst (IsGoodHead text) (listing_of memory first.journal (Some pending) remembers) (good sound_between))
 
-  pub sound_second : (moved : Memory) → Remembers moved second.journal → (way ≡ Do → is_full (length first.journal.done) first.journal.used ≡ false) → IsSoundHead (head_listing moved None)
-  sound_second moved after room = subst IsSoundHead (sym (listing_of moved second.journal None after)) (sound_moved first.journal second.journal way step sound_first moves room)
+  pub sound_second : IsSoundHead (head_listing moved None)
+  sound_second = subst IsSoundHead (sym (listing_of moved second.journal None is.remembers)) (sound_moved first.journal second.journal pending.way is.step sound_first is.is_step.moves is.room)
 
-  pub good_second : (moved : Memory) (text : List ℕ) → Remembers moved second.journal → (way ≡ Do → is_full (length first.journal.done) first.journal.used ≡ false)
-      → (IsSoundHead (head_listing moved None) → IsGoodHead text (head_listing moved None)) → IsGoodHead text (head_of second.journal None)
-  good_second moved text after room good = subst (IsGoodHead text) (listing_of moved second.journal None after) (good (sound_second moved after room))
+  pub good_second : (text : List ℕ) → (IsSoundHead (head_listing moved None) → IsGoodHead text (head_listing moved None)) → IsGoodHead text (head_of second.journal None)
+  good_second text good = subst (IsGoodHead text) (listing_of moved second.journal None is.remembers) (good sound_second)
 
 -- ---- causes
 

@@ -1,6 +1,6 @@
 -- Where the licensing information of a file goes, by the tests of the code.
-use Rattle.std.proofs.Common.{◌≡◌, ℕ, zero, suc, [], ◌∷◌, ◌==◌, ◌≤◌, ◌<◌, Bool, true, false, cond, not, ◌||◌, ◌&&◌, nat_lt, List, length, is_none, Result, Ok, Err, refl, sym, ap, ◌∙◌, arith}
-use Rattle.std.specs.FinMap.{keys}
+use Rattle.std.proofs.Common.{◌≡◌, ℕ, zero, suc, [], ◌∷◌, ◌==◌, ◌≤◌, ◌<◌, Bool, true, false, cond, not, ◌||◌, ◌&&◌, nat_lt, List, length, Option, Some, None, is_some, is_none, Result, Ok, Err, refl, sym, ap, ◌∙◌, arith}
+use Rattle.std.specs.FinMap.{get, keys}
 use Rattle.std.proofs.lemmas.Bool.{false≢true}
 use Rattle.std.proofs.lemmas.Bool.Decides.{nat_tests}
 use Rattle.std.proofs.lemmas.Str.{IsUtf8-from_is_utf8, is_utf8-from_IsUtf8}
@@ -17,7 +17,7 @@ use Rattle.reuse_session.specs.declared.plan_target.Target.TheVariants.{Beside}
 use Rattle.reuse_session.specs.declared.reply.Refusal.{Refusal}
 use Rattle.reuse_session.specs.declared.reply.Refusal.TheVariants.{TooLong}
 use Rattle.reuse_session.specs.Listing.{is_among}
-use Rattle.reuse_session.specs.Annotate.{neighbour_of, is_uncommentable, goes_beside, target_by_style, target_by_bytes}
+use Rattle.reuse_session.specs.Annotate.{neighbour_of, is_uncommentable, goes_beside, goes_beside_unread, target_by_style, target_by_bytes}
 use Rattle.reuse_session.proofs.TreeLemmas.{among_keys}
 
 not_over : (n : ℕ) → n ≤ 16_777_216 → nat_lt 16_777_216 n ≡ false
@@ -41,9 +41,17 @@ pub long_bytes : (scope : Scope) (path bytes : List ℕ) → 16_777_216 < length
 long_bytes scope path bytes h = ap (λ t. cond t (refused (TooLong path)) (cond (not (is_text bytes)) (target Beside) (target_by_style scope path scope.style))) (over (length bytes) h)
 
 pub beside_by : (tree : Files) (paths : List (List ℕ)) (path : List ℕ) (scope : Scope) (r : Bool) → paths ≡ keys tree
-    → r ≡ (scope.force_dot_license || is_among paths (neighbour_of path) || (is_none scope.style && is_uncommentable (kind_of_name path))) → r ≡ goes_beside scope tree path
+    → r ≡ (is_among paths (neighbour_of path) || goes_beside_unread scope path) → r ≡ goes_beside scope tree path
 beside_by tree paths path scope r are e =
-    e ∙ ap (λ b. scope.force_dot_license || b || (is_none scope.style && is_uncommentable (kind_of_name path))) (ap (λ ps. is_among ps (neighbour_of path)) are ∙ among_keys tree (neighbour_of path))
+    e ∙ ap (λ b. b || goes_beside_unread scope path) (ap (λ ps. is_among ps (neighbour_of path)) are ∙ among_keys tree (neighbour_of path))
+
+-- where the neighbour isn't there it is the place by what is asked for and by the name alone
+pub unread_by : (tree : Files) (path : List ℕ) (scope : Scope) (r : Bool) → get tree (neighbour_of path) ≡ None → r ≡ goes_beside_unread scope path → goes_beside scope tree path ≡ r
+unread_by tree path scope r absent e = ap (λ f. is_some f || goes_beside_unread scope path) absent ∙ sym e
+
+-- where it is there, it is the place
+pub beside_there : (tree : Files) (path bytes : List ℕ) (scope : Scope) → get tree (neighbour_of path) ≡ Some bytes → goes_beside scope tree path ≡ true
+beside_there tree path bytes scope here = ap (λ f. is_some f || goes_beside_unread scope path) here
 
 refuted : (b : Bool) → (b ≡ true → ⊥) → b ≡ false
 refuted true h = absurd (h refl)

@@ -1,12 +1,19 @@
 -- What a put, a removal and a splice make of a file.
-use Rattle.std.proofs.Common.{◌≡◌, ◌⊎◌, inl, inr, ⊎_elim, ℕ, ◌+◌, true, cond, List, length, Some, None, Result, Ok, Err, OnOk, ap, ◌∙◌, arith}
+use Rattle.std.proofs.Common.{◌≡◌, ◌⊎◌, inl, inr, ⊎_elim, ℕ, ◌+◌, true, cond, List, length, Option, Some, None, IsSome, is_some, Result, Ok, Err, OnOk, refl, ap, sym, subst, ◌∙◌, arith}
+use Rattle.std.proofs.lemmas.Bool.{false≢true}
 use Rattle.std.specs.FinMap.{get, remove}
-use Rattle.reuse_tree.specs.Files.{Files}
+use Rattle.reuse_tree.specs.Files.{Files, AreFiles, Clashes}
+use Rattle.reuse_tree.specs.Change.{path_of}
+use Rattle.reuse_tree.specs.declared.change.Change.{Change}
+use Rattle.reuse_tree.specs.declared.change.Change.TheVariants.{Make, Drop, Splice}
 use Rattle.reuse_tree.specs.Store.{counted, Puts, PutFails, RemoveFails}
 use Rattle.reuse_tree.specs.declared.fault.StoreFault.{StoreFault}
 use Rattle.reuse_tree.specs.declared.fault.StoreFault.TheVariants.{Device, Clash, Memory}
 use Rattle.reuse_tree.proofs.FileMaps.{get-put_same, get-put_other, get-removed_same, get-removed_other}
+use Rattle.reuse_session.specs.Entry.{makes, TurnsBy, Steps}
 use Rattle.reuse_session.specs.Tree.{is_of_tree, Sets}
+use Rattle.reuse_session.specs.declared.entry.Way.{Way}
+use Rattle.reuse_session.specs.declared.entry.Way.TheVariants.{Do, Undo}
 use Rattle.reuse_session.proofs.OfTree.{outside}
 
 pub put_sets : (m n : Files) (p bytes : List ℕ) → Puts p bytes m n → Sets p (Some bytes) m n
@@ -43,3 +50,23 @@ counts_none path bytes old new of_tree e = e ∙ ap (λ n. old + n) (ap (λ b. c
 pub on_ok : {A E : Type 0} (r : Result A E) (P Q : Type 0) → (P → Q) → OnOk r P → OnOk r Q
 on_ok (Ok x) P Q f h = f h
 on_ok (Err e) P Q f h = h
+
+-- where the path of a change holds what the change makes of it, the change is made
+pub step_by : (way : Way) (change : Change) (m n : Files) (held : Option (List ℕ)) → TurnsBy way change (get m (path_of change)) held → Sets (path_of change) held m n → Steps way change m n
+step_by way change m n held turns sets = record { here = subst (TurnsBy way change (get m (path_of change))) (sym sets.here) turns; elsewhere = sets.elsewhere }
+
+-- only a change that makes a file clashes
+module _ (m : Files) (are : AreFiles m) where
+  there : (path bytes : List ℕ) → get m path ≡ Some bytes → Clashes m path → ⊥
+  there path bytes e clash = are.apart path (ap is_some e) clash
+
+  nothing : (held : Option (List ℕ)) → held ≡ None → IsSome held → ⊥
+  nothing held e some = false≢true (sym (ap is_some e) ∙ some)
+
+  pub makes_where_clash : (way : Way) (change : Change) (held : Option (List ℕ)) → TurnsBy way change (get m (path_of change)) held → IsSome held → Clashes m (path_of change) → makes way change ≡ true
+  makes_where_clash Do (Make path new) held turns some clash = refl
+  makes_where_clash Do (Drop path old) held turns some clash = absurd (nothing held turns.1 some)
+  makes_where_clash Do (Splice path at old new rest) held turns some clash = absurd (there path _ turns.2.whole clash)
+  makes_where_clash Undo (Make path new) held turns some clash = absurd (nothing held turns.0 some)
+  makes_where_clash Undo (Drop path old) held turns some clash = refl
+  makes_where_clash Undo (Splice path at old new rest) held turns some clash = absurd (there path _ turns.3.whole clash)

@@ -66,10 +66,13 @@ is_uncommentable (kind.Style style) = false
 is_uncommentable kind.Uncommentable = true
 is_uncommentable kind.Unknown = false
 
--- the target is the neighbour, whatever the file holds: it is asked for, it is there, or the name takes no comment and no style is asked for
+-- the target is the neighbour, whether that is there or not: it is asked for, or the name takes no comment and no style is asked for
+abbrev pub goes_beside_unread : Scope → List ℕ → Bool
+goes_beside_unread scope path = scope.force_dot_license || (is_none scope.style && is_uncommentable (kind_of_name path))
+
+-- the target is the neighbour, whatever the file holds: so, or since it is there
 abbrev pub goes_beside : Scope → Files → List ℕ → Bool
-goes_beside scope tree path =
-    scope.force_dot_license || is_some (get tree (neighbour_of path)) || (is_none scope.style && is_uncommentable (kind_of_name path))
+goes_beside scope tree path = is_some (get tree (neighbour_of path)) || goes_beside_unread scope path
 
 abbrev pub target_of : Scope → Files → List ℕ → List ℕ → Result Target Refusal
 target_of scope tree path bytes = if goes_beside scope tree path then Ok Beside else target_by_bytes scope path bytes

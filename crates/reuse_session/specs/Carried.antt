@@ -1,9 +1,11 @@
 -- What carrying a step out leaves, and rolling it back. The heads are given by their texts.
-use Rattle.std.specs.Prelude.{◌≡◌, ◌⊎◌, ℕ, List, Some}
+use Rattle.std.specs.Prelude.{◌≡◌, ◌⊎◌, ℕ, ◌<◌, Bool, true, false, List, Some}
 use Rattle.std.specs.List.{All}
 use Rattle.std.specs.FinMap.{get}
 use Rattle.reuse_tree.specs.Files.{Files, tree_of}
+use Rattle.reuse_tree.specs.Asked.{OnlyReads}
 use Rattle.reuse_tree.specs.Change.{path_of}
+use Rattle.reuse_tree.specs.declared.store.Store.{Ghosts}
 use Rattle.reuse_tree.specs.declared.change.Change.{Change}
 use Rattle.reuse_session.specs.Entry.{opposite, LeadsBy, SomeMade, IsReady, Steps}
 use Rattle.reuse_session.specs.JournalFiles.{head_path}
@@ -39,3 +41,8 @@ abbrev pub StopsRollingBack : Way → List Change → List ℕ → Files → Fil
 StopsRollingBack way changes head start before after =
     (SomeMade way changes start (tree_of after) × (undo_folder_of after ≡ undo_folder_of before))
     ⊎ ((tree_of after ≡ start) × SetsHead head before after)
+
+-- a call notes that puts and removals have started exactly where it asks for one, if that wasn't noted before
+pub record NotesMoves {S : Type 0} (store : Ghosts S) (noted notes : Bool) (old new : S) : Type 0 where
+  pub still : notes ≡ false → (noted ≡ false) × OnlyReads store old new
+  pub begun : noted ≡ false → notes ≡ true → store.moves old < store.moves new

@@ -22,6 +22,11 @@ way_of Do = way.Do
 way_of Undo = way.Undo
 way_of Redo = way.Do
 
+-- the pending way of an entry that is listed
+abbrev pub listed_way : Way → PendingWay
+listed_way way.Do = Redo
+listed_way way.Undo = Undo
+
 -- the word for a way
 abbrev pub way_name : PendingWay → List ℕ
 way_name Do = codes "do"

@@ -1,6 +1,8 @@
 -- What a session remembers of the journal.
-use Rattle.std.specs.Prelude.{◌≡◌, ℕ, ◌+◌, ◌-◌, List, [], ◌∷◌, ◌++◌, map, reverse, length, slice_get, Bool, true, false, Option}
-use Rattle.reuse_session.specs.Machine.{Label, row_of}
+use Rattle.std.specs.Prelude.{ℕ, ◌+◌, List, [], ◌∷◌, ◌++◌, map, reverse, Bool, true, false, Option}
+use Rattle.reuse_session.specs.Machine.{row_of}
+use Rattle.reuse_session.specs.declared.entry.Way.{Way}
+use Rattle.reuse_session.specs.declared.entry.Way.TheVariants.{Do, Undo}
 use Rattle.reuse_session.specs.declared.history.ListedEntry.{ListedEntry}
 use Rattle.reuse_session.specs.declared.journal.head.Head.{Head}
 use Rattle.reuse_session.specs.declared.journal.head.Pending.{Pending}
@@ -32,3 +34,13 @@ rows_listing memory = map (row_listing true) memory.done ++ map (row_listing fal
 -- what is remembered after a run: a new entry is done, and none is undone
 abbrev pub remember_run : Memory → ListedEntry → Memory
 remember_run memory entry = record { done = memory.done ++ entry ∷ []; undone = []; used = memory.used + 1 }
+
+-- the entries that a way goes on with, the next last: back over those done, and on over those undone
+abbrev pub entries_ahead : Way → Memory → List ListedEntry
+entries_ahead Undo memory = memory.done
+entries_ahead Do memory = memory.undone
+
+-- what is remembered after the last of them, given those before it
+abbrev pub remember_moved : Way → List ListedEntry → ListedEntry → Memory → Memory
+remember_moved Undo front entry memory = record { done = front; undone = memory.undone ++ entry ∷ []; used = memory.used }
+remember_moved Do front entry memory = record { done = memory.done ++ entry ∷ []; undone = front; used = memory.used }

@@ -1,9 +1,9 @@
 -- The journal: what was done and what was undone, as changes.
-use Rattle.std.specs.Prelude.{◌≡◌, ℕ, true, false, List, [], ◌∷◌, ◌++◌, length, map, reverse, take, Result, Ok, Err}
+use Rattle.std.specs.Prelude.{◌≡◌, ℕ, true, false, List, [], ◌∷◌, ◌++◌, length, map, reverse, Result, Ok, Err}
 use Rattle.std.specs.List.{All}
 use Rattle.reuse_tree.specs.Files.{Files}
 use Rattle.reuse_tree.specs.declared.change.Change.{Change}
-use Rattle.reuse_session.specs.Entry.{paths_of, IsEntry, LeadsBy, CanBeMade, IsFirstStuck}
+use Rattle.reuse_session.specs.Entry.{paths_of, LeadsBy, CanBeMade, IsFirstStuck}
 use Rattle.reuse_session.specs.Machine.{Label, row_of}
 use Rattle.reuse_session.specs.declared.entry.Way.{Way}
 use Rattle.reuse_session.specs.declared.entry.Way.TheVariants as way
@@ -37,17 +37,37 @@ Goes way step reply moved old (Ok given) new =
 Goes way step reply moved old (Err refusal) new =
     ((path : List ℕ) × (refusal ≡ Moved path) × IsFirstStuck way old.tree step.changes path) × (new ≡ old)
 
+-- the steps that a way goes on with, the next first: back over those done, and on over those undone
+abbrev pub ahead : Way → Journal → List Recorded
+ahead way.Undo journal = journal.done
+ahead way.Do journal = journal.undone
+
+-- the journal after the first of them, which is the first behind then
+abbrev pub moved_on : Way → Recorded → List Recorded → Journal → Journal
+moved_on way.Undo step steps old = record { done = steps; undone = step ∷ old.undone; used = old.used }
+moved_on way.Do step steps old = record { done = step ∷ old.done; undone = steps; used = old.used }
+
+-- the answer with a step's paths, and that where there is no step
+abbrev pub reply_of : Way → List (List ℕ) → Reply
+reply_of way.Undo = reply.Undone
+reply_of way.Do = reply.Redone
+
+abbrev pub end_of : Way → Refusal
+end_of way.Undo = NothingToUndo
+end_of way.Do = NothingToRedo
+
+-- what a call answers and leaves that goes one step this way
+abbrev pub Travels : Way → List Recorded → State → Result Reply Refusal → State → Type 0
+Travels way [] old result new = (result ≡ Err (end_of way)) × (new ≡ old)
+Travels way (step ∷ steps) old result new = Goes way step (reply_of way) (moved_on way step steps old.journal) old result new
+
 -- what undo answers and leaves: the last step done is taken back, and is the next to be redone
 abbrev pub Undoes : List Recorded → State → Result Reply Refusal → State → Type 0
-Undoes [] old result new = (result ≡ Err NothingToUndo) × (new ≡ old)
-Undoes (step ∷ steps) old result new =
-    Goes way.Undo step reply.Undone (record { done = steps; undone = step ∷ old.journal.undone; used = old.journal.used }) old result new
+Undoes = Travels way.Undo
 
 -- what redo answers and leaves: the next step undone is made again, and is the last done
 abbrev pub Redoes : List Recorded → State → Result Reply Refusal → State → Type 0
-Redoes [] old result new = (result ≡ Err NothingToRedo) × (new ≡ old)
-Redoes (step ∷ steps) old result new =
-    Goes way.Do step reply.Redone (record { done = step ∷ old.journal.done; undone = steps; used = old.journal.used }) old result new
+Redoes = Travels way.Do
 
 -- the rows of a log: the steps done, the oldest first, then those undone, the next to be redone first
 abbrev pub rows_in : Journal → List Row

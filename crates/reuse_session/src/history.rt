@@ -1,11 +1,12 @@
 // What a session remembers of the journal: its entries' labels, and not their changes.
 ghost use Rattle.std.specs.Prelude.{◌≡◌, ◌<◌, ◌≤◌, ◌+◌, ◌*◌, ◌++◌, ◌∷◌, [], Option, None, Some, List, IfOk, length, map, true, false};
 ghost use Rattle.reuse_session.specs.Head.{head_text, IsGoodHead, IsSoundHead};
-ghost use Rattle.reuse_session.specs.History.{Memory, head_listing, row_listing, rows_listing, remember_run};
+ghost use Rattle.reuse_session.specs.History.{Memory, head_listing, row_listing, rows_listing, remember_run, entries_ahead, remember_moved};
 ghost use Rattle.reuse_session.specs.Machine.{is_full};
 ghost use Rattle.reuse_session.specs.declared.history.ListedEntry.{ListedEntry};
 
 use crate::command::CommandName;
+use crate::entry::Way;
 use crate::journal::{EntryNumbers, Head, Pending, encode_head};
 use crate::moment::Moment;
 use crate::reply::{Row, Rows};
@@ -76,20 +77,15 @@ impl History {
         self.done.len() >= MOST_DONE || self.used >= LAST_NUMBER
     }
 
-    /// The entry that an undo takes back.
-    pub fn last_done(&self) -> Option<ListedEntry>
-        ensures none { result ≡ None → self.now.done ≡ [] }
-        ensures some { (entry : ListedEntry) → result ≡ Some entry → (front : List ListedEntry) × (self.now.done ≡ front ++ entry ∷ []) }
+    /// The entry that this way goes on with: an undo takes it back, or a redo makes it again.
+    pub fn next(&self, way: Way) -> Option<ListedEntry>
+        ensures none { result ≡ None → entries_ahead way self.now ≡ [] }
+        ensures some { (entry : ListedEntry) → result ≡ Some entry → (front : List ListedEntry) × (entries_ahead way self.now ≡ front ++ entry ∷ []) }
     {
-        self.done.last().copied()
-    }
-
-    /// The entry that a redo makes again.
-    pub fn next_undone(&self) -> Option<ListedEntry>
-        ensures none { result ≡ None → self.now.undone ≡ [] }
-        ensures some { (entry : ListedEntry) → result ≡ Some entry → (front : List ListedEntry) × (self.now.undone ≡ front ++ entry ∷ []) }
-    {
-        self.undone.last().copied()
+        match way {
+            Way::Do => self.undone.last().copied(),
+            Way::Undo => self.done.last().copied(),
+        }
     }
 
     /// What is remembered after a run: the entry is done, and none is undone.
@@ -104,28 +100,23 @@ impl History {
         })
     }
 
-    /// What is remembered after an undo.
-    pub fn after_undo(&self, alloc: Global, entry: ListedEntry) -> Result<History, AllocError>
-        ensures { (front : List ListedEntry) → self.now.done ≡ front ++ entry ∷ []
-            → IfOk result (λ history. history ≡ record { done = front; undone = self.now.undone ++ entry ∷ []; used = self.now.used }) }
+    /// What is remembered after the entry that this way goes on with.
+    pub fn after(&self, alloc: Global, entry: ListedEntry, way: Way) -> Result<History, AllocError>
+        ensures { (front : List ListedEntry) → entries_ahead way self.now ≡ front ++ entry ∷ []
+            → IfOk result (λ history. history ≡ remember_moved way front entry self.now) }
     {
-        Ok(History {
-            done: without_last(alloc, self.done.as_slice())?,
-            undone: with_entry(alloc, self.undone.as_slice(), entry)?,
-            used: self.used,
-        })
-    }
-
-    /// What is remembered after a redo.
-    pub fn after_redo(&self, alloc: Global, entry: ListedEntry) -> Result<History, AllocError>
-        ensures { (front : List ListedEntry) → self.now.undone ≡ front ++ entry ∷ []
-            → IfOk result (λ history. history ≡ record { done = self.now.done ++ entry ∷ []; undone = front; used = self.now.used }) }
-    {
-        Ok(History {
-            done: with_entry(alloc, self.done.as_slice(), entry)?,
-            undone: without_last(alloc, self.undone.as_slice())?,
-            used: self.used,
-        })
+        match way {
+            Way::Do => Ok(History {
+                done: with_entry(alloc, self.done.as_slice(), entry)?,
+                undone: without_last(alloc, self.undone.as_slice())?,
+                used: self.used,
+            }),
+            Way::Undo => Ok(History {
+                done: without_last(alloc, self.done.as_slice())?,
+                undone: with_entry(alloc, self.undone.as_slice(), entry)?,
+                used: self.used,
+            }),
+        }
     }
 
     /// The text of the head that lists the entries.

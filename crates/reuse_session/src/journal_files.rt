@@ -5,7 +5,7 @@ ghost use Rattle.reuse_tree.specs.Files.{Clashes, tree_of};
 ghost use Rattle.reuse_tree.specs.Store.{reading_of};
 ghost use Rattle.reuse_tree.specs.declared.fault.StoreFault.{StoreFault};
 ghost use Rattle.reuse_tree.specs.declared.fault.StoreFault.TheVariants as faults;
-ghost use Rattle.reuse_session.specs.Answer.{IsReadRefusal, IsPutRefusal, bad_text};
+ghost use Rattle.reuse_session.specs.Answer.{IsReadRefusal, IsPutRefusal, bad_text, RefusedAsRead};
 ghost use Rattle.reuse_session.specs.Entry.{IsEntry, entry_size};
 ghost use Rattle.reuse_session.specs.EntryText.{entry_text};
 ghost use Rattle.reuse_session.specs.Head.{IsSoundHead};
@@ -14,6 +14,7 @@ ghost use Rattle.reuse_session.specs.Tree.{Sets, undo_folder_of};
 ghost use Rattle.reuse_session.specs.JournalFiles.{digit, head_path, entry_path, HeadSays, EntrySays};
 ghost use Rattle.reuse_session.specs.declared.journal.head.Head.{Head};
 ghost use Rattle.reuse_session.specs.declared.journal.entry.Entry.{Entry};
+ghost use Rattle.reuse_tree.specs.Asked.{OnlyReads, IsLater};
 
 use crate::journal::{
     DecodeFault, Entry, EntryNumbers, Head, decode_entry, decode_head, encode_entry,
@@ -99,12 +100,8 @@ pub fn read_head<S: Store>(alloc: Global, store: &mut S) -> Result<Head, Refusal
         → (path ≡ head_path) × ((head : Head) → ¬ (HeadSays (map.get (undo_folder_of (S.files store.old)) head_path) head)) }
     ensures sound { IfOk result IsSoundHead }
     ensures refusal { IfErr result IsReadRefusal }
-    ensures files { S.honest store.new → S.files store.new ≡ S.files store.old }
-    ensures clash { S.honest store.new → result ≢ Err (Refusal.Fault faults.Clash) }
-    ensures device { result ≡ Err (Refusal.Fault faults.Device) → S.failures store.old < S.failures store.new }
-    ensures failures { S.failures store.old ≤ S.failures store.new }
-    ensures written { S.written store.new ≡ S.written store.old }
-    ensures was_honest { S.honest store.new → S.honest store.old }
+    ensures fails { RefusedAsRead S.Store store.old store.new result }
+    ensures reads { OnlyReads S.Store store.old store.new }
 {
     let path = head_path(alloc)?;
     let reading = store.read(alloc, &path, LONGEST_HEAD)?;
@@ -142,12 +139,8 @@ pub fn read_entry<S: Store>(alloc: Global, store: &mut S, number: u32) -> Result
     ensures bad { S.honest store.new → (path : List ℕ) → result ≡ Err (Refusal.BadJournal path)
         → (path ≡ entry_path number) × ((entry : Entry) → ¬ (EntrySays (map.get (undo_folder_of (S.files store.old)) (entry_path number)) entry)) }
     ensures refusal { IfErr result IsReadRefusal }
-    ensures files { S.honest store.new → S.files store.new ≡ S.files store.old }
-    ensures clash { S.honest store.new → result ≢ Err (Refusal.Fault faults.Clash) }
-    ensures device { result ≡ Err (Refusal.Fault faults.Device) → S.failures store.old < S.failures store.new }
-    ensures failures { S.failures store.old ≤ S.failures store.new }
-    ensures written { S.written store.new ≡ S.written store.old }
-    ensures was_honest { S.honest store.new → S.honest store.old }
+    ensures fails { RefusedAsRead S.Store store.old store.new result }
+    ensures reads { OnlyReads S.Store store.old store.new }
 {
     let path = entry_path(alloc, number)?;
     let reading = store.read(alloc, &path, LONGEST_ENTRY)?;
@@ -198,9 +191,8 @@ pub fn put_entry<S: Store>(
     ensures refusal { IfErr result IsPutRefusal }
     ensures clash { S.honest store.new → result ≡ Err (Refusal.Fault faults.Clash) → Clashes (S.files store.old) (entry_path number) }
     ensures device { result ≡ Err (Refusal.Fault faults.Device) → S.failures store.old < S.failures store.new }
-    ensures failures { S.failures store.old ≤ S.failures store.new }
     ensures written { IsEntry entry.now.changes → S.written store.new ≤ S.written store.old + entry_size entry.now.changes }
-    ensures was_honest { S.honest store.new → S.honest store.old }
+    ensures later { IsLater S.Store store.old store.new }
 {
     let path = entry_path(alloc, number)?;
     let text = encode_entry(alloc, entry)?;
@@ -221,10 +213,10 @@ pub fn put_head<S: Store>(
     ensures clash { S.honest store.new → result ≡ Err Cause.Clash → Clashes (S.files store.old) head_path }
     ensures moved { result ≢ Err Cause.Moved }
     ensures device { IsErrOf result Cause.Device → S.failures store.old < S.failures store.new }
-    ensures failures { S.failures store.old ≤ S.failures store.new }
     ensures written { S.written store.new ≤ S.written store.old + length text.now }
     ensures counted { S.written store.old + length text.now ≤ S.written store.new }
-    ensures was_honest { S.honest store.new → S.honest store.old }
+    ensures moves { S.moves store.new ≡ S.moves store.old + 1 }
+    ensures later { IsLater S.Store store.old store.new }
 {
     store.put(alloc, &head.path, text)?;
     Ok(())

@@ -8,6 +8,7 @@ ghost use Rattle.std.specs.List.Sorted.{IsPartitionPoint};
 ghost use Rattle.std.specs.FinMap.{keys};
 ghost use Rattle.reuse_tree.specs.Files.{tree_of};
 ghost use Rattle.reuse_session.specs.Listing.{ArePaths, is_among, is_folder_of};
+ghost use Rattle.reuse_tree.specs.Asked.{OnlyReads, FailsAsRead};
 
 use reuse_text::Bytes;
 use reuse_tree::{PathText, Store, StoreFault};
@@ -20,12 +21,8 @@ pub(crate) fn tree_paths<S: Store>(
     store: &mut S,
 ) -> Result<Vec<PathText>, StoreFault>
     ensures paths { S.honest store.new → IfOk result (λ paths. paths.items ≡ keys (tree_of (S.files store.old))) }
-    ensures files { S.honest store.new → S.files store.new ≡ S.files store.old }
-    ensures no_clash { S.honest store.new → result ≡ Err StoreFault.Clash → ⊥ }
-    ensures device { result ≡ Err StoreFault.Device → S.failures store.old < S.failures store.new }
-    ensures failures { S.failures store.old ≤ S.failures store.new }
-    ensures written { S.written store.new ≡ S.written store.old }
-    ensures was_honest { S.honest store.new → S.honest store.old }
+    ensures fails { FailsAsRead S.Store store.old store.new result }
+    ensures reads { OnlyReads S.Store store.old store.new }
 {
     let mut paths = store.list(alloc)?;
     paths.retain(|path| !path.is_in_journal());

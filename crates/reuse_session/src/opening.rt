@@ -4,7 +4,7 @@ ghost use Rattle.std.specs.FinMap as map;
 ghost use Rattle.std.specs.List.{All, AllZip};
 ghost use Rattle.reuse_tree.specs.Path.{journal_folder};
 ghost use Rattle.reuse_tree.specs.declared.fault.StoreFault.TheVariants as faults;
-ghost use Rattle.reuse_session.specs.Answer.{HasCause, IsEarly, IsNoClash, IsFailure, IsReadRefusal, IsOpenRefusal};
+ghost use Rattle.reuse_session.specs.Answer.{HasCause, IsEarly, IsNoClash, IsFailure, IsReadRefusal, IsOpenRefusal, RefusedAsRead};
 ghost use Rattle.reuse_session.specs.Head.{listed, IsSoundHead};
 ghost use Rattle.reuse_session.specs.declared.journal.head.Head.{Head};
 ghost use Rattle.reuse_session.specs.Journal.{Recorded, Journal, State};
@@ -14,6 +14,8 @@ ghost use Rattle.reuse_session.specs.Session.{head_room, listed_count, IsSameBut
 ghost use Rattle.reuse_session.specs.Standing.{IsStanding, IsUnderWay, InDoubt};
 ghost use Rattle.reuse_session.specs.Tree.{undo_folder_of};
 ghost use Rattle.reuse_session.specs.declared.reply.Cause.{Cause};
+ghost use Rattle.reuse_session.specs.declared.reply.Cause.TheVariants as causes;
+ghost use Rattle.reuse_tree.specs.Asked.{OnlyReads, IsLater};
 
 use crate::history::{History, ListedEntry};
 use crate::journal::{Entry, Head, Pending};
@@ -28,7 +30,6 @@ pub fn open_journal<S: Store>(alloc: Global, store: &mut S) -> Result<History, R
     ensures opened { S.honest store.new → IfOk result (λ memory. (held : State) × Remembers memory held.journal × OpensOn (S.files store.old) held (S.files store.new)) }
     ensures bad { S.honest store.new → (path : List ℕ) → result ≡ Err (Refusal.BadJournal path) → IsFirstBad (S.files store.old) path }
     ensures moved { S.honest store.new → (path : List ℕ) → result ≡ Err (Refusal.Moved path) → IsStuckAt (S.files store.old) path }
-    ensures unchanged { S.honest store.new → IfErr result (λ refusal. IsEarly refusal → S.files store.new ≡ S.files store.old) }
     // It stops only where a step was under way, which is still, or is set back.
     ensures interrupted { S.honest store.new → (cause : Cause) → result ≡ Err (Refusal.Interrupted cause) → StopsOpening (S.files store.old) (S.files store.new) }
     // Of files in doubt it makes one of the two standings, or leaves them in doubt where it fails.
@@ -38,15 +39,15 @@ pub fn open_journal<S: Store>(alloc: Global, store: &mut S) -> Result<History, R
     // At most one head is put.
     ensures written { S.honest store.new → (head : Head) → HeadSays (map.get (undo_folder_of (S.files store.old)) head_path) head
         → S.written store.new ≤ S.written store.old + head_room (length (listed head)) }
-    // No head is put before a refusal, nor where nothing is pending; and nothing else of the journal's folder changes.
-    ensures early { IfErr result (λ refusal. IsEarly refusal → S.written store.new ≡ S.written store.old) }
-    ensures quiet { S.honest store.new → (held : State) → IsStanding (S.files store.old) held → S.written store.new ≡ S.written store.old }
+    // Nothing is moved before a refusal, nor where nothing is pending; and of the journal's folder nothing but the head changes.
+    ensures early { IfErr result (λ refusal. IsEarly refusal → OnlyReads S.Store store.old store.new) }
+    ensures late { (cause : Cause) → result ≡ Err (Refusal.Interrupted cause) → cause ≢ causes.Moved → S.moves store.old < S.moves store.new }
+    ensures quiet { S.honest store.new → (held : State) → IsStanding (S.files store.old) held → OnlyReads S.Store store.old store.new }
     ensures folder { S.honest store.new → IsSameBut head_path (undo_folder_of (S.files store.old)) (undo_folder_of (S.files store.new)) }
     ensures refusal { IfErr result IsOpenRefusal }
     ensures clash { S.honest store.new → IfErr result IsNoClash }
     ensures fault { IfErr result (HasCause (S.failures store.old < S.failures store.new)) }
-    ensures failures { S.failures store.old ≤ S.failures store.new }
-    ensures was_honest { S.honest store.new → S.honest store.old }
+    ensures later { IsLater S.Store store.old store.new }
 {
     let (pending, history) = read_journal(alloc, store)?;
     match pending {
@@ -66,12 +67,8 @@ fn read_journal<S: Store>(
     ensures ok { S.honest store.new → IfOk result (λ read. (journal : Journal) × IsRead (S.files store.old) read.0 read.1 journal) }
     ensures bad { S.honest store.new → (path : List ℕ) → result ≡ Err (Refusal.BadJournal path) → IsFirstBad (S.files store.old) path }
     ensures refusal { IfErr result IsReadRefusal }
-    ensures files { S.honest store.new → S.files store.new ≡ S.files store.old }
-    ensures clash { S.honest store.new → result ≢ Err (Refusal.Fault faults.Clash) }
-    ensures device { result ≡ Err (Refusal.Fault faults.Device) → S.failures store.old < S.failures store.new }
-    ensures written { S.written store.new ≡ S.written store.old }
-    ensures failures { S.failures store.old ≤ S.failures store.new }
-    ensures was_honest { S.honest store.new → S.honest store.old }
+    ensures fails { RefusedAsRead S.Store store.old store.new result }
+    ensures reads { OnlyReads S.Store store.old store.new }
 {
     test_folders(alloc, store)?;
     let head = read_head(alloc, store)?;
@@ -90,14 +87,14 @@ fn settle<S: Store>(
         → OnOk result (IsSettled pending journal (S.files store.old) (S.files store.new)) }
     ensures moved { S.honest store.new → (journal : Journal) → IsRead (S.files store.old) (Some pending) history.now journal
         → (path : List ℕ) → result ≡ Err (Refusal.Moved path) → IsStuckAt (S.files store.old) path }
-    ensures unchanged { S.honest store.new → IfErr result (λ refusal. IsEarly refusal → S.files store.new ≡ S.files store.old) }
     ensures settles { S.honest store.new → (journal : Journal) → IsRead (S.files store.old) (Some pending) history.now journal
         → (step : Recorded) → (first : State) → number_of step ≡ pending.entry → IsUnderWay pending.way step first (S.files store.old)
         → MatchResult result (λ done. IsStanding (S.files store.new) first)
         (λ refusal. IsFailure refusal × (IsStanding (S.files store.new) first ⊎ IsUnderWay pending.way step first (S.files store.new))) }
     ensures interrupted { S.honest store.new → (journal : Journal) → IsRead (S.files store.old) (Some pending) history.now journal
         → (cause : Cause) → result ≡ Err (Refusal.Interrupted cause) → StopsOpening (S.files store.old) (S.files store.new) }
-    ensures early { IfErr result (λ refusal. IsEarly refusal → S.written store.new ≡ S.written store.old) }
+    ensures early { IfErr result (λ refusal. IsEarly refusal → OnlyReads S.Store store.old store.new) }
+    ensures late { (cause : Cause) → result ≡ Err (Refusal.Interrupted cause) → cause ≢ causes.Moved → S.moves store.old < S.moves store.new }
     ensures folder { S.honest store.new → (journal : Journal) → IsRead (S.files store.old) (Some pending) history.now journal
         → IsSameBut head_path (undo_folder_of (S.files store.old)) (undo_folder_of (S.files store.new)) }
     ensures no_bad { S.honest store.new → (journal : Journal) → IsRead (S.files store.old) (Some pending) history.now journal
@@ -107,8 +104,7 @@ fn settle<S: Store>(
     ensures refusal { IfErr result IsOpenRefusal }
     ensures clash { S.honest store.new → (journal : Journal) → IsRead (S.files store.old) (Some pending) history.now journal → IfErr result IsNoClash }
     ensures fault { IfErr result (HasCause (S.failures store.old < S.failures store.new)) }
-    ensures failures { S.failures store.old ≤ S.failures store.new }
-    ensures was_honest { S.honest store.new → S.honest store.old }
+    ensures later { IsLater S.Store store.old store.new }
 {
     let entry = read_entry(alloc, store, pending.entry)?;
     let settled = history.head_text(alloc, None)?;
@@ -130,12 +126,8 @@ fn test_folders<S: Store>(alloc: Global, store: &mut S) -> Result<(), Refusal>
         → ((path ≡ codes ".reuse") × IsSome (map.get (S.files store.old) path))
         ⊎ ((map.get (S.files store.old) (codes ".reuse") ≡ None) × (path ≡ journal_folder) × IsSome (map.get (S.files store.old) path)) }
     ensures refusal { IfErr result IsReadRefusal }
-    ensures files { S.honest store.new → S.files store.new ≡ S.files store.old }
-    ensures clash { S.honest store.new → result ≢ Err (Refusal.Fault faults.Clash) }
-    ensures device { result ≡ Err (Refusal.Fault faults.Device) → S.failures store.old < S.failures store.new }
-    ensures failures { S.failures store.old ≤ S.failures store.new }
-    ensures written { S.written store.new ≡ S.written store.old }
-    ensures was_honest { S.honest store.new → S.honest store.old }
+    ensures fails { RefusedAsRead S.Store store.old store.new result }
+    ensures reads { OnlyReads S.Store store.old store.new }
 {
     test_folder(alloc, store, ".reuse")?;
     test_folder(alloc, store, ".reuse/undo")
@@ -147,12 +139,8 @@ fn test_folder<S: Store>(alloc: Global, store: &mut S, text: &str) -> Result<(),
     ensures bad { S.honest store.new → (path : List ℕ) → result ≡ Err (Refusal.BadJournal path)
         → (path ≡ text.now) × IsSome (map.get (S.files store.old) path) }
     ensures refusal { IfErr result IsReadRefusal }
-    ensures files { S.honest store.new → S.files store.new ≡ S.files store.old }
-    ensures clash { S.honest store.new → result ≢ Err (Refusal.Fault faults.Clash) }
-    ensures device { result ≡ Err (Refusal.Fault faults.Device) → S.failures store.old < S.failures store.new }
-    ensures failures { S.failures store.old ≤ S.failures store.new }
-    ensures written { S.written store.new ≡ S.written store.old }
-    ensures was_honest { S.honest store.new → S.honest store.old }
+    ensures fails { RefusedAsRead S.Store store.old store.new result }
+    ensures reads { OnlyReads S.Store store.old store.new }
 {
     let path = path_of_text(alloc, text)?;
     match store.read(alloc, &path, 0)? {
@@ -172,12 +160,8 @@ fn read_entries<S: Store>(alloc: Global, store: &mut S, head: &Head) -> Result<H
     ensures bad { S.honest store.new → (path : List ℕ) → result ≡ Err (Refusal.BadJournal path)
         → IsFirstUnreadable (undo_folder_of (S.files store.old)) (named head.now) path }
     ensures refusal { IfErr result IsReadRefusal }
-    ensures files { S.honest store.new → S.files store.new ≡ S.files store.old }
-    ensures clash { S.honest store.new → result ≢ Err (Refusal.Fault faults.Clash) }
-    ensures device { result ≡ Err (Refusal.Fault faults.Device) → S.failures store.old < S.failures store.new }
-    ensures failures { S.failures store.old ≤ S.failures store.new }
-    ensures written { S.written store.new ≡ S.written store.old }
-    ensures was_honest { S.honest store.new → S.honest store.old }
+    ensures fails { RefusedAsRead S.Store store.old store.new result }
+    ensures reads { OnlyReads S.Store store.old store.new }
 {
     let numbers = named_numbers(alloc, head)?;
     let (entries, unreadable) = read_all(alloc, store, numbers.as_slice())?;
@@ -216,12 +200,8 @@ fn read_all<S: Store>(
     ensures found { S.honest store.new → IfOk result (λ read. IsLeastFound (undo_folder_of (S.files store.old)) numbers.now read.1) }
     ensures refusal { IfErr result IsReadRefusal }
     ensures no_bad { (path : List ℕ) → result ≢ Err (Refusal.BadJournal path) }
-    ensures files { S.honest store.new → S.files store.new ≡ S.files store.old }
-    ensures clash { S.honest store.new → result ≢ Err (Refusal.Fault faults.Clash) }
-    ensures device { result ≡ Err (Refusal.Fault faults.Device) → S.failures store.old < S.failures store.new }
-    ensures failures { S.failures store.old ≤ S.failures store.new }
-    ensures written { S.written store.new ≡ S.written store.old }
-    ensures was_honest { S.honest store.new → S.honest store.old }
+    ensures fails { RefusedAsRead S.Store store.old store.new result }
+    ensures reads { OnlyReads S.Store store.old store.new }
 {
     let mut entries = Vec::new(alloc);
     let mut unreadable = None;
@@ -243,12 +223,8 @@ fn listed_at<S: Store>(
     ensures ok { S.honest store.new → IfOk result (IsFoundAt (undo_folder_of (S.files store.old)) number) }
     ensures refusal { IfErr result IsReadRefusal }
     ensures no_bad { (path : List ℕ) → result ≢ Err (Refusal.BadJournal path) }
-    ensures files { S.honest store.new → S.files store.new ≡ S.files store.old }
-    ensures clash { S.honest store.new → result ≢ Err (Refusal.Fault faults.Clash) }
-    ensures device { result ≡ Err (Refusal.Fault faults.Device) → S.failures store.old < S.failures store.new }
-    ensures failures { S.failures store.old ≤ S.failures store.new }
-    ensures written { S.written store.new ≡ S.written store.old }
-    ensures was_honest { S.honest store.new → S.honest store.old }
+    ensures fails { RefusedAsRead S.Store store.old store.new result }
+    ensures reads { OnlyReads S.Store store.old store.new }
 {
     match read_entry(alloc, store, number) {
         Ok(entry) => Ok(Some(listed(number, &entry))),

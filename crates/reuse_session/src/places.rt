@@ -41,12 +41,18 @@ pub(crate) fn worked_paths(
 ) -> Result<Vec<PathText>, AllocError>
     ensures { (tree : Files) → paths.now ≡ keys tree → IfOk result (λ worked. worked.items ≡ worked_paths recursive places.now tree) }
 {
-    let worked = if recursive {
-        expanded(alloc, paths, places)?
+    if recursive {
+        Ok(sorted(expanded(alloc, paths, places)?))
     } else {
-        paths_among(alloc, places)?
-    };
-    Ok(sorted(worked))
+        given_paths(alloc, places)
+    }
+}
+
+/// The paths among the places, in byte order and without repeats.
+pub(crate) fn given_paths(alloc: Global, places: &[Place]) -> Result<Vec<PathText>, AllocError>
+    ensures { IfOk result (λ given. given.items ≡ set_of (paths_among places.now)) }
+{
+    Ok(sorted(paths_among(alloc, places)?))
 }
 
 // The set of the paths, in byte order.

@@ -5,12 +5,13 @@ ghost use Rattle.reuse_tree.specs.Files.{Files, tree_of};
 ghost use Rattle.reuse_tree.specs.Store.{reading_of};
 ghost use Rattle.reuse_tree.specs.declared.fault.StoreFault.TheVariants as faults;
 ghost use Rattle.reuse_tree.specs.declared.change.Change.TheVariants.{Drop, Make};
-ghost use Rattle.reuse_session.specs.Answer.{IsOfPlan};
+ghost use Rattle.reuse_session.specs.Answer.{IsOfPlan, RefusedAsRead};
 ghost use Rattle.reuse_session.specs.Refused.{IsNoFault, dep5_refusal};
 ghost use Rattle.reuse_session.specs.Listing.{is_among};
 ghost use Rattle.reuse_session.specs.Conversion.{dep5_path, toml_path, conversion_edits};
 ghost use Rattle.reuse_dep5.specs.Conversion.{converted};
 ghost use Rattle.reuse_session.specs.Plan.{AnswersEdits};
+ghost use Rattle.reuse_tree.specs.Asked.{OnlyReads};
 
 use crate::clash::is_clash;
 use crate::listing::{is_among, tree_paths};
@@ -28,13 +29,8 @@ pub(crate) fn plan_conversion<S: Store>(
     store: &mut S,
 ) -> Result<Vec<Change>, Refusal>
     ensures edits { S.honest store.new → AnswersEdits (tree_of (S.files store.old)) (conversion_edits (tree_of (S.files store.old))) result }
-    ensures files { S.honest store.new → S.files store.new ≡ S.files store.old }
-    ensures device { result ≡ Err (Refusal.Fault faults.Device) → S.failures store.old < S.failures store.new }
-    ensures clash { S.honest store.new → result ≡ Err (Refusal.Fault faults.Clash) → ⊥ }
-    ensures memory { result ≡ Err (Refusal.Fault faults.Memory) → ⊥ }
-    ensures failures { S.failures store.old ≤ S.failures store.new }
-    ensures written { S.written store.new ≡ S.written store.old }
-    ensures was_honest { S.honest store.new → S.honest store.old }
+    ensures fails { RefusedAsRead S.Store store.old store.new result }
+    ensures reads { OnlyReads S.Store store.old store.new }
     ensures planned { IfErr result IsOfPlan }
 {
     let dep5 = known_path(alloc, ".reuse/dep5")?;

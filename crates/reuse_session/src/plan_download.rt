@@ -5,12 +5,13 @@ ghost use Rattle.std.specs.FinMap.{keys};
 ghost use Rattle.reuse_notice.specs.Sets.{set_of};
 ghost use Rattle.reuse_tree.specs.Files.{Files, tree_of};
 ghost use Rattle.reuse_tree.specs.declared.fault.StoreFault.TheVariants as faults;
-ghost use Rattle.reuse_session.specs.Answer.{IsOfPlan};
+ghost use Rattle.reuse_session.specs.Answer.{IsOfPlan, RefusedAsRead};
 ghost use Rattle.reuse_session.specs.Refused.{IsNoFault, IsRefused};
 ghost use Rattle.reuse_session.specs.Licence.{licence_path};
 ghost use Rattle.reuse_session.specs.Downloads.{text_for, refusal_of_found, id_refusal, ids_refusal, download_edits};
 ghost use Rattle.reuse_session.specs.DownloadPlan.{made_at};
 ghost use Rattle.reuse_session.specs.Plan.{AnswersEdits};
+ghost use Rattle.reuse_tree.specs.Asked.{OnlyReads};
 
 use crate::clash::is_clash;
 use crate::licence::LicenceText;
@@ -32,13 +33,8 @@ pub(crate) fn plan_download<S: Store>(
     texts: &[LicenceText],
 ) -> Result<Vec<Change>, Refusal>
     ensures edits { S.honest store.new → AnswersEdits (tree_of (S.files store.old)) (download_edits ids.now texts.now (tree_of (S.files store.old))) result }
-    ensures files { S.honest store.new → S.files store.new ≡ S.files store.old }
-    ensures device { result ≡ Err (Refusal.Fault faults.Device) → S.failures store.old < S.failures store.new }
-    ensures clash { S.honest store.new → result ≡ Err (Refusal.Fault faults.Clash) → ⊥ }
-    ensures memory { result ≡ Err (Refusal.Fault faults.Memory) → ⊥ }
-    ensures failures { S.failures store.old ≤ S.failures store.new }
-    ensures written { S.written store.new ≡ S.written store.old }
-    ensures was_honest { S.honest store.new → S.honest store.old }
+    ensures fails { RefusedAsRead S.Store store.old store.new result }
+    ensures reads { OnlyReads S.Store store.old store.new }
     ensures planned { IfErr result IsOfPlan }
 {
     let paths = tree_paths(alloc, store)?;

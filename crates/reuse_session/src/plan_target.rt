@@ -4,7 +4,7 @@ ghost use Rattle.std.specs.FinMap.{keys};
 ghost use Rattle.reuse_header.specs.Names.{kind_of_name};
 ghost use Rattle.reuse_tree.specs.Files.{Files};
 ghost use Rattle.reuse_session.specs.Answer.{IsOfPlan};
-ghost use Rattle.reuse_session.specs.Annotate.{neighbour_of, is_uncommentable, goes_beside, target_of_unknown, target_by_name, target_by_style, target_by_bytes};
+ghost use Rattle.reuse_session.specs.Annotate.{neighbour_of, is_uncommentable, goes_beside, goes_beside_unread, target_of_unknown, target_by_name, target_by_style, target_by_bytes};
 ghost use Rattle.reuse_session.specs.Plan.{AnswersOf};
 ghost use Rattle.reuse_tree.specs.declared.fault.StoreFault.{StoreFault};
 
@@ -36,7 +36,7 @@ pub(crate) fn neighbour_of(alloc: Global, path: &PathText) -> Result<Bytes, Allo
     Ok(neighbour)
 }
 
-/// Whether the neighbour is the place, whatever the file holds: that is asked for, it is there, or the name takes no comment and no
+/// Whether the neighbour is the place, whatever the file holds: it is there, that is asked for, or the name takes no comment and no
 /// style is asked for. `paths` are those of the tree.
 pub(crate) fn goes_beside(
     alloc: Global,
@@ -47,11 +47,14 @@ pub(crate) fn goes_beside(
     ensures { (tree : Files) → paths.now ≡ keys tree → IfOk result (λ beside. beside ≡ goes_beside scope.now tree path.now) }
 {
     let neighbour = neighbour_of(alloc, path)?;
-    Ok(
-        scope.force_dot_license
-            || is_among(paths, neighbour.as_slice())
-            || (scope.style.is_none() && is_uncommentable(style_of(path.text()))),
-    )
+    Ok(is_among(paths, neighbour.as_slice()) || goes_beside_unread(path, scope))
+}
+
+/// Whether the neighbour is the place, though it may not be there and whatever the file holds.
+pub(crate) fn goes_beside_unread(path: &PathText, scope: &Scope) -> bool
+    ensures { result ≡ goes_beside_unread scope.now path.now }
+{
+    scope.force_dot_license || (scope.style.is_none() && is_uncommentable(style_of(path.text())))
 }
 
 fn is_uncommentable(kind: Kind) -> bool

@@ -6,20 +6,21 @@ ghost use Rattle.std.specs.List.{All};
 ghost use Rattle.reuse_tree.specs.Change.{path_of, IsProper};
 ghost use Rattle.reuse_tree.specs.Files.{Files, AreFiles, Clashes, tree_of};
 ghost use Rattle.reuse_tree.specs.declared.fault.StoreFault.TheVariants as faults;
-ghost use Rattle.reuse_session.specs.Answer.{told_of, HasCause, IsEarly, IsNoClash, IsTestRefusal, IsRollBackRefusal};
-ghost use Rattle.reuse_session.specs.Carried.{IsSetBack, IsRolledBack, StopsRollingBack};
+ghost use Rattle.reuse_session.specs.Answer.{told_of, HasCause, IsEarly, IsNoClash, IsTestRefusal, IsRollBackRefusal, RefusedAsRead};
+ghost use Rattle.reuse_session.specs.Carried.{IsSetBack, IsRolledBack, NotesMoves, StopsRollingBack};
 ghost use Rattle.reuse_session.specs.Entry.{makes, opposite, IsEntry, IsReady, IsSmall, SomeMade, Steps, CanBeSetBack, IsFirstWithout};
 ghost use Rattle.reuse_session.specs.Session.{IsSameBut};
 ghost use Rattle.reuse_session.specs.Tree.{is_of_tree, undo_folder_of};
 ghost use Rattle.reuse_session.specs.JournalFiles.{head_path};
 ghost use Rattle.reuse_session.specs.declared.reply.Cause.{Cause};
 ghost use Rattle.reuse_session.specs.declared.reply.Refusal.TheVariants as refusals;
+ghost use Rattle.reuse_tree.specs.Asked.{OnlyReads, IsLater, FailsAsRead};
 
 use crate::entry::Way;
 use crate::journal_files::{HeadPath, put_head};
 use crate::perform::{can_be_made, paths_to_heed};
 use crate::reply::{Cause, Refusal};
-use crate::turn::{LONGEST_FILE, can_turn, is_ready, put_turned, spliced};
+use crate::turn::{LONGEST_FILE, can_turn, is_ready, put_turned, turned};
 use reuse_tree::{Change, PathText, Reading, Store, StoreFault};
 use std::alloc::Global;
 
@@ -36,7 +37,6 @@ pub fn roll_back<S: Store>(
     ensures done { S.honest store.new → IsEntry changes.now → OnOk result (IsRolledBack way changes.now settled.now (S.files store.old) (S.files store.new)) }
     ensures moved { S.honest store.new → IsEntry changes.now → (path : List ℕ) → result ≡ Err (Refusal.Moved path)
         → IsFirstWithout (CanBeSetBack way (tree_of (S.files store.old))) changes.now path }
-    ensures unchanged { S.honest store.new → IfErr result (λ refusal. IsEarly refusal → S.files store.new ≡ S.files store.old) }
     // From a tree on which some of the changes were made, it stops on the way back to that tree.
     ensures stopped { S.honest store.new → IsEntry changes.now → (start : Files) → SomeMade way changes.now start (tree_of (S.files store.old))
         → All (λ change. IsReady way change (map.get start (path_of change))) changes.now
@@ -50,11 +50,12 @@ pub fn roll_back<S: Store>(
     ensures tested { S.honest store.new → IsEntry changes.now → (cause : Cause) → result ≡ Err (refusals.Interrupted cause)
         → All (CanBeSetBack way (tree_of (S.files store.old))) changes.now }
     ensures folder { S.honest store.new → IsEntry changes.now → IsSameBut head_path (undo_folder_of (S.files store.old)) (undo_folder_of (S.files store.new)) }
-    ensures early { IfErr result (λ refusal. IsEarly refusal → S.written store.new ≡ S.written store.old) }
+    // It is refused before it has moved anything, and stops after that; one that tells a file that changed since it was tested may stop before.
+    ensures early { IfErr result (λ refusal. IsEarly refusal → OnlyReads S.Store store.old store.new) }
+    ensures late { (cause : Cause) → result ≡ Err (refusals.Interrupted cause) → cause ≢ Cause.Moved → S.moves store.old < S.moves store.new }
     ensures fault { IfErr result (HasCause (S.failures store.old < S.failures store.new)) }
-    ensures failures { S.failures store.old ≤ S.failures store.new }
     ensures written { IsEntry changes.now → S.written store.new ≤ S.written store.old + length settled.now }
-    ensures was_honest { S.honest store.new → S.honest store.old }
+    ensures later { IsLater S.Store store.old store.new }
 {
     test_setting_back(alloc, store, changes, way)?;
     let mut started = false;
@@ -97,12 +98,8 @@ fn test_setting_back<S: Store>(
     ensures moved { S.honest store.new → IsEntry changes.now → (path : List ℕ) → result ≡ Err (Refusal.Moved path)
         → IsFirstWithout (CanBeSetBack way (tree_of (S.files store.old))) changes.now path }
     ensures refusal { IfErr result IsTestRefusal }
-    ensures files { S.honest store.new → S.files store.new ≡ S.files store.old }
-    ensures clash { S.honest store.new → result ≢ Err (Refusal.Fault faults.Clash) }
-    ensures device { result ≡ Err (Refusal.Fault faults.Device) → S.failures store.old < S.failures store.new }
-    ensures failures { S.failures store.old ≤ S.failures store.new }
-    ensures written { S.written store.new ≡ S.written store.old }
-    ensures was_honest { S.honest store.new → S.honest store.old }
+    ensures fails { RefusedAsRead S.Store store.old store.new result }
+    ensures reads { OnlyReads S.Store store.old store.new }
 {
     let paths = paths_to_heed(alloc, store, changes, opposite(way))?;
     for change in changes {
@@ -124,12 +121,8 @@ fn can_be_set_back<S: Store>(
     ensures ok { S.honest store.new → IsProper change.now → IsSmall change.now → is_of_tree (path_of change.now) ≡ true
         → (makes (opposite way) change.now ≡ true → paths.now ≡ map.keys (S.files store.old))
         → IfOk result (λ yes. IsTrue yes ↔ CanBeSetBack way (tree_of (S.files store.old)) change.now) }
-    ensures files { S.honest store.new → S.files store.new ≡ S.files store.old }
-    ensures clash { S.honest store.new → result ≢ Err StoreFault.Clash }
-    ensures device { IsErrOf result StoreFault.Device → S.failures store.old < S.failures store.new }
-    ensures failures { S.failures store.old ≤ S.failures store.new }
-    ensures written { S.written store.new ≡ S.written store.old }
-    ensures was_honest { S.honest store.new → S.honest store.old }
+    ensures fails { FailsAsRead S.Store store.old store.new result }
+    ensures reads { OnlyReads S.Store store.old store.new }
 {
     if can_turn(alloc, store, change, way)? {
         return Ok(true);
@@ -153,11 +146,10 @@ fn set_back<S: Store>(
         → ¬ (IsReady (opposite way) change.now (map.get (S.files store.old) (path_of change.now))) × ¬ (IsReady way change.now (map.get (S.files store.old) (path_of change.now))) }
     ensures clash { S.honest store.new → IsProper change.now → IsSmall change.now → result ≡ Err Cause.Clash
         → ¬ (IsReady way change.now (map.get (S.files store.old) (path_of change.now))) × (makes (opposite way) change.now ≡ true) × Clashes (S.files store.old) (path_of change.now) }
-    ensures still { started.new ≡ false → (started.old ≡ false) × (S.written store.new ≡ S.written store.old) × (S.honest store.new → S.files store.new ≡ S.files store.old) }
+    ensures notes { NotesMoves S.Store started.old started.new store.old store.new }
     ensures device { IsErrOf result Cause.Device → S.failures store.old < S.failures store.new }
-    ensures failures { S.failures store.old ≤ S.failures store.new }
     ensures written { is_of_tree (path_of change.now) ≡ true → S.written store.new ≡ S.written store.old }
-    ensures was_honest { S.honest store.new → S.honest store.old }
+    ensures later { IsLater S.Store store.old store.new }
 {
     match store.read(alloc, change.path(), LONGEST_FILE)? {
         Reading::Absent => set_back_from(alloc, store, change, way, None, started),
@@ -185,19 +177,18 @@ fn set_back_from<S: Store>(
         → ¬ (IsReady (opposite way) change.now (option_copied file.entry)) × ¬ (IsReady way change.now (option_copied file.entry)) }
     ensures clash { S.honest store.new → IsProper change.now → map.get (S.files store.old) (path_of change.now) ≡ option_copied file.entry → result ≡ Err Cause.Clash
         → ¬ (IsReady way change.now (option_copied file.entry)) × (makes (opposite way) change.now ≡ true) × Clashes (S.files store.old) (path_of change.now) }
-    ensures still { started.new ≡ false → (started.old ≡ false) × (S.written store.new ≡ S.written store.old) × (S.honest store.new → S.files store.new ≡ S.files store.old) }
+    ensures notes { NotesMoves S.Store started.old started.new store.old store.new }
     ensures device { IsErrOf result Cause.Device → S.failures store.old < S.failures store.new }
-    ensures failures { S.failures store.old ≤ S.failures store.new }
     ensures written { is_of_tree (path_of change.now) ≡ true → S.written store.new ≡ S.written store.old }
-    ensures was_honest { S.honest store.new → S.honest store.old }
+    ensures later { IsLater S.Store store.old store.new }
 {
     if is_ready(change, way, file) {
         return Ok(());
     }
     let back = opposite(way);
-    let bytes = spliced(alloc, change, back, file)?;
+    let after = turned(change, back, file)?;
     *started = true;
-    put_turned(alloc, store, change, back, bytes)
+    put_turned(alloc, store, change, after)
 }
 
 // Takes back each change that is made, and puts the head. It notes that puts and removals have started before it calls one.
@@ -217,11 +208,10 @@ fn set_all_back<S: Store>(
     ensures cause { S.honest store.new → IsEntry changes.now → All (CanBeSetBack way (tree_of (S.files store.old))) changes.now
         → ¬ (Clashes (S.files store.old) head_path) → (result ≢ Err Cause.Moved) × (result ≢ Err Cause.Clash) }
     ensures folder { S.honest store.new → IsEntry changes.now → IsSameBut head_path (undo_folder_of (S.files store.old)) (undo_folder_of (S.files store.new)) }
-    ensures still { started.new ≡ false → (S.written store.new ≡ S.written store.old) × (S.honest store.new → S.files store.new ≡ S.files store.old) }
+    ensures notes { NotesMoves S.Store started.old started.new store.old store.new }
     ensures device { IsErrOf result Cause.Device → S.failures store.old < S.failures store.new }
-    ensures failures { S.failures store.old ≤ S.failures store.new }
     ensures written { IsEntry changes.now → S.written store.new ≤ S.written store.old + length settled.now }
-    ensures was_honest { S.honest store.new → S.honest store.old }
+    ensures later { IsLater S.Store store.old store.new }
 {
     for change in changes {
         set_back(alloc, store, change, way, started)?;

@@ -5,6 +5,7 @@ ghost use Rattle.reuse_tree.specs.Files.{Clashes, tree_of};
 ghost use Rattle.reuse_session.specs.Entry.{IsEntry, CanBeMade};
 ghost use Rattle.reuse_session.specs.Carried.{IsCarriedOut, IsStopped};
 ghost use Rattle.reuse_session.specs.JournalFiles.{head_path};
+ghost use Rattle.reuse_tree.specs.Asked.{IsLater};
 
 use crate::entry::Way;
 use crate::journal_files::{HeadPath, put_head};
@@ -33,10 +34,9 @@ pub fn carry_out<S: Store>(
     ensures clash { S.honest store.new → IsEntry changes.now → All (CanBeMade way (tree_of (S.files store.old))) changes.now
         → result ≡ Err Cause.Clash → Clashes (S.files store.old) head_path }
     ensures device { IsErrOf result Cause.Device → S.failures store.old < S.failures store.new }
-    ensures failures { S.failures store.old ≤ S.failures store.new }
     ensures begun { IsEntry changes.now → S.written store.old + length pending.now ≤ S.written store.new }
     ensures written { IsEntry changes.now → S.written store.new ≤ S.written store.old + length pending.now + length settled.now }
-    ensures was_honest { S.honest store.new → S.honest store.old }
+    ensures later { IsLater S.Store store.old store.new }
 {
     put_head(alloc, store, head, pending)?;
     perform(alloc, store, changes, way)?;

@@ -38,7 +38,17 @@ pub struct Head {
 }
 
 impl PendingWay {
-    ghost use Rattle.reuse_session.specs.Head.{way_of, way_name};
+    ghost use Rattle.reuse_session.specs.Head.{listed_way, way_of, way_name};
+
+    /// The way of an entry that is listed.
+    pub(crate) fn of_listed(way: Way) -> PendingWay
+        ensures { result ≡ listed_way way }
+    {
+        match way {
+            Way::Do => PendingWay::Redo,
+            Way::Undo => PendingWay::Undo,
+        }
+    }
 
     /// Which way the changes of the entry are gone through.
     pub(crate) fn way(self) -> Way

@@ -1,6 +1,6 @@
 use Rattle.std.proofs.Common.{arith}
 use Rattle.std.proofs.lemmas.Grind.{common_steps}
-use Rattle.reuse_session.proofs.LastLemmas.{suffix_len-last, suffix_len-no_last, last_below}
+use Rattle.reuse_text.proofs.LastLemmas.{suffix_len-last, suffix_len-no_last, last_below}
 use Rattle.reuse_session.proofs.covered.last_part.Goals as goal
 
 pub returns-in-None : goal.returns-in-None

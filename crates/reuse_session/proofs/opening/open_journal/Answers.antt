@@ -20,7 +20,7 @@ returns-in_err-pending-clause-settles g c honest first second doubt =
     let failure = read_failure refusal c.in_err-pending.ensures.refusal (λ path e. doubt_bad first second old doubt path (c.read_journal.ensures.bad honest path (c.in_err-pending.was ∙ ap (λ x. Err x) e))) in
     left_in_doubt c.from_residual.result p.0 refusal
     (λ memory. (IsStanding new first × Remembers memory first.journal) ⊎ (IsStanding new second × Remembers memory second.journal))
-    first second new p.1 p.2 failure (subst (InDoubt first second) (sym (c.read_journal.ensures.files honest)) doubt)
+    first second new p.1 p.2 failure (subst (InDoubt first second) (sym (c.read_journal.ensures.reads.files honest)) doubt)
 
 pub returns-in-None-clause-opened : goal.returns-in-None-clause-opened
 returns-in-None-clause-opened g c honest =
@@ -28,8 +28,8 @@ returns-in-None-clause-opened g c honest =
     let memory = c.in_ok-pending.history in
     let r = c.in_ok-pending.ensures.ok honest in
     let read = subst (λ p. IsRead old p memory r.0) c.in-None.is r.1 in
-    read_opens old (g.S.Store.files c.read_journal.new.store) memory r.0 read (c.read_journal.ensures.files honest)
-    (g.met.S.Store.are_files c.args.store.now (c.read_journal.ensures.was_honest honest))
+    read_opens old (g.S.Store.files c.read_journal.new.store) memory r.0 read (c.read_journal.ensures.reads.files honest)
+    (g.met.S.Store.are_files c.args.store.now (c.read_journal.ensures.reads.was_honest honest))
 
 pub returns-in-None-clause-settles : goal.returns-in-None-clause-settles
 returns-in-None-clause-settles g c honest first second doubt =
@@ -37,7 +37,7 @@ returns-in-None-clause-settles g c honest first second doubt =
     let memory = c.in_ok-pending.history in
     let r = c.in_ok-pending.ensures.ok honest in
     let read = subst (λ p. IsRead old p memory r.0) c.in-None.is r.1 in
-    read_settles old (g.S.Store.files c.read_journal.new.store) memory r.0 read (c.read_journal.ensures.files honest) first second doubt
+    read_settles old (g.S.Store.files c.read_journal.new.store) memory r.0 read (c.read_journal.ensures.reads.files honest) first second doubt
 
 pub returns-in_err-settle-in-Some-clause-settles : goal.returns-in_err-settle-in-Some-clause-settles
 returns-in_err-settle-in-Some-clause-settles g c honest first second doubt =
@@ -46,8 +46,8 @@ returns-in_err-settle-in-Some-clause-settles g c honest first second doubt =
     let new = g.S.Store.files c.settle.new.store in
     let pending = c.in-Some.pending in
     let memory = c.in_ok-pending.history in
-    let reading = c.settle.ensures.was_honest honest in
-    let same = c.read_journal.ensures.files reading in
+    let reading = c.settle.ensures.later.was_honest honest in
+    let same = c.read_journal.ensures.reads.files reading in
     let r = c.in_ok-pending.ensures.ok reading in
     let read = subst (λ files. IsRead files (Some pending) memory r.0) (sym same) (subst (λ p. IsRead old p memory r.0) c.in-Some.is r.1) in
     let step = read_pending first second mid pending memory r.0 read (subst (InDoubt first second) (sym same) doubt) in
@@ -63,8 +63,8 @@ returns-in_ok-settle-in-Some-clause-opened g c honest =
     let new = g.S.Store.files c.settle.new.store in
     let pending = c.in-Some.pending in
     let memory = c.in_ok-pending.history in
-    let reading = c.settle.ensures.was_honest honest in
-    let same = c.read_journal.ensures.files reading in
+    let reading = c.settle.ensures.later.was_honest honest in
+    let same = c.read_journal.ensures.reads.files reading in
     let r = c.in_ok-pending.ensures.ok reading in
     let read = subst (λ p. IsRead old p memory r.0) c.in-Some.is r.1 in
     let settled = c.in_ok-settle-in-Some.ensures.done honest r.0 (subst (λ files. IsRead files (Some pending) memory r.0) (sym same) read) in
@@ -75,7 +75,7 @@ pub returns-in_err-settle-in-Some-clause-quiet : goal.returns-in_err-settle-in-S
 returns-in_err-settle-in-Some-clause-quiet g c honest held standing =
     let old = g.S.Store.files c.args.store.now in
     let pending = c.in-Some.pending in
-    let r = c.in_ok-pending.ensures.ok (c.settle.ensures.was_honest honest) in
+    let r = c.in_ok-pending.ensures.ok (c.settle.ensures.later.was_honest honest) in
     let read = subst (λ p. IsRead old p c.in_ok-pending.history r.0) c.in-Some.is r.1 in
     absurd (none_pending old held standing pending c.in_ok-pending.history r.0 read)
 
@@ -83,7 +83,7 @@ pub returns-in_ok-settle-in-Some-clause-quiet : goal.returns-in_ok-settle-in-Som
 returns-in_ok-settle-in-Some-clause-quiet g c honest held standing =
     let old = g.S.Store.files c.args.store.now in
     let pending = c.in-Some.pending in
-    let r = c.in_ok-pending.ensures.ok (c.settle.ensures.was_honest honest) in
+    let r = c.in_ok-pending.ensures.ok (c.settle.ensures.later.was_honest honest) in
     let read = subst (λ p. IsRead old p c.in_ok-pending.history r.0) c.in-Some.is r.1 in
     absurd (none_pending old held standing pending c.in_ok-pending.history r.0 read)
 
@@ -93,8 +93,8 @@ returns-in_err-settle-in-Some-clause-folder g c honest =
     let new = g.S.Store.files c.settle.new.store in
     let pending = c.in-Some.pending in
     let memory = c.in_ok-pending.history in
-    let reading = c.settle.ensures.was_honest honest in
-    let same = c.read_journal.ensures.files reading in
+    let reading = c.settle.ensures.later.was_honest honest in
+    let same = c.read_journal.ensures.reads.files reading in
     let r = c.in_ok-pending.ensures.ok reading in
     let read = subst (λ files. IsRead files (Some pending) memory r.0) (sym same) (subst (λ p. IsRead old p memory r.0) c.in-Some.is r.1) in
     subst (λ f. IsSameBut head_path (undo_folder_of f) (undo_folder_of new)) same (c.settle.ensures.folder honest r.0 read)
@@ -105,8 +105,8 @@ returns-in_ok-settle-in-Some-clause-folder g c honest =
     let new = g.S.Store.files c.settle.new.store in
     let pending = c.in-Some.pending in
     let memory = c.in_ok-pending.history in
-    let reading = c.settle.ensures.was_honest honest in
-    let same = c.read_journal.ensures.files reading in
+    let reading = c.settle.ensures.later.was_honest honest in
+    let same = c.read_journal.ensures.reads.files reading in
     let r = c.in_ok-pending.ensures.ok reading in
     let read = subst (λ files. IsRead files (Some pending) memory r.0) (sym same) (subst (λ p. IsRead old p memory r.0) c.in-Some.is r.1) in
     subst (λ f. IsSameBut head_path (undo_folder_of f) (undo_folder_of new)) same (c.settle.ensures.folder honest r.0 read)
@@ -117,8 +117,8 @@ returns-in_err-settle-in-Some-clause-interrupted g c honest cause e =
     let new = g.S.Store.files c.settle.new.store in
     let pending = c.in-Some.pending in
     let memory = c.in_ok-pending.history in
-    let reading = c.settle.ensures.was_honest honest in
-    let same = c.read_journal.ensures.files reading in
+    let reading = c.settle.ensures.later.was_honest honest in
+    let same = c.read_journal.ensures.reads.files reading in
     let r = c.in_ok-pending.ensures.ok reading in
     let read = subst (λ files. IsRead files (Some pending) memory r.0) (sym same) (subst (λ p. IsRead old p memory r.0) c.in-Some.is r.1) in
     let p = err_from_is_err_and c.from_residual-in_err-settle-in-Some.result c.from_residual-in_err-settle-in-Some.ensures.1 in
@@ -132,8 +132,8 @@ returns-in_ok-settle-in-Some-clause-settles g c honest first second doubt =
     let mid = g.S.Store.files c.read_journal.new.store in
     let pending = c.in-Some.pending in
     let memory = c.in_ok-pending.history in
-    let reading = c.settle.ensures.was_honest honest in
-    let same = c.read_journal.ensures.files reading in
+    let reading = c.settle.ensures.later.was_honest honest in
+    let same = c.read_journal.ensures.reads.files reading in
     let r = c.in_ok-pending.ensures.ok reading in
     let read = subst (λ files. IsRead files (Some pending) memory r.0) (sym same) (subst (λ p. IsRead old p memory r.0) c.in-Some.is r.1) in
     let step = read_pending first second mid pending memory r.0 read (subst (InDoubt first second) (sym same) doubt) in
@@ -145,13 +145,13 @@ returns-in_err-settle-in-Some-clause-written g c honest head says =
     let old = store.files c.args.store.now in
     let pending = c.in-Some.pending in
     let memory = c.in_ok-pending.history in
-    let reading = c.settle.ensures.was_honest honest in
-    let same = c.read_journal.ensures.files reading in
+    let reading = c.settle.ensures.later.was_honest honest in
+    let same = c.read_journal.ensures.reads.files reading in
     let r = c.in_ok-pending.ensures.ok reading in
     let here = subst (λ p. IsRead old p memory r.0) c.in-Some.is r.1 in
     let read = subst (λ files. IsRead files (Some pending) memory r.0) (sym same) here in
     let count = as_many_listed (undo_folder_of old) r.0 (Some pending) memory head here.keeps here.remembers says in
-    omega (arith, c.settle.ensures.written honest r.0 read, count, c.read_journal.ensures.written)
+    omega (arith, c.settle.ensures.written honest r.0 read, count, c.read_journal.ensures.reads.written)
 
 pub returns-in_ok-settle-in-Some-clause-written : goal.returns-in_ok-settle-in-Some-clause-written
 returns-in_ok-settle-in-Some-clause-written g c honest head says =
@@ -159,10 +159,10 @@ returns-in_ok-settle-in-Some-clause-written g c honest head says =
     let old = store.files c.args.store.now in
     let pending = c.in-Some.pending in
     let memory = c.in_ok-pending.history in
-    let reading = c.settle.ensures.was_honest honest in
-    let same = c.read_journal.ensures.files reading in
+    let reading = c.settle.ensures.later.was_honest honest in
+    let same = c.read_journal.ensures.reads.files reading in
     let r = c.in_ok-pending.ensures.ok reading in
     let here = subst (λ p. IsRead old p memory r.0) c.in-Some.is r.1 in
     let read = subst (λ files. IsRead files (Some pending) memory r.0) (sym same) here in
     let count = as_many_listed (undo_folder_of old) r.0 (Some pending) memory head here.keeps here.remembers says in
-    omega (arith, c.settle.ensures.written honest r.0 read, count, c.read_journal.ensures.written)
+    omega (arith, c.settle.ensures.written honest r.0 read, count, c.read_journal.ensures.reads.written)

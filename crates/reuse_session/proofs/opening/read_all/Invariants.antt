@@ -1,5 +1,6 @@
-use Rattle.std.proofs.Common.{◌≡◌, ◌≤◌, None, length, take}
+use Rattle.std.proofs.Common.{◌≡◌, None, length, take}
 use Rattle.std.specs.List.{AllZip}
+use Rattle.reuse_tree.specs.Asked.{OnlyReads}
 use Rattle.reuse_session.specs.Opening.{IsListedIn, IsLeastFound}
 use Rattle.reuse_session.specs.Tree.{undo_folder_of}
 use Rattle.reuse_session.proofs.opening.read_all.Given as goal
@@ -9,10 +10,7 @@ abbrev pub invariant-loop-number : goal.invariant-loop-number
 invariant-loop-number g l =
     let store = g.S.Store in
     record {
-      later : store.failures l.fn.store ≤ store.failures l.store;
-      was_honest : store.honest l.store → store.honest l.fn.store;
-      files : store.honest l.store → store.files l.store ≡ store.files l.fn.store;
-      written : store.written l.store ≡ store.written l.fn.store;
+      reads : OnlyReads g.S.Store l.fn.store l.store;
       long : l.unreadable ≡ None → length l.entries.items ≡ length (take l.number-index l.numbers);
       listed : store.honest l.store → l.unreadable ≡ None → AllZip (IsListedIn (undo_folder_of (store.files l.fn.store))) (take l.number-index l.numbers) l.entries.items;
       found : store.honest l.store → IsLeastFound (undo_folder_of (store.files l.fn.store)) (take l.number-index l.numbers) l.unreadable;

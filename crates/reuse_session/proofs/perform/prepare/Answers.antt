@@ -7,6 +7,7 @@ use Rattle.std.proofs.lemmas.List.Elements.{All-more}
 use Rattle.std.proofs.lemmas.List.Folds.{list_any_at}
 use Rattle.reuse_tree.specs.Files.{tree_of}
 use Rattle.reuse_tree.specs.Change.{path_of, IsProper}
+use Rattle.reuse_tree.proofs.AskedLemmas.{reads_more}
 use Rattle.reuse_session.specs.Tree.{is_of_tree}
 use Rattle.reuse_session.specs.Entry.{IsSmall, CanBeMade, makes}
 use Rattle.reuse_session.proofs.Testing.{parted}
@@ -19,14 +20,14 @@ returns-then-not-branch-clause-moved g c honest good path e =
     let lt = c.loop-change-test.true in
     let change = c.change-item.result in
     let kept = c.loop-change.invariant in
-    let before = c.can_be_made.ensures.was_honest honest in
+    let before = c.can_be_made.ensures.reads.was_honest honest in
     let start = tree_of (store.files c.args.store.now) in
     let proper = subst IsProper (sym c.change-item.is) (good.proper i change lt) in
     let small = subst IsSmall (sym c.change-item.is) (good.small i change lt) in
     let of_tree = subst (λ x. is_of_tree (path_of x) ≡ true) (sym c.change-item.is) (good.of_tree i change lt) in
     let can : IsTrue c.in_ok-can_be_made.field-0 ↔ CanBeMade c.args.way (tree_of (store.files c.loop-change.store)) change =
     c.in_ok-can_be_made.ensures.ok honest proper small of_tree
-    (λ made. c.deref.ensures.value ∙ kept.heeded before (list_any_at (makes c.args.way) c.args.changes.now i change lt (subst (λ x. makes c.args.way x ≡ true) c.change-item.is made)) ∙ ap keys (sym (kept.files before))) in
+    (λ made. c.deref.ensures.value ∙ kept.heeded before (list_any_at (makes c.args.way) c.args.changes.now i change lt (subst (λ x. makes c.args.way x ≡ true) c.change-item.is made)) ∙ ap keys (sym (kept.reads.files before))) in
     let here : path ≡ path_of change = let a = c.path.ensures in let b = c.in_ok-try_clone.ensures in cc in
     record {
       before = take i c.args.changes.now;
@@ -35,7 +36,7 @@ returns-then-not-branch-clause-moved g c honest good path e =
       list = parted c.args.changes.now i change lt c.change-item.is;
       here = here;
       passed = kept.ready before good;
-      stuck = λ made. false≢true (sym c.if-not-branch.true ∙ can.1 (subst (λ files. CanBeMade c.args.way (tree_of files) change) (sym (kept.files before)) made));
+      stuck = λ made. false≢true (sym c.if-not-branch.true ∙ can.1 (subst (λ files. CanBeMade c.args.way (tree_of files) change) (sym (kept.reads.files before)) made));
     }
 
 pub loop-change-preserved : goal.loop-change-preserved
@@ -46,21 +47,18 @@ loop-change-preserved g c =
     let change = c.change-item.result in
     let kept = c.loop-change.invariant in
     record {
-      written = c.can_be_made.ensures.written ∙ kept.written;
-      later = omega (arith, kept.later, c.can_be_made.ensures.failures);
-      was_honest = λ honest. kept.was_honest (c.can_be_made.ensures.was_honest honest);
-      files = λ honest. c.can_be_made.ensures.files honest ∙ kept.files (c.can_be_made.ensures.was_honest honest);
-      heeded = λ honest. kept.heeded (c.can_be_made.ensures.was_honest honest);
+      reads = reads_more g.S.Store _ _ _ kept.reads c.can_be_made.ensures.reads;
+      heeded = λ honest. kept.heeded (c.can_be_made.ensures.reads.was_honest honest);
       ready = λ honest good.
-          let before = c.can_be_made.ensures.was_honest honest in
+          let before = c.can_be_made.ensures.reads.was_honest honest in
           let start = tree_of (store.files c.args.store.now) in
           let proper = subst IsProper (sym c.change-item.is) (good.proper i change lt) in
           let small = subst IsSmall (sym c.change-item.is) (good.small i change lt) in
           let of_tree = subst (λ x. is_of_tree (path_of x) ≡ true) (sym c.change-item.is) (good.of_tree i change lt) in
           let can : IsTrue c.in_ok-can_be_made.field-0 ↔ CanBeMade c.args.way (tree_of (store.files c.loop-change.store)) change =
           c.in_ok-can_be_made.ensures.ok honest proper small of_tree
-          (λ made. c.deref.ensures.value ∙ kept.heeded before (list_any_at (makes c.args.way) c.args.changes.now i change lt (subst (λ x. makes c.args.way x ≡ true) c.change-item.is made)) ∙ ap keys (sym (kept.files before))) in
-          let here : CanBeMade c.args.way start change = subst (λ files. CanBeMade c.args.way (tree_of files) change) (kept.files before) (can.0 c.if-not-branch.false) in
+          (λ made. c.deref.ensures.value ∙ kept.heeded before (list_any_at (makes c.args.way) c.args.changes.now i change lt (subst (λ x. makes c.args.way x ≡ true) c.change-item.is made)) ∙ ap keys (sym (kept.reads.files before))) in
+          let here : CanBeMade c.args.way start change = subst (λ files. CanBeMade c.args.way (tree_of files) change) (kept.reads.files before) (can.0 c.if-not-branch.false) in
           All-more (CanBeMade c.args.way start) c.args.changes.now i change lt (kept.ready before good) (subst (CanBeMade c.args.way start) c.change-item.is here);
     }
 

@@ -63,8 +63,8 @@ returns-in-Ok-Beside-clause-edit g c honest are =
     let some = some_file c.args.how.now c.args.scope.now c.args.additions.now (tree_of files) c.args.path.now c.args.paths.now are there in
     let stored = of_store files c.args.path.now some in
     let found = some_bytes (get (tree_of files) c.args.path.now) some in
-    let before = c.plan_beside-in-Ok-Beside.ensures.was_honest honest in
-    let same = c.in_ok-reading.ensures.files before in
+    let before = c.plan_beside-in-Ok-Beside.ensures.reads.was_honest honest in
+    let same = c.in_ok-reading.ensures.reads.files before in
     let step = c.in-Ok-Beside.ensures.step (tree_of files) found.0 found.1 (c.in_ok-reading.ensures.reading before ∙ ap (λ f. reading_of f 16_777_216) (sym stored ∙ found.1)) in
     let aim = subst (λ s. StepsTo (tree_of (g.S.Store.files c.args.store.now)) c.args.how.now c.args.scope.now c.args.additions.now c.args.path.now found.0 (Ok s)) c.in-Ok-Beside.field-0-is step in
     subst (λ r. AnswersEdit (tree_of (g.S.Store.files c.args.store.now)) r c.plan_beside-in-Ok-Beside.result)

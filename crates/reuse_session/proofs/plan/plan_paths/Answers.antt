@@ -2,6 +2,7 @@ use Rattle.std.proofs.Common.{◌+◌, ◌∷◌, ◌∙◌, drop, sym, ap, subs
 use Rattle.std.specs.FinMap.{keys}
 use Rattle.std.proofs.lemmas.List.{drop_more}
 use Rattle.reuse_tree.specs.Files.{tree_of}
+use Rattle.reuse_tree.proofs.AskedLemmas.{reads_more}
 use Rattle.reuse_session.specs.Annotate.{annotated_at}
 use Rattle.reuse_session.specs.Plan.{MakesEdit, IsRefusalOf}
 use Rattle.reuse_session.proofs.Annotating.{SoFar, after_path, at_refusal}
@@ -9,13 +10,10 @@ use Rattle.reuse_session.proofs.plan.plan_paths.Goals as goal
 
 pub loop-path-preserved : goal.loop-path-preserved
 loop-path-preserved g c = record {
-  was_honest = λ h. c.loop-path.invariant.was_honest (c.plan_path.ensures.was_honest h);
-  files = λ h. c.plan_path.ensures.files h ∙ c.loop-path.invariant.files (c.plan_path.ensures.was_honest h);
-  failures = omega (arith, c.plan_path.ensures.failures, c.loop-path.invariant.failures);
-  written = c.plan_path.ensures.written ∙ c.loop-path.invariant.written;
+  reads = reads_more g.S.Store _ _ _ c.loop-path.invariant.reads c.plan_path.ensures.reads;
   so_far = λ h are.
-      let before = c.plan_path.ensures.was_honest h in
-      let same = c.loop-path.invariant.files before in
+      let before = c.plan_path.ensures.reads.was_honest h in
+      let same = c.loop-path.invariant.reads.files before in
       let at = annotated_at c.args.how.now c.args.scope.now c.args.additions.now (tree_of (g.S.Store.files c.args.store.now)) in
       let next = drop_more c.args.worked.now c.loop-path.path-index c.path-item.result c.loop-path-test.true ∙ ap (λ p. p ∷ drop (c.loop-path.path-index + 1) c.args.worked.now) (sym c.path-item.is) in
       let so = subst (λ left. SoFar (annotated_at c.args.how.now c.args.scope.now c.args.additions.now (tree_of (g.S.Store.files c.args.store.now))) (tree_of (g.S.Store.files c.args.store.now)) c.args.worked.now left c.loop-path.changes.items) next (c.loop-path.invariant.so_far before are) in
@@ -26,8 +24,8 @@ loop-path-preserved g c = record {
 
 pub returns-in-Err-clause-edits : goal.returns-in-Err-clause-edits
 returns-in-Err-clause-edits g c h are =
-    let before = c.plan_path.ensures.was_honest h in
-    let same = c.loop-path.invariant.files before in
+    let before = c.plan_path.ensures.reads.was_honest h in
+    let same = c.loop-path.invariant.reads.files before in
     let at = annotated_at c.args.how.now c.args.scope.now c.args.additions.now (tree_of (g.S.Store.files c.args.store.now)) in
     let next = drop_more c.args.worked.now c.loop-path.path-index c.path-item.result c.loop-path-test.true ∙ ap (λ p. p ∷ drop (c.loop-path.path-index + 1) c.args.worked.now) (sym c.path-item.is) in
     let so = subst (λ left. SoFar (annotated_at c.args.how.now c.args.scope.now c.args.additions.now (tree_of (g.S.Store.files c.args.store.now))) (tree_of (g.S.Store.files c.args.store.now)) c.args.worked.now left c.loop-path.changes.items) next (c.loop-path.invariant.so_far before are) in

@@ -1,6 +1,7 @@
-use Rattle.std.proofs.Common.{◌≡◌, ◌≤◌, drop}
+use Rattle.std.proofs.Common.{◌≡◌, drop}
 use Rattle.std.specs.FinMap.{keys}
 use Rattle.reuse_tree.specs.Files.{tree_of}
+use Rattle.reuse_tree.specs.Asked.{OnlyReads}
 use Rattle.reuse_session.specs.Annotate.{annotated_at}
 use Rattle.reuse_session.proofs.Annotating.{SoFar}
 use Rattle.reuse_session.proofs.plan.plan_paths.Given as goal
@@ -8,10 +9,7 @@ use Rattle.reuse_session.proofs.plan.plan_paths.Given as goal
 -- the store is read alone, and the changes so far do what the edits so far say
 abbrev pub invariant-loop-path : goal.invariant-loop-path
 invariant-loop-path g l = record {
-  was_honest : g.S.Store.honest l.store → g.S.Store.honest l.initial.store;
-  files : g.S.Store.honest l.store → g.S.Store.files l.store ≡ g.S.Store.files l.initial.store;
-  failures : g.S.Store.failures l.initial.store ≤ g.S.Store.failures l.store;
-  written : g.S.Store.written l.store ≡ g.S.Store.written l.initial.store;
+  reads : OnlyReads g.S.Store l.initial.store l.store;
   so_far : g.S.Store.honest l.store → l.paths ≡ keys (tree_of (g.S.Store.files l.initial.store))
       → SoFar (annotated_at l.how l.scope l.additions (tree_of (g.S.Store.files l.initial.store))) (tree_of (g.S.Store.files l.initial.store)) l.worked (drop l.path-index l.worked) l.changes.items;
 }

@@ -9,10 +9,10 @@ use Rattle.reuse_session.proofs.plan_conversion.plan_conversion.Goals as goal
 pub returns-clause-edits : goal.returns-clause-edits
 returns-clause-edits g c honest =
     let files = g.S.Store.files c.args.store.now in
-    let listed = c.in_ok-reading.ensures.was_honest honest in
+    let listed = c.in_ok-reading.ensures.reads.was_honest honest in
     let path = c.in_ok-dep5.dep5 in
     c.conversion_of.ensures.edits (tree_of (g.S.Store.files c.args.store.now)) (c.deref.ensures.value ∙ c.in_ok-paths.ensures.paths listed) c.in_ok-dep5.ensures
     (c.in_ok-reading.ensures.reading honest
-    ∙ ap (λ fs. reading_of (get fs c.in_ok-dep5.dep5) 16_777_216) (c.in_ok-paths.ensures.files listed)
+    ∙ ap (λ fs. reading_of (get fs c.in_ok-dep5.dep5) 16_777_216) (c.in_ok-paths.ensures.reads.files listed)
     ∙ ap (λ p. reading_of (get (g.S.Store.files c.args.store.now) p) 16_777_216) c.in_ok-dep5.ensures
     ∙ ap (λ f. reading_of f 16_777_216) (sym (tree_file (g.S.Store.files c.args.store.now) dep5_path)))

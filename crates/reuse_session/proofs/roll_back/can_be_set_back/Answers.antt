@@ -36,8 +36,8 @@ returns-clause-ok g c honest proper small of_tree paths =
     let files = g.S.Store.files c.args.store.now in
     let way = c.args.way in
     let change = c.args.change.now in
-    let before = c.can_be_made.ensures.was_honest honest in
-    let same = c.can_turn.ensures.files before in
+    let before = c.can_be_made.ensures.reads.was_honest honest in
+    let same = c.can_turn.ensures.reads.files before in
     IfOk-weaker c.can_be_made.result
     (λ (b : Bool). IsTrue b ↔ CanBeMade c.opposite.result (tree_of (g.S.Store.files c.can_turn.new.store)) change)
     (λ (b : Bool). IsTrue b ↔ CanBeSetBack way (tree_of files) change)

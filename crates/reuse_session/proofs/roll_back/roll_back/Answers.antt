@@ -27,8 +27,8 @@ told_no_clash false causes.Memory moved clash = tt
 pub returns-in-Err-clause-clash : goal.returns-in-Err-clause-clash
 returns-in-Err-clause-clash g c honest good free =
     let files = g.S.Store.files in
-    let tested = c.set_all_back.ensures.was_honest honest in
-    let same = c.test_setting_back.ensures.files tested in
+    let tested = c.set_all_back.ensures.later.was_honest honest in
+    let same = c.test_setting_back.ensures.reads.files tested in
     let can = subst (λ f. All (CanBeSetBack c.args.way (tree_of f)) c.args.changes.now) (sym same) (c.in_ok-test_setting_back.ensures.ready tested good) in
     let none = c.set_all_back.ensures.cause honest good can (λ clash. free (subst (λ f. Clashes f head_path) same clash)) in
     subst IsNoClash (sym c.told.ensures)
@@ -50,7 +50,7 @@ returns-in_err-test_setting_back-clause-settles g c honest good start are some r
 pub returns-in-Err-clause-stopped : goal.returns-in-Err-clause-stopped
 returns-in-Err-clause-stopped g c honest good start some ready cause e =
     let store = g.S.Store in
-    let same = c.test_setting_back.ensures.files (c.set_all_back.ensures.was_honest honest) in
+    let same = c.test_setting_back.ensures.reads.files (c.set_all_back.ensures.later.was_honest honest) in
     let after = store.files c.set_all_back.new.store in
     let stopped = c.set_all_back.ensures.stopped honest good start (subst (λ files. SomeMade c.args.way c.args.changes.now start (tree_of files)) (sym same) some) ready in
     subst (λ files. StopsRollingBack c.args.way c.args.changes.now c.args.settled.now start files after) same

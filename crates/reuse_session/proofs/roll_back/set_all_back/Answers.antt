@@ -6,6 +6,8 @@ use Rattle.std.proofs.lemmas.Result.{err_from_is_err_and, on_ok_weaker, on_err_w
 use Rattle.reuse_tree.specs.Files.{Files, tree_of}
 use Rattle.reuse_tree.specs.Change.{path_of, IsProper}
 use Rattle.reuse_tree.specs.declared.change.Change.{Change}
+use Rattle.reuse_tree.proofs.AskedLemmas.{later_none, later_more}
+use Rattle.reuse_session.proofs.NotedMoves.{notes_none, notes_more, notes_last}
 use Rattle.reuse_session.specs.declared.entry.Way.{Way}
 use Rattle.reuse_session.specs.Carried.{IsRolledBack, StopsRollingBack}
 use Rattle.reuse_session.specs.Tree.{is_of_tree, undo_folder_of, Sets}
@@ -19,10 +21,9 @@ use Rattle.reuse_session.proofs.roll_back.set_all_back.Goals as goal
 
 pub loop-change-init : goal.loop-change-init
 loop-change-init g c = record {
-  still = λ e. (refl, λ honest. refl);
+  notes = notes_none g.S.Store c.args.started.now c.args.store.now;
   written = λ good. refl;
-  later = omega arith;
-  was_honest = λ honest. honest;
+  later = later_none g.S.Store c.args.store.now;
   back = λ honest good. back_none c.args.way c.args.changes.now _;
   folder = λ honest good. refl;
 }
@@ -37,24 +38,20 @@ loop-change-preserved g c =
     let after = store.files c.set_back.new.store in
     let kept = c.loop-change.invariant in
     record {
-      still = λ e.
-          let here = c.set_back.ensures.still e in
-          let before = kept.still here.0 in
-          (here.1 ∙ before.0, λ honest. here.2 honest ∙ before.1 (c.set_back.ensures.was_honest honest));
+      notes = notes_more g.S.Store c.args.started.now c.loop-change.started c.set_back.new.started _ _ _ kept.notes kept.later c.set_back.ensures.notes c.set_back.ensures.later;
       written = λ good.
           let of_tree = subst (λ x. is_of_tree (path_of x) ≡ true) (sym c.change-item.is) (good.of_tree i change lt) in
           c.set_back.ensures.written of_tree ∙ kept.written good;
-      later = omega (arith, kept.later, c.set_back.ensures.failures);
-      was_honest = λ honest. kept.was_honest (c.set_back.ensures.was_honest honest);
+      later = later_more g.S.Store _ _ _ kept.later c.set_back.ensures.later;
       back = λ honest good.
-          let before = c.set_back.ensures.was_honest honest in
+          let before = c.set_back.ensures.later.was_honest honest in
           let proper = subst IsProper (sym c.change-item.is) (good.proper i change lt) in
           let small = subst IsSmall (sym c.change-item.is) (good.small i change lt) in
           let of_tree = subst (λ x. is_of_tree (path_of x) ≡ true) (sym c.change-item.is) (good.of_tree i change lt) in
           back_more c.args.way c.args.changes.now good i lt change c.change-item.is _ (tree_of now) (kept.back before good) (tree_of after)
           (set_back_of_tree c.args.way change now after of_tree (c.in_ok-set_back.ensures.ok honest proper small));
       folder = λ honest good.
-          let before = c.set_back.ensures.was_honest honest in
+          let before = c.set_back.ensures.later.was_honest honest in
           let proper = subst IsProper (sym c.change-item.is) (good.proper i change lt) in
           let small = subst IsSmall (sym c.change-item.is) (good.small i change lt) in
           let of_tree = subst (λ x. is_of_tree (path_of x) ≡ true) (sym c.change-item.is) (good.of_tree i change lt) in
@@ -74,7 +71,7 @@ returns-in_err-set_back-clause-stopped g c honest good start some ready =
     let now = store.files c.loop-change.store in
     let after = store.files c.set_back.new.store in
     let kept = c.loop-change.invariant in
-    let before = c.set_back.ensures.was_honest honest in
+    let before = c.set_back.ensures.later.was_honest honest in
     let p = err_from_is_err_and c.from_residual.result c.from_residual.ensures.1 in
     let proper = subst IsProper (sym c.change-item.is) (good.proper i change lt) in
     let small = subst IsSmall (sym c.change-item.is) (good.small i change lt) in
@@ -110,7 +107,7 @@ returns-in_err-set_back-clause-folder g c honest good =
     let old = store.files c.args.store.now in
     let now = store.files c.loop-change.store in
     let after = store.files c.set_back.new.store in
-    let before = c.set_back.ensures.was_honest honest in
+    let before = c.set_back.ensures.later.was_honest honest in
     let proper = subst IsProper (sym c.change-item.is) (good.proper i change lt) in
     let small = subst IsSmall (sym c.change-item.is) (good.small i change lt) in
     let of_tree = subst (λ x. is_of_tree (path_of x) ≡ true) (sym c.change-item.is) (good.of_tree i change lt) in
@@ -120,11 +117,16 @@ returns-in_err-set_back-clause-folder g c honest good =
     (c.in_err-set_back.ensures.err honest proper small) in
     λ other differs. ap (λ folder. get folder other) (here ∙ c.loop-change.invariant.folder before good)
 
-pub returns-in_err-set_back-clause-still : goal.returns-in_err-set_back-clause-still
-returns-in_err-set_back-clause-still g c e =
-    let here = c.set_back.ensures.still e in
-    let before = c.loop-change.invariant.still here.0 in
-    (here.1 ∙ before.0, λ honest. here.2 honest ∙ before.1 (c.set_back.ensures.was_honest honest))
+pub returns-in_err-set_back-clause-notes : goal.returns-in_err-set_back-clause-notes
+returns-in_err-set_back-clause-notes g c =
+    let kept = c.loop-change.invariant in
+    notes_more g.S.Store c.args.started.now c.loop-change.started c.set_back.new.started _ _ _ kept.notes kept.later c.set_back.ensures.notes c.set_back.ensures.later
+
+pub returns-clause-notes : goal.returns-clause-notes
+returns-clause-notes g c =
+    let kept = c.loop-change.invariant in
+    let moved = c.put_head.ensures.moves in
+    notes_last g.S.Store c.args.started.now c.loop-change.started c.args.store.now c.loop-change.store c.put_head.new.store kept.later (omega (arith, moved))
 
 -- each change that could be set back can be
 pub returns-in_err-set_back-clause-cause : goal.returns-in_err-set_back-clause-cause
@@ -138,7 +140,7 @@ returns-in_err-set_back-clause-cause g c honest good all free =
     let old = store.files c.args.store.now in
     let now = store.files c.loop-change.store in
     let kept = c.loop-change.invariant in
-    let before = c.set_back.ensures.was_honest honest in
+    let before = c.set_back.ensures.later.was_honest honest in
     let p = err_from_is_err_and c.from_residual.result c.from_residual.ensures.1 in
     let proper = subst IsProper (sym c.change-item.is) (good.proper i change lt) in
     let small = subst IsSmall (sym c.change-item.is) (good.small i change lt) in
@@ -195,7 +197,7 @@ pub returns-clause-done : goal.returns-clause-done
 returns-clause-done g c honest good =
     let store = g.S.Store in
     let kept = c.loop-change.invariant in
-    let before = c.put_head.ensures.was_honest honest in
+    let before = c.put_head.ensures.later.was_honest honest in
     let last : c.loop-change.change-index ≡ length c.args.changes.now = omega (arith, c.loop-change-test.false, c.loop-change.auto.change-index-end) in
     on_ok_weaker c.put_head.result
     (rolled_back c.args.way c.args.changes.now c.args.settled.now good c.loop-change.change-index last (store.files c.args.store.now) (store.files c.loop-change.store) (store.files c.put_head.new.store) (kept.back before good) (kept.folder before good))
@@ -205,7 +207,7 @@ pub returns-clause-stopped : goal.returns-clause-stopped
 returns-clause-stopped g c honest good start some ready =
     let store = g.S.Store in
     let kept = c.loop-change.invariant in
-    let before = c.put_head.ensures.was_honest honest in
+    let before = c.put_head.ensures.later.was_honest honest in
     let last : c.loop-change.change-index ≡ length c.args.changes.now = omega (arith, c.loop-change-test.false, c.loop-change.auto.change-index-end) in
     on_err_weaker c.put_head.result
     (stops_at_head c.args.way c.args.changes.now c.args.settled.now good c.loop-change.change-index last (store.files c.args.store.now) (store.files c.loop-change.store) (store.files c.put_head.new.store) (kept.back before good) (kept.folder before good) start some ready)
@@ -215,7 +217,7 @@ pub returns-clause-cause : goal.returns-clause-cause
 returns-clause-cause g c honest good all free =
     let store = g.S.Store in
     let kept = c.loop-change.invariant in
-    let before = c.put_head.ensures.was_honest honest in
+    let before = c.put_head.ensures.later.was_honest honest in
     let last : c.loop-change.change-index ≡ length c.args.changes.now = omega (arith, c.loop-change-test.false, c.loop-change.auto.change-index-end) in
     let all_made : AreBack c.args.way c.args.changes.now (tree_of (store.files c.args.store.now)) (tree_of (store.files c.loop-change.store)) =
     subst (λ front. AreBack c.args.way front (tree_of (store.files c.args.store.now)) (tree_of (store.files c.loop-change.store))) (ap (λ n. take n c.args.changes.now) last ∙ take-length c.args.changes.now) (kept.back before good) in (
@@ -228,7 +230,7 @@ returns-clause-folder g c honest good =
     let store = g.S.Store in
     let now = store.files c.loop-change.store in
     let after = store.files c.put_head.new.store in
-    let before = c.put_head.ensures.was_honest honest in
+    let before = c.put_head.ensures.later.was_honest honest in
     let here = put_at c.args.settled.now c.put_head.result now after (c.put_head.ensures.ok honest) (c.put_head.ensures.err honest) in
     λ other differs. here other differs ∙ ap (λ folder. get folder other) (c.loop-change.invariant.folder before good)
 

@@ -1,5 +1,7 @@
-use Rattle.std.proofs.Common.{◌≡◌, ◌≤◌, take, false}
+use Rattle.std.proofs.Common.{◌≡◌, take}
+use Rattle.reuse_tree.specs.Asked.{IsLater}
 use Rattle.reuse_tree.specs.Files.{tree_of}
+use Rattle.reuse_session.specs.Carried.{NotesMoves}
 use Rattle.reuse_session.specs.Tree.{undo_folder_of}
 use Rattle.reuse_session.specs.Entry.{IsEntry}
 use Rattle.reuse_session.proofs.MadeLemmas.{AreBack}
@@ -10,10 +12,9 @@ abbrev pub invariant-loop-change : goal.invariant-loop-change
 invariant-loop-change g l =
     let store = g.S.Store in
     record {
-      still : l.started ≡ false → (store.written l.store ≡ store.written l.fn.store) × (store.honest l.store → store.files l.store ≡ store.files l.fn.store);
+      notes : NotesMoves g.S.Store l.fn.started l.started l.fn.store l.store;
       written : IsEntry l.changes → store.written l.store ≡ store.written l.fn.store;
-      later : store.failures l.fn.store ≤ store.failures l.store;
-      was_honest : store.honest l.store → store.honest l.fn.store;
+      later : IsLater g.S.Store l.fn.store l.store;
       back : store.honest l.store → IsEntry l.changes → AreBack l.way (take l.change-index l.changes) (tree_of (store.files l.fn.store)) (tree_of (store.files l.store));
       folder : store.honest l.store → IsEntry l.changes → undo_folder_of (store.files l.store) ≡ undo_folder_of (store.files l.fn.store);
     }

@@ -1,7 +1,8 @@
-use Rattle.std.proofs.Common.{◌≡◌, ◌≤◌, take, true}
+use Rattle.std.proofs.Common.{◌≡◌, take, true}
 use Rattle.std.specs.List.{All, list_any}
 use Rattle.std.specs.FinMap.{keys}
 use Rattle.reuse_tree.specs.Files.{tree_of}
+use Rattle.reuse_tree.specs.Asked.{OnlyReads}
 use Rattle.reuse_session.specs.Entry.{IsEntry, CanBeSetBack, makes, opposite}
 use Rattle.reuse_session.proofs.roll_back.test_setting_back.Given as goal
 
@@ -10,10 +11,7 @@ abbrev pub invariant-loop-change : goal.invariant-loop-change
 invariant-loop-change g l =
     let store = g.S.Store in
     record {
-      written : store.written l.store ≡ store.written l.fn.store;
-      later : store.failures l.fn.store ≤ store.failures l.store;
-      was_honest : store.honest l.store → store.honest l.fn.store;
-      files : store.honest l.store → store.files l.store ≡ store.files l.fn.store;
+      reads : OnlyReads g.S.Store l.fn.store l.store;
       heeded : store.honest l.store → list_any (makes (opposite l.way)) l.changes ≡ true → l.paths.items ≡ keys (store.files l.fn.store);
       ready : store.honest l.store → IsEntry l.changes → All (CanBeSetBack l.way (tree_of (store.files l.fn.store))) (take l.change-index l.changes);
     }

@@ -63,7 +63,7 @@ returns-in_err-perform-clause-stopped g c honest good =
     let old = g.S.Store.files c.args.store.now in
     let started = g.S.Store.files c.put_head.new.store in
     let now = g.S.Store.files c.perform.new.store in
-    let first = c.in_ok-put_head.ensures.ok (c.perform.ensures.was_honest honest) in
+    let first = c.in_ok-put_head.ensures.ok (c.perform.ensures.later.was_honest honest) in
     let p = err_from_is_err_and c.from_residual-in_err-perform.result c.from_residual-in_err-perform.ensures.1 in
     let front = c.in_err-perform.ensures.midway honest good in
     let left = stopped way changes pending settled old started first now (made_of_front way changes front.0 (tree_of started) (tree_of now) front.1 good) (c.perform.ensures.folder honest good) in
@@ -73,7 +73,7 @@ pub returns-in_err-perform-clause-moved : goal.returns-in_err-perform-clause-mov
 returns-in_err-perform-clause-moved g c honest good all e =
     let way = c.args.way in
     let changes = c.args.changes.now in
-    let first = c.in_ok-put_head.ensures.ok (c.perform.ensures.was_honest honest) in
+    let first = c.in_ok-put_head.ensures.ok (c.perform.ensures.later.was_honest honest) in
     let p = err_from_is_err_and c.from_residual-in_err-perform.result c.from_residual-in_err-perform.ensures.1 in
     let from = p.1 in
     let same = p.2 in
@@ -85,7 +85,7 @@ pub returns-in_err-perform-clause-clash : goal.returns-in_err-perform-clause-cla
 returns-in_err-perform-clause-clash g c honest good all e =
     let way = c.args.way in
     let changes = c.args.changes.now in
-    let first = c.in_ok-put_head.ensures.ok (c.perform.ensures.was_honest honest) in
+    let first = c.in_ok-put_head.ensures.ok (c.perform.ensures.later.was_honest honest) in
     let p = err_from_is_err_and c.from_residual-in_err-perform.result c.from_residual-in_err-perform.ensures.1 in
     let from = p.1 in
     let same = p.2 in
@@ -96,8 +96,8 @@ returns-in_err-perform-clause-clash g c honest good all e =
 pub returns-clause-done : goal.returns-clause-done
 returns-clause-done g c honest good =
     let store = g.S.Store in
-    let walked = c.put_head-2.ensures.was_honest honest in
-    let first = c.in_ok-put_head.ensures.ok (c.perform.ensures.was_honest walked) in
+    let walked = c.put_head-2.ensures.later.was_honest honest in
+    let first = c.in_ok-put_head.ensures.ok (c.perform.ensures.later.was_honest walked) in
     on_ok_weaker c.put_head-2.result
     (carried c.args.way c.args.changes.now c.args.pending.now c.args.settled.now (store.files c.args.store.now) (store.files c.put_head.new.store) first
     (store.files c.perform.new.store) (store.files c.put_head-2.new.store) (c.in_ok-perform.ensures.done walked good) (c.perform.ensures.folder walked good))
@@ -106,8 +106,8 @@ returns-clause-done g c honest good =
 pub returns-clause-stopped : goal.returns-clause-stopped
 returns-clause-stopped g c honest good =
     let store = g.S.Store in
-    let walked = c.put_head-2.ensures.was_honest honest in
-    let first = c.in_ok-put_head.ensures.ok (c.perform.ensures.was_honest walked) in
+    let walked = c.put_head-2.ensures.later.was_honest honest in
+    let first = c.in_ok-put_head.ensures.ok (c.perform.ensures.later.was_honest walked) in
     on_err_weaker c.put_head-2.result
     (in_doubt c.args.way c.args.changes.now c.args.pending.now c.args.settled.now (store.files c.args.store.now) (store.files c.put_head.new.store) first
     (store.files c.perform.new.store) (store.files c.put_head-2.new.store) (c.in_ok-perform.ensures.done walked good) (c.perform.ensures.folder walked good))
@@ -119,8 +119,8 @@ returns-clause-moved g c honest good all = c.put_head-2.ensures.moved
 pub returns-clause-clash : goal.returns-clause-clash
 returns-clause-clash g c honest good all e =
     let store = g.S.Store in
-    let walked = c.put_head-2.ensures.was_honest honest in
-    let first = c.in_ok-put_head.ensures.ok (c.perform.ensures.was_honest walked) in
+    let walked = c.put_head-2.ensures.later.was_honest honest in
+    let first = c.in_ok-put_head.ensures.ok (c.perform.ensures.later.was_honest walked) in
     absurd (free c.args.way c.args.changes.now c.args.pending.now c.args.settled.now (store.files c.args.store.now) (store.files c.put_head.new.store) first
     (store.files c.perform.new.store) (store.files c.put_head-2.new.store) (c.in_ok-perform.ensures.done walked good) (c.perform.ensures.folder walked good)
     (g.met.S.Store.are_files c.perform.new.store walked) (c.put_head-2.ensures.clash honest e))

@@ -21,6 +21,9 @@ returns-in-Err-clause-moved g c honest path e = c.in-Err.ensures.moved honest pa
 pub returns-in-Err-clause-interrupted : goal.returns-in-Err-clause-interrupted
 returns-in-Err-clause-interrupted g c honest cause e = c.in-Err.ensures.interrupted honest cause (ap (λ refusal. Err refusal) e)
 
+pub returns-in-Err-clause-late : goal.returns-in-Err-clause-late
+returns-in-Err-clause-late g c cause e other = c.in-Err.ensures.late cause (ap (λ refusal. Err refusal) e) other
+
 pub returns-in-Err-clause-exact : goal.returns-in-Err-clause-exact
 returns-in-Err-clause-exact g c honest told =
     opens_refused (g.S.Store.files c.args.store) c.in-Err.refusal c.in-Err.ensures.refusal told

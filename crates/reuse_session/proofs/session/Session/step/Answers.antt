@@ -16,38 +16,39 @@ use Rattle.reuse_session.proofs.Stepping.{good_between, good_second, stop_clash}
 use Rattle.reuse_session.proofs.session.Session.step.Goals as goal
 
 pub returns-in-Ok-clause-moves : goal.returns-in-Ok-clause-moves
-returns-in-Ok-clause-moves g c honest held second step stands same is kept good low is_step remembers room =
+returns-in-Ok-clause-moves g c honest held second stands is =
     let store = g.S.Store in
     let files = store.files (store_of c.args.self.now) in
     let after = store.files c.carry_out-carried.new.store in
     let settled = c.in_ok-settled.settled.items in
-    let out : IsCarriedOut (way_of c.args.pending.way) step.changes settled files after =
-    subst (λ w. IsCarriedOut w step.changes settled files after) c.way.ensures
-    (subst (λ cs. IsCarriedOut c.way.result cs settled files after) (sym same)
-    (subst (λ text. IsCarriedOut c.way.result c.args.changes.now text files after) c.deref-2.ensures.value (c.in-Ok.ensures.done honest good))) in
-    let head = good_second (memory_of c.args.self.now) files held second stands.standing stands.remembers c.args.pending.way step is_step.moves low c.args.moved settled remembers room c.in_ok-settled.ensures.good in
+    let out : IsCarriedOut (way_of c.args.pending.way) is.step.changes settled files after =
+    subst (λ w. IsCarriedOut w is.step.changes settled files after) c.way.ensures
+    (subst (λ cs. IsCarriedOut c.way.result cs settled files after) (sym is.changes)
+    (subst (λ text. IsCarriedOut c.way.result c.args.changes.now text files after) c.deref-2.ensures.value (c.in-Ok.ensures.done honest is.entry))) in
     record {
       whole = stands.whole;
-      standing = carried files after c.args.pending.way step held second stands.standing kept is_step (subst IsEntry (sym same) good) (g.met.S.Store.are_files c.carry_out-carried.new.store honest) settled out head;
-      remembers = remembers;
+      standing = carried files after c.args.pending.way is.step held second stands.standing is.kept is.is_step (subst IsEntry (sym is.changes) is.entry)
+          (g.met.S.Store.are_files c.carry_out-carried.new.store honest) settled out (good_second (memory_of c.args.self.now) files held second stands.standing stands.remembers is settled c.in_ok-settled.ensures.good);
+      remembers = is.remembers;
     }
 
 pub returns-in-Err-clause-moves : goal.returns-in-Err-clause-moves
-returns-in-Err-clause-moves g c honest held second step stands same is kept good low is_step remembers room =
+returns-in-Err-clause-moves g c honest held second stands is stop =
     let store = g.S.Store in
     let files = store.files (store_of c.args.self.now) in
     let after = store.files c.carry_out-carried.new.store in
     let before = c.in_ok-before.before.items in
     let settled = c.in_ok-settled.settled.items in
+    let memory = memory_of c.args.self.now in
     let Left : Way → List Change → List ℕ → List ℕ → Type 0 = λ w cs p s. (after ≡ files) ⊎ IsStopped w cs p files after ⊎ IsCarriedOut w cs s files after in
-    let left : Left (way_of c.args.pending.way) step.changes before settled =
-    subst (λ w. Left w step.changes before settled) c.way.ensures
-    (subst (λ cs. Left c.way.result cs before settled) (sym same)
+    let left : Left (way_of c.args.pending.way) is.step.changes before settled =
+    subst (λ w. Left w is.step.changes before settled) c.way.ensures
+    (subst (λ cs. Left c.way.result cs before settled) (sym is.changes)
     (subst (λ text. Left c.way.result c.args.changes.now before text) c.deref-2.ensures.value
-    (subst (λ text. Left c.way.result c.args.changes.now text c.deref-2.result.now) c.deref.ensures.value (c.in-Err.ensures.stopped honest good)))) in
-    stopped files after c.args.pending.way step held second stands.standing kept is_step (subst IsEntry (sym same) good) (g.met.S.Store.are_files c.carry_out-carried.new.store honest) before settled left
-    (good_between (memory_of c.args.self.now) files held second stands.standing stands.remembers c.args.pending.way step is_step.moves low c.args.pending before is c.in_ok-before.ensures.good)
-    (good_second (memory_of c.args.self.now) files held second stands.standing stands.remembers c.args.pending.way step is_step.moves low c.args.moved settled remembers room c.in_ok-settled.ensures.good)
+    (subst (λ text. Left c.way.result c.args.changes.now text c.deref-2.result.now) c.deref.ensures.value (c.in-Err.ensures.stopped honest is.entry)))) in
+    stopped files after c.args.pending.way is.step held second stands.standing is.kept is.is_step (subst IsEntry (sym is.changes) is.entry) (g.met.S.Store.are_files c.carry_out-carried.new.store honest) before settled left
+    (good_between memory files held second stands.standing stands.remembers is before c.in_ok-before.ensures.good)
+    (good_second memory files held second stands.standing stands.remembers is settled c.in_ok-settled.ensures.good)
 
 pub returns-in-Err-clause-clash : goal.returns-in-Err-clause-clash
 returns-in-Err-clause-clash g c honest good can =
@@ -63,6 +64,6 @@ returns-in-Ok-clause-texts g c honest good =
     ∙ ap (λ text. Some text) (c.deref-2.ensures.value ∙ c.in_ok-settled.ensures.text)
 
 pub returns-in-Err-clause-late : goal.returns-in-Err-clause-late
-returns-in-Err-clause-late g c good cause e =
+returns-in-Err-clause-late g c good stop =
     let some = some_text c.in_ok-before.before.items (head_listing (memory_of c.args.self.now) (Some c.args.pending)) c.in_ok-before.ensures.text in
     omega (arith, some, ap length c.deref.ensures.value, c.carry_out-carried.ensures.begun good)

@@ -1,0 +1,42 @@
+use Rattle.std.proofs.Common.{◌≡◌, ◌∙◌, true, false, length, nat_lt, None, Some, IfSome, IsSome, sym, ap, subst}
+use Rattle.std.specs.FinMap.{get}
+use Rattle.reuse_tree.specs.Files.{tree_of}
+use Rattle.reuse_tree.specs.Store.{reading_of}
+use Rattle.reuse_session.specs.Annotate.{annotated_at, neighbour_of}
+use Rattle.reuse_session.specs.Covered.{is_covered}
+use Rattle.reuse_session.specs.Plan.{AnswersEdit}
+use Rattle.reuse_session.specs.Unlisted.{IfKnown}
+use Rattle.reuse_session.proofs.EditLemmas.{some_bytes}
+use Rattle.reuse_session.proofs.Fitting.{neighbour_of_tree}
+use Rattle.reuse_session.proofs.OfTree.{tree_at}
+use Rattle.reuse_session.proofs.ReadingLemmas.{absent_is, there_is}
+use Rattle.reuse_session.proofs.plan_unlisted.plan_unlisted.Goals as goal
+
+pub returns-in-Absent-clause-edit : goal.returns-in-Absent-clause-edit
+returns-in-Absent-clause-edit g c honest =
+    let files = g.S.Store.files c.args.store.now in
+    let before = c.plan_alone.ensures.reads.was_honest honest in
+    let same = c.in_ok-reading.ensures.reads.files before in
+    let covered : is_covered c.args.path.now ≡ true = ap is_covered (sym c.as_bytes.ensures.bytes) ∙ sym c.is_covered.ensures ∙ c.if-not-is_covered.false in
+    let is : c.in-Some.neighbour ≡ neighbour_of c.args.path.now = subst (λ o. IfSome o (λ n. n ≡ neighbour_of c.args.path.now)) c.in-Some.is c.in_ok-neighbour.ensures.path in
+    let read = c.in_ok-reading.ensures.reading before in
+    let none : get files c.in-Some.neighbour ≡ None = absent_is (get files c.in-Some.neighbour) 16_777_216 (sym c.in-Absent.is ∙ read) in
+    let absent : get (tree_of files) (neighbour_of c.args.path.now) ≡ None =
+    tree_at files (neighbour_of c.args.path.now) (neighbour_of_tree c.args.path.now covered) ∙ ap (get files) (sym is) ∙ none in
+    subst (λ f. IfKnown (AnswersEdit (tree_of f) (annotated_at c.args.how.now c.args.scope.now c.args.additions.now (tree_of f) c.args.path.now)) c.plan_alone.result) same
+    (c.plan_alone.ensures.edit honest (ap (λ f. get (tree_of f) (neighbour_of c.args.path.now)) same ∙ absent))
+
+pub returns-clause-edit : goal.returns-clause-edit
+returns-clause-edit g c honest =
+    let files = g.S.Store.files c.args.store.now in
+    let before = c.plan_beside_file.ensures.reads.was_honest honest in
+    let same = c.in_ok-reading.ensures.reads.files before in
+    let covered : is_covered c.args.path.now ≡ true = ap is_covered (sym c.as_bytes.ensures.bytes) ∙ sym c.is_covered.ensures ∙ c.if-not-is_covered.false in
+    let is : c.in-Some.neighbour ≡ neighbour_of c.args.path.now = subst (λ o. IfSome o (λ n. n ≡ neighbour_of c.args.path.now)) c.in-Some.is c.in_ok-neighbour.ensures.path in
+    let read = c.in_ok-reading.ensures.reading before in
+    let some = there_is (get files c.in-Some.neighbour) 16_777_216 (λ e. c.in_default-2.not-Absent (read ∙ e)) in
+    let kept = tree_at files (neighbour_of c.args.path.now) (neighbour_of_tree c.args.path.now covered) ∙ ap (get files) (sym is) in
+    let found = some_bytes (get (tree_of files) (neighbour_of c.args.path.now)) (subst IsSome (sym kept) some) in
+    subst (λ f. IfKnown (AnswersEdit (tree_of f) (annotated_at c.args.how.now c.args.scope.now c.args.additions.now (tree_of f) c.args.path.now)) c.plan_beside_file.result) same
+    (c.plan_beside_file.ensures.edit honest found.0 (ap (λ f. get (tree_of f) (neighbour_of c.args.path.now)) same ∙ found.1)
+    (read ∙ ap (λ f. reading_of f 16_777_216) (sym kept ∙ found.1)))

@@ -1,0 +1,121 @@
+// What annotate does at a path, as far as that is known without a listing of the tree.
+ghost use Rattle.std.specs.Prelude.{◌≡◌, ℕ, List, true, false, length, nat_lt, IfErr, None, Some};
+ghost use Rattle.std.specs.FinMap.{get};
+ghost use Rattle.reuse_tree.specs.Asked.{OnlyReads};
+ghost use Rattle.reuse_tree.specs.Files.{tree_of};
+ghost use Rattle.reuse_tree.specs.Store.{reading_of};
+ghost use Rattle.reuse_session.specs.Answer.{IsOfPlan, RefusedAsRead};
+ghost use Rattle.reuse_session.specs.Annotate.{annotated_at, neighbour_of};
+ghost use Rattle.reuse_session.specs.Covered.{is_covered};
+ghost use Rattle.reuse_session.specs.Plan.{AnswersEdit};
+ghost use Rattle.reuse_session.specs.Unlisted.{IfKnown};
+
+use crate::command::Scope;
+use crate::covered::is_covered;
+use crate::plan_place::{Step, neighbour_path, plan_neighbour, plan_reading};
+use crate::plan_target::goes_beside_unread;
+use crate::reply::Refusal;
+use reuse_header::How;
+use reuse_notice::Additions;
+use reuse_tree::{Change, PathText, Reading, Store};
+use std::alloc::Global;
+
+const LONGEST_FILE: usize = 16_777_216;
+
+/// What is known without a listing of the tree.
+#[derive(Debug, Drop)]
+pub(crate) enum Unlisted<T> {
+    /// This, whatever else is in the tree.
+    Known(T),
+    /// Nothing.
+    Unknown,
+}
+
+/// The change that annotate makes at a path, where a file is there and no neighbour has to be made: by reading the file and its
+/// neighbour alone.
+pub(crate) fn plan_unlisted<S: Store>(
+    alloc: Global,
+    store: &mut S,
+    path: &PathText,
+    additions: &Additions,
+    how: &How,
+    scope: &Scope,
+) -> Result<Unlisted<Option<Change>>, Refusal>
+    ensures edit { S.honest store.new → IfKnown (AnswersEdit (tree_of (S.files store.old)) (annotated_at how.now scope.now additions.now (tree_of (S.files store.old)) path.now)) result }
+    ensures fails { RefusedAsRead S.Store store.old store.new result }
+    ensures reads { OnlyReads S.Store store.old store.new }
+    ensures planned { IfErr result IsOfPlan }
+{
+    if !is_covered(path.as_bytes()) {
+        return Ok(Unlisted::Unknown);
+    }
+    let Some(neighbour) = neighbour_path(alloc, path)? else {
+        return Ok(Unlisted::Unknown);
+    };
+    match store.read(alloc, &neighbour, LONGEST_FILE)? {
+        Reading::Absent => plan_alone(alloc, store, path, additions, how, scope),
+        reading => plan_beside_file(
+            alloc, store, path, &neighbour, additions, how, scope, reading,
+        ),
+    }
+}
+
+// Where the neighbour isn't there.
+fn plan_alone<S: Store>(
+    alloc: Global,
+    store: &mut S,
+    path: &PathText,
+    additions: &Additions,
+    how: &How,
+    scope: &Scope,
+) -> Result<Unlisted<Option<Change>>, Refusal>
+    requires { is_covered path.now ≡ true }
+    ensures edit { S.honest store.new → get (tree_of (S.files store.old)) (neighbour_of path.now) ≡ None
+        → IfKnown (AnswersEdit (tree_of (S.files store.old)) (annotated_at how.now scope.now additions.now (tree_of (S.files store.old)) path.now)) result }
+    ensures fails { RefusedAsRead S.Store store.old store.new result }
+    ensures reads { OnlyReads S.Store store.old store.new }
+    ensures planned { IfErr result IsOfPlan }
+{
+    if goes_beside_unread(path, scope) {
+        return Ok(Unlisted::Unknown);
+    }
+    let reading = match store.read(alloc, path, LONGEST_FILE)? {
+        Reading::Absent => return Ok(Unlisted::Unknown),
+        reading => reading,
+    };
+    match plan_reading(alloc, path, additions, how, scope, reading) {
+        Ok(Step::Done(change)) => Ok(Unlisted::Known(change)),
+        Ok(Step::Beside) => Ok(Unlisted::Unknown),
+        Err(refusal) => Err(refusal),
+    }
+}
+
+// Where the neighbour is there, and this was read of it.
+fn plan_beside_file<S: Store>(
+    alloc: Global,
+    store: &mut S,
+    path: &PathText,
+    neighbour: &PathText,
+    additions: &Additions,
+    how: &How,
+    scope: &Scope,
+    reading: Reading,
+) -> Result<Unlisted<Option<Change>>, Refusal>
+    requires covered { is_covered path.now ≡ true }
+    requires neighbour { neighbour.now ≡ neighbour_of path.now }
+    requires short { nat_lt 4096 (length (neighbour_of path.now)) ≡ false }
+    ensures edit { S.honest store.new → (bytes : List ℕ) → get (tree_of (S.files store.old)) (neighbour_of path.now) ≡ Some bytes → reading ≡ reading_of (Some bytes) 16_777_216
+        → IfKnown (AnswersEdit (tree_of (S.files store.old)) (annotated_at how.now scope.now additions.now (tree_of (S.files store.old)) path.now)) result }
+    ensures fails { RefusedAsRead S.Store store.old store.new result }
+    ensures reads { OnlyReads S.Store store.old store.new }
+    ensures planned { IfErr result IsOfPlan }
+{
+    // Nothing of the file is looked at but whether it is there.
+    if let Reading::Absent = store.read(alloc, path, 0)? {
+        return Ok(Unlisted::Unknown);
+    }
+    match plan_neighbour(alloc, path, neighbour, additions, how, scope, reading) {
+        Ok(change) => Ok(Unlisted::Known(change)),
+        Err(refusal) => Err(refusal),
+    }
+}
