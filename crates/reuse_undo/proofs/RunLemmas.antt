@@ -3,7 +3,7 @@ use Rattle.std.proofs.Common.{◌≡◌, ◌⊎◌, inl, inr, ⊎_elim, ◌∙�
 use Rattle.std.specs.Result.{OnOk}
 use Rattle.reuse_tree.specs.Files.{Files, Clashes}
 use Rattle.reuse_tree.specs.declared.fault.StoreFault.TheVariants as stores
-use Rattle.reuse_session.specs.Answer.{TellsNoFault, IsEarly, IsFailure, HasCause, HasClash, IsNoClash, IsBrokenOrMemory}
+use Rattle.reuse_session.specs.Answer.{TellsNoFault, IsEarly, IsStop, IsFailure, HasCause, HasClash, IsNoClash, IsBrokenOrMemory}
 use Rattle.reuse_session.specs.Journal.{State, rows_in}
 use Rattle.reuse_session.specs.JournalFiles.{head_path, entry_path}
 use Rattle.reuse_session.specs.Machine.{Snapshots, step}
@@ -13,7 +13,6 @@ use Rattle.reuse_session.specs.Standing.{IsStanding, InDoubt}
 use Rattle.reuse_session.specs.Stops.{Point, open_at, closed, Reopens, HoldState, AreLeft}
 use Rattle.reuse_session.specs.declared.events.Event.{Event}
 use Rattle.reuse_session.specs.declared.events.Event.TheVariants as events
-use Rattle.reuse_session.specs.declared.reply.Cause.{Cause}
 use Rattle.reuse_session.specs.declared.reply.Cause.TheVariants as causes
 use Rattle.reuse_session.specs.declared.reply.Reply.{Reply}
 use Rattle.reuse_session.specs.declared.reply.Reply.TheVariants as replies
@@ -36,11 +35,11 @@ use Rattle.reuse_undo.specs.WriterFaults.{IsOfWriter}
 -- a call of a session that makes a step, by the clauses of that call
 pub calls_by : {S : Type 0} (files : S → Files) (event : Event) (held : State) (new : Session S) (answer : Result Reply Refusal)
     → (TellsNoFault answer → (left : State) × StandsOn files new left × Does event held answer left) → IfErr answer (λ refusal. IsEarly refusal → StandsOn files new held)
-    → ((cause : Cause) → answer ≡ Err (Interrupted cause) → IsStopped event held (files (store_of new))) → Makes event held answer (files (store_of new))
+    → IfErr answer (λ refusal. IsStop refusal → IsStopped event held (files (store_of new))) → Makes event held answer (files (store_of new))
 calls_by files event held new (Ok reply) exact stands stops = let left = exact tt in (left.0, left.2, left.1.standing)
 calls_by files event held new (Err (StoreFailed fault)) exact stands stops = (stands tt).standing
 calls_by files event held new (Err Memory) exact stands stops = (stands tt).standing
-calls_by files event held new (Err (Interrupted cause)) exact stands stops = stops cause refl
+calls_by files event held new (Err (Interrupted cause)) exact stands stops = stops tt
 calls_by files event held new (Err refusal) exact stands stops = let left = exact tt in (left.0, left.2, left.1.standing)
 
 -- where nothing changed but what no head lists, the session stands
@@ -188,6 +187,7 @@ told_reply IsAnswer reply old new (Ok done) is written fault = (reply, is, writt
 told_reply IsAnswer reply old new (Err faults.Write) is written fault = (reply, is)
 told_reply IsAnswer reply old new (Err faults.Memory) is written fault = (reply, is)
 told_reply IsAnswer reply old new (Err (faults.Refused refusal)) is written fault = absurd fault
+told_reply IsAnswer reply old new (Err faults.InUse) is written fault = absurd fault
 
 -- a writer's fault is no refusal
 pub no_refusal : {T : Type 0} (result : Result T Fault) (Claim : Refusal → Type 0) → IfErr result IsOfWriter → IfRefused result Claim
@@ -195,3 +195,4 @@ no_refusal (Ok done) Claim fault = tt
 no_refusal (Err faults.Write) Claim fault = tt
 no_refusal (Err faults.Memory) Claim fault = tt
 no_refusal (Err (faults.Refused refusal)) Claim fault = absurd fault
+no_refusal (Err faults.InUse) Claim fault = absurd fault

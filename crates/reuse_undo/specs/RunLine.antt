@@ -110,10 +110,11 @@ Steps state event answer files = (answer ≡ (step state event).0) × HoldState 
 -- ---- what is told of it
 
 -- The answer is one of these. Of a reply the writer, if it tells its bytes, was given the lines, or it failed; a refusal is handed on,
--- and nothing is written of it.
+-- and nothing is written of it. That another run works on the tree is told before a store is asked, so never here.
 abbrev pub Tells : {T : Type 0} → (Result Reply Refusal → Type 0) → Option (List ℕ) → Option (List ℕ) → Result T Fault → Type 0
 Tells IsAnswer old new (Ok done) = (reply : Reply) × IsAnswer (Ok reply) × AppendsSome old new (IsReplyText reply)
 Tells IsAnswer old new (Err (faults.Refused refusal)) = IsAnswer (Err refusal) × (new ≡ old)
+Tells IsAnswer old new (Err faults.InUse) = ⊥
 Tells IsAnswer old new (Err faults.Write) = (reply : Reply) × IsAnswer (Ok reply)
 Tells IsAnswer old new (Err faults.Memory) = (reply : Reply) × IsAnswer (Ok reply)
 

@@ -1,9 +1,10 @@
 -- Which faults a writer gives.
 use Rattle.reuse_undo.specs.declared.fault.Fault.{Fault}
-use Rattle.reuse_undo.specs.declared.fault.Fault.TheVariants.{Refused, Write, Memory}
+use Rattle.reuse_undo.specs.declared.fault.Fault.TheVariants.{Refused, InUse, Write, Memory}
 
 -- a fault that comes after the call, in writing its reply
 abbrev pub IsOfWriter : Fault → Type 0
 IsOfWriter Write = Unit {0}
 IsOfWriter Memory = Unit {0}
 IsOfWriter (Refused refusal) = ⊥
+IsOfWriter InUse = ⊥

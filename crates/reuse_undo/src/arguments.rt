@@ -28,6 +28,9 @@ const PREFIXES: &[&str] = &[
     "symbol",
 ];
 
+/// The version, and the format of the journal that this version writes.
+const VERSION: &str = "1.1.0 (journal format 1)";
+
 const ABOUT: &str = "Adds licensing information to the files of a source tree, and takes it back.";
 
 const AFTER: &str = "\
@@ -51,7 +54,7 @@ const AFTER_DOWNLOAD: &str = "\
 Nothing is fetched from a network: the text of ID is DIR/ID.txt. DIR is relative to the working folder.
 
 Example:
-  reuse-undo download --texts /usr/share/licenses MIT";
+  reuse-undo download --texts ~/license-list-data/text MIT";
 
 const AFTER_CONVERT: &str = "\
 .reuse/dep5 is removed. A pattern with an unescaped `?` can't be said in REUSE.toml and is refused.
@@ -155,7 +158,8 @@ fn with_form<'a>(alloc: Global, command: Command<'a>) -> Result<Command<'a>, All
         "copyright-prefix",
         PREFIXES,
         "What a copyright notice begins with, by default spdx",
-    );
+    )
+    .visible_alias("copyright-style")?;
     let form = ArgGroup::new(alloc, "form")
         .arg("single-line")?
         .arg("multi-line")?;
@@ -245,10 +249,11 @@ pub fn whole<'a>(alloc: Global) -> Result<Command<'a>, AllocError> {
         .value_name("DIR")
         .default_value(".")
         .action(ArgAction::Set)
+        .global(true)
         .help("The root of the source tree");
     Command::new(alloc, "reuse-undo")
         .bin_name("reuse-undo")?
-        .version("1.0.0")
+        .version(VERSION)
         .about(ABOUT)
         .after_help(AFTER)
         .subcommand_required(true)

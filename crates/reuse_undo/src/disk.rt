@@ -1,6 +1,6 @@
 //! A folder of the file system as a store of files.
 ghost use Rattle.std.specs.Prelude.{◌≡◌};
-ghost use Rattle.reuse_tree.specs.Calls.{Start, failures_of, written_of};
+ghost use Rattle.reuse_tree.specs.Calls.{Start, failures_of, written_of, moves_of};
 ghost use Rattle.reuse_tree.specs.Files.{AreFiles};
 ghost use Rattle.reuse_undo.specs.Honesty.{files_of, IsHonest};
 
@@ -21,7 +21,7 @@ use std::rt::Files;
 
 /// The files of a folder. It is honest as long as each call was answered as a folder answers that
 /// held the files of the start and that nobody else writes. No contract says that a folder is: proved are
-/// the counts of failures and of bytes written, and that each answer is noted as it was given. That a
+/// the counts of failures, of bytes written and of puts and removals, and that each answer is noted as it was given. That a
 /// method makes the call that it notes, and what the folder holds then, is tested.
 #[derive(Drop)]
 pub struct DiskStore<R: Files + AllocGlobal + Clone + Drop> {
@@ -39,6 +39,7 @@ impl<R: Files + AllocGlobal + Clone + Drop> DiskStore<R> {
         ensures honest { AreFiles start.files → ⟦<DiskStore<R> as Store>⟧.honest result }
         ensures failures { ⟦<DiskStore<R> as Store>⟧.failures result ≡ 0 }
         ensures written { ⟦<DiskStore<R> as Store>⟧.written result ≡ 0 }
+        ensures moves { ⟦<DiskStore<R> as Store>⟧.moves result ≡ 0 }
     {
         DiskStore {
             folder: RootFolder::new(rt, root),
@@ -53,6 +54,8 @@ impl<R: Files + AllocGlobal + Clone + Drop> Store for DiskStore<R> {
     ghost failures = { λ store. failures_of store.calls.calls };
 
     ghost written = { λ store. written_of store.calls.calls };
+
+    ghost moves = { λ store. moves_of store.calls.calls };
 
     ghost honest = { λ store. IsHonest store.calls.start store.calls.calls };
 
@@ -76,13 +79,21 @@ impl<R: Files + AllocGlobal + Clone + Drop> Store for DiskStore<R> {
         answer
     }
 
-    fn put(&mut self, alloc: Global, path: &PathText, bytes: &[u8]) -> Result<(), StoreFault> {
+    fn put_parts(
+        &mut self,
+        alloc: Global,
+        path: &PathText,
+        front: &[u8],
+        middle: &[u8],
+        back: &[u8],
+    ) -> Result<(), StoreFault> {
         files_stay_good();
         let answer = self
             .folder
-            .put(alloc, path, bytes)
+            .put(alloc, path, &[front, middle, back])
             .map_err(StoreFault::from);
-        self.calls.note_put(path, bytes, &answer);
+        self.calls
+            .note_put_parts(path, front, middle, back, &answer);
         answer
     }
 

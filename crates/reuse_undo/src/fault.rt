@@ -10,6 +10,9 @@ pub enum Fault {
     /// The session refused.
     #[error("{0}")]
     Refused(Refusal),
+    /// Another run works on the tree. Nothing was read or written.
+    #[error("in use by another run")]
+    InUse,
     /// The reply couldn't be written. What the call changed stands.
     #[error("write fault")]
     Write,

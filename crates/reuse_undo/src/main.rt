@@ -7,6 +7,7 @@ mod disk;
 mod fault;
 mod line;
 mod lines;
+mod lock;
 mod place_word;
 mod prefix_name;
 mod rows;
@@ -22,13 +23,15 @@ mod words;
 use disk::DiskStore;
 use fault::Fault;
 use line::{Action, Line, LineFault};
+use lock::lock_root;
 use reuse_session::{LicenceTexts, Moment};
 use run_line::run_line;
 use status::{exit_status, line_status};
 use std::alloc::{AllocError, Global};
+use std::fs::File;
 use std::io::{BufWriter, ErrorKind, Write};
 use std::process::ExitCode;
-use std::rt::Runtime;
+use std::rt::{Files, Runtime};
 use std::time::{SystemTime, UNIX_EPOCH};
 use std::{env, io};
 use texts::find_texts;
@@ -61,8 +64,13 @@ fn texts_for<R: Runtime>(rt: &R, alloc: Global, line: &Line) -> Result<LicenceTe
     }
 }
 
-/// Carries a line out on the folder that it names, and prints its reply.
-fn carry_out<R: Runtime + AllocGlobal>(rt: &R, alloc: Global, line: Line) -> Result<(), Fault> {
+/// Carries a line out on the folder that it names, and prints its reply. Until that is done no other run works on the folder.
+fn carry_out<R: Runtime + Files<File = File> + AllocGlobal>(
+    rt: &R,
+    alloc: Global,
+    line: Line,
+) -> Result<(), Fault> {
+    let _lock = lock_root(rt, line.root.as_str())?;
     let texts = texts_for(rt, alloc, &line)?;
     let root = String::from_str(alloc, line.root.as_str())?;
     let store = DiskStore::at(rt.clone()?, root);
@@ -82,7 +90,7 @@ fn tell(rt: &(impl Print + Eprint), fault: &LineFault) -> io::Result<()> {
     }
 }
 
-fn run<R: Runtime + AllocGlobal>(rt: &R, alloc: Global, moment: Moment) -> u8 {
+fn run<R: Runtime + Files<File = File> + AllocGlobal>(rt: &R, alloc: Global, moment: Moment) -> u8 {
     let line = match read_words(rt, alloc) {
         Ok(words) => words_to_command(alloc, words.as_slice(), moment),
         Err(fault) => Err(fault),

@@ -1,4 +1,5 @@
 //! Command lines from their words to what is printed, over a store in memory.
+// The tags below are data: REUSE-IgnoreStart
 mod options;
 mod worked_lines;
 
@@ -156,7 +157,7 @@ fn tells_help(rt: HostRuntime) -> Result<(), Fail> {
     let alloc = rt.alloc();
     for (words, text) in [
         ("--help", "Adds licensing information"),
-        ("--version", "reuse-undo 1.0.0"),
+        ("--version", "reuse-undo 1.1.0 (journal format 1)\n"),
         (
             "annotate|--help",
             "Adds copyright and licensing information",

@@ -15,9 +15,12 @@ use crate::disk::place::{FileStatus, FullPath, Place, check_root};
 use reuse_text::Bytes;
 use reuse_tree::{PathText, Reading};
 use std::alloc::Global;
-use std::fs;
+use std::fs::{self, OpenFile};
 use std::io::{self, ErrorKind, Read};
 use std::rt::Files;
+
+/// How often a path is looked at for one reading, where another file takes the place of the one that was seen.
+const MOST_LOOKS: u32 = 2;
 
 /// The folder that a tree of files lies in. Nothing outside of it is read or written: no link below it
 /// is followed.
@@ -105,7 +108,9 @@ impl<R: Files + AllocGlobal + Clone + Drop> RootFolder<R> {
         list_below(&self.rt, alloc, self.root.as_str(), "")
     }
 
-    /// The bytes of the regular file at the path, where they are at most `limit`.
+    /// The bytes of the regular file at the path, where they are at most `limit`. The file that is opened is the one that was looked
+    /// at: where something else has taken its place, a link too, it isn't read, and the path is looked at once more. One that is longer
+    /// isn't opened, so it needn't be readable.
     pub fn read(
         &mut self,
         alloc: Global,
@@ -116,20 +121,31 @@ impl<R: Files + AllocGlobal + Clone + Drop> RootFolder<R> {
         ensures kept_out { IsTrue (is_kept_out path.now) → IfOk result (λ reading. reading ≡ Reading.Absent) }
     {
         let full = self.full(alloc, path.text())?;
-        match self.look(path, &full)? {
-            Place::File(status) => {
-                let reading = read_file(&self.rt, alloc, full.text(), status.len, limit)?;
+        for _ in 0..MOST_LOOKS {
+            let Place::File(status) = self.look(path, &full)? else {
+                return Ok(Reading::Absent);
+            };
+            if status.len > limit as u64 {
                 self.last_read = Some((full, status));
-                Ok(reading)
+                return Ok(Reading::TooLong);
             }
-            Place::Nothing | Place::BelowFile | Place::Folder | Place::Other => {
-                Ok(Reading::Absent)
+            let file = fs::open(&self.rt, full.text())?;
+            if status.is_of(&file.metadata()?) {
+                let reading = read_file(file, alloc, status.len, limit)?;
+                self.last_read = Some((full, status));
+                return Ok(reading);
             }
         }
+        Err(FolderFault::Device)
     }
 
-    /// Makes the bytes the file at the path, as a whole or not at all, and folders as needed.
-    pub fn put(&mut self, alloc: Global, path: &PathText, bytes: &[u8]) -> Result<(), FolderFault>
+    /// Makes the parts joined the file at the path, as a whole or not at all, and folders as needed.
+    pub fn put(
+        &mut self,
+        alloc: Global,
+        path: &PathText,
+        parts: &[&[u8]],
+    ) -> Result<(), FolderFault>
         ensures path { IsTrue (is_path path.now) }
         ensures kept_out { IsTrue (is_kept_out path.now) → IsErr result }
     {
@@ -137,9 +153,9 @@ impl<R: Files + AllocGlobal + Clone + Drop> RootFolder<R> {
         match self.look(path, &full)? {
             Place::Nothing => {
                 full.make_folders(&self.rt)?;
-                self.write(alloc, &full, None, bytes)
+                self.write(alloc, &full, None, parts)
             }
-            Place::File(status) => self.write(alloc, &full, Some(status.mode), bytes),
+            Place::File(status) => self.write(alloc, &full, Some(status.mode), parts),
             Place::BelowFile => Err(FolderFault::Clash),
             Place::Folder => self.refuse_folder(alloc, path),
             Place::Other => Err(FolderFault::Device),
@@ -151,13 +167,13 @@ impl<R: Files + AllocGlobal + Clone + Drop> RootFolder<R> {
         alloc: Global,
         full: &FullPath,
         mode: Option<u32>,
-        bytes: &[u8],
+        parts: &[&[u8]],
     ) -> Result<(), FolderFault> {
         let mut new_file = match self.new_file.take() {
             Some(new_file) => new_file,
             None => NewFile::at(&self.rt, self.full(alloc, NEW)?)?,
         };
-        new_file.write(&self.rt, full.text(), mode, bytes)?;
+        new_file.write(&self.rt, alloc, full, mode, parts)?;
         self.new_file = Some(new_file);
         Ok(())
     }
@@ -182,22 +198,18 @@ impl<R: Files + AllocGlobal + Clone + Drop> RootFolder<R> {
     }
 }
 
-/// The bytes of a regular file of this length, where they are at most `limit`.
+/// The bytes of a regular file that was of this length, where they are at most `limit`.
 fn read_file(
-    rt: &impl Files,
+    file: impl Read + Drop,
     alloc: Global,
-    full: &str,
     len: u64,
     limit: usize,
 ) -> Result<Reading, FolderFault>
     ensures { IfOk result (IsWithin limit) }
 {
-    let most = u64::try_from(limit).unwrap_or(u64::MAX).saturating_add(1);
-    if len >= most {
-        return Ok(Reading::TooLong);
-    }
+    let most = (limit as u64).saturating_add(1);
     let len = usize::try_from(len).unwrap_or(0);
-    let bytes = read_whole(fs::open(rt, full)?.take(most), alloc, len)?;
+    let bytes = read_whole(file.take(most), alloc, len)?;
     if bytes.len() > limit {
         return Ok(Reading::TooLong);
     }

@@ -1,6 +1,8 @@
 //! Writing a file as a whole or not at all: a new one is written aside and then given its name.
 use crate::disk::fault::FolderFault;
+use crate::disk::kept_out::NEW_BESIDE;
 use crate::disk::place::{FullPath, kept_bits};
+use std::alloc::Global;
 use std::fs::{self, OpenFile, OpenOptions, Permissions};
 use std::io::{self, ErrorKind, Write};
 use std::os::unix::fs::{OpenOptionsExt, PermissionsExt};
@@ -58,29 +60,53 @@ impl NewFile {
         rt: &R,
         name: &str,
         mode: Option<u32>,
-        bytes: &[u8],
+        parts: &[&[u8]],
     ) -> io::Result<()> {
         let mut file = self.create(rt, mode)?;
-        file.write_all(bytes)?;
+        for part in parts {
+            file.write_all(part)?;
+        }
         if let Some(mode) = mode {
             self.set_mode(&file, mode)?;
         }
         fs::rename(rt, self.full.text(), name)
     }
 
-    /// Writes the bytes and renames the file to `name`, with these permission bits or those of a new file.
-    pub fn write(
+    fn write_here(
         &mut self,
         rt: &impl Files,
         name: &str,
         mode: Option<u32>,
-        bytes: &[u8],
+        parts: &[&[u8]],
     ) -> io::Result<()> {
-        let written = self.write_and_rename(rt, name, mode, bytes);
+        let written = self.write_and_rename(rt, name, mode, parts);
         if written.is_err() {
             // What is left of the new file is of no use, and a fault of its removal tells no more.
             let _ = fs::remove_file(rt, self.full.text());
         }
         written
+    }
+
+    /// Writes the parts, one after the other, and renames the file to `name`, with these permission bits or those of a new file. Where
+    /// that leads to another device, as below a mount, the new file is written beside the one that it is to be.
+    pub fn write(
+        &mut self,
+        rt: &impl Files,
+        alloc: Global,
+        name: &FullPath,
+        mode: Option<u32>,
+        parts: &[&[u8]],
+    ) -> io::Result<()> {
+        match self.write_here(rt, name.text(), mode, parts) {
+            Err(error) if error.kind() == ErrorKind::CrossesDevices => {
+                let full = name.beside(alloc, NEW_BESIDE)?;
+                let mut beside = NewFile {
+                    full,
+                    granted: None,
+                };
+                beside.write_here(rt, name.text(), mode, parts)
+            }
+            written => written,
+        }
     }
 }

@@ -6,7 +6,7 @@ use std::alloc::{AllocError, Global};
 use std::fs::{self, Metadata};
 use std::io::ErrorKind;
 use std::marker::Model;
-use std::os::unix::fs::PermissionsExt;
+use std::os::unix::fs::{MetadataExt, PermissionsExt};
 use std::rt::Files;
 
 /// The bits of a file's mode that a rewritten file keeps: who may read, write and run it.
@@ -19,6 +19,9 @@ pub struct FileStatus {
     pub len: u64,
     /// The bits of its mode that a rewritten file keeps.
     pub mode: u32,
+    /// The device that it lies on, and its number there: no two files have both.
+    device: u64,
+    number: u64,
 }
 
 impl FileStatus {
@@ -26,7 +29,14 @@ impl FileStatus {
         FileStatus {
             len: metadata.len(),
             mode: kept_bits(metadata),
+            device: metadata.dev(),
+            number: metadata.ino(),
         }
+    }
+
+    /// Whether the system tells this of the same file.
+    pub fn is_of(&self, metadata: &Metadata) -> bool {
+        metadata.dev() == self.device && metadata.ino() == self.number
     }
 }
 
@@ -94,6 +104,15 @@ impl FullPath {
             Some((folder, _)) => folder,
             None => "",
         }
+    }
+
+    /// The path of this name in the same folder.
+    pub fn beside(&self, alloc: Global, name: &str) -> Result<FullPath, AllocError> {
+        let start = self.start;
+        let mut text = String::from_str(alloc, self.up_to(self.folder().len()))?;
+        text.push('/')?;
+        text.push_str(name)?;
+        Ok(FullPath { text, start })
     }
 
     /// The whole text up to this byte of the path.

@@ -161,7 +161,7 @@ fn lists_regular_files_in_byte_order(rt: HostRuntime) -> Result<(), Fail> {
     scratch.write(&["a/b", "a.py", "a-b", "a/.git/x", "é", "b c", ".git/HEAD"])?;
     scratch.write(&[".reuse/undo/new", ".reuse/undo/head.json"])?;
     scratch.links(&[("a", "link"), ("a.py", "link.py")])?;
-    let all = ".reuse/undo/head.json a-b a.py a/.git/x a/b b c é ";
+    let all = ".reuse/undo/head.json a-b a.py a/b b c é ";
     scratch.ask("", &[("list", "", all)])?;
     scratch.ask("link", &[("list", "", "b ")])?;
     scratch.remove()
@@ -263,13 +263,23 @@ fn clashes_with_files_alone(rt: HostRuntime) -> Result<(), Fail> {
 #[test]
 fn keeps_out_of_version_control_and_of_the_new_file(rt: HostRuntime) -> Result<(), Fail> {
     let scratch = Scratch::new(rt, "keeps_out")?;
-    scratch.make_folders(&[".git", ".reuse", ".reuse/undo"])?;
-    scratch.write(&[".git/HEAD", ".reuse/undo/new"])?;
+    scratch.make_folders(&[".git", ".reuse", ".reuse/undo", "a", "a/.Hg", "b"])?;
+    scratch.write(&[".git/HEAD", ".reuse/undo/new", "a/.Hg/x", "b/.git"])?;
     for path in [
         ".git/HEAD",
         ".git/refs/x",
         ".reuse/undo/new",
         ".reuse/undo/new/x",
+        ".GIT",
+        "a/.Hg/x",
+        "a/.svn/x",
+        "a/.jj/x",
+        "a/b/.bzr/x",
+        "a/_darcs/b/x",
+        "b/.git",
+        "b/.git/x",
+        "a/.reuse/undo",
+        "a/.reuse/undo/head.json",
     ] {
         scratch.ask("", &[("read 9", path, "absent")])?;
         scratch.ask(
@@ -279,7 +289,18 @@ fn keeps_out_of_version_control_and_of_the_new_file(rt: HostRuntime) -> Result<(
     }
     assert!(scratch.rt; scratch.holds(".git/HEAD", "x")?);
     assert!(scratch.rt; scratch.holds(".reuse/undo/new", "x")?);
+    assert!(scratch.rt; scratch.holds("a/.Hg/x", "x")?);
+    assert!(scratch.rt; scratch.holds("b/.git", "x")?);
     scratch.ask("", &[("put y", "a.py", "done"), ("list", "", "a.py ")])?;
+    let all = "a.py a/.reuse/undone a/_darcs ";
+    scratch.ask(
+        "",
+        &[
+            ("put y", "a/_darcs", "done"),
+            ("put y", "a/.reuse/undone", "done"),
+            ("list", "", all),
+        ],
+    )?;
     scratch.remove()
 }
 

@@ -1,5 +1,6 @@
 //! Sessions whose calls run out of memory, before, between, in and after the calls of their store: the next opening finds the tree
 //! and the history of before the call or of after it.
+// The tags below are data: REUSE-IgnoreStart
 use crate::session_tests::downloads_and_conversions::{DEP5, TOML, download};
 use crate::session_tests::scarce_memory::{GRAIN, PIECE, ScarceMemory};
 use crate::session_tests::scarce_store::ScarceStore;

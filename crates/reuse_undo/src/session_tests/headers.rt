@@ -1,4 +1,5 @@
 // What an annotation makes of the header of a file.
+// The tags below are data: REUSE-IgnoreStart
 use crate::session_tests::trees::{
     annotate, gives, has_just, licence, plain_how, plain_scope, plays, runs,
 };

@@ -1,4 +1,5 @@
 // Texts of the journal, with worked values.
+// The tags below are data: REUSE-IgnoreStart
 use crate::session_tests::trees::FIRST;
 use reuse_session::journal::laws::{written_entries_are_good, written_heads_are_good};
 use reuse_session::laws::{

@@ -1,4 +1,5 @@
 // Journals in files: what a session writes, and what it makes of what is there.
+// The tags below are data: REUSE-IgnoreStart
 use crate::session_tests::trees::{
     ANNOTATED, ENTRY, FIRST, HEAD, PLAIN, copy, dump, events_of, holds, lacks, leaves, path, plays,
     signing, tree,

@@ -1,4 +1,5 @@
 // Which place an annotation writes, and what stands there then.
+// The tags below are data: REUSE-IgnoreStart
 use crate::session_tests::trees::{
     annotate, gives, has_just, licence, moment, plain_how, plain_scope, plays, runs, tree,
 };

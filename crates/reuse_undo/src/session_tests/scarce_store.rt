@@ -29,6 +29,8 @@ impl<S: Store + Drop> Store for ScarceStore<'_, S> {
 
     ghost written = { λ store. S.written store.inner };
 
+    ghost moves = { λ store. S.moves store.inner };
+
     ghost honest = { λ store. S.honest store.inner };
 
     fn list(&mut self, alloc: Global) -> Result<Vec<PathText>, StoreFault> {
@@ -50,9 +52,16 @@ impl<S: Store + Drop> Store for ScarceStore<'_, S> {
         Ok(reading)
     }
 
-    fn put(&mut self, alloc: Global, path: &PathText, bytes: &[u8]) -> Result<(), StoreFault> {
+    fn put_parts(
+        &mut self,
+        alloc: Global,
+        path: &PathText,
+        front: &[u8],
+        middle: &[u8],
+        back: &[u8],
+    ) -> Result<(), StoreFault> {
         self.memory.pass(alloc);
-        self.inner.put(alloc, path, bytes)?;
+        self.inner.put_parts(alloc, path, front, middle, back)?;
         self.memory.pass(alloc);
         Ok(())
     }

@@ -1,4 +1,5 @@
 // What the tests of sessions share: small trees, commands on them, and answers as lines of text.
+// The tags below are data: REUSE-IgnoreStart
 use reuse_header::How;
 use reuse_notice::{Additions, Prefix};
 use reuse_session::{

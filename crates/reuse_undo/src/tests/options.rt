@@ -1,4 +1,5 @@
 //! What the options of `annotate` set, and which exclude each other.
+// The tags below are data: REUSE-IgnoreStart
 use super::{fault_of, holds, prints, read_line, store_of};
 use std::alloc::Global;
 use std::test::Fail;
@@ -111,6 +112,7 @@ const TEXTS: &[(&str, &str)] = &[
         "# Copyright © 2024 A\n",
     ),
     ("-c|A|--copyright-prefix|symbol", "# © 2024 A\n"),
+    ("-c|A|--copyright-style|string", "# Copyright 2024 A\n"),
 ];
 
 /// The line of `annotate -l MIT` with these words, as it is shown.

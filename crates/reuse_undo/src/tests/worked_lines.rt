@@ -1,4 +1,5 @@
 //! Worked command lines: the files that they find, what is told, and the files that they leave.
+// The tags below are data: REUSE-IgnoreStart
 use super::{START_OF_2024, holds, prints, refuses, run, run_at};
 use crate::session_tests::trees::{has_just, tree};
 use reuse_tree::MemoryStore;

@@ -6,6 +6,7 @@ use Rattle.reuse_session.specs.Session.{store_of}
 use Rattle.reuse_session.specs.declared.events.Event.{Event}
 use Rattle.reuse_session.specs.declared.events.Event.TheVariants as events
 use Rattle.reuse_session.specs.declared.reply.Reply.TheVariants as replies
+use Rattle.reuse_session.proofs.OnlyReading.{early_files}
 use Rattle.reuse_undo.specs.RunLine.{Calls, HasCallClash}
 use Rattle.reuse_undo.proofs.RunLemmas.{calls_by, stands_on, unclashed, log_tells_none}
 use Rattle.reuse_undo.proofs.run_line.ask.Goals as goal
@@ -15,37 +16,37 @@ returns-in-Run-clause-calls g c honest held stands =
     let files = g.S.Store.files in
     let new = c.run.new.self in
     subst (λ (e : Event). Calls e held c.run.result (files new.store)) (sym c.in-Run.is)
-    (calls_by files (events.Run c.in-Run.command c.in-Run.when) held new c.run.result (c.run.ensures.exact honest held stands) (c.run.ensures.stands honest held stands) (c.run.ensures.doubt honest held stands))
+    (calls_by files (events.Run c.in-Run.command c.in-Run.when) held new c.run.result (c.run.ensures.exact honest held stands) (c.run.ensures.leaves.stands honest held stands) (c.run.ensures.leaves.doubt honest held stands))
 
 pub returns-in-Run-clause-clash : goal.returns-in-Run-clause-clash
 returns-in-Run-clause-clash g c honest held stands =
     let files = g.S.Store.files (store_of c.args.session.now) in
     subst (λ (e : Event). IfErr c.run.result (HasCallClash e held files)) (sym c.in-Run.is)
-    (subst (λ n. IfErr c.run.result (HasClash (Clashes files (entry_path (n + 1))) (Clashes files head_path))) stands.remembers.used (c.run.ensures.clash honest))
+    (subst (λ n. IfErr c.run.result (HasClash (Clashes files (entry_path (n + 1))) (Clashes files head_path))) stands.remembers.used (c.run.ensures.leaves.clash honest))
 
 pub returns-in-Undo-clause-calls : goal.returns-in-Undo-clause-calls
 returns-in-Undo-clause-calls g c honest held stands =
     let files = g.S.Store.files in
     let new = c.undo.new.self in
-    let kept = stands_on files c.args.session.now new held c.undo.result stands c.undo.ensures.refused (c.undo.ensures.unchanged honest) in
+    let kept = stands_on files c.args.session.now new held c.undo.result stands c.undo.ensures.call.refused (early_files g.S.Store (store_of c.args.session.now) (store_of new) c.undo.result c.undo.ensures.leaves.early honest) in
     subst (λ (e : Event). Calls e held c.undo.result (files new.store)) (sym c.in-Undo.is)
-    (calls_by files events.Undo held new c.undo.result (c.undo.ensures.exact honest held stands) kept (c.undo.ensures.doubt honest held stands))
+    (calls_by files events.Undo held new c.undo.result (c.undo.ensures.exact honest held stands) kept (c.undo.ensures.leaves.doubt honest held stands))
 
 pub returns-in-Undo-clause-clash : goal.returns-in-Undo-clause-clash
 returns-in-Undo-clause-clash g c honest held stands =
-    subst (λ (e : Event). IfErr c.undo.result (HasCallClash e held (g.S.Store.files (store_of c.args.session.now)))) (sym c.in-Undo.is) (c.undo.ensures.clash honest)
+    subst (λ (e : Event). IfErr c.undo.result (HasCallClash e held (g.S.Store.files (store_of c.args.session.now)))) (sym c.in-Undo.is) (c.undo.ensures.leaves.clash honest)
 
 pub returns-in-Redo-clause-calls : goal.returns-in-Redo-clause-calls
 returns-in-Redo-clause-calls g c honest held stands =
     let files = g.S.Store.files in
     let new = c.redo.new.self in
-    let kept = stands_on files c.args.session.now new held c.redo.result stands c.redo.ensures.refused (c.redo.ensures.unchanged honest) in
+    let kept = stands_on files c.args.session.now new held c.redo.result stands c.redo.ensures.call.refused (early_files g.S.Store (store_of c.args.session.now) (store_of new) c.redo.result c.redo.ensures.leaves.early honest) in
     subst (λ (e : Event). Calls e held c.redo.result (files new.store)) (sym c.in-Redo.is)
-    (calls_by files events.Redo held new c.redo.result (c.redo.ensures.exact honest held stands) kept (c.redo.ensures.doubt honest held stands))
+    (calls_by files events.Redo held new c.redo.result (c.redo.ensures.exact honest held stands) kept (c.redo.ensures.leaves.doubt honest held stands))
 
 pub returns-in-Redo-clause-clash : goal.returns-in-Redo-clause-clash
 returns-in-Redo-clause-clash g c honest held stands =
-    subst (λ (e : Event). IfErr c.redo.result (HasCallClash e held (g.S.Store.files (store_of c.args.session.now)))) (sym c.in-Redo.is) (c.redo.ensures.clash honest)
+    subst (λ (e : Event). IfErr c.redo.result (HasCallClash e held (g.S.Store.files (store_of c.args.session.now)))) (sym c.in-Redo.is) (c.redo.ensures.leaves.clash honest)
 
 pub returns-in-Ok-clause-calls : goal.returns-in-Ok-clause-calls
 returns-in-Ok-clause-calls g c honest held stands =

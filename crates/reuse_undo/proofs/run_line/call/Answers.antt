@@ -38,7 +38,7 @@ returns-in-Ok-clause-fault g c =
     let left = failures (store_of c.ask-answer.new.session) in
     let first = failures c.args.store in
     subst (λ s. IfErr c.ask-answer.result (HasCause (first < failures s))) (sym c.into_store.ensures)
-    (caused (opened < left) (first < left) (λ rose. omega (arith, rose, c.in-Ok.ensures.failures)) c.ask-answer.result c.ask-answer.ensures.fault)
+    (caused (opened < left) (first < left) (λ rose. omega (arith, rose, c.in-Ok.ensures.later.failures)) c.ask-answer.result c.ask-answer.ensures.fault)
 
 pub returns-in-Err-clause-carries : goal.returns-in-Err-clause-carries
 returns-in-Err-clause-carries g c honest =
@@ -50,7 +50,7 @@ returns-in-Err-clause-carries g c honest =
         bad = c.in-Err.ensures.bad honest;
         moved = c.in-Err.ensures.moved honest;
         no_clash = c.in-Err.ensures.clash honest;
-        unchanged = c.in-Err.ensures.unchanged honest;
+        unchanged = λ early. (c.in-Err.ensures.early early).files honest;
         stopped = c.in-Err.ensures.interrupted honest;
         settles = λ first second doubt. c.in-Err.ensures.settles first second doubt honest;
       },
