@@ -28,3 +28,19 @@ fail() {
   echo "fault: $1; kept in $room" >&2
   exit 1
 }
+
+# Ends where a command isn't there, and names Debian's package for it.
+wants() {
+  command -v "$1" > /dev/null || {
+    echo "$1 isn't there: apt-get install $2" >&2
+    exit 1
+  }
+}
+
+# The words of help: the subcommands; the options of a subcommand, or, without one, those before it; the names that an option of annotate takes
+help_subcommands() { "$program" --help | sed -nE '/^Commands:/,/^$/s/^  ([a-z][a-z0-9-]*) .*/\1/p'; }
+help_options() {
+  "$program" "$@" --help | sed -nE '/^Options:/,/^[^ ]*$/p' | sed -nE \
+    -e 's/^ +(-[A-Za-z]), (--[a-z-]+).*/\1\n\2/p' -e 's/^ +(--[a-z-]+).*\[alias(es)?: (--[a-z-]+).*/\1\n\3/p' -e 's/^ +(--[a-z-]+).*/\1/p'
+}
+help_values() { "$program" annotate --help | sed -nE "s/.*--$1 .*\[possible values: ([^]]*)\].*/\1/p" | sed 's/, /\n/g'; }

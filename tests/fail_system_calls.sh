@@ -5,6 +5,7 @@
 # usage: tests/fail_system_calls.sh PROGRAM
 set -euo pipefail
 . "$(dirname "$0")/common.sh"
+wants strace strace
 calls=(openat read write close fchmod statx newfstatat getdents64 rename renameat renameat2 unlink unlinkat mkdir mkdirat)
 
 # Runs the program on the tree with this fault of this system call at its Nth time.

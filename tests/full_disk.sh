@@ -5,6 +5,7 @@
 # usage: tests/full_disk.sh PROGRAM
 set -euo pipefail
 . "$(dirname "$0")/common.sh"
+((EUID == 0)) || fail 'it mounts a disk, and wants root'
 disk=$room/disk
 mkdir "$disk"
 trap 'umount "$disk" 2> /dev/null; rm -rf "$room"' EXIT

@@ -1,8 +1,9 @@
 #!/usr/bin/env bash
 # Runs the program on odd folders: an empty one, names with spaces, letters of other scripts and line ends, a name that isn't UTF-8, links that
-# lead out, devices and pipes, a folder that can't be written (as nobody where the caller is root), and files of some bits. Ends with status 1
-# at the first fault.
+# lead out, devices and pipes, a folder that can't be written (as nobody where the caller is root), a folder in the way of a file, a mount (where
+# one may be made), and files of some bits. Ends with status 1 at the first fault.
 # usage: tests/odd_folders.sh PROGRAM
+# The tags below are data: REUSE-IgnoreStart
 set -euo pipefail
 . "$(dirname "$0")/common.sh"
 tree=$room/tree
@@ -47,10 +48,12 @@ names() {
   tells 0 $'changed größe/日本語.py\n' annotate -l MIT größe/日本語.py
 }
 
-# A listing fails; a call that needs none works.
+# A listing fails; a call that needs none works, and what is no part of the tree may have any name.
 not_utf8() {
   anew
   echo x > "$tree/a.py"
+  mkdir -p "$tree/sub/.hg"
+  echo x > "$tree/sub/.hg/"$'\377.py'
   tells 0 $'changed a.py\n' "${annotate[@]}"
   echo x > "$tree/"$'\377.py'
   tells 1 $'reuse-undo: store fault\n' annotate -l ISC -r .
@@ -124,12 +127,65 @@ read_only() {
   [[ $(state_of "$tree") == "$before" ]] || fail 'a folder that can not be written: files are changed'
   chmod 000 "$tree/closed"
   tells 1 $'reuse-undo: store fault\n' annotate -l MIT -r .
+  # Paths that are given need no listing, and a file whose neighbour is there needn't be readable.
+  tells 0 $'changed b.py\n' annotate -l MIT b.py
+  tells 0 $'undone b.py\n' undo
+  echo x > "$tree/p.png"
+  echo 'SPDX-License-Identifier: MIT' > "$tree/p.png.license"
+  ((EUID != 0)) || chown 65534:65534 "$tree/p.png" "$tree/p.png.license"
+  chmod 000 "$tree/p.png"
+  tells 0 $'changed p.png.license\n' annotate -l ISC p.png
+  tells 0 $'undone p.png.license\n' undo
+  rm "$tree/p.png" "$tree/p.png.license"
   chmod 755 "$tree/closed"
   [[ $(state_of "$tree") == "$before" ]] || fail 'a folder that can not be read: files are changed'
+  mkdir -m 000 "$tree/.svn"
+  tells 0 $'changed b.py\nchanged closed/a.py\n' annotate -l MIT -r .
+  tells 0 $'undone b.py\nundone closed/a.py\n' undo
   as=()
 }
 
-for group in empty names not_utf8 links bits read_only; do
+# A folder without files in the way of a file that would be made: the call stops, and the next one sets back what it began.
+in_the_way() {
+  local before
+  anew
+  mkdir -p "$tree/p.png.license/empty" "$tree/.reuse"
+  printf '\211' > "$tree/p.png"
+  echo x > "$tree/a.py"
+  before=$(state_of "$tree")
+  tells 1 $'reuse-undo: interrupted\n' annotate -l MIT -r .
+  tells 0 '' log
+  [[ $(state_of "$tree") == "$before" ]] || fail 'a folder in the way: files are changed'
+  rmdir "$tree/p.png.license/empty" "$tree/p.png.license"
+  tells 0 $'changed a.py\nchanged p.png.license\n' annotate -l MIT -r .
+}
+
+# Below a mount the new file is written beside the one that it is to be.
+mounted() {
+  local script='mount -t tmpfs none "$1/mounted" && echo x > "$1/mounted/a.py" && chmod 755 "$1/mounted/a.py" && "$2" --root "$1" annotate -l MIT -r . &&
+    head -n 1 "$1/mounted/a.py" && stat -c %a "$1/mounted/a.py" && "$2" undo --root "$1" && cat "$1/mounted/a.py" && ls -A "$1/mounted"'
+  anew
+  mkdir "$tree/mounted"
+  if ! unshare -m mount -t tmpfs none "$tree/mounted" 2> "$room/error"; then
+    echo 'mounted: not tried, since no mount can be made'
+    return
+  fi
+  unshare -m bash -c "$script" bash "$tree" "$program" > "$room/out" 2>&1 || fail "below a mount: $(cat "$room/out")"
+  printf '%s\n' 'changed mounted/a.py' "$header" 755 'undone mounted/a.py' x a.py | cmp -s - "$room/out" || fail "below a mount: $(cat "$room/out")"
+}
+
+# The root may stand anywhere.
+roots() {
+  anew
+  echo x > "$tree/a.py"
+  for call in "--root $tree annotate -l MIT a.py" "undo --root $tree" "annotate --root $tree -l MIT a.py" "annotate -l MIT a.py --root=$tree" "undo --root $tree"; do
+    # shellcheck disable=SC2086
+    (cd / && "$program" $call) > "$room/out" 2>&1 || fail "$call: $(cat "$room/out")"
+  done
+  tells 0 $'changed a.py\n' annotate -l MIT a.py
+}
+
+for group in empty names not_utf8 links bits in_the_way mounted roots read_only; do
   $group
   echo "$group: as stated"
 done

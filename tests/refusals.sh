@@ -4,6 +4,7 @@
 # Three texts aren't met: `broken` is for a second call of one session, `bad clock` for another time, and `.reuse/dep5: not TOML` for a fault
 # of the program.
 # usage: tests/refusals.sh PROGRAM
+# The tags below are data: REUSE-IgnoreStart
 set -euo pipefail
 . "$(dirname "$0")/common.sh"
 tree=$room/tree

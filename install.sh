@@ -1,0 +1,115 @@
+#!/usr/bin/env bash
+# Proves, builds and installs the program and what belongs to it: the manual, completions for bash, zsh and fish, and a table of styles. Crates that don't
+# stand on each other are proved side by side. It can be interrupted and run again: what was proved is kept.
+# usage: ./install.sh [PREFIX]                  (PREFIX is $HOME/.local by default)
+#        ./install.sh --uninstall [PREFIX]      removes just what it installed
+set -euo pipefail
+top=$(cd "$(dirname "$0")" && pwd)
+uninstall=
+if [ "${1:-}" = --uninstall ]; then
+    uninstall=yes
+    shift
+fi
+case ${1:-} in -*) sed -n '4,5s/^# //p' "$0"; exit 2 ;; esac
+prefix=${1:-$HOME/.local}
+
+# What is installed: the file, where it goes, and its bits. What isn't in the repository is passed over.
+files() {
+    echo "crates/reuse_undo/out/reuse_undo bin/reuse-undo 755"
+    echo "share/man/man1/reuse-undo.1 share/man/man1/reuse-undo.1 644"
+    echo "share/completions/reuse-undo.bash share/bash-completion/completions/reuse-undo 644"
+    echo "share/completions/_reuse-undo share/zsh/site-functions/_reuse-undo 644"
+    echo "share/completions/reuse-undo.fish share/fish/vendor_completions.d/reuse-undo.fish 644"
+    echo "share/styles.toml share/reuse-undo/styles.toml 644"
+}
+if [ $uninstall ]; then
+    files | while read -r _ to _; do
+        [ ! -e "$prefix/$to" ] || { rm "$prefix/$to"; echo "removed $prefix/$to"; }
+    done
+    [ ! -d "$prefix/share/reuse-undo" ] || rmdir --ignore-fail-on-non-empty "$prefix/share/reuse-undo"
+    exit
+fi
+
+command -v rt > /dev/null || { echo "The Rattle kit isn't there: no command rt." >&2; exit 1; }
+# (so that a prefix that can't be written is told now, and not after the proofs)
+mkdir -p "$prefix/bin"
+[ -w "$prefix/bin" ] || { echo "$prefix/bin can't be written" >&2; exit 1; }
+
+logs=$(mktemp -d)
+start=$SECONDS
+declare -A running=() lanes=() done=() told=()
+# (each check has a process group of its own, so that all of it ends with this script)
+set -m
+trap '{ for it in "${!running[@]}"; do kill -- "-${running[$it]}" || true; done; wait; } 2> /dev/null; rm -rf "$logs"' EXIT
+trap 'echo "interrupted; run it again to go on" >&2; exit 130' INT TERM
+
+say() {
+    printf '%3d:%02d  %s\n' $(((SECONDS - start) / 60)) $(((SECONDS - start) % 60)) "$*"
+}
+# Proves a crate by so many jobs, and builds it.
+prove() {
+    cd "$top/crates/$1"
+    rt check --jobs "$2"
+    if [ -e src/main.rt ]; then rt run --jobs "$2" -- --version; else rt lib --jobs "$2"; fi
+}
+# The crates of the repository that a crate stands on
+below() {
+    local word
+    for word in $(sed -n "s/^$1: *//p" "$top/crates.txt"); do
+        [ ! -d "$top/crates/$word" ] || echo "$word"
+    done
+}
+is_ready() {
+    local it
+    [ ! "${done[$1]:-}" ] && [ ! "${running[$1]:-}" ] || return 1
+    for it in $(below "$1"); do [ "${done[$it]:-}" ] || return 1; done
+}
+# How many jobs a check may take: the idle processors shared out, 2 GB of free memory for each
+jobs_of() {
+    local idle=$1 ready=$2 room jobs
+    room=$(awk '/^MemAvailable:/ { print int($2 / 2000000) }' /proc/meminfo)
+    jobs=$((idle / ready < room / ready ? idle / ready : room / ready))
+    echo $((jobs > 1 ? jobs : 1))
+}
+
+mapfile -t crates < <(sed -n 's/^\([a-z0-9_]*\):.*/\1/p' "$top/crates.txt")
+processors=$(nproc)
+say "proving ${#crates[@]} crates on $processors processors; the first time that may take an hour on four"
+while [ ${#done[@]} -lt ${#crates[@]} ]; do
+    idle=$processors
+    for it in "${!running[@]}"; do idle=$((idle - lanes[$it])); done
+    ready=()
+    for it in "${crates[@]}"; do ! is_ready "$it" || ready+=("$it"); done
+    # lowest first; the last ready one gets what is left
+    for at in "${!ready[@]}"; do
+        it=${ready[$at]}
+        [ $idle -gt 0 ] || break
+        lanes[$it]=$(jobs_of $idle $((${#ready[@]} - at)))
+        idle=$((idle - lanes[$it]))
+        prove "$it" "${lanes[$it]}" < /dev/null > "$logs/$it" 2>&1 &
+        running[$it]=$!
+        told[$it]=$SECONDS
+        say "$it: begun"
+    done
+    sleep 1
+    for it in "${!running[@]}"; do
+        if ! kill -0 "${running[$it]}" 2> /dev/null; then
+            wait "${running[$it]}" || { unset "running[$it]"; tail -n 30 "$logs/$it"; say "$it: NOT proved"; exit 1; }
+            unset "running[$it]"
+            done[$it]=yes
+            say "$it: proved and built, ${#done[@]} of ${#crates[@]} crates"
+        elif [ $((SECONDS - told[$it])) -ge 60 ]; then
+            told[$it]=$SECONDS
+            count=$(sed -nE 's/^(so far: )?checked .*, ([0-9]+ of [0-9]+)$/\2 functions/p' "$logs/$it" | tail -n 1)
+            say "$it: ${count:-at work}"
+        fi
+    done
+done
+
+files | while read -r from to bits; do
+    if [ -e "$top/$from" ]; then
+        install -D -m "$bits" "$top/$from" "$prefix/$to"
+        say "installed $prefix/$to"
+    fi
+done
+case :$PATH: in *":$prefix/bin:"*) ;; *) echo "$prefix/bin is not in PATH" ;; esac

@@ -1,0 +1,98 @@
+# Completes the words of reuse-undo in bash: source this file, or install it as /usr/share/bash-completion/completions/reuse-undo.
+
+# Sets `words` to the words before the one that is completed, without the equals signs that bash takes for words, and `word` to that one,
+# without quotes.
+_reuse_undo_words() {
+  local index
+  words=()
+  for ((index = 1; index < COMP_CWORD; index++)); do
+    [[ ${COMP_WORDS[index]} == = ]] || words+=("${COMP_WORDS[index]}")
+  done
+  word=${COMP_WORDS[COMP_CWORD]}
+  [[ $word != = ]] || word=
+  word=${word#[\"\']}
+  word=${word//\\/}
+}
+
+# Sets `root`, `texts` and `subcommand` to what the words before say, and `only_paths` where `--` is one of them.
+_reuse_undo_read() {
+  local index
+  for ((index = 0; index < ${#words[@]}; index++)); do
+    case ${words[index]} in
+      --root) root=${words[++index]-.} ;;
+      --root=*) root=${words[index]#*=} ;;
+      --texts=*) texts=${words[index]#*=} ;;
+      --texts) texts=${words[++index]-.} ;;
+      --copyright | -c | --license | -l | --contributor | --year | -y | --style | -s | --copyright-prefix | --copyright-style) index=$((index + 1)) ;;
+      --) only_paths=yes ;;
+      -*) ;;
+      *) subcommand=${subcommand:-${words[index]}} ;;
+    esac
+  done
+  root=${root/#\~\//$HOME/}
+  texts=${texts/#\~\//$HOME/}
+}
+
+# Files beneath a folder by their paths from there, a folder with a slash at its end
+_reuse_undo_paths() {
+  local path
+  compopt -o filenames 2> /dev/null
+  while IFS= read -r path; do
+    if [[ -d $1/$path ]]; then
+      COMPREPLY+=("$path/")
+      compopt -o nospace 2> /dev/null
+    elif [[ ${2-} != folders ]]; then
+      COMPREPLY+=("$path")
+    fi
+  done < <(cd -- "$1" 2> /dev/null && compgen -f -- "$word")
+}
+
+_reuse_undo_of() { mapfile -t COMPREPLY < <(compgen -W "$1" -- "$word"); }
+
+_reuse_undo() {
+  local words word root=. texts=. subcommand= only_paths= id
+  COMPREPLY=()
+  _reuse_undo_words
+  _reuse_undo_read
+  if [[ -z $only_paths ]]; then
+    case ${words[*]: -1} in
+      --style | -s)
+        _reuse_undo_of 'python c css html haskell tex lisp semicolon ml vim'
+        return
+        ;;
+      --copyright-prefix | --copyright-style)
+        _reuse_undo_of 'spdx spdx-c spdx-symbol spdx-string spdx-string-c spdx-string-symbol string string-c string-symbol symbol'
+        return
+        ;;
+      --root | --texts)
+        word=${word/#\~\//$HOME/}
+        _reuse_undo_paths . folders
+        return
+        ;;
+      --copyright | -c | --license | -l | --contributor | --year | -y) return ;;
+    esac
+  fi
+  if [[ $word == -* && -z $only_paths ]]; then
+    case $subcommand in
+      '') _reuse_undo_of '--root --help --version' ;;
+      annotate)
+        _reuse_undo_of '--copyright --license --contributor --year --exclude-year --style --copyright-prefix --copyright-style
+          --merge-copyrights --single-line --multi-line --no-replace --recursive --force-dot-license --fallback-dot-license
+          --skip-unrecognised --skip-existing --root --help'
+        ;;
+      download) _reuse_undo_of '--texts --root --help' ;;
+      *) _reuse_undo_of '--root --help' ;;
+    esac
+    return
+  fi
+  case $subcommand in
+    '') _reuse_undo_of 'annotate convert-dep5 download undo redo log help' ;;
+    help) _reuse_undo_of 'annotate convert-dep5 download undo redo log' ;;
+    annotate) _reuse_undo_paths "$root" ;;
+    download)
+      while IFS= read -r id; do COMPREPLY+=("${id%.txt}"); done < <(cd -- "$texts" 2> /dev/null && compgen -f -X '!*.txt' -- "$word")
+      ;;
+  esac
+}
+
+complete -F _reuse_undo reuse-undo

@@ -1,0 +1,93 @@
+# Completes the words of reuse-undo in fish: put this file into a folder of fish_complete_path, as /usr/share/fish/vendor_completions.d.
+
+# What the words before the current one give to an option, or the second argument where none does
+function __reuse_undo_value
+    set -l words (commandline -opc)
+    set -l value $argv[2]
+    for index in (seq (count $words))
+        if test "$words[$index]" = $argv[1]; and test $index -lt (count $words)
+            set value $words[(math $index + 1)]
+        else if string match -q -- "$argv[1]=*" $words[$index]
+            set value (string replace -- "$argv[1]=" '' $words[$index])
+        end
+    end
+    string replace -r '^~/' "$HOME/" -- $value
+end
+
+# Whether the first word that is neither an option nor the root is this one, or whether there is none where this is empty
+function __reuse_undo_subcommand_is
+    set -l words (commandline -opc)
+    set -e words[1]
+    while set -q words[1]
+        switch $words[1]
+            case --root
+                set -e words[1]
+            case '-*'
+            case '*'
+                test $words[1] = "$argv[1]"
+                return
+        end
+        set -e words[1]
+    end
+    test -z "$argv[1]"
+end
+
+# Files beneath the root by their paths from there, a folder with a slash at its end
+function __reuse_undo_paths
+    set -l root (__reuse_undo_value --root .)
+    set -l token (commandline -ct)
+    for path in $root/$token*
+        set -l name (string sub -s (math (string length -- $root) + 2) -- $path)
+        if test -d $path
+            echo $name/
+        else
+            echo $name
+        end
+    end
+end
+
+# The ids whose texts the folder of --texts has
+function __reuse_undo_ids
+    set -l texts (__reuse_undo_value --texts .)
+    for path in $texts/*.txt
+        string replace -r '.*/(.*)\.txt$' '$1' -- $path
+    end
+end
+
+complete -c reuse-undo -f
+complete -c reuse-undo -l root -x -a '(__fish_complete_directories)' -d 'The root of the source tree'
+complete -c reuse-undo -s h -l help -d 'Print help'
+complete -c reuse-undo -n '__reuse_undo_subcommand_is ""' -s V -l version -d 'Print the version'
+
+complete -c reuse-undo -n '__reuse_undo_subcommand_is ""' -a annotate -d 'Add copyright and licensing information to files'
+complete -c reuse-undo -n '__reuse_undo_subcommand_is ""' -a convert-dep5 -d 'Put a REUSE.toml in the place of .reuse/dep5'
+complete -c reuse-undo -n '__reuse_undo_subcommand_is ""' -a download -d 'Copy licence texts into LICENSES'
+complete -c reuse-undo -n '__reuse_undo_subcommand_is ""' -a undo -d 'Take the last step back'
+complete -c reuse-undo -n '__reuse_undo_subcommand_is ""' -a redo -d 'Make the step again that was undone last'
+complete -c reuse-undo -n '__reuse_undo_subcommand_is ""' -a log -d 'List the steps'
+complete -c reuse-undo -n '__reuse_undo_subcommand_is ""' -a help -d 'Print help'
+complete -c reuse-undo -n '__reuse_undo_subcommand_is help' -a 'annotate convert-dep5 download undo redo log'
+
+set -l annotate -c reuse-undo -n '__reuse_undo_subcommand_is annotate'
+set -l prefixes 'spdx spdx-c spdx-symbol spdx-string spdx-string-c spdx-string-symbol string string-c string-symbol symbol'
+complete $annotate -s c -l copyright -x -d 'A copyright holder'
+complete $annotate -s l -l license -x -d 'An SPDX licence expression'
+complete $annotate -l contributor -x -d 'A contributor'
+complete $annotate -s y -l year -x -d 'The year of the copyright'
+complete $annotate -l exclude-year -d 'Write no year'
+complete $annotate -s s -l style -x -a 'python c css html haskell tex lisp semicolon ml vim' -d 'The comment style of all paths'
+complete $annotate -l copyright-prefix -x -a $prefixes -d 'What a notice begins with'
+complete $annotate -l copyright-style -x -a $prefixes -d 'What a notice begins with'
+complete $annotate -l merge-copyrights -d 'Write the notices of one holder as one'
+complete $annotate -l single-line -d 'Write single-line comments'
+complete $annotate -l multi-line -d 'Write multi-line comments'
+complete $annotate -l no-replace -d 'Put a new header above the one that is there'
+complete $annotate -s r -l recursive -d 'Annotate the files beneath folders'
+complete $annotate -l force-dot-license -d 'Write PATH.license, whatever PATH is'
+complete $annotate -l fallback-dot-license -d 'Write PATH.license where the style is unknown'
+complete $annotate -l skip-unrecognised -d 'Skip a path whose style is unknown'
+complete $annotate -l skip-existing -d 'Skip a path that has licensing information'
+complete $annotate -a '(__reuse_undo_paths)'
+
+complete -c reuse-undo -n '__reuse_undo_subcommand_is download' -l texts -x -a '(__fish_complete_directories)' -d 'The folder of the licence texts'
+complete -c reuse-undo -n '__reuse_undo_subcommand_is download' -a '(__reuse_undo_ids)'

@@ -1,0 +1,92 @@
+#!/usr/bin/env bash
+# Tries our hook by Debian's pre-commit on a repository of its own, and what docs/USAGE.md says for a git alias, for a check on each push and for
+# what git is to ignore. Ends with status 1 at the first fault.
+# usage: tests/pre_commit.sh PROGRAM
+set -euo pipefail
+# The tags below are data: REUSE-IgnoreStart
+. "$(dirname "$0")/common.sh"
+wants pre-commit pre-commit
+wants git git
+top=$(realpath "$(dirname "$0")/..")
+usage=$top/docs/USAGE.md
+header='# SPDX-License-Identifier: MIT'
+export PRE_COMMIT_HOME=$room/cache HOME=$room GIT_CONFIG_NOSYSTEM=1
+export GIT_AUTHOR_NAME=a GIT_AUTHOR_EMAIL=a@a GIT_COMMITTER_NAME=a GIT_COMMITTER_EMAIL=a@a
+mkdir "$room/bin"
+ln -s "$program" "$room/bin/reuse-undo"
+PATH=$room/bin:$PATH
+
+# The lines of the document's block that begins with these words
+block() { awk -v "head=\`\`\`$1" '$0 == "```" { shown = 0 } shown { print } $0 == head { shown = 1; any = 1 } END { exit !any }' "$usage"; }
+
+# A repository with these files, each by its path and its text with escapes, staged
+repository() {
+  rm -rf "$room/tree"
+  git init -q "$room/tree"
+  cd "$room/tree"
+  block 'gitignore' > .gitignore
+  while (($#)); do
+    mkdir -p "$(dirname "$1")"
+    printf %b "$2" > "$1"
+    shift 2
+  done
+  git add -A
+}
+
+begins() { [[ $(head -n 1 "$1") == "$2" ]] || fail "$1 begins $(head -n 1 "$1")"; }
+
+# The hook, from a clone of the repository that has it
+hook() {
+  git init -q "$room/hooks"
+  cp "$top/.pre-commit-hooks.yaml" "$room/hooks"
+  git -C "$room/hooks" add -A
+  git -C "$room/hooks" commit -q -m hooks
+  repository a.py 'x\n' b.py "# SPDX-License-Identifier: ISC\n\nx\n" sub/c.xyz 'x\n' p.png '\0211\0' LICENSES/MIT.txt 'text\n' LICENSE 'text\n' \
+    REUSE.toml 'version = 1\n' 'sub/d e.c' 'int x;\n'
+  ln -s a.py link.py
+  block 'yaml pre-commit' | sed -e "s#https://.*#$room/hooks#" -e "s#rev: .*#rev: $(git -C "$room/hooks" rev-parse HEAD)#" > .pre-commit-config.yaml
+  sed -i "1i $header" .pre-commit-config.yaml .gitignore
+  git add -A
+  pre-commit install > "$room/out" 2>&1
+  if git commit -q -m first > "$room/out" 2>&1; then fail 'files without a header are committed'; fi
+  grep -q 'files were modified by this hook' "$room/out" || fail "the hook tells: $(cat "$room/out")"
+  [[ $(git status --porcelain | grep -v '^A  ') == $'AM a.py\nAM "sub/d e.c"\n?? p.png.license' ]] || fail "the hook changes $(git status --porcelain)"
+  begins a.py '# SPDX-FileCopyrightText: '"$(date -u +%Y)"' Jane Doe'
+  git add -A
+  git commit -q -m first > "$room/out" 2>&1 || fail "files with a header are not committed: $(cat "$room/out")"
+  [[ -z $(git ls-files .reuse) ]] || fail 'the journal is committed'
+  [[ $(reuse-undo log | wc -l) == 1 ]] || fail "the hook's steps: $(reuse-undo log)"
+  reuse-undo undo > "$room/out"
+  begins a.py x
+  echo "pre-commit: the hook annotates staged files without a header, and no others"
+}
+
+# The alias annotates what git knows.
+alias_of_git() {
+  repository a.py 'x\n' sub/b.py 'x\n' sub/LICENSE 'text\n' c.xyz 'x\n' REUSE.toml 'version = 1\n'
+  echo x > unknown.py
+  ln -s a.py link.py
+  git add link.py
+  block 'sh alias' > "$room/alias"
+  . "$room/alias"
+  git headers sub > "$room/out" || fail "the alias: $(cat "$room/out")"
+  [[ $(< "$room/out") == 'changed sub/b.py' ]] || fail "the alias tells: $(cat "$room/out")"
+  git headers > "$room/out"
+  begins a.py '# SPDX-FileCopyrightText: '"$(date -u +%Y)"' Jane Doe'
+  begins unknown.py x
+  echo "git alias: what git knows is annotated"
+}
+
+# The check of a push fails where a file has no header, and shows it.
+check() {
+  repository a.py 'x\n'
+  block 'sh check' > "$room/check"
+  if bash "$room/check" > "$room/out" 2>&1; then fail 'the check passes a file without a header'; fi
+  grep -q 'changed a.py' "$room/out" || fail "the check tells: $(cat "$room/out")"
+  bash "$room/check" > "$room/out" 2>&1 || fail "the check fails: $(cat "$room/out")"
+  echo "check of a push: it fails where a header is missing"
+}
+
+hook
+alias_of_git
+check

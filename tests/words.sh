@@ -1,0 +1,64 @@
+#!/usr/bin/env bash
+# Compares the words of the program's help with those of the manual page, of docs/USAGE.md and of the pages of the completions: subcommands, options,
+# styles and prefixes; compares the manual page with each text of a refusal in the sources, and the version with that of CHANGELOG.md. The
+# manual page passes mandoc's and man's own tests. What each shell completes is compared by completions.sh. Ends with status 1 at the first fault.
+# usage: tests/words.sh PROGRAM
+set -euo pipefail
+. "$(dirname "$0")/common.sh"
+wants mandoc mandoc
+wants man man-db
+wants groff groff-base
+top=$(realpath "$(dirname "$0")/..")
+page=$top/share/man/man1/reuse-undo.1
+usage=$top/docs/USAGE.md
+
+# The manual page as text
+manual() { mandoc -T utf8 -O width=200 "$page" | sed 's/.\x08//g'; }
+manual > "$room/manual"
+
+# Where two lists differ, the words that only one has are told.
+same() { diff <(sort -u "$2") <(sort -u "$3") > "$room/diff" || fail "$1: $(cat "$room/diff")"; }
+
+# Each line of the file stands in the text, as a word.
+all_in() {
+  local word
+  while IFS= read -r word; do
+    grep -qE -- "(^|[^A-Za-z0-9-])${word}([^A-Za-z0-9-]|\$)" "$3" || fail "$1: $word is not told"
+  done < "$2"
+}
+
+help_subcommands > "$room/subcommands"
+(help_options; while read -r word; do [[ $word == help ]] || help_options "$word"; done < "$room/subcommands") | sort -u > "$room/options"
+help_values style > "$room/styles"
+help_values copyright-prefix > "$room/prefixes"
+[[ $(wc -l < "$room/subcommands") -ge 7 && $(wc -l < "$room/options") -ge 27 && $(wc -l < "$room/styles") -ge 10 && $(wc -l < "$room/prefixes") -ge 10 ]] \
+  || fail 'help has fewer words than it had'
+
+mandoc -T lint "$page" > "$room/lint" 2>&1 || fail "mandoc: $(cat "$room/lint")"
+LC_ALL=C.UTF-8 man --warnings -E UTF-8 -l -Tutf8 -Z "$page" 2> "$room/lint" > "$room/out" || fail "man: $(cat "$room/lint")"
+[[ ! -s $room/lint ]] || fail "man: $(cat "$room/lint")"
+
+# The long options in a text
+options_of() { grep -oE -- '(^|[^A-Za-z0-9-])--[a-z][a-z0-9-]*' "$1" | sed -E 's/^[^-]//' | sort -u; }
+for list in subcommands options styles prefixes; do
+  all_in "the manual page" "$room/$list" "$room/manual"
+  all_in "docs/USAGE.md" "$room/$list" "$usage"
+done
+# And none that help hasn't
+options_of "$room/manual" > "$room/manual_options"
+grep -E '^--' "$room/options" > "$room/long_options"
+same 'options of help and of the manual page' "$room/long_options" "$room/manual_options"
+grep -E '^\| `-|reuse-undo ' "$usage" | grep -v 'git ' > "$room/usage_lines"
+options_of "$room/usage_lines" > "$room/usage_options"
+while read -r word; do grep -qxF -- "$word" "$room/long_options" || fail "docs/USAGE.md: $word is no option"; done < "$room/usage_options"
+
+# Texts of refusals; two are of calls that the program doesn't make alone
+sed -nE 's/.*#\[error\("(.*)"(, .*)?\)\]$/\1/p' $(find "$top"/crates/*/src -name '*.rt' | grep -v test) | grep -vxE 'device fault|not a good journal text' \
+  | sed -E 's/\{[^}]*\}/\n/g' | sed -E 's/^[: ]+//; s/[: ]+$//' | grep . | sort -u > "$room/refusals"
+while IFS= read -r text; do grep -qF -- "$text" "$room/manual" || fail "the manual page: the refusal $text is not told"; done < "$room/refusals"
+
+version=$("$program" --version | sed -nE 's/^reuse-undo ([0-9.]+) \(journal format [0-9]+\)$/\1/p')
+[[ -n $version ]] || fail "--version tells $("$program" --version)"
+[[ $(sed -nE 's/^## \[([0-9.]+)\].*/\1/p' "$top/CHANGELOG.md" | head -n 1) == "$version" ]] || fail "CHANGELOG.md is not of version $version"
+grep -q "^    rev: v$version\$" "$usage" || fail "docs/USAGE.md: the hook is not of version $version"
+echo "$(wc -l < "$room/options") options, $(cat "$room/styles" "$room/prefixes" | wc -l) names and $(wc -l < "$room/refusals") texts of refusals are told, and no others"
