@@ -136,7 +136,7 @@ read_only() {
   chmod 000 "$tree/p.png"
   tells 0 $'changed p.png.license\n' annotate -l ISC p.png
   tells 0 $'undone p.png.license\n' undo
-  rm "$tree/p.png" "$tree/p.png.license"
+  rm -r "$tree/p.png" "$tree/p.png.license" "$tree/.reuse/undo"
   chmod 755 "$tree/closed"
   [[ $(state_of "$tree") == "$before" ]] || fail 'a folder that can not be read: files are changed'
   mkdir -m 000 "$tree/.svn"
