@@ -1,5 +1,5 @@
 -- What comes of a session's one call: from any files, from a state of the machine, and what is told of it.
-use Rattle.std.proofs.Common.{◌≡◌, ◌⊎◌, inl, inr, ⊎_elim, ◌∙◌, ◌+◌, ℕ, List, Option, Some, Result, Ok, Err, IfErr, refl, sym, ap, subst}
+use Rattle.std.proofs.Common.{◌≡◌, ◌⊎◌, inl, inr, ⊎_elim, ◌∙◌, ◌+◌, ℕ, List, Option, Some, Result, Ok, Err, IfErr, sym, ap, subst}
 use Rattle.std.specs.Result.{OnOk, IfOk}
 use Rattle.reuse_tree.specs.Files.{Files, Clashes}
 use Rattle.reuse_tree.specs.declared.fault.StoreFault.TheVariants as stores
