@@ -138,6 +138,7 @@ read_only() {
   tells 0 $'undone p.png.license\n' undo
   rm -r "$tree/p.png" "$tree/p.png.license" "$tree/.reuse/undo"
   chmod 755 "$tree/closed"
+  rm -r "$tree/.reuse/undo"
   [[ $(state_of "$tree") == "$before" ]] || fail 'a folder that can not be read: files are changed'
   mkdir -m 000 "$tree/.svn"
   tells 0 $'changed b.py\nchanged closed/a.py\n' annotate -l MIT -r .
@@ -145,19 +146,22 @@ read_only() {
   as=()
 }
 
-# A folder without files in the way of a file that would be made: the call stops, and the next one sets back what it began.
+# A folder without files gives way to the file that is made there. One that holds a link stays: the call stops, and the next one sets back what
+# it began.
 in_the_way() {
   local before
   anew
   mkdir -p "$tree/p.png.license/empty" "$tree/.reuse"
   printf '\211' > "$tree/p.png"
   echo x > "$tree/a.py"
+  tells 0 $'changed a.py\nchanged p.png.license\n' annotate -l MIT -r .
+  tells 0 $'undone a.py\nundone p.png.license\n' undo
+  mkdir "$tree/p.png.license"
+  ln -s nowhere "$tree/p.png.license/link"
   before=$(state_of "$tree")
   tells 1 $'reuse-undo: interrupted\n' annotate -l MIT -r .
-  tells 0 '' log
+  tells 0 "1 $(date -u +%F) annotate 2 undone"$'\n' log
   [[ $(state_of "$tree") == "$before" ]] || fail 'a folder in the way: files are changed'
-  rmdir "$tree/p.png.license/empty" "$tree/p.png.license"
-  tells 0 $'changed a.py\nchanged p.png.license\n' annotate -l MIT -r .
 }
 
 # Below a mount the new file is written beside the one that it is to be.

@@ -74,14 +74,14 @@ _reuse_undo() {
   fi
   if [[ $word == -* && -z $only_paths ]]; then
     case $subcommand in
-      '') _reuse_undo_of '--root --help --version' ;;
+      '') _reuse_undo_of '--root --verbose --help --version' ;;
       annotate)
         _reuse_undo_of '--copyright --license --contributor --year --exclude-year --style --copyright-prefix --copyright-style
           --merge-copyrights --single-line --multi-line --no-replace --recursive --force-dot-license --fallback-dot-license
-          --skip-unrecognised --skip-existing --root --help'
+          --skip-unrecognised --skip-existing --root --verbose --help'
         ;;
-      download) _reuse_undo_of '--texts --root --help' ;;
-      *) _reuse_undo_of '--root --help' ;;
+      download) _reuse_undo_of '--texts --root --verbose --help' ;;
+      *) _reuse_undo_of '--root --verbose --help' ;;
     esac
     return
   fi

@@ -56,6 +56,7 @@ end
 
 complete -c reuse-undo -f
 complete -c reuse-undo -l root -x -a '(__fish_complete_directories)' -d 'The root of the source tree'
+complete -c reuse-undo -s v -l verbose -d 'Tell notes on standard error'
 complete -c reuse-undo -s h -l help -d 'Print help'
 complete -c reuse-undo -n '__reuse_undo_subcommand_is ""' -s V -l version -d 'Print the version'
 

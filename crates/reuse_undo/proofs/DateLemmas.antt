@@ -1,5 +1,5 @@
 -- The day of a moment.
-use Rattle.std.proofs.Common.{◌≡◌, ◌<◌, ℕ, ◌/◌, ℤ, pos, ◌+ℤ◌, ◌*ℤ◌, arith, refl}
+use Rattle.std.proofs.Common.{◌≡◌, ◌<◌, ℕ, ◌/◌, pos, ◌+ℤ◌, ◌*ℤ◌, arith, refl}
 use Rattle.jiff.proofs.SpanFacts.{signed_arith}
 use Rattle.jiff.specs.Words.{epoch_day, civil_nanos, time_nanos}
 use Rattle.jiff.specs.Types.{DateTime, Time}

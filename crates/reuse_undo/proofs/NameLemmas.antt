@@ -1,5 +1,5 @@
 -- Names along a path.
-use Rattle.std.proofs.Common.{◌≡◌, ◌≢◌, ◌||◌, ◌==◌, ◌+◌, ℕ, Bool, List, [], ◌∷◌, length, refl, ap, arith}
+use Rattle.std.proofs.Common.{◌≡◌, ◌≢◌, ◌||◌, ◌==◌, ℕ, Bool, List, [], ◌∷◌, length, refl, ap, arith}
 use Rattle.std.proofs.lemmas.List.Splits.{length-slice_split}
 use Rattle.reuse_undo.specs.Places.{between_slashes}
 use Rattle.reuse_undo.specs.KeptOut.{is_control_folder, begins_journal, is_foreign}

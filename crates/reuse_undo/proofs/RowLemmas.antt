@@ -1,7 +1,6 @@
 -- The line of one row more.
-use Rattle.std.proofs.Common.{◌≡◌, ◌<◌, ◌+◌, ℕ, List, [], ◌∷◌, ◌++◌, Option, length, take, refl, sym, ◌∙◌, ap, append_assoc, append-nil, get_or, subst}
+use Rattle.std.proofs.Common.{◌<◌, ◌+◌, ℕ, List, [], ◌∷◌, ◌++◌, Option, length, take, refl, sym, ◌∙◌, ap, append_assoc, append-nil, get_or, subst}
 use Rattle.std.proofs.lemmas.List.{take_more}
-use Rattle.std.specs.Io.KnownBytes.{Appends}
 use Rattle.std.proofs.KnownBytes.{Appends-trans}
 use Rattle.reuse_session.specs.declared.reply.Row.{Row}
 use Rattle.reuse_undo.specs.RowLines.{IsRowLine, AreRowLines, AppendsSome}

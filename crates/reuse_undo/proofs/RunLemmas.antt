@@ -1,6 +1,6 @@
 -- What comes of a session's one call: from any files, from a state of the machine, and what is told of it.
-use Rattle.std.proofs.Common.{◌≡◌, ◌⊎◌, inl, inr, ⊎_elim, ◌∙◌, ◌+◌, ℕ, List, Option, Some, Result, Ok, Err, IfErr, refl, sym, ap, subst}
-use Rattle.std.specs.Result.{OnOk}
+use Rattle.std.proofs.Common.{◌≡◌, ◌⊎◌, inl, inr, ⊎_elim, ◌∙◌, ◌+◌, ℕ, List, Option, Some, Result, Ok, Err, IfErr, sym, ap, subst}
+use Rattle.std.specs.Result.{OnOk, IfOk}
 use Rattle.reuse_tree.specs.Files.{Files, Clashes}
 use Rattle.reuse_tree.specs.declared.fault.StoreFault.TheVariants as stores
 use Rattle.reuse_session.specs.Answer.{TellsNoFault, IsEarly, IsStop, IsFailure, HasCause, HasClash, IsNoClash, IsBrokenOrMemory}
@@ -25,7 +25,7 @@ use Rattle.reuse_session.proofs.Following.{undo_follows, redo_follows, log_follo
 use Rattle.reuse_session.proofs.RunFollowing.{runs_as_machine}
 use Rattle.reuse_undo.specs.declared.fault.Fault.{Fault}
 use Rattle.reuse_undo.specs.declared.fault.Fault.TheVariants as faults
-use Rattle.reuse_undo.specs.Lines.{IsReplyText}
+use Rattle.reuse_undo.specs.Lines.{IsReplyText, path_count}
 use Rattle.reuse_undo.specs.RowLines.{AppendsSome}
 use Rattle.reuse_undo.specs.RunLine.{Does, IsStopped, Makes, Calls, HasCallClash, IsUnopened, IsMade, Carries, Steps, Tells, IfRefused}
 use Rattle.reuse_undo.specs.WriterFaults.{IsOfWriter}
@@ -181,13 +181,13 @@ carries_as before after event other answer same carries event_is answer_is =
 -- ---- what is told
 
 -- of a reply that is printed
-pub told_reply : {T : Type 0} (IsAnswer : Result Reply Refusal → Type 0) (reply : Reply) (old new : Option (List ℕ)) (result : Result T Fault) → IsAnswer (Ok reply)
-    → OnOk result (AppendsSome old new (IsReplyText reply)) → IfErr result IsOfWriter → Tells IsAnswer old new result
-told_reply IsAnswer reply old new (Ok done) is written fault = (reply, is, written)
-told_reply IsAnswer reply old new (Err faults.Write) is written fault = (reply, is)
-told_reply IsAnswer reply old new (Err faults.Memory) is written fault = (reply, is)
-told_reply IsAnswer reply old new (Err (faults.Refused refusal)) is written fault = absurd fault
-told_reply IsAnswer reply old new (Err faults.InUse) is written fault = absurd fault
+pub told_reply : (IsAnswer : Result Reply Refusal → Type 0) (reply : Reply) (old new : Option (List ℕ)) (result : Result ℕ Fault) → IsAnswer (Ok reply)
+    → OnOk result (AppendsSome old new (IsReplyText reply)) → IfOk result (λ count. count ≡ path_count reply) → IfErr result IsOfWriter → Tells IsAnswer old new result
+told_reply IsAnswer reply old new (Ok found) is written count fault = (reply, is, written, count)
+told_reply IsAnswer reply old new (Err faults.Write) is written count fault = (reply, is)
+told_reply IsAnswer reply old new (Err faults.Memory) is written count fault = (reply, is)
+told_reply IsAnswer reply old new (Err (faults.Refused refusal)) is written count fault = absurd fault
+told_reply IsAnswer reply old new (Err faults.InUse) is written count fault = absurd fault
 
 -- a writer's fault is no refusal
 pub no_refusal : {T : Type 0} (result : Result T Fault) (Claim : Refusal → Type 0) → IfErr result IsOfWriter → IfRefused result Claim

@@ -1,5 +1,5 @@
 -- The lines that a reply is printed as.
-use Rattle.std.specs.Prelude.{◌≡◌, ℕ, List, [], ◌∷◌, ◌++◌, codes}
+use Rattle.std.specs.Prelude.{◌≡◌, ℕ, List, [], ◌∷◌, ◌++◌, codes, length}
 use Rattle.reuse_undo.specs.RowLines.{AreRowLines}
 use Rattle.reuse_session.specs.declared.reply.Reply.{Reply}
 use Rattle.reuse_session.specs.declared.reply.Reply.TheVariants.{Opened, Changed, NothingChanged, Undone, Redone, Log}
@@ -21,3 +21,12 @@ IsReplyText NothingChanged text = text ≡ codes "nothing changed" ++ 10 ∷ []
 IsReplyText (Undone paths) text = text ≡ lines_of (codes "undone") paths
 IsReplyText (Redone paths) text = text ≡ lines_of (codes "redone") paths
 IsReplyText (Log rows) text = AreRowLines rows text
+
+-- how many paths a reply tells
+abbrev pub path_count : Reply → ℕ
+path_count Opened = 0
+path_count (Changed paths) = length paths
+path_count NothingChanged = 0
+path_count (Undone paths) = length paths
+path_count (Redone paths) = length paths
+path_count (Log rows) = 0

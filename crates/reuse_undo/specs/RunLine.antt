@@ -24,7 +24,7 @@ use Rattle.reuse_undo.specs.declared.line.Action.TheVariants as actions
 use Rattle.reuse_undo.specs.declared.line.Line.{Line}
 use Rattle.reuse_undo.specs.declared.fault.Fault.{Fault}
 use Rattle.reuse_undo.specs.declared.fault.Fault.TheVariants as faults
-use Rattle.reuse_undo.specs.Lines.{IsReplyText}
+use Rattle.reuse_undo.specs.Lines.{IsReplyText, path_count}
 use Rattle.reuse_undo.specs.RowLines.{AppendsSome}
 
 -- what the action asks a session for; the texts are those that were found for a download
@@ -109,10 +109,10 @@ Steps state event answer files = (answer ≡ (step state event).0) × HoldState 
 
 -- ---- what is told of it
 
--- The answer is one of these. Of a reply the writer, if it tells its bytes, was given the lines, or it failed; a refusal is handed on,
--- and nothing is written of it. That another run works on the tree is told before a store is asked, so never here.
-abbrev pub Tells : {T : Type 0} → (Result Reply Refusal → Type 0) → Option (List ℕ) → Option (List ℕ) → Result T Fault → Type 0
-Tells IsAnswer old new (Ok done) = (reply : Reply) × IsAnswer (Ok reply) × AppendsSome old new (IsReplyText reply)
+-- The answer is one of these. Of a reply the writer, if it tells its bytes, was given the lines, and its paths are counted, or it failed; a
+-- refusal is handed on, and nothing is written of it. That another run works on the tree is told before a store is asked, so never here.
+abbrev pub Tells : (Result Reply Refusal → Type 0) → Option (List ℕ) → Option (List ℕ) → Result ℕ Fault → Type 0
+Tells IsAnswer old new (Ok count) = (reply : Reply) × IsAnswer (Ok reply) × AppendsSome old new (IsReplyText reply) × (count ≡ path_count reply)
 Tells IsAnswer old new (Err (faults.Refused refusal)) = IsAnswer (Err refusal) × (new ≡ old)
 Tells IsAnswer old new (Err faults.InUse) = ⊥
 Tells IsAnswer old new (Err faults.Write) = (reply : Reply) × IsAnswer (Ok reply)

@@ -251,6 +251,13 @@ pub fn whole<'a>(alloc: Global) -> Result<Command<'a>, AllocError> {
         .action(ArgAction::Set)
         .global(true)
         .help("The root of the source tree");
+    let verbose = flag(
+        alloc,
+        "verbose",
+        "Tell notes on standard error, as on a terminal: what a fault is about and what to do",
+    )
+    .short('v')
+    .global(true);
     Command::new(alloc, "reuse-undo")
         .bin_name("reuse-undo")?
         .version(VERSION)
@@ -258,6 +265,7 @@ pub fn whole<'a>(alloc: Global) -> Result<Command<'a>, AllocError> {
         .after_help(AFTER)
         .subcommand_required(true)
         .arg(root)?
+        .arg(verbose)?
         .subcommand(annotate(alloc)?)?
         .subcommand(plain(
             alloc,

@@ -4,6 +4,8 @@ ghost use Rattle.reuse_tree.specs.Calls.{Start, failures_of, written_of, moves_o
 ghost use Rattle.reuse_tree.specs.Files.{AreFiles};
 ghost use Rattle.reuse_undo.specs.Honesty.{files_of, IsHonest};
 
+mod empty_folders;
+mod failure;
 mod fault;
 mod folder;
 mod kept_out;
@@ -13,6 +15,8 @@ mod place;
 #[cfg(test)]
 mod tests;
 
+pub use failure::Failure;
+use failure::{Asked, LastFailure};
 use folder::RootFolder;
 use reuse_tree::laws::files_stay_good;
 use reuse_tree::{CallRecord, PathText, Reading, Store, StoreFault};
@@ -26,6 +30,7 @@ use std::rt::Files;
 #[derive(Drop)]
 pub struct DiskStore<R: Files + AllocGlobal + Clone + Drop> {
     folder: RootFolder<R>,
+    failure: LastFailure,
     calls: CallRecord,
     ghost are_files: { IsHonest calls.start calls.calls → AreFiles (files_of calls.start calls.calls) },
 }
@@ -43,8 +48,14 @@ impl<R: Files + AllocGlobal + Clone + Drop> DiskStore<R> {
     {
         DiskStore {
             folder: RootFolder::new(rt, root),
+            failure: LastFailure::none(),
             calls: CallRecord::new(),
         }
+    }
+
+    /// The last call that failed, where one did since the last asking.
+    pub fn take_failure(&mut self) -> Option<Failure> {
+        self.failure.take()
     }
 }
 
@@ -60,7 +71,10 @@ impl<R: Files + AllocGlobal + Clone + Drop> Store for DiskStore<R> {
     ghost honest = { λ store. IsHonest store.calls.start store.calls.calls };
 
     fn list(&mut self, alloc: Global) -> Result<Vec<PathText>, StoreFault> {
-        let answer = self.folder.list(alloc).map_err(StoreFault::from);
+        let answer = self.folder.list(alloc);
+        self.failure
+            .note(alloc, Asked::List, self.folder.listed(), &answer);
+        let answer = answer.map_err(StoreFault::from);
         self.calls.note_list(&answer);
         answer
     }
@@ -71,10 +85,9 @@ impl<R: Files + AllocGlobal + Clone + Drop> Store for DiskStore<R> {
         path: &PathText,
         limit: usize,
     ) -> Result<Reading, StoreFault> {
-        let answer = self
-            .folder
-            .read(alloc, path, limit)
-            .map_err(StoreFault::from);
+        let answer = self.folder.read(alloc, path, limit);
+        self.failure.note(alloc, Asked::Read, path.text(), &answer);
+        let answer = answer.map_err(StoreFault::from);
         self.calls.note_read(path, limit, &answer);
         answer
     }
@@ -88,10 +101,9 @@ impl<R: Files + AllocGlobal + Clone + Drop> Store for DiskStore<R> {
         back: &[u8],
     ) -> Result<(), StoreFault> {
         files_stay_good();
-        let answer = self
-            .folder
-            .put(alloc, path, &[front, middle, back])
-            .map_err(StoreFault::from);
+        let answer = self.folder.put(alloc, path, &[front, middle, back]);
+        self.failure.note(alloc, Asked::Write, path.text(), &answer);
+        let answer = answer.map_err(StoreFault::from);
         self.calls
             .note_put_parts(path, front, middle, back, &answer);
         answer
@@ -99,7 +111,10 @@ impl<R: Files + AllocGlobal + Clone + Drop> Store for DiskStore<R> {
 
     fn remove(&mut self, alloc: Global, path: &PathText) -> Result<(), StoreFault> {
         files_stay_good();
-        let answer = self.folder.remove(alloc, path).map_err(StoreFault::from);
+        let answer = self.folder.remove(alloc, path);
+        self.failure
+            .note(alloc, Asked::Remove, path.text(), &answer);
+        let answer = answer.map_err(StoreFault::from);
         self.calls.note_remove(path, &answer);
         answer
     }

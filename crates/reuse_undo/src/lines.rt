@@ -1,7 +1,7 @@
 //! The lines that a reply is printed as.
-ghost use Rattle.std.specs.Prelude.{OnOk};
+ghost use Rattle.std.specs.Prelude.{◌≡◌, OnOk};
 ghost use Rattle.std.specs.Io.KnownBytes.{Appends};
-ghost use Rattle.reuse_undo.specs.Lines.{line_of, lines_of, IsReplyText};
+ghost use Rattle.reuse_undo.specs.Lines.{line_of, lines_of, path_count, IsReplyText};
 ghost use Rattle.reuse_undo.specs.RowLines.{AppendsSome};
 
 use crate::rows::print_rows;
@@ -36,5 +36,17 @@ pub fn print_reply<W: Write>(out: &mut W, reply: &Reply) -> io::Result<()>
         Reply::NothingChanged => writeln!(out, "nothing changed"),
         Reply::Log(rows) => print_rows(out, rows.as_slice()),
         Reply::Opened => Ok(()),
+    }
+}
+
+/// How many paths a reply tells.
+pub fn path_count(reply: &Reply) -> usize
+    ensures { result ≡ path_count reply.now }
+{
+    match reply {
+        Reply::Changed(paths) | Reply::Undone(paths) | Reply::Redone(paths) => {
+            paths.as_slice().len()
+        }
+        Reply::NothingChanged | Reply::Log(_) | Reply::Opened => 0,
     }
 }

@@ -1,15 +1,19 @@
 //! `reuse-undo`: adds licensing information to the files of a tree, and takes it back.
 #![tactic(auto)]
 
+mod above;
 mod arguments;
 mod date;
 mod disk;
 mod fault;
+mod findings;
 mod line;
 mod lines;
 mod lock;
+mod notes;
 mod place_word;
 mod prefix_name;
+mod progress;
 mod rows;
 mod run_line;
 #[cfg(test)]
@@ -22,20 +26,23 @@ mod words;
 
 use disk::DiskStore;
 use fault::Fault;
+use findings::Findings;
 use line::{Action, Line, LineFault};
 use lock::lock_root;
+use notes::{note_call, note_words};
+use progress::{ClearedOutput, Progress, WatchedStore};
 use reuse_session::{LicenceTexts, Moment};
 use run_line::run_line;
 use status::{exit_status, line_status};
 use std::alloc::{AllocError, Global};
 use std::fs::File;
-use std::io::{BufWriter, ErrorKind, Write};
+use std::io::{BufWriter, ErrorKind, IsTerminal, Write};
 use std::process::ExitCode;
 use std::rt::{Files, Runtime};
 use std::time::{SystemTime, UNIX_EPOCH};
 use std::{env, io};
 use texts::find_texts;
-use words::words_to_command;
+use words::{Said, words_to_command};
 
 /// The moment now, or none where it is out of range.
 fn moment_now(rt: &impl Runtime) -> Option<Moment> {
@@ -64,21 +71,40 @@ fn texts_for<R: Runtime>(rt: &R, alloc: Global, line: &Line) -> Result<LicenceTe
     }
 }
 
-/// Carries a line out on the folder that it names, and prints its reply. Until that is done no other run works on the folder.
+/// What is told beside the reply or the fault.
+#[derive(Clone, Copy)]
+struct Extras {
+    notes: bool,
+    progress: bool,
+}
+
+/// Carries a line out on the folder that it names, and prints its reply; how many paths that tells. Until that is done no other run works
+/// on the folder. Where notes are asked for, what they tell is found too.
 fn carry_out<R: Runtime + Files<File = File> + AllocGlobal>(
     rt: &R,
     alloc: Global,
     line: Line,
-) -> Result<(), Fault> {
+    extras: Extras,
+    findings: &mut Option<Findings>,
+) -> Result<usize, Fault> {
     let _lock = lock_root(rt, line.root.as_str())?;
     let texts = texts_for(rt, alloc, &line)?;
     let root = String::from_str(alloc, line.root.as_str())?;
-    let store = DiskStore::at(rt.clone()?, root);
-    let mut out = BufWriter::new(alloc, io::writer(rt))?;
-    let (_, outcome) = run_line(alloc, line, store, texts, &mut out);
-    outcome?;
+    let mut store = DiskStore::at(rt.clone()?, root);
+    if extras.notes {
+        *findings = Some(Findings::before(rt, alloc, &line, &mut store));
+    }
+    let progress = Progress::new(rt.clone()?, extras.progress);
+    let mut out = BufWriter::new(alloc, ClearedOutput::new(&progress))?;
+    let watched = WatchedStore::new(store, &progress);
+    let (watched, outcome) = run_line(alloc, line, watched, texts, &mut out);
+    progress.clear();
+    if let Some(findings) = findings {
+        findings.look_after(alloc, watched.into_inner());
+    }
+    let count = outcome?;
     out.flush()?;
-    Ok(())
+    Ok(count)
 }
 
 /// Tells why the words are no line: help on standard output, all else on standard error.
@@ -90,30 +116,64 @@ fn tell(rt: &(impl Print + Eprint), fault: &LineFault) -> io::Result<()> {
     }
 }
 
-fn run<R: Runtime + Files<File = File> + AllocGlobal>(rt: &R, alloc: Global, moment: Moment) -> u8 {
-    let line = match read_words(rt, alloc) {
+/// Carries a line out, and tells its fault and notes; the status.
+fn run_noted<R: Runtime + Files<File = File> + AllocGlobal>(
+    rt: &R,
+    alloc: Global,
+    line: Line,
+    extras: Extras,
+) -> u8 {
+    let mut findings = None;
+    let outcome = carry_out(rt, alloc, line, extras, &mut findings);
+    if let Err(fault) = &outcome {
+        // Where standard error can't be written either, the status tells.
+        let _ = eprintln!(rt; "reuse-undo: {fault}");
+    }
+    if let Some(findings) = &findings {
+        note_call(rt, findings, &outcome);
+    }
+    match outcome {
+        Ok(_) => 0,
+        Err(fault) => exit_status(&fault),
+    }
+}
+
+fn run<R: Runtime + Files<File = File> + AllocGlobal>(
+    rt: &R,
+    alloc: Global,
+    moment: Moment,
+    at_terminal: bool,
+) -> u8 {
+    let said = match read_words(rt, alloc) {
         Ok(words) => words_to_command(alloc, words.as_slice(), moment),
-        Err(fault) => Err(fault),
+        Err(fault) => Said {
+            verbose: false,
+            line: Err(fault),
+        },
     };
-    match line {
-        Ok(line) => match carry_out(rt, alloc, line) {
-            Ok(()) => 0,
-            Err(fault) => {
-                // Where standard error can't be written either, the status tells.
-                let _ = eprintln!(rt; "reuse-undo: {fault}");
-                exit_status(&fault)
+    let extras = Extras {
+        notes: at_terminal || said.verbose,
+        progress: at_terminal,
+    };
+    match said.line {
+        Ok(line) => run_noted(rt, alloc, line, extras),
+        Err(fault) => {
+            let told = tell(rt, &fault);
+            if extras.notes {
+                note_words(rt, &fault);
             }
-        },
-        Err(fault) => match tell(rt, &fault) {
-            Ok(()) => line_status(&fault),
-            Err(_) => line_status(&fault).max(1),
-        },
+            match told {
+                Ok(()) => line_status(&fault),
+                Err(_) => line_status(&fault).max(1),
+            }
+        }
     }
 }
 
 fn main(rt: HostRuntime) -> ExitCode {
+    let at_terminal = rt.stderr().is_terminal();
     match moment_now(&rt) {
-        Some(moment) => ExitCode::from(run(&rt, rt.alloc(), moment)),
+        Some(moment) => ExitCode::from(run(&rt, rt.alloc(), moment, at_terminal)),
         None => {
             let _ = eprintln!(rt; "reuse-undo: bad clock");
             ExitCode::FAILURE

@@ -1,34 +1,34 @@
 //! Carries a line out on a store.
-ghost use Rattle.std.specs.Prelude.{◌≡◌, ◌≤◌, ◌<◌, IfErr, OnOk};
+ghost use Rattle.std.specs.Prelude.{◌≡◌, ◌≤◌, ◌<◌, IfErr, IfOk, OnOk};
 ghost use Rattle.reuse_session.specs.Answer.{HasCause};
 ghost use Rattle.reuse_session.specs.Journal.{State};
 ghost use Rattle.reuse_session.specs.Machine.{Snapshots};
 ghost use Rattle.reuse_session.specs.Session.{store_of, StandsOn};
 ghost use Rattle.reuse_session.specs.Standing.{IsStanding};
 ghost use Rattle.reuse_session.specs.Stops.{HoldState};
-ghost use Rattle.reuse_undo.specs.Lines.{IsReplyText};
+ghost use Rattle.reuse_undo.specs.Lines.{IsReplyText, path_count};
 ghost use Rattle.reuse_undo.specs.RowLines.{AppendsSome};
 ghost use Rattle.reuse_undo.specs.WriterFaults.{IsOfWriter};
 ghost use Rattle.reuse_undo.specs.RunLine.{asked, Calls, HasCallClash, Carries, Steps, Tells, IfRefused};
 
 use crate::fault::Fault;
 use crate::line::{Action, Line};
-use crate::lines::print_reply;
+use crate::lines::{path_count, print_reply};
 use reuse_session::{Answer, Command, Event, LicenceTexts, Reply, Session};
 use reuse_tree::Store;
 use std::alloc::Global;
 use std::io::Write;
 
 /// Opens a session on the store, makes the one call that the line asks for, and writes the lines of its reply. The texts are
-/// those that were found for a download. The store is given back; where the reply can't be written, what the call changed
-/// stands.
+/// those that were found for a download. The store is given back, and how many paths the reply tells; where it can't be written,
+/// what the call changed stands.
 pub fn run_line<S: Store + Drop, W: Write>(
     alloc: Global,
     line: Line,
     store: S,
     texts: LicenceTexts,
     out: &mut W,
-) -> (S, Result<(), Fault>)
+) -> (S, Result<usize, Fault>)
     // From any files, where the store is honest: what is told is the session's answer to the line, and the files are as it left them.
     ensures exact { S.honest result.0
         → Tells (λ answer. Carries (S.files store) (asked line texts) answer (S.files result.0)) (W.contents out.old) (W.contents out.new) result.1 }
@@ -109,12 +109,14 @@ fn event_of(line: Line, texts: LicenceTexts) -> Event
     }
 }
 
-fn print<W: Write>(out: &mut W, reply: &Reply) -> Result<(), Fault>
+// Prints a reply; how many paths it tells.
+fn print<W: Write>(out: &mut W, reply: &Reply) -> Result<usize, Fault>
     ensures ok { OnOk result (AppendsSome (W.contents out.old) (W.contents out.new) (IsReplyText reply.now)) }
+    ensures count { IfOk result (λ count. count ≡ path_count reply.now) }
     ensures fault { IfErr result IsOfWriter }
 {
     match print_reply(out, reply) {
-        Ok(()) => Ok(()),
+        Ok(()) => Ok(path_count(reply)),
         Err(error) => Err(Fault::from(error)),
     }
 }

@@ -29,7 +29,7 @@ fn read(alloc: Global, words: &str, second: u64) -> Result<Result<Line, LineFaul
         all.push(String::from_str(alloc, word)?)?;
     }
     let moment = Moment::new(second).ok_or("a moment")?;
-    Ok(words_to_command(alloc, all.as_slice(), moment))
+    Ok(words_to_command(alloc, all.as_slice(), moment).line)
 }
 
 fn read_line(alloc: Global, words: &str) -> Result<Line, Fail> {
@@ -75,11 +75,11 @@ fn texts(alloc: Global) -> Result<LicenceTexts, Fail> {
 /// What was printed, or the text of the fault.
 fn told(
     alloc: Global,
-    outcome: Result<(), Fault>,
+    outcome: Result<usize, Fault>,
     printed: Vec<u8>,
 ) -> Result<Result<String, String>, Fail> {
     match outcome {
-        Ok(()) => Ok(Ok(String::from_utf8(printed).or(Err("text"))?)),
+        Ok(_) => Ok(Ok(String::from_utf8(printed).or(Err("text"))?)),
         Err(fault) => Ok(Err(fault.to_string(alloc)?)),
     }
 }

@@ -12,18 +12,35 @@ use reuse_session::{Command, Ids, Moment, Place, Places, Scope, Unknown};
 use reuse_text::Bytes;
 use std::alloc::{AllocError, Global};
 
+/// What the words of a command line say.
+#[derive(Debug, Drop)]
+pub struct Said {
+    /// Whether notes are asked for.
+    pub verbose: bool,
+    pub line: Result<Line, LineFault>,
+}
+
 /// Reads the words, of which the first is the program's name. The current year is that of the moment.
 ///
 /// Faults come in this order: those of the words themselves, the first word that names no place, and those of
 /// what `annotate` is to add.
-pub fn words_to_command(
-    alloc: Global,
-    words: &[String],
-    moment: Moment,
-) -> Result<Line, LineFault> {
+pub fn words_to_command(alloc: Global, words: &[String], moment: Moment) -> Said {
+    match matches_of(alloc, words) {
+        Ok(matches) => Said {
+            verbose: matches.get_flag("verbose"),
+            line: read_line(alloc, &matches, moment),
+        },
+        Err(fault) => Said {
+            verbose: false,
+            line: Err(fault),
+        },
+    }
+}
+
+fn matches_of<'a>(alloc: Global, words: &'a [String]) -> Result<ArgMatches<'a>, LineFault> {
     let command = whole(alloc)?;
     match command.try_get_matches_from(words) {
-        Ok(matches) => read_line(alloc, &matches, moment),
+        Ok(matches) => Ok(matches),
         Err(error) => Err(fault_of(alloc, &error)?),
     }
 }

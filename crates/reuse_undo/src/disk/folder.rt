@@ -7,7 +7,8 @@ ghost use Rattle.reuse_tree.specs.Path.{is_path};
 ghost use Rattle.reuse_undo.specs.KeptOut.{is_kept_out};
 ghost use Rattle.reuse_undo.specs.Within.{IsWithin};
 
-use crate::disk::fault::FolderFault;
+use crate::disk::empty_folders::remove_folders;
+use crate::disk::fault::{FolderFault, Obstacle};
 use crate::disk::kept_out::{NEW, is_kept_out};
 use crate::disk::listing::list_below;
 use crate::disk::new_file::NewFile;
@@ -35,26 +36,35 @@ pub struct RootFolder<R: Files + AllocGlobal + Clone + Drop> {
     last_read: Option<(FullPath, FileStatus)>,
     /// The place of new files, where its folder was looked at since the last listing or fault.
     new_file: Option<NewFile>,
+    /// The folder that the last listing looked at last.
+    listed: String,
 }
 
 impl<R: Files + AllocGlobal + Clone + Drop> RootFolder<R> {
     /// The folder at this path.
     pub fn new(rt: R, root: String) -> RootFolder<R> {
         let seen = String::new(rt.alloc());
+        let listed = String::new(rt.alloc());
         RootFolder {
             rt,
             root,
             seen,
             last_read: None,
             new_file: None,
+            listed,
         }
+    }
+
+    /// The folder that the last listing looked at last, which is empty for the root: where one that fails has failed.
+    pub fn listed(&self) -> &str {
+        self.listed.as_str()
     }
 
     fn full(&self, alloc: Global, path: &str) -> Result<FullPath, FolderFault>
         ensures { IfOk result (λ full. full ≡ string_bytes self.now.root ++ 47 ∷ path.now) }
     {
         if self.root.is_empty() {
-            return Err(FolderFault::Device);
+            return Err(FolderFault::Device(Obstacle::NoRoot));
         }
         Ok(FullPath::new(alloc, self.root.as_str(), path)?)
     }
@@ -100,12 +110,13 @@ impl<R: Files + AllocGlobal + Clone + Drop> RootFolder<R> {
         ensures kept_out { IfOk result (λ paths. All (λ path. is_kept_out path ≡ false) paths.items) }
     {
         if self.root.is_empty() {
-            return Err(FolderFault::Device);
+            return Err(FolderFault::Device(Obstacle::NoRoot));
         }
         self.seen.clear();
         self.last_read = None;
         self.new_file = None;
-        list_below(&self.rt, alloc, self.root.as_str(), "")
+        let root = self.root.as_str();
+        list_below(&self.rt, alloc, root, "", &mut self.listed)
     }
 
     /// The bytes of the regular file at the path, where they are at most `limit`. The file that is opened is the one that was looked
@@ -136,7 +147,7 @@ impl<R: Files + AllocGlobal + Clone + Drop> RootFolder<R> {
                 return Ok(reading);
             }
         }
-        Err(FolderFault::Device)
+        Err(FolderFault::Device(Obstacle::Changing))
     }
 
     /// Makes the parts joined the file at the path, as a whole or not at all, and folders as needed.
@@ -157,8 +168,11 @@ impl<R: Files + AllocGlobal + Clone + Drop> RootFolder<R> {
             }
             Place::File(status) => self.write(alloc, &full, Some(status.mode), parts),
             Place::BelowFile => Err(FolderFault::Clash),
-            Place::Folder => self.refuse_folder(alloc, path),
-            Place::Other => Err(FolderFault::Device),
+            Place::Folder => {
+                self.clear_folder(alloc, path, &full)?;
+                self.write(alloc, &full, None, parts)
+            }
+            Place::Other => Err(FolderFault::Device(Obstacle::Foreign)),
         }
     }
 
@@ -178,14 +192,21 @@ impl<R: Files + AllocGlobal + Clone + Drop> RootFolder<R> {
         Ok(())
     }
 
-    /// Why no file can take the place of this folder: one without files is no clash.
-    fn refuse_folder(&mut self, alloc: Global, path: &PathText) -> Result<(), FolderFault> {
-        let files = list_below(&self.rt, alloc, self.root.as_str(), path.text())?;
-        if files.is_empty() {
-            Err(FolderFault::Device)
-        } else {
-            Err(FolderFault::Clash)
+    /// Removes a folder without files, so that a file can take its place; with files it is a clash.
+    fn clear_folder(
+        &mut self,
+        alloc: Global,
+        path: &PathText,
+        full: &FullPath,
+    ) -> Result<(), FolderFault> {
+        let root = self.root.as_str();
+        let files = list_below(&self.rt, alloc, root, path.text(), &mut self.listed)?;
+        if !files.is_empty() {
+            return Err(FolderFault::Clash);
         }
+        self.seen.clear();
+        self.new_file = None;
+        remove_folders(&self.rt, alloc, full.text())
     }
 
     /// Removes the regular file at the path, if there is one, and no folder.

@@ -5,7 +5,7 @@ ghost use Rattle.std.specs.Ordering.{nat_cmp};
 ghost use Rattle.std.specs.Cmp.Lexicographic.{slice_cmp};
 ghost use Rattle.reuse_undo.specs.KeptOut.{is_kept_out};
 
-use crate::disk::fault::FolderFault;
+use crate::disk::fault::{FolderFault, Obstacle};
 use crate::disk::kept_out::{is_folder_kept_out, is_kept_out};
 use crate::disk::place::FullPath;
 use reuse_tree::PathText;
@@ -14,7 +14,7 @@ use std::fs::{self, DirEntry};
 use std::rt::Files;
 
 /// A listing that finds more names than this fails.
-const MOST_NAMES: usize = 100_000_000;
+pub const MOST_NAMES: usize = 100_000_000;
 
 /// What a listing has found so far.
 #[derive(Drop)]
@@ -49,7 +49,7 @@ impl Listing {
         entry: &DirEntry<R>,
     ) -> Result<(), FolderFault> {
         if self.names >= MOST_NAMES {
-            return Err(FolderFault::Device);
+            return Err(FolderFault::Device(Obstacle::TooManyNames));
         }
         self.names += 1;
         let kind = entry.file_type()?;
@@ -91,12 +91,14 @@ impl Listing {
     }
 }
 
-/// The paths of the regular files below this folder, which is the root where it is empty, in byte order.
+/// The paths of the regular files below this folder, which is the root where it is empty, in byte order. `last` becomes the folder that was
+/// looked at last, where a listing that fails has failed.
 pub fn list_below<R: Files + AllocGlobal + Clone + Drop>(
     rt: &R,
     alloc: Global,
     root: &str,
     folder: &str,
+    last: &mut String,
 ) -> Result<Vec<PathText>, FolderFault>
     ensures sorted { IfOk result (λ paths. IsSorted (slice_cmp nat_cmp) paths.items) }
     ensures kept_out { IfOk result (λ paths. All (λ path. is_kept_out path ≡ false) paths.items) }
@@ -104,9 +106,12 @@ pub fn list_below<R: Files + AllocGlobal + Clone + Drop>(
     let mut listing = Listing::of(alloc, folder)?;
     for _ in 0..=MOST_NAMES {
         match listing.next_folder() {
-            Some(folder) => listing.take_folder(rt, alloc, root, folder.as_str())?,
+            Some(folder) => {
+                *last = folder;
+                listing.take_folder(rt, alloc, root, last.as_str())?;
+            }
             None => return listing.into_paths(),
         }
     }
-    Err(FolderFault::Device)
+    Err(FolderFault::Device(Obstacle::TooManyNames))
 }

@@ -1,7 +1,7 @@
 //! What stands at a path below a root. No link is followed but the root itself.
 ghost use Rattle.std.specs.Prelude.{◌≡◌, ◌++◌, ◌∷◌, List, ℕ, IfOk, string_bytes};
 
-use crate::disk::fault::FolderFault;
+use crate::disk::fault::{FolderFault, Obstacle};
 use std::alloc::{AllocError, Global};
 use std::fs::{self, Metadata};
 use std::io::ErrorKind;
@@ -146,7 +146,7 @@ impl FullPath {
                 Place::Folder => {}
                 Place::Nothing => fs::create_dir(rt, self.up_to(end))?,
                 Place::File(_) | Place::BelowFile | Place::Other => {
-                    return Err(FolderFault::Device);
+                    return Err(FolderFault::Device(Obstacle::Foreign));
                 }
             }
         }
@@ -170,6 +170,6 @@ pub fn check_root(rt: &impl Files, root: &str) -> Result<(), FolderFault> {
     if fs::metadata(rt, root)?.is_dir() {
         Ok(())
     } else {
-        Err(FolderFault::Device)
+        Err(FolderFault::Device(Obstacle::NoRoot))
     }
 }

@@ -1,4 +1,4 @@
-use Rattle.std.proofs.Common.{rules, arith, ◌≡◌, ◌<◌, ◌∙◌, length, ap, string_bytes}
+use Rattle.std.proofs.Common.{arith, ◌<◌, ◌∙◌, length, ap, string_bytes}
 use Rattle.reuse_undo.proofs.PartLemmas.{AreJoined-named, AreJoined-unnamed}
 use Rattle.reuse_undo.proofs.place_word.path_of_word.Goals as goal
 use Rattle.reuse_undo.proofs.place_word.path_of_word.Goals.{then-is_named+in_ok-push_part, else-is_named}

@@ -1,7 +1,7 @@
 use Rattle.std.proofs.Common.{refl}
 use Rattle.std.proofs.lemmas.Result.{on_ok_weaker}
 use Rattle.std.specs.Io.KnownBytes.{Appends}
-use Rattle.reuse_undo.specs.RowLines.{AppendsSome, IsRowLine, row_line}
+use Rattle.reuse_undo.specs.RowLines.{row_line}
 use Rattle.reuse_undo.proofs.rows.print_row.Goals as goal
 
 pub returns : goal.returns

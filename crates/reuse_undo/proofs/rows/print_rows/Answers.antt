@@ -1,4 +1,4 @@
-use Rattle.std.proofs.Common.{rules, arith, ◌≡◌, ◌<◌, length, get_or, subst}
+use Rattle.std.proofs.Common.{arith, ◌<◌, length, get_or, subst}
 use Rattle.reuse_undo.specs.RowLines.{AppendsSome, IsRowLine}
 use Rattle.reuse_undo.proofs.RowLemmas.{AppendsSome-row}
 use Rattle.reuse_undo.proofs.rows.print_rows.Goals as goal

@@ -9,7 +9,7 @@ returns-in-Ok-clause-exact g c honest =
     let after = g.S.Store.files c.call-store.result.0 in
     let event = asked c.args.line c.args.texts in
     let carries = carries_as before after c.event_of-event.result event c.call-store.result.1 (Ok c.in-Ok.reply) (c.call-store.ensures.carries honest) c.event_of-event.ensures c.in-Ok.is in
-    told_reply (λ answer. Carries before event answer after) c.in-Ok.reply (g.W.Write.contents c.args.out.now) (g.W.Write.contents c.print.new.out) c.print.result carries c.print.ensures.ok c.print.ensures.fault
+    told_reply (λ answer. Carries before event answer after) c.in-Ok.reply (g.W.Write.contents c.args.out.now) (g.W.Write.contents c.print.new.out) c.print.result carries c.print.ensures.ok c.print.ensures.count c.print.ensures.fault
 
 pub returns-in-Ok-clause-machine : goal.returns-in-Ok-clause-machine
 returns-in-Ok-clause-machine g c honest state held =
@@ -18,7 +18,7 @@ returns-in-Ok-clause-machine g c honest state held =
     let event = asked c.args.line c.args.texts in
     let carries = carries_as before after c.event_of-event.result event c.call-store.result.1 (Ok c.in-Ok.reply) (c.call-store.ensures.carries honest) c.event_of-event.ensures c.in-Ok.is in
     told_reply (λ answer. Steps state event answer after) c.in-Ok.reply (g.W.Write.contents c.args.out.now) (g.W.Write.contents c.print.new.out) c.print.result
-    (carries_step state before event (Ok c.in-Ok.reply) after held carries) c.print.ensures.ok c.print.ensures.fault
+    (carries_step state before event (Ok c.in-Ok.reply) after held carries) c.print.ensures.ok c.print.ensures.count c.print.ensures.fault
 
 pub returns-in-Ok-clause-fault : goal.returns-in-Ok-clause-fault
 returns-in-Ok-clause-fault g c = no_refusal c.print.result _ c.print.ensures.fault

@@ -27,7 +27,7 @@ returns-clause-puts g c =
           (λ _. ¬ (Clashes files path) → IsHonest noted.start noted.calls)
           (λ fault. fault ≡ Clash → Clashes files path → IsHonest noted.start noted.calls))
           (sym c.note_put_parts.ensures)
-          (put_kept was.start was.calls path (c.args.front.now ++ c.args.middle.now ++ c.args.back.now) c.map_err-answer.result (took_effect was.fates was.calls) honest c.put.ensures.path);
+          (put_kept was.start was.calls path (c.args.front.now ++ c.args.middle.now ++ c.args.back.now) c.map_err-answer.result (took_effect was.fates was.calls) honest c.put-answer.ensures.path);
       ok = grind (arith, common_steps);
       err = grind (arith, common_steps);
       device = grind (arith, common_steps);

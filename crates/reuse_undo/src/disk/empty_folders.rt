@@ -1,0 +1,54 @@
+//! Removing folders that hold nothing but folders.
+use crate::disk::fault::{FolderFault, Obstacle};
+use crate::disk::listing::MOST_NAMES;
+use std::alloc::Global;
+use std::fs;
+use std::rt::Files;
+
+/// Adds the folders that lie in this one. Where anything else lies in it, that is in the way.
+fn push_folders<R: Files + AllocGlobal + Clone + Drop>(
+    rt: &R,
+    alloc: Global,
+    folder: &str,
+    folders: &mut Vec<String>,
+) -> Result<(), FolderFault> {
+    for entry in fs::read_dir(rt, folder)? {
+        let entry = entry?;
+        if !entry.file_type()?.is_dir() {
+            return Err(FolderFault::Device(Obstacle::Foreign));
+        }
+        folders.push(String::from_str(alloc, entry.path().as_str())?)?;
+    }
+    Ok(())
+}
+
+/// The folder and all below it, each above those that lie in it, where there is nothing else.
+fn folders_below<R: Files + AllocGlobal + Clone + Drop>(
+    rt: &R,
+    alloc: Global,
+    folder: &str,
+) -> Result<Vec<String>, FolderFault> {
+    let mut folders = Vec::new(alloc);
+    folders.push(String::from_str(alloc, folder)?)?;
+    for index in 0..MOST_NAMES {
+        let Some(folder) = folders.get(index) else {
+            return Ok(folders);
+        };
+        let folder = String::from_str(alloc, folder.as_str())?;
+        push_folders(rt, alloc, folder.as_str(), &mut folders)?;
+    }
+    Err(FolderFault::Device(Obstacle::TooManyNames))
+}
+
+/// Removes the folder and those below it. Where anything but folders lies in one, nothing is removed.
+pub fn remove_folders<R: Files + AllocGlobal + Clone + Drop>(
+    rt: &R,
+    alloc: Global,
+    folder: &str,
+) -> Result<(), FolderFault> {
+    let folders = folders_below(rt, alloc, folder)?;
+    for folder in folders.iter().rev() {
+        fs::remove_dir(rt, folder.as_str())?;
+    }
+    Ok(())
+}

@@ -1,0 +1,141 @@
+//! What is found out about a call beside its outcome, for notes.
+use crate::above::journal_above;
+use crate::disk::{DiskStore, Failure};
+use crate::line::{Action, Line};
+use reuse_session::{Head, decode_head};
+use reuse_text::Bytes;
+use reuse_tree::{PathText, Reading, Store};
+use std::alloc::Global;
+use std::rt::{Files, Runtime};
+
+const HEAD: &str = ".reuse/undo/head.json";
+
+const TABLE: &str = "REUSE.toml";
+
+/// What each paragraph of the table begins with.
+const TABLE_PARAGRAPH: &str = "[[annotations]]";
+
+/// The longest file that is read for notes.
+const LONGEST: usize = 16_777_216;
+
+/// What a call is to do.
+#[derive(Clone, Copy, Debug, PartialEq, Eq)]
+pub enum Task {
+    /// To make a step.
+    Step,
+    /// To make the step of a conversion.
+    Conversion,
+    /// To take a step back.
+    Undo,
+    /// To make a step again.
+    Redo,
+    /// To change nothing.
+    Log,
+}
+
+impl Task {
+    fn of(action: &Action) -> Task {
+        match action {
+            Action::Annotate(_) | Action::Download { .. } => Task::Step,
+            Action::ConvertDep5 => Task::Conversion,
+            Action::Undo => Task::Undo,
+            Action::Redo => Task::Redo,
+            Action::Log => Task::Log,
+        }
+    }
+}
+
+/// What was found out about a call.
+#[derive(Drop)]
+pub struct Findings {
+    pub task: Task,
+    /// The folder of the texts of a download.
+    pub texts: Option<String>,
+    /// The nearest folder above the root that has a journal.
+    pub above: Option<String>,
+    /// The step that a stopped run had begun.
+    pub begun: Option<u32>,
+    /// Whether that step was set back by the call.
+    pub is_set_back: bool,
+    /// Whether the table that was made says nothing of any file.
+    pub is_table_empty: bool,
+    /// The call of the store that failed.
+    pub failure: Option<Failure>,
+}
+
+impl Findings {
+    /// What is found before the call. Want of memory or a fault leaves a finding out.
+    pub fn before<R: Runtime + AllocGlobal>(
+        rt: &R,
+        alloc: Global,
+        line: &Line,
+        store: &mut impl Store,
+    ) -> Findings {
+        let texts = match &line.action {
+            Action::Download { folder, .. } => String::from_str(alloc, folder.as_str()).ok(),
+            _ => None,
+        };
+        Findings {
+            task: Task::of(&line.action),
+            texts,
+            above: journal_above(rt, alloc, line.root.as_str()),
+            begun: begun_step(alloc, store),
+            is_set_back: false,
+            is_table_empty: false,
+            failure: None,
+        }
+    }
+
+    /// Adds what is found after the call.
+    pub fn look_after<R: Files + AllocGlobal + Clone + Drop>(
+        &mut self,
+        alloc: Global,
+        mut store: DiskStore<R>,
+    ) {
+        self.failure = store.take_failure();
+        if self.begun.is_some() {
+            self.is_set_back = has_settled(alloc, &mut store);
+        }
+        if self.task == Task::Conversion {
+            self.is_table_empty = is_table_empty(alloc, &mut store);
+        }
+    }
+}
+
+fn read(alloc: Global, store: &mut impl Store, path: &str) -> Option<Bytes> {
+    let path = PathText::new(alloc, path).ok()?;
+    match store.read(alloc, &path, LONGEST) {
+        Ok(Reading::Found(bytes)) => Some(bytes),
+        _ => None,
+    }
+}
+
+fn head_of(alloc: Global, store: &mut impl Store) -> Option<Head> {
+    let text = read(alloc, store, HEAD)?;
+    decode_head(alloc, text.as_slice()).ok()
+}
+
+/// The step that is under way.
+fn begun_step(alloc: Global, store: &mut impl Store) -> Option<u32> {
+    let pending = head_of(alloc, store)?.pending?;
+    Some(pending.entry)
+}
+
+/// Whether the journal can be read and no step is under way.
+fn has_settled(alloc: Global, store: &mut impl Store) -> bool {
+    match head_of(alloc, store) {
+        Some(head) => head.pending.is_none(),
+        None => false,
+    }
+}
+
+/// Whether there is a table, and it has no paragraph.
+fn is_table_empty(alloc: Global, store: &mut impl Store) -> bool {
+    match read(alloc, store, TABLE) {
+        Some(bytes) => match str::from_utf8(bytes.as_slice()) {
+            Ok(text) => !text.contains(TABLE_PARAGRAPH),
+            Err(_) => false,
+        },
+        None => false,
+    }
+}

@@ -1,0 +1,117 @@
+//! Notes: what a fault is about, what can be done about it, and what a call has done.
+use crate::fault::Fault;
+use crate::findings::{Findings, Task};
+use crate::line::LineFault;
+use reuse_dep5::{Dep5Cause, Dep5Refusal};
+use reuse_notice::NoticeRefusal;
+use reuse_session::Refusal;
+use std::fmt::Display;
+
+/// Tells a note. Where standard error can't be written, there is nobody to tell.
+fn note(rt: &impl Eprint, text: impl Display + Drop) {
+    let _ = eprintln!(rt; "reuse-undo: note: {text}");
+}
+
+/// Tells what to do about words that are no line.
+pub fn note_words(rt: &impl Eprint, fault: &LineFault) {
+    if let LineFault::BadAdditions(NoticeRefusal::BadYear(_)) = fault {
+        note(
+            rt,
+            "a year has four digits; a range is two years, as in --year 2019 --year 2024",
+        );
+    }
+}
+
+/// What can be done about a refusal, where a note says that.
+fn advice(refusal: &Refusal, is_begun: bool) -> Option<&'static str> {
+    match refusal {
+        Refusal::Unrecognised(_) => Some(
+            "no comment style is known for this name: name one with --style or in .reuse/styles.toml, \
+            write the information beside the file with --fallback-dot-license, or pass it over with --skip-unrecognised",
+        ),
+        Refusal::Moved(_) if is_begun => Some(
+            "a stopped run had begun to change this file, and it was changed since: put it back as it was before that run, \
+            or as that run would have left it",
+        ),
+        Refusal::Moved(_) => Some(
+            "this file was changed since: take that change back and call again, or keep it and leave the step as it is",
+        ),
+        Refusal::Interrupted(_) => {
+            Some("the next call on this tree, log too, takes back what was begun")
+        }
+        Refusal::Dep5(refusal) => dep5_advice(refusal),
+        _ => None,
+    }
+}
+
+fn dep5_advice(refusal: &Dep5Refusal) -> Option<&'static str> {
+    match refusal {
+        Dep5Refusal::BadDep5(_, Dep5Cause::Missing) => Some(
+            "the fields Files, Copyright and License are asked for in this paragraph, none of them empty",
+        ),
+        Dep5Refusal::Question(_) => Some(
+            "REUSE.toml has no sign for one character: write * in place of ?, or list the files",
+        ),
+        _ => None,
+    }
+}
+
+/// Tells what a refusal is about.
+fn note_refusal(rt: &impl Eprint, findings: &Findings, refusal: &Refusal) {
+    if let (Refusal::Fault(_) | Refusal::Interrupted(_), Some(failure)) = (
+        refusal,
+        &findings.failure,
+    ) {
+        note(rt, failure);
+    }
+    if let (Refusal::NoText(id), Some(folder)) = (refusal, &findings.texts) {
+        let _ = eprintln!(rt; "reuse-undo: note: the text was sought in {folder}/{id}.txt");
+    }
+    let is_begun = findings.begun.is_some() && !findings.is_set_back;
+    if let Some(advice) = advice(refusal, is_begun) {
+        note(rt, advice);
+    }
+}
+
+/// Tells how many files a call changed, and how that is taken back.
+fn note_change(rt: &impl Eprint, task: Task, count: usize) {
+    let files = if count == 1 { "file" } else { "files" };
+    let _ = match task {
+        Task::Step | Task::Conversion | Task::Redo if count > 0 => {
+            eprintln!(rt;
+                "reuse-undo: note: {count} {files} changed; reuse-undo undo takes that back"
+            )
+        }
+        Task::Undo => {
+            eprintln!(rt;
+                "reuse-undo: note: {count} {files} changed back; reuse-undo redo makes that step again"
+            )
+        }
+        _ => Ok(()),
+    };
+}
+
+/// Tells what a call did, or what its fault is about.
+pub fn note_call(rt: &impl Eprint, findings: &Findings, outcome: &Result<usize, Fault>) {
+    if let (true, Some(step)) = (findings.is_set_back, findings.begun) {
+        let _ = eprintln!(rt;
+            "reuse-undo: note: step {step}, which a stopped run had begun, was set back"
+        );
+    }
+    match outcome {
+        Ok(count) => note_change(rt, findings.task, *count),
+        Err(Fault::Refused(refusal)) => note_refusal(rt, findings, refusal),
+        Err(_) => {}
+    }
+    if findings.is_table_empty && outcome.is_ok() {
+        note(
+            rt,
+            "REUSE.toml says nothing of any file, since .reuse/dep5 has no paragraph with Files",
+        );
+    }
+    if let Some(folder) = &findings.above {
+        let _ = eprintln!(rt;
+            "reuse-undo: note: a folder above has a journal too: --root {folder}"
+        );
+    }
+}
