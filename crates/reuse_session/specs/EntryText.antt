@@ -1,14 +1,15 @@
 -- An entry of the journal: its text.
-use Rattle.std.specs.Prelude.{◌≡◌, ℕ, ◌≤◌, List, [], ◌∷◌, ◌++◌, length, map, codes, decimal, Ok, IsUtf8, IsTrue}
-use Rattle.std.specs.List.{All, join_with_byte, AllZip}
+use Rattle.std.specs.Prelude.{◌≡◌, ℕ, ◌≤◌, Bool, List, [], ◌∷◌, ◌++◌, length, map, codes, decimal, Option, Some, None, Ok, IsUtf8, IsTrue}
+use Rattle.std.specs.List.{All, join_with_byte, list_any, AllZip}
 use Rattle.json.specs.Print.{quoted}
 use Rattle.hex.specs.Hex.{encode_lower, decode_of, IsBytes}
 use Rattle.serde_json.specs.Data.{Data, string}
 use Rattle.reuse_tree.specs.Path.{is_path}
-use Rattle.reuse_tree.specs.Change.{path_of}
+use Rattle.reuse_tree.specs.Change.{path_of, is_sealed, Records}
 use Rattle.reuse_tree.specs.declared.change.Change.{Change}
 use Rattle.reuse_tree.specs.declared.change.Change.TheVariants.{Make, Drop, Splice}
-use Rattle.reuse_session.specs.Entry.{removed_by, written_by, IsEntry}
+use Rattle.reuse_session.specs.Entry.{removed_by, written_by, AreAllSealed, IsEntry}
+use Rattle.reuse_session.specs.Format.{format_number}
 use Rattle.reuse_session.specs.Json.{IsJson, count, object_of, array_of}
 use Rattle.reuse_session.specs.declared.journal.entry.Entry.{Entry}
 use Rattle.reuse_session.specs.declared.command.CommandName.{CommandName}
@@ -26,15 +27,28 @@ command_name Download = codes "download"
 abbrev pub hex_text : List ℕ → List ℕ
 hex_text bytes = quoted (encode_lower bytes)
 
+-- a member whose value is a digest, where one is recorded
+abbrev pub digest_text : List ℕ → Option (List ℕ) → List ℕ
+digest_text key None = []
+digest_text key (Some digest) = codes "\"" ++ key ++ codes "\":" ++ hex_text digest ++ codes ","
+
 -- a change, with the members in the order of their keys
 abbrev pub change_text : Change → List ℕ
-change_text (Make path new) = codes "{\"kind\":\"make\",\"new\":" ++ hex_text new ++ codes ",\"path\":" ++ quoted path ++ codes "}"
-change_text (Drop path old) = codes "{\"kind\":\"drop\",\"old\":" ++ hex_text old ++ codes ",\"path\":" ++ quoted path ++ codes "}"
-change_text (Splice path at old new rest) = codes "{\"at\":" ++ decimal at ++ codes ",\"kind\":\"splice\",\"new\":" ++ hex_text new ++ codes ",\"old\":" ++ hex_text old ++ codes ",\"path\":" ++ quoted path ++ codes ",\"rest\":" ++ decimal rest ++ codes "}"
+change_text (Make path new after) = codes "{" ++ digest_text (codes "after") after ++ codes "\"kind\":\"make\",\"new\":" ++ hex_text new ++ codes ",\"path\":" ++ quoted path ++ codes "}"
+change_text (Drop path old before) = codes "{" ++ digest_text (codes "before") before ++ codes "\"kind\":\"drop\",\"old\":" ++ hex_text old ++ codes ",\"path\":" ++ quoted path ++ codes "}"
+change_text (Splice path at old new rest seal) =
+    codes "{" ++ digest_text (codes "after") (after_in seal) ++ codes "\"at\":" ++ decimal at ++ codes "," ++ digest_text (codes "before") (before_in seal)
+    ++ codes "\"kind\":\"splice\",\"new\":" ++ hex_text new ++ codes ",\"old\":" ++ hex_text old ++ codes ",\"path\":" ++ quoted path ++ codes ",\"rest\":" ++ decimal rest ++ codes "}"
 
--- an entry, without space
+-- whether the entry of these changes is sealed
+abbrev pub is_any_sealed : List Change → Bool
+is_any_sealed changes = list_any is_sealed changes
+
+-- an entry, without space: in the second format where it is sealed
 abbrev pub entry_text : Entry → List ℕ
-entry_text e = codes "{\"changes\":[" ++ join_with_byte 44 (map change_text e.changes) ++ codes "],\"command\":\"" ++ command_name e.command ++ codes "\",\"format\":1,\"when\":" ++ decimal e.when ++ codes "}"
+entry_text e =
+    codes "{\"changes\":[" ++ join_with_byte 44 (map change_text e.changes) ++ codes "],\"command\":\"" ++ command_name e.command
+    ++ codes "\",\"format\":" ++ decimal (format_number (is_any_sealed e.changes)) ++ codes ",\"when\":" ++ decimal e.when ++ codes "}"
 
 -- ---- the value that is read
 

@@ -15,6 +15,7 @@ fn splice(alloc: Global, at: usize, old: &[u8], new: &[u8], rest: usize) -> Resu
         old: Bytes::from_slice(alloc, old)?,
         new: Bytes::from_slice(alloc, new)?,
         rest,
+        seal: None,
     })
 }
 

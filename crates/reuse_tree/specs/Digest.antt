@@ -1,0 +1,18 @@
+-- The SHA-256 that a change records of a file.
+use Rattle.std.specs.Prelude.{◌≡◌, ◌≢◌, ℕ, List, Option, Some, None}
+use Rattle.std.specs.Option.{option_map}
+use Rattle.sha2.specs.Sha256.{sha256}
+use Rattle.reuse_tree.specs.declared.digest.Seal.{Seal}
+
+-- the path has a file, with the digest that is recorded of it, where one is
+abbrev pub IsDigestOf : Option (List ℕ) → Option (List ℕ) → Type 0
+IsDigestOf None file = Unit {0}
+IsDigestOf (Some digest) file = option_map sha256 file ≡ Some digest
+
+-- no file has this digest
+abbrev pub NothingHas : List ℕ → Type 0
+NothingHas digest = (bytes : List ℕ) → sha256 bytes ≢ digest
+
+-- the digests of the way back
+abbrev pub swapped : Seal → Seal
+swapped seal = record { before = seal.after; after = seal.before }
