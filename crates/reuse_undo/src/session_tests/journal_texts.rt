@@ -99,6 +99,7 @@ fn an_entry_is_written_and_read(rt: HostRuntime) -> Result<(), Fail> {
         old: Bytes::new(alloc),
         new: Bytes::from_slice(alloc, NEW)?,
         rest: 9,
+        seal: None,
     };
     let entry = Entry {
         changes: Changes::new(vec![in alloc; change]?),
