@@ -2,7 +2,7 @@
 ghost use Rattle.std.specs.Prelude.{◌≡◌, ◌≢◌, ◌↔◌, ◌+◌, ◌≤◌, ◌++◌, ℕ, List, IfOk, IsTrue, length, take, drop};
 ghost use Rattle.std.specs.Option.{option_copied, option_map};
 ghost use Rattle.reuse_text.specs.Text.{spliced};
-ghost use Rattle.reuse_tree.specs.Digest.{IsDigestOf, NothingHas};
+ghost use Rattle.reuse_tree.specs.Digest.{IsDigestOf, IsSealOf, NothingHas, swapped};
 ghost use Rattle.reuse_tree.specs.Change.{HoldsPart};
 
 use crate::{Digest, PathText, Seal};
@@ -78,12 +78,7 @@ impl Change {
         ensures change { result ≡ sealed_splice path file.now at old new }
         ensures turns { (rest : ℕ) → HoldsPart (Some file.now) old at rest → Turns result (Some file.now) (Some (spliced file.now at (length old) new)) }
     {
-        let front = &file[..at.min(file.len())];
-        let back = &file[at.saturating_add(old.len()).min(file.len())..];
-        let seal = Seal {
-            before: Digest::of(file),
-            after: Digest::of_parts(front, new.as_slice(), back),
-        };
+        let seal = Seal::of(file, at, old.len(), new.as_slice());
         let rest = file.len().saturating_sub(at).saturating_sub(old.len());
         Change::Splice {
             path,
@@ -178,7 +173,7 @@ impl Change {
                 old: new,
                 new: old,
                 rest,
-                seal: seal.map(|seal| seal.swapped()),
+                seal: swapped(seal),
             },
         }
     }
@@ -245,7 +240,7 @@ impl Change {
         }
     }
 
-    // Whether a file before the change has its digest, and what the change makes of it.
+    // Whether a file before the change has its digest, and so what the change makes of it.
     fn is_sealed_before(&self, file: Option<&[u8]>) -> bool
         requires { IsBeforeByRange self.now (option_copied file) }
         ensures { IsTrue result ↔ IsBefore self.now (option_copied file.entry) }
@@ -259,11 +254,14 @@ impl Change {
                 new,
                 seal,
                 ..
-            } => has_seal(file, *at, old.len(), new.as_slice(), *seal),
+            } => {
+                let Some(file) = file else { unreachable!() };
+                is_seal_of(*seal, file, *at, old.len(), new.as_slice())
+            }
         }
     }
 
-    // Whether a file after the change has its digest, and what the way back makes of it.
+    // Whether a file after the change has its digest, and so what the way back makes of it.
     fn is_sealed_after(&self, file: Option<&[u8]>) -> bool
         requires { IsAfterByRange self.now (option_copied file) }
         ensures { IsTrue result ↔ IsAfter self.now (option_copied file.entry) }
@@ -277,13 +275,10 @@ impl Change {
                 new,
                 seal,
                 ..
-            } => has_seal(
-                file,
-                *at,
-                new.len(),
-                old.as_slice(),
-                seal.map(|seal| seal.swapped()),
-            ),
+            } => {
+                let Some(file) = file else { unreachable!() };
+                is_seal_of(swapped(*seal), file, *at, new.len(), old.as_slice())
+            }
         }
     }
 
@@ -313,17 +308,21 @@ fn is_digest_of(digest: Option<Digest>, bytes: &[u8]) -> bool
     }
 }
 
-// Whether the file has the first digest of the seal, where there is one, and the file with this part in place of so many bytes the second.
-fn has_seal(file: Option<&[u8]>, at: usize, old_len: usize, new: &[u8], seal: Option<Seal>) -> bool
-    requires { (bytes : List ℕ) × (option_copied file ≡ Some bytes) × (at + old_len ≤ length bytes) }
-    ensures { (bytes : List ℕ) → option_copied file.entry ≡ Some bytes
-        → IsTrue result ↔ (IsDigestOf (option_map (λ s. s.before) seal) (Some bytes) × IsDigestOf (option_map (λ s. s.after) seal) (Some (spliced bytes at old_len new.now))) }
+// Whether the seal, where there is one, is that of the file and of the file with new bytes in place of those from `at` on.
+fn is_seal_of(seal: Option<Seal>, file: &[u8], at: usize, old_len: usize, new: &[u8]) -> bool
+    ensures { IsTrue result ↔ IsSealOf seal file.now (spliced file.now at old_len new.now) }
 {
-    let (Some(file), Some(seal)) = (file, seal) else {
-        return true;
-    };
-    Digest::of(file) == seal.before
-        && Digest::of_parts(&file[..at], new, &file[at + old_len..]) == seal.after
+    match seal {
+        None => true,
+        Some(seal) => Seal::of(file, at, old_len, new) == seal,
+    }
+}
+
+// The seal of the way back.
+fn swapped(seal: Option<Seal>) -> Option<Seal>
+    ensures { result ≡ option_map swapped seal }
+{
+    seal.map(|seal| seal.swapped())
 }
 
 // Whether the path holds these bytes.

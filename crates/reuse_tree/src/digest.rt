@@ -1,5 +1,6 @@
 // The SHA-256 of a file, as a change records it.
 ghost use Rattle.std.specs.Prelude.{◌≡◌, ◌≢◌, ◌++◌, ℕ, List, length, MatchOption};
+ghost use Rattle.reuse_text.specs.Text.{spliced};
 ghost use Rattle.sha2.specs.Sha256.{sha256};
 
 use sha2::{Digest as _, Sha256};
@@ -80,7 +81,19 @@ pub struct Seal {
 }
 
 impl Seal {
-    ghost use Rattle.reuse_tree.specs.Digest.{swapped};
+    ghost use Rattle.reuse_tree.specs.Digest.{seal_of, swapped};
+
+    /// The digests of this file and of the file with new bytes in place of so many from `at` on. It copies nothing.
+    pub fn of(file: &[u8], at: usize, old_len: usize, new: &[u8]) -> Seal
+        ensures { result ≡ seal_of file.now (spliced file.now at old_len new.now) }
+    {
+        let front = &file[..at.min(file.len())];
+        let back = &file[at.saturating_add(old_len).min(file.len())..];
+        Seal {
+            before: Digest::of(file),
+            after: Digest::of_parts(front, new, back),
+        }
+    }
 
     /// The digests of the change that leads back.
     pub fn swapped(self) -> Seal
