@@ -1,12 +1,12 @@
 -- What a seal says of the files at the two ends of a change.
 use Rattle.std.specs.Option.{option_map}
-use Rattle.std.proofs.Common.{◌≡◌, ◌↔◌, IsTrue, ℕ, List, Option, Some, None, length, refl, sym, ap, subst, ◌∙◌, ◌++◌}
+use Rattle.std.proofs.Common.{◌≡◌, ◌↔◌, IsTrue, ℕ, List, Option, Some, None, length, sym, ap, subst, ◌∙◌, ◌++◌}
 use Rattle.sha2.specs.Sha256.{sha256}
 use Rattle.reuse_text.specs.Text.{spliced}
 use Rattle.reuse_tree.specs.declared.change.Change.{Change}
 use Rattle.reuse_tree.specs.declared.change.Change.TheVariants.{Make, Drop, Splice}
 use Rattle.reuse_tree.specs.declared.digest.Seal.{Seal}
-use Rattle.reuse_tree.specs.Digest.{IsDigestOf, IsSealOf, seal_of, swapped}
+use Rattle.reuse_tree.specs.Digest.{IsDigestOf, IsSealOf, swapped}
 use Rattle.reuse_tree.specs.Change.{digest_before, digest_after, inverse_of, is_sealed, HoldsPart, TurnsByRange, Turns, IsBefore, IsAfter, IsBeforeByRange, IsAfterByRange}
 use Rattle.reuse_tree.proofs.Parts.{cuts}
 use Rattle.reuse_tree.proofs.Turning.{turns_once_by_range, turns_back_by_range, turns_back, inverse_before, inverse_after, is_sealed-inverse}

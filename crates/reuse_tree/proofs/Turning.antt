@@ -1,5 +1,5 @@
 -- Where a file stands to a change by range and length, and what changes and their inverses do.
-use Rattle.std.specs.Option.{option_copied, option_map}
+use Rattle.std.specs.Option.{option_copied}
 use Rattle.std.proofs.Common.{Bor, Bool, true, false, not, is_some, IsTrue, ◌≡◌, ◌↔◌, ℕ, List, Option, Some, None, refl, sym, ap, subst, ◌∙◌, ◌++◌}
 use Rattle.std.specs.FinMap.{get}
 use Rattle.reuse_tree.specs.declared.change.Change.{Change}
