@@ -150,16 +150,16 @@ impl Change {
         ensures { result ≡ inverse_of self }
     {
         match self {
-            Change::Make { path, new, after } => Change::Drop {
-                path,
-                old: new,
-                before: after,
-            },
-            Change::Drop { path, old, before } => Change::Make {
+            Change::Make {
                 path,
                 new: old,
                 after: before,
-            },
+            } => Change::Drop { path, old, before },
+            Change::Drop {
+                path,
+                old: new,
+                before: after,
+            } => Change::Make { path, new, after },
             Change::Splice {
                 path,
                 at,
