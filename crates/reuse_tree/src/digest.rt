@@ -1,5 +1,5 @@
 // The SHA-256 of a file, as a change records it.
-ghost use Rattle.std.specs.Prelude.{◌≡◌, ◌≢◌, ◌++◌, ℕ, List, length, MatchOption};
+ghost use Rattle.std.specs.Prelude.{◌≡◌, ◌==◌, ◌++◌, ℕ, List, length, if◌then◌else◌};
 ghost use Rattle.reuse_text.specs.Text.{spliced};
 ghost use Rattle.sha2.specs.Sha256.{sha256};
 
@@ -52,7 +52,7 @@ impl Digest {
 
     /// These bytes as a digest, where they are 32.
     pub fn from_slice(bytes: &[u8]) -> Option<Digest>
-        ensures { MatchOption result (length bytes.now ≢ 32) (λ digest. digest ≡ bytes.now) }
+        ensures { result ≡ (if length bytes.now == 32 then Some bytes.now else None) }
     {
         if bytes.len() != 32 {
             return None;
