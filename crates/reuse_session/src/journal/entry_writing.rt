@@ -1,5 +1,5 @@
 // An entry as text.
-ghost use Rattle.std.specs.Prelude.{◌≡◌, ◌≤◌, Some, IfOk, OnOk, IsTrue, IsUtf8, length, map, string_bytes};
+ghost use Rattle.std.specs.Prelude.{◌≡◌, ◌≤◌, Some, None, IfOk, OnOk, IsTrue, IsUtf8, length, map, string_bytes};
 ghost use Rattle.std.specs.List.{All};
 ghost use Rattle.serde_json.specs.View.{view};
 ghost use Rattle.hex.specs.Hex.{encode_lower, IsBytes};
@@ -44,11 +44,14 @@ fn entry_json(alloc: Global, entry: &Entry) -> Result<Value, AllocError>
 fn format_of(changes: &[Change]) -> u32
     ensures { result ≡ format_number (is_any_sealed changes.now) }
 {
-    if changes.iter().any(|change| change.is_sealed()) {
-        2
-    } else {
-        1
-    }
+    if is_any_sealed(changes) { 2 } else { 1 }
+}
+
+// Whether one of the changes is sealed.
+fn is_any_sealed(changes: &[Change]) -> bool
+    ensures { result ≡ is_any_sealed changes.now }
+{
+    changes.iter().any(|change| change.is_sealed())
 }
 
 // The word that stands for a command in an entry.
@@ -86,8 +89,16 @@ fn change_json(alloc: Global, change: &Change) -> Result<Value, AllocError>
             old,
             new,
             rest,
-            seal,
-        } => splice_json(alloc, path, *at, old, new, *rest, *seal),
+            seal: None,
+        } => splice_json(alloc, path, *at, old, new, *rest),
+        Change::Splice {
+            path,
+            at,
+            old,
+            new,
+            rest,
+            seal: Some(seal),
+        } => sealed_splice_json(alloc, path, *at, old, new, *rest, *seal),
     }
 }
 
@@ -134,29 +145,39 @@ fn splice_json(
     old: &Bytes,
     new: &Bytes,
     rest: usize,
-    seal: Option<Seal>,
 ) -> Result<Value, AllocError>
-    ensures value { IfOk result (λ value. view value ≡ change_value (Splice path.now at old.now new.now rest seal)) }
-    ensures change { OnOk result (IsChangeInMemory (Splice path.now at old.now new.now rest seal)) }
+    ensures value { IfOk result (λ value. view value ≡ change_value (Splice path.now at old.now new.now rest None)) }
+    ensures change { OnOk result (IsChangeInMemory (Splice path.now at old.now new.now rest None)) }
 {
     let new = hex_of(alloc, new.as_slice())?;
     let old = hex_of(alloc, old.as_slice())?;
-    let path = text_of(path);
-    let Some(seal) = seal else {
-        return json!(in alloc; {"at": at, "kind": "splice", "new": new, "old": old, "path": path, "rest": rest});
-    };
-    let after = digest_hex(alloc, seal.after)?;
-    let before = digest_hex(alloc, seal.before)?;
     json!(in alloc; {
-        "after": after,
         "at": at,
-        "before": before,
         "kind": "splice",
         "new": new,
         "old": old,
-        "path": path,
+        "path": text_of(path),
         "rest": rest
     })
+}
+
+fn sealed_splice_json(
+    alloc: Global,
+    path: &PathText,
+    at: usize,
+    old: &Bytes,
+    new: &Bytes,
+    rest: usize,
+    seal: Seal,
+) -> Result<Value, AllocError>
+    ensures value { IfOk result (λ value. view value ≡ change_value (Splice path.now at old.now new.now rest (Some seal))) }
+    ensures change { OnOk result (IsChangeInMemory (Splice path.now at old.now new.now rest (Some seal))) }
+{
+    let after = digest_hex(alloc, seal.after)?;
+    let before = digest_hex(alloc, seal.before)?;
+    let new = hex_of(alloc, new.as_slice())?;
+    let old = hex_of(alloc, old.as_slice())?;
+    json!(in alloc; {"after": after, "at": at, "before": before, "kind": "splice", "new": new, "old": old, "path": text_of(path), "rest": rest})
 }
 
 // A digest in small hexadecimal digits.

@@ -109,6 +109,7 @@ pub(crate) fn digest_of(alloc: Global, value: &Value) -> Result<Digest, DecodeFa
 }
 
 /// The digest of the next member, which has to have this key. Where changes are not sealed, none.
+#[tactic(auto, unfolding(crate::specs::EntryReading::first_digest))]
 pub(crate) fn next_digest<'a>(
     alloc: Global,
     fields: &mut Fields<'a>,
