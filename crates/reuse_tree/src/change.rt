@@ -178,7 +178,7 @@ impl Change {
         }
     }
 
-    /// Where a file stands, or its absence. Where it is at both ends, as only a change of nothing allows, `Before`. It hashes a file whose
+    /// Where a file stands, or its absence. Where it is at both ends, as only a change of nothing allows, `Before`. It hashes only where
     /// range and length fit, and takes no memory.
     pub fn state(&self, file: Option<&[u8]>) -> ChangeState
         ensures before { (result ≡ ChangeState.Before) ↔ IsBefore self.now (option_copied file.entry) }
