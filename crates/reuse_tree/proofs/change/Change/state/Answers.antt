@@ -14,3 +14,9 @@ returns-in_default-clause-neither c =
       ),
       λ _. refl,
     )
+
+pub is_sealed_before-requires : goal.is_sealed_before-requires
+is_sealed_before-requires c = c.in-Before.ensures.before.0 refl
+
+pub returns-in-Before-clause-before : goal.returns-in-Before-clause-before
+returns-in-Before-clause-before c = (λ _. c.if-is_sealed_before.ensures.0 refl, λ _. refl)
