@@ -4,7 +4,7 @@ use crate::session_tests::trees::{FIRST, FIRST_UNSEALED, PLAIN};
 use reuse_session::journal::laws::{written_entries_are_good, written_heads_are_good};
 use reuse_session::laws::{
     changed_paths_are_where_trees_differ, downloads_put_each_text, entries_lead_in_turn,
-    files_open_in_one_way,
+    files_open_in_one_way, seals_tell_of_whole_files,
 };
 use reuse_session::{
     Changes, CommandName, DecodeFault, Entry, EntryNumbers, Head, Moment, Pending, PendingWay,
@@ -214,4 +214,5 @@ fn laws_of_sessions_can_be_called() {
     entries_lead_in_turn();
     downloads_put_each_text();
     changed_paths_are_where_trees_differ();
+    seals_tell_of_whole_files();
 }
