@@ -1,8 +1,8 @@
 // Journals in files: what a session writes, and what it makes of what is there.
 // The tags below are data: REUSE-IgnoreStart
 use crate::session_tests::trees::{
-    ANNOTATED, ENTRY, FIRST, FIRST_UNSEALED, HEAD, PLAIN, copy, dump, events_of, holds, lacks,
-    leaves, path, plays, signing, tree,
+    ANNOTATED, DONE_UNSEALED, ENTRY, FIRST, FIRST_UNSEALED, HEAD, PLAIN, copy, dump, events_of,
+    holds, lacks, leaves, path, plays, signing, tree,
 };
 use reuse_session::{Command, Event, Ids, LicenceText, LicenceTexts, Moment, drive};
 use reuse_text::Bytes;
@@ -14,10 +14,6 @@ use std::test::Fail;
 const DONE: &[u8] = b"{\"done\":[1],\"format\":2,\"next\":2,\"pending\":null,\"undone\":[]}";
 
 const UNDONE: &[u8] = b"{\"done\":[],\"format\":2,\"next\":2,\"pending\":null,\"undone\":[1]}";
-
-// As it was written before entries were sealed.
-const DONE_UNSEALED: &[u8] =
-    b"{\"done\":[1],\"format\":1,\"next\":2,\"pending\":null,\"undone\":[]}";
 
 const DONE_REVERSED: &[u8] =
     b"{ \"undone\": [ ], \"pending\": null, \"next\": 2, \"format\": 1, \"done\": [ 1 ] }";

@@ -28,6 +28,10 @@ pub const FIRST: &str =
 pub const FIRST_UNSEALED: &str =
     "{\"changes\":[{\"at\":0,\"kind\":\"splice\",\"new\":\"2320535044582d46696c65436f70797269676874546578743a2032303234204a616e6520446f650a230a2320535044582d4c6963656e73652d4964656e7469666965723a204d49540a0a\",\"old\":\"\",\"path\":\"a.py\",\"rest\":9}],\"command\":\"annotate\",\"format\":1,\"when\":1704067200}";
 
+/// The head of a journal that has that entry alone, as it was written before entries were sealed.
+pub const DONE_UNSEALED: &[u8] =
+    b"{\"done\":[1],\"format\":1,\"next\":2,\"pending\":null,\"undone\":[]}";
+
 const LONGEST_FILE: usize = 16_777_216;
 
 pub fn moment() -> Result<Moment, Fail> {
