@@ -17,6 +17,11 @@ state_of() {
   tar -C "$1" --sort=name --mtime=@0 --exclude=./.reuse/undo -cf - . | sha256sum
 }
 
+# Rewrites a tree's journal as version 1.0 wrote it: in format 1, without the digests of the files
+as_format_1() {
+  sed -i -E 's/"(after|before)":"[0-9a-f]{64}",//g; s/"format":2/"format":1/' "$1"/.reuse/undo/*.json
+}
+
 # Whether the journal of a tree tells a step that is under way
 is_pending() {
   grep -q '"pending":{' "$1/.reuse/undo/head.json" 2> /dev/null

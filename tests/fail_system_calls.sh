@@ -1,7 +1,7 @@
 #!/usr/bin/env bash
 # Makes each system call of a run fail, one at a time, and kills the program at each; by strace. The next call must open the journal, and find
 # tree and log as they were before the run or as they are after it. The runs are calls on three files and a dep5, and openings after a
-# kill. Prints how many calls failed; ends with status 1 at the first fault.
+# kill. Some of the journals have steps of both formats. Prints how many calls failed; ends with status 1 at the first fault.
 # usage: tests/fail_system_calls.sh PROGRAM
 set -euo pipefail
 . "$(dirname "$0")/common.sh"
@@ -71,13 +71,23 @@ cp -a "$room/plain" "$room/done"
 "$program" --root "$room/done" "${annotate[@]}" > "$room/out"
 cp -a "$room/done" "$room/undone"
 "$program" --root "$room/undone" undo > "$room/out"
+# A step of an earlier version, then one of this
+cp -a "$room/done" "$room/mixed"
+as_format_1 "$room/mixed"
+"$program" --root "$room/mixed" annotate -c "Max Roe" -r . > "$room/out"
+cp -a "$room/mixed" "$room/older"
+"$program" --root "$room/older" undo > "$room/out"
 # The last renaming of each call is that of the head.
 make_killed killed_annotate plain 6 "${annotate[@]}"
 make_killed killed_undo done 4 undo
 make_killed killed_redo undone 5 redo
+make_killed killed_older older 4 undo
 
 try_all plain "${annotate[@]}"
 try_all plain convert-dep5
 try_all done undo
 try_all undone redo
-for name in killed_annotate killed_undo killed_redo; do try_all $name log; done
+try_all mixed undo
+try_all older undo
+try_all older redo
+for name in killed_annotate killed_undo killed_redo killed_older; do try_all $name log; done

@@ -17,6 +17,9 @@ for k in {1..16}; do
 done
 chmod 700 "$room/tree/folder1/file1.py"
 make_dep5 "$room/tree"
+# The first step is one of an earlier version, so that both formats of the journal are gone through.
+"$program" --root "$room/tree" annotate -c 'First Holder' -l MIT -r . > "$room/out"
+as_format_1 "$room/tree"
 
 # Runs a call, and kills it after a random time, up to one and a half times the given one. The times are microseconds.
 kill_call() {

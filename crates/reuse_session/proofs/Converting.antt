@@ -14,7 +14,9 @@ use Rattle.reuse_tree.specs.Path.{lies_under}
 use Rattle.reuse_tree.specs.Files.{Files}
 use Rattle.reuse_tree.specs.Store.{reading_of}
 use Rattle.reuse_tree.specs.declared.store.Reading.TheVariants.{Absent, TooLong}
-use Rattle.reuse_tree.specs.declared.change.Change.TheVariants.{Make, Drop}
+use Rattle.reuse_tree.specs.Change.{sealed_drop, sealed_make}
+use Rattle.std.specs.Option.{option_map}
+use Rattle.sha2.specs.Sha256.{sha256}
 use Rattle.reuse_session.specs.Clash.{is_clash, is_clash_of}
 use Rattle.reuse_session.specs.Edit.{Edit, made, dropped}
 use Rattle.reuse_session.specs.Conversion.{dep5_path, toml_path, replaced_by, conversion_where, conversion_edits}
@@ -148,12 +150,12 @@ module _ (tree : Files) (paths : List (List ℕ)) (bytes : List ℕ) (are : path
     pub clash_answer : is_clash_of paths toml_path ≡ true → conversion_edits tree ≡ Err (refusals.Clash toml_path)
     clash_answer e = replaced ∙ refused_by _ true (refusals.Clash toml_path) (ok_edits (dropped dep5_path bytes ∷ made toml_path text ∷ [])) e
 
-    pub made_answer : is_clash_of paths toml_path ≡ false → length text ≤ 16_777_216 → MakesEdits tree (conversion_edits tree) (Drop dep5_path bytes ∷ Make toml_path text ∷ [])
+    pub made_answer : is_clash_of paths toml_path ≡ false → length text ≤ 16_777_216 → MakesEdits tree (conversion_edits tree) (sealed_drop dep5_path bytes ∷ sealed_make toml_path text ∷ [])
     made_answer e fits = (
       dropped dep5_path bytes ∷ made toml_path text ∷ [],
       replaced ∙ refused_by _ false (refusals.Clash toml_path) (ok_edits (dropped dep5_path bytes ∷ made toml_path text ∷ [])) e,
       (
-        record { path = refl; removed = refl; written = refl; proper = tt; small = short; turns = (here, refl) },
-        (record { path = refl; removed = refl; written = refl; proper = tt; small = fits; turns = (no_file (get tree toml_path) (there false absent), refl) }, tt),
+        record { path = refl; removed = refl; written = refl; proper = tt; small = short; turns = record { range = (here, refl); from = ap (option_map sha256) here; to = tt }; sealed = refl },
+        (record { path = refl; removed = refl; written = refl; proper = tt; small = fits; turns = record { range = (no_file (get tree toml_path) (there false absent), refl); from = tt; to = refl }; sealed = refl }, tt),
       ),
     )

@@ -119,7 +119,8 @@ module _ (tree : Files) (texts : List LicenceText) where
     written = refl;
     proper = tt;
     small = subst (λ (o : Option (List ℕ)). length (unwrap_or o []) ≤ 16_777_216) (sym (text_at path made)) made.short;
-    turns = (made.absent, refl);
+    turns = record { range = (made.absent, refl); from = tt; to = refl };
+    sealed = refl;
   }
 
   makes_each : (paths : List (List ℕ)) → AreMade tree texts paths → MakesEach tree (map (made_at texts) paths) (map (licence_edit texts) paths)

@@ -13,7 +13,8 @@ use Rattle.reuse_header.specs.Annotation as header
 use Rattle.reuse_header.specs.Header.{header_of}
 use Rattle.reuse_header.specs.Splices.{answer_of}
 use Rattle.reuse_tree.specs.Files.{Files}
-use Rattle.reuse_tree.specs.declared.change.Change.TheVariants as change
+use Rattle.reuse_tree.specs.Change.{sealed_make, sealed_splice}
+use Rattle.sha2.specs.Sha256.{sha256}
 use Rattle.reuse_session.specs.Edit.{Edit}
 use Rattle.reuse_header.specs.Neighbour.{neighbour_annotation_of}
 use Rattle.reuse_session.specs.Annotate.{neighbour_of, neighbour_is_tagged, goes_beside, target_by_bytes, target_of, edit_by, edit_inside, edit_neighbour, edit_beside, edit_target, annotated_where, annotated_at}
@@ -26,7 +27,7 @@ use Rattle.reuse_session.specs.Annotations.{Due, Fits}
 use Rattle.reuse_session.specs.Plan.{Makes, MakesEdit}
 use Rattle.reuse_session.specs.declared.command.Scope.{Scope}
 use Rattle.reuse_session.specs.declared.reply.Refusal.{Refusal}
-use Rattle.reuse_session.proofs.SpliceLemmas.{rest_len, makes_splice}
+use Rattle.reuse_session.proofs.SpliceLemmas.{makes_splice}
 
 -- what is known of each edit is known of an annotation
 pub fits_by : (bytes : List ℕ) (due : Due) → ((edit : header.Edit) → due ≡ Ok edit → (edit.start + edit.old_len ≤ length bytes) × (length (header.edited bytes edit) ≤ 16_777_216)) → Fits bytes due
@@ -49,11 +50,11 @@ same_splice : (one other : Splice) → answered (Some one) ≡ answered (Some ot
 same_splice one other e = cc
 
 -- the change of a file that is there
-pub change_made : (tree : Files) (path at clone bytes : List ℕ) (due : Due) (splice : Splice) (rest : ℕ) → get tree at ≡ Some bytes → length bytes ≤ 16_777_216 → Fits bytes due
-    → answer_of bytes due ≡ answered (Some splice) → clone ≡ at → rest ≡ length bytes - splice.at - length splice.old
-    → MakesEdit tree (edit_by path at bytes due) (Some (change.Splice clone splice.at splice.old splice.new rest))
-change_made tree path at clone bytes (Err refusal) splice rest here short fits answer same is = absurd (refused_is_none refusal splice answer)
-change_made tree path at clone bytes (Ok edit) splice rest here short fits answer same is = by_test (bytes_eq (header.edited bytes edit) bytes) refl answer
+pub change_made : (tree : Files) (path at clone bytes : List ℕ) (due : Due) (splice : Splice) → get tree at ≡ Some bytes → length bytes ≤ 16_777_216 → Fits bytes due
+    → answer_of bytes due ≡ answered (Some splice) → clone ≡ at
+    → MakesEdit tree (edit_by path at bytes due) (Some (sealed_splice clone bytes splice.at splice.old splice.new))
+change_made tree path at clone bytes (Err refusal) splice here short fits answer same = absurd (refused_is_none refusal splice answer)
+change_made tree path at clone bytes (Ok edit) splice here short fits answer same = by_test (bytes_eq (header.edited bytes edit) bytes) refl answer
   where
     it : Edit
     it = record { path = at; removed = take edit.old_len (drop edit.start bytes); written = header.new_bytes edit; file = Some (header.edited bytes edit) }
@@ -61,17 +62,17 @@ change_made tree path at clone bytes (Ok edit) splice rest here short fits answe
     made : Splice
     made = record { at = edit.start; old = take edit.old_len (drop edit.start bytes); new = header.new_bytes edit }
 
-    makes : bytes_eq (header.edited bytes edit) bytes ≡ false → rest ≡ length bytes - edit.start - length (take edit.old_len (drop edit.start bytes)) → Makes tree (change.Splice at edit.start (take edit.old_len (drop edit.start bytes)) (header.new_bytes edit) rest) it
-    makes e r = makes_splice bytes edit.start edit.old_len fits.0 tree at (header.new_bytes edit) here short fits.1 e rest (r ∙ rest_len bytes edit.start edit.old_len fits.0)
+    makes : bytes_eq (header.edited bytes edit) bytes ≡ false → Makes tree (sealed_splice at bytes edit.start (take edit.old_len (drop edit.start bytes)) (header.new_bytes edit)) it
+    makes e = makes_splice bytes edit.start edit.old_len fits.0 tree at (header.new_bytes edit) here short fits.1 e
 
     by_test : (b : Bool) → bytes_eq (header.edited bytes edit) bytes ≡ b → answered (cond b None (Some made)) ≡ answered (Some splice)
-        → (x : Edit) × (cond b (edited_to None) (edited_to (Some it)) ≡ edited_to (Some x)) × Makes tree (change.Splice clone splice.at splice.old splice.new rest) x
+        → (x : Edit) × (cond b (edited_to None) (edited_to (Some it)) ≡ edited_to (Some x)) × Makes tree (sealed_splice clone bytes splice.at splice.old splice.new) x
     by_test true e h = absurd (none_is_some splice h)
     by_test false e h = (
       it,
       refl,
-      subst (λ (p : List ℕ). Makes tree (change.Splice p splice.at splice.old splice.new rest) it) (sym same)
-          (subst (λ (s : Splice). rest ≡ length bytes - s.at - length s.old → Makes tree (change.Splice at s.at s.old s.new rest) it) (same_splice made splice h) (makes e) is),
+      subst (λ (p : List ℕ). Makes tree (sealed_splice p bytes splice.at splice.old splice.new) it) (sym same)
+          (subst (λ (s : Splice). Makes tree (sealed_splice at bytes s.at s.old s.new) it) (same_splice made splice h) (makes e)),
     )
 
 take_none : (n : ℕ) → take {A = ℕ} n [] ≡ []
@@ -88,7 +89,7 @@ append_none (x ∷ xs) = ap (λ ys. x ∷ ys) (append_none xs)
 
 -- the change that makes a file
 pub making_made : (tree : Files) (path at clone : List ℕ) (due : Due) (splice : Splice) → get tree at ≡ None → Fits [] due → answer_of [] due ≡ answered (Some splice) → clone ≡ at
-    → MakesEdit tree (edit_by path at [] due) (Some (change.Make clone splice.new))
+    → MakesEdit tree (edit_by path at [] due) (Some (sealed_make clone splice.new))
 making_made tree path at clone (Err refusal) splice here fits answer same = absurd (refused_is_none refusal splice answer)
 making_made tree path at clone (Ok edit) splice here fits answer same = by_test (bytes_eq (header.edited [] edit) []) answer
   where
@@ -101,23 +102,24 @@ making_made tree path at clone (Ok edit) splice here fits answer same = by_test 
     around : header.edited [] edit ≡ header.new_bytes edit
     around = ap₂ (λ x y. x ++ header.new_bytes edit ++ y) (take_none edit.start) (drop_none (edit.start + edit.old_len)) ∙ append_none (header.new_bytes edit)
 
-    makes : Makes tree (change.Make at (header.new_bytes edit)) it
+    makes : Makes tree (sealed_make at (header.new_bytes edit)) it
     makes = record {
       path = refl;
       removed = sym (ap (take edit.old_len) (drop_none edit.start) ∙ take_none edit.old_len);
       written = refl;
       proper = tt;
       small = subst (λ xs. length xs ≤ 16_777_216) around fits.1;
-      turns = (here, ap (λ xs. Some xs) around);
+      turns = record { range = (here, ap (λ xs. Some xs) around); from = tt; to = ap (λ xs. Some (sha256 xs)) around };
+      sealed = refl;
     }
 
     by_test : (b : Bool) → answered (cond b None (Some made)) ≡ answered (Some splice)
-        → (x : Edit) × (cond b (edited_to None) (edited_to (Some it)) ≡ edited_to (Some x)) × Makes tree (change.Make clone splice.new) x
+        → (x : Edit) × (cond b (edited_to None) (edited_to (Some it)) ≡ edited_to (Some x)) × Makes tree (sealed_make clone splice.new) x
     by_test true h = absurd (none_is_some splice h)
     by_test false h = (
       it,
       refl,
-      subst (λ (p : List ℕ). Makes tree (change.Make p splice.new) it) (sym same) (subst (λ (s : Splice). Makes tree (change.Make at s.new) it) (same_splice made splice h) makes),
+      subst (λ (p : List ℕ). Makes tree (sealed_make p splice.new) it) (sym same) (subst (λ (s : Splice). Makes tree (sealed_make at s.new) it) (same_splice made splice h) makes),
     )
 
 -- ---- files that are not skipped

@@ -35,10 +35,10 @@ use Rattle.std.specs.Cmp.Lexicographic.{nat_list_eq_equiv}
 
 -- what a path holds after a change of what it held
 abbrev file_after : Change → Option (List ℕ) → Option (List ℕ)
-file_after (Make path new) file = Some new
-file_after (Drop path old) file = None
-file_after (Splice path at old new rest) None = None
-file_after (Splice path at old new rest) (Some bytes) = Some (take at bytes ++ new ++ drop (at + length old) bytes)
+file_after (Make path new digest) file = Some new
+file_after (Drop path old digest) file = None
+file_after (Splice path at old new rest seal) None = None
+file_after (Splice path at old new rest seal) (Some bytes) = Some (take at bytes ++ new ++ drop (at + length old) bytes)
 
 take_front : (xs ys : List ℕ) → take (length xs) (xs ++ ys) ≡ xs
 take_front [] ys = refl
@@ -58,14 +58,15 @@ spliced bytes front old new back at e n =
     (ap₂ drop (ap (λ m. m + length old) (sym n) ∙ sym (length-append front old)) e ∙ drop_front (front ++ old) back)
 
 turned : (c : Change) (before after : Option (List ℕ)) → Turns c before after → file_after c before ≡ after
-turned (Make path new) before after t = sym t.1
-turned (Drop path old) before after t = sym t.1
-turned (Splice path at old new rest) None after t = absurd (none_is t.2.whole)
+turned (Make path new digest) before after t = sym t.range.1
+turned (Drop path old digest) before after t = sym t.range.1
+turned (Splice path at old new rest seal) None after t = absurd (none_is t.range.2.whole)
   where
     none_is : {x : List ℕ} → None ≡ Some x → ⊥
     none_is e = cc
-turned (Splice path at old new rest) (Some bytes) after t =
-    ap (λ x. Some x) (spliced bytes t.0 old new t.1 at (some_is bytes (t.0 ++ old ++ t.1) t.2.whole) t.2.before) ∙ sym t.3.whole
+turned (Splice path at old new rest seal) (Some bytes) after t =
+    let r = t.range in
+    ap (λ x. Some x) (spliced bytes r.0 old new r.1 at (some_is bytes (r.0 ++ old ++ r.1) r.2.whole) r.2.before) ∙ sym r.3.whole
 
 abbrev edit_made : Files → Change → Edit
 edit_made tree c = record { path = path_of c; removed = removed_by c; written = written_by c; file = file_after c (get tree (path_of c)) }
@@ -213,7 +214,7 @@ paths_made tree [] = refl
 paths_made tree (c ∷ changes) = ap (λ ps. path_of c ∷ ps) (paths_made tree changes)
 
 no_change : Change
-no_change = Drop [] []
+no_change = Drop [] [] None
 
 paths_sorted : (changes : List Change) → IsSortedBy is_before changes → IsSortedBy (λ x y. is_lt (slice_cmp nat_cmp x y)) (map path_of changes)
 paths_sorted changes sorted k d from to =

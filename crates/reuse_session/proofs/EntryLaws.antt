@@ -1,5 +1,5 @@
 -- The text of a sound entry is good, and no longer than the entry size.
-use Rattle.std.proofs.Common.{◌≡◌, ℕ, zero, suc, ◌+◌, ◌*◌, ◌^◌, ◌/◌, ◌%◌, ◌<◌, ◌≤◌, ◌==◌, Bool, true, false, ◌&&◌, List, [], ◌∷◌, ◌++◌, length, map, get_or, codes, decimal, Some, refl, sym, ap, ◌∙◌, arith, length-append, inl, inr, eqb-true, ltb-true}
+use Rattle.std.proofs.Common.{◌≡◌, ℕ, zero, suc, ◌+◌, ◌*◌, ◌^◌, ◌/◌, ◌%◌, ◌<◌, ◌≤◌, ◌==◌, Bool, true, false, ◌&&◌, ◌||◌, List, [], ◌∷◌, ◌++◌, length, map, get_or, codes, decimal, Option, Some, None, is_some, refl, sym, ap, subst, ◌∙◌, arith, length-append, inl, inr, eqb-true, ltb-true}
 use Rattle.std.specs.Prelude.{IsUtf8}
 use Rattle.std.specs.List.{AllByRecursion, AllZip, join_with_byte}
 use Rattle.std.specs.Str.{IsAscii}
@@ -7,7 +7,7 @@ use Rattle.std.proofs.lemmas.Bool.{and_parts, cases_lt}
 use Rattle.std.proofs.lemmas.Fmt.{length-decimal-le, IsAscii-decimal}
 use Rattle.std.proofs.lemmas.Str.Ascii.{IsAscii-nil, IsAscii-cons}
 use Rattle.std.proofs.lemmas.Str.{IsUtf8-append, IsUtf8-from_ascii}
-use Rattle.std.proofs.lemmas.List.Elements.{recursion_from_All}
+use Rattle.std.proofs.lemmas.List.Elements.{recursion_from_All, All-from_recursion}
 use Rattle.json.specs.Tree as tree
 use Rattle.json.specs.Print.{escape_byte, escape, quoted}
 use Rattle.json.proofs.Printed.Utf8.{IsUtf8-are_ascii, are_ascii, IsUtf8-quoted}
@@ -19,8 +19,12 @@ use Rattle.serde_json.specs.Read.{read, of_json, of_items}
 use Rattle.serde_json.specs.View.{items_of}
 use Rattle.serde_json.specs.Written.{outline, items_outline, has_float, items_have_float}
 use Rattle.serde_json.proofs.Numbers.{number_of-decimal}
-use Rattle.reuse_session.specs.Entry.{change_size, entry_size, IsSmall}
-use Rattle.reuse_session.specs.EntryText.{command_name, hex_text, change_text, entry_text, change_value, entry_value, IsHex, IsChangeValue, IsChangeInMemory, IsSoundEntry, IsGoodEntry}
+use Rattle.reuse_session.specs.Entry.{change_size, entry_size, AreAllSealed, IsSmall}
+use Rattle.reuse_session.specs.Format.{format_number}
+use Rattle.reuse_tree.specs.Change.{is_sealed}
+use Rattle.reuse_tree.specs.declared.digest.Seal.{Seal}
+use Rattle.std.specs.Option.{option_map}
+use Rattle.reuse_session.specs.EntryText.{command_name, hex_text, hex_value, digest_text, is_any_sealed, change_text, entry_text, change_value, entry_value, AreDigestBytes, IsHex, IsHexDigest, IsChangeValue, IsChangeInMemory, IsSoundEntry, IsGoodEntry}
 use Rattle.reuse_tree.specs.declared.change.Change.{Change}
 use Rattle.reuse_tree.specs.declared.change.Change.TheVariants.{Make, Drop, Splice}
 use Rattle.reuse_session.specs.declared.journal.entry.Entry.{Entry}
@@ -40,16 +44,19 @@ all_writable e sound = recursion_from_All IsWritable e.changes (λ k c below. re
 
 -- the bytes of the file that a splice keeps
 abbrev kept : Change → ℕ
-kept (Make path new) = 0
-kept (Drop path old) = 0
-kept (Splice path at old new rest) = at + rest
+kept (Make path new after) = 0
+kept (Drop path old before) = 0
+kept (Splice path at old new rest seal) = at + rest
 
 -- ---- no floats
 
 change_no_float : (c : Change) → has_float (change_value c) ≡ false
-change_no_float (Make path new) = refl
-change_no_float (Drop path old) = refl
-change_no_float (Splice path at old new rest) = refl
+change_no_float (Make path new None) = refl
+change_no_float (Make path new (Some after)) = refl
+change_no_float (Drop path old None) = refl
+change_no_float (Drop path old (Some before)) = refl
+change_no_float (Splice path at old new rest None) = refl
+change_no_float (Splice path at old new rest (Some seal)) = refl
 
 changes_no_float : (cs : List Change) → items_have_float (items_of (map change_value cs)) ≡ false
 changes_no_float [] = refl
@@ -61,27 +68,39 @@ entry_no_float e = rw (changes_no_float e.changes) refl
 -- ---- the value is read back from its text
 
 change_flat : (c : Change) → tree.depth (outline (change_value c)) ≡ 1
-change_flat (Make path new) = refl
-change_flat (Drop path old) = refl
-change_flat (Splice path at old new rest) = refl
+change_flat (Make path new None) = refl
+change_flat (Make path new (Some after)) = refl
+change_flat (Drop path old None) = refl
+change_flat (Drop path old (Some before)) = refl
+change_flat (Splice path at old new rest None) = refl
+change_flat (Splice path at old new rest (Some seal)) = refl
 
 changes_flat : (cs : List Change) → tree.items_depth (items_outline (items_of (map change_value cs))) ≤ 1
 changes_flat [] = omega arith
 changes_flat (c ∷ cs) = omega (arith, change_flat c, changes_flat cs)
 
 change_numbers : (c : Change) → kept c < 2 ^ 64 → tree.HasNumbers (outline (change_value c))
-change_numbers (Make path new) h = (tt, (tt, (tt, tt)))
-change_numbers (Drop path old) h = (tt, (tt, (tt, tt)))
-change_numbers (Splice path at old new rest) h = (IsNumber-decimal at (omega arith), (tt, (tt, (tt, (tt, (IsNumber-decimal rest (omega arith), tt))))))
+change_numbers (Make path new None) h = (tt, (tt, (tt, tt)))
+change_numbers (Make path new (Some after)) h = (tt, (tt, (tt, (tt, tt))))
+change_numbers (Drop path old None) h = (tt, (tt, (tt, tt)))
+change_numbers (Drop path old (Some before)) h = (tt, (tt, (tt, (tt, tt))))
+change_numbers (Splice path at old new rest None) h = (IsNumber-decimal at (omega arith), (tt, (tt, (tt, (tt, (IsNumber-decimal rest (omega arith), tt))))))
+change_numbers (Splice path at old new rest (Some seal)) h = (tt, (IsNumber-decimal at (omega arith), (tt, (tt, (tt, (tt, (tt, (IsNumber-decimal rest (omega arith), tt))))))))
 
 changes_numbers : (cs : List Change) → AllByRecursion (λ c. kept c < 2 ^ 64) cs → tree.ItemsHaveNumbers (items_outline (items_of (map change_value cs)))
 changes_numbers [] h = tt
 changes_numbers (c ∷ cs) h = (change_numbers c h.0, changes_numbers cs h.1)
 
 change_read : (c : Change) → kept c < 2 ^ 64 → of_json (outline (change_value c)) ≡ Some (change_value c)
-change_read (Make path new) h = refl
-change_read (Drop path old) h = refl
-change_read (Splice path at old new rest) h =
+change_read (Make path new None) h = refl
+change_read (Make path new (Some after)) h = refl
+change_read (Drop path old None) h = refl
+change_read (Drop path old (Some before)) h = refl
+change_read (Splice path at old new rest None) h =
+    let low : at < 2 ^ 64 = omega arith in
+    let high : rest < 2 ^ 64 = omega arith in
+    rw (number_of-decimal at low, number_of-decimal rest high) refl
+change_read (Splice path at old new rest (Some seal)) h =
     let low : at < 2 ^ 64 = omega arith in
     let high : rest < 2 ^ 64 = omega arith in
     rw (number_of-decimal at low, number_of-decimal rest high) refl
@@ -91,17 +110,22 @@ changes_read [] h = refl
 changes_read (c ∷ cs) h = rw (change_read c h.0, changes_read cs h.1) refl
 
 few_kept : (c : Change) → IsWritable c → kept c < 2 ^ 64
-few_kept (Make path new) h = omega arith
-few_kept (Drop path old) h = omega arith
-few_kept (Splice path at old new rest) h = omega (arith, h.small.0)
+few_kept (Make path new after) h = omega arith
+few_kept (Drop path old before) h = omega arith
+few_kept (Splice path at old new rest seal) h = omega (arith, h.small.0)
+
+few_formats : (second : Bool) → format_number second < 2 ^ 64
+few_formats false = omega arith
+few_formats true = omega arith
 
 entry_readable : (e : Entry) → IsSoundEntry e → IsReadable (entry_value e)
 entry_readable e sound =
     let wide = AllByRecursion-weaker IsWritable (λ c. kept c < 2 ^ 64) few_kept e.changes (all_writable e sound) in
-    let when : e.when < 2 ^ 64 = omega (arith, sound.when) in record {
+    let when : e.when < 2 ^ 64 = omega (arith, sound.when) in
+    let format = few_formats (is_any_sealed e.changes) in record {
       shallow = omega (arith, changes_flat e.changes);
-      numbers = (changes_numbers e.changes wide, (tt, (IsNumber-decimal 1 (omega arith), (IsNumber-decimal e.when when, tt))));
-      again = rw (changes_read e.changes wide, number_of-decimal 1 (omega arith), number_of-decimal e.when when) refl;
+      numbers = (changes_numbers e.changes wide, (tt, (IsNumber-decimal (format_number (is_any_sealed e.changes)) format, (IsNumber-decimal e.when when, tt))));
+      again = rw (changes_read e.changes wide, number_of-decimal (format_number (is_any_sealed e.changes)) format, number_of-decimal e.when when) refl;
     }
 
 -- ---- the text is UTF-8
@@ -119,15 +143,42 @@ hex_utf8 bytes = IsUtf8-quoted (encode_lower bytes) (IsUtf8-from_ascii (encode_l
 number_utf8 : (n : ℕ) → n < 2 ^ 64 → IsUtf8 (decimal n)
 number_utf8 n h = IsUtf8-from_ascii (decimal n) (IsAscii-decimal n h)
 
+ascii : (xs : List ℕ) → are_ascii xs ≡ true → IsUtf8 xs
+ascii xs e = IsUtf8-are_ascii xs e
+
+digest_utf8 : (key : List ℕ) (digest : Option (List ℕ)) → IsUtf8 key → IsUtf8 (digest_text key digest)
+digest_utf8 key None h = ascii [] refl
+digest_utf8 key (Some digest) h =
+    IsUtf8-append _ (codes ",") (IsUtf8-append _ (hex_text digest) (IsUtf8-append _ (codes "\":") (IsUtf8-append (codes "\"") key (ascii _ refl) h) (ascii _ refl)) (hex_utf8 digest)) (ascii _ refl)
+
+-- a change's text up to the digest that stands first
+front_utf8 : (key : List ℕ) (digest : Option (List ℕ)) → IsUtf8 key → IsUtf8 (codes "{" ++ digest_text key digest)
+front_utf8 key digest h = IsUtf8-append (codes "{") (digest_text key digest) (ascii _ refl) (digest_utf8 key digest h)
+
 change_utf8 : (c : Change) → IsWritable c → IsUtf8 (change_text c)
-change_utf8 (Make path new) h =
-    let ascii = λ (xs : List ℕ) (e : are_ascii xs ≡ true). IsUtf8-are_ascii xs e in
-    IsUtf8-append _ (codes "}") (IsUtf8-append _ (quoted path) (IsUtf8-append _ (codes ",\"path\":") (IsUtf8-append (codes "{\"kind\":\"make\",\"new\":") (hex_text new) (ascii _ refl) (hex_utf8 new)) (ascii _ refl)) (IsUtf8-quoted path h.in_memory.utf8)) (ascii _ refl)
-change_utf8 (Drop path old) h =
-    let ascii = λ (xs : List ℕ) (e : are_ascii xs ≡ true). IsUtf8-are_ascii xs e in
-    IsUtf8-append _ (codes "}") (IsUtf8-append _ (quoted path) (IsUtf8-append _ (codes ",\"path\":") (IsUtf8-append (codes "{\"kind\":\"drop\",\"old\":") (hex_text old) (ascii _ refl) (hex_utf8 old)) (ascii _ refl)) (IsUtf8-quoted path h.in_memory.utf8)) (ascii _ refl)
-change_utf8 (Splice path at old new rest) h =
-    let ascii = λ (xs : List ℕ) (e : are_ascii xs ≡ true). IsUtf8-are_ascii xs e in
+change_utf8 (Make path new after) h =
+    IsUtf8-append _ (codes "}")
+    (IsUtf8-append _ (quoted path)
+    (IsUtf8-append _ (codes ",\"path\":")
+    (IsUtf8-append _ (hex_text new)
+    (IsUtf8-append (codes "{" ++ digest_text (codes "after") after) (codes "\"kind\":\"make\",\"new\":") (front_utf8 (codes "after") after (ascii _ refl)) (ascii _ refl))
+    (hex_utf8 new))
+    (ascii _ refl))
+    (IsUtf8-quoted path h.in_memory.utf8))
+    (ascii _ refl)
+change_utf8 (Drop path old before) h =
+    IsUtf8-append _ (codes "}")
+    (IsUtf8-append _ (quoted path)
+    (IsUtf8-append _ (codes ",\"path\":")
+    (IsUtf8-append _ (hex_text old)
+    (IsUtf8-append (codes "{" ++ digest_text (codes "before") before) (codes "\"kind\":\"drop\",\"old\":") (front_utf8 (codes "before") before (ascii _ refl)) (ascii _ refl))
+    (hex_utf8 old))
+    (ascii _ refl))
+    (IsUtf8-quoted path h.in_memory.utf8))
+    (ascii _ refl)
+change_utf8 (Splice path at old new rest seal) h =
+    let after = option_map (λ (s : Seal). s.after) seal in
+    let before = option_map (λ (s : Seal). s.before) seal in
     let low : at < 2 ^ 64 = omega (arith, h.small.0) in
     let high : rest < 2 ^ 64 = omega (arith, h.small.0) in
     IsUtf8-append _ (codes "}")
@@ -138,8 +189,14 @@ change_utf8 (Splice path at old new rest) h =
     (IsUtf8-append _ (hex_text old)
     (IsUtf8-append _ (codes ",\"old\":")
     (IsUtf8-append _ (hex_text new)
-    (IsUtf8-append _ (codes ",\"kind\":\"splice\",\"new\":")
-    (IsUtf8-append (codes "{\"at\":") (decimal at) (ascii _ refl) (number_utf8 at low))
+    (IsUtf8-append _ (codes "\"kind\":\"splice\",\"new\":")
+    (IsUtf8-append _ (digest_text (codes "before") before)
+    (IsUtf8-append _ (codes ",")
+    (IsUtf8-append _ (decimal at)
+    (IsUtf8-append (codes "{" ++ digest_text (codes "after") after) (codes "\"at\":") (front_utf8 (codes "after") after (ascii _ refl)) (ascii _ refl))
+    (number_utf8 at low))
+    (ascii _ refl))
+    (digest_utf8 (codes "before") before (ascii _ refl)))
     (ascii _ refl))
     (hex_utf8 new))
     (ascii _ refl))
@@ -157,16 +214,20 @@ name_utf8 Download = IsUtf8-are_ascii _ refl
 
 entry_utf8 : (e : Entry) → IsSoundEntry e → IsUtf8 (entry_text e)
 entry_utf8 e sound =
-    let ascii = λ (xs : List ℕ) (e : are_ascii xs ≡ true). IsUtf8-are_ascii xs e in
+    let second = is_any_sealed e.changes in
     let each = AllByRecursion-weaker IsWritable (λ c. IsUtf8 (change_text c)) change_utf8 e.changes (all_writable e sound) in
     IsUtf8-append _ (codes "}")
     (IsUtf8-append _ (decimal e.when)
-    (IsUtf8-append _ (codes "\",\"format\":1,\"when\":")
+    (IsUtf8-append _ (codes ",\"when\":")
+    (IsUtf8-append _ (decimal (format_number second))
+    (IsUtf8-append _ (codes "\",\"format\":")
     (IsUtf8-append _ (command_name e.command)
     (IsUtf8-append _ (codes "],\"command\":\"")
     (IsUtf8-append (codes "{\"changes\":[") (join_with_byte 44 (map change_text e.changes)) (ascii _ refl) (IsUtf8-join change_text e.changes each))
     (ascii _ refl))
     (name_utf8 e.command))
+    (ascii _ refl))
+    (number_utf8 (format_number second) (few_formats second)))
     (ascii _ refl))
     (number_utf8 e.when (omega (arith, sound.when))))
     (ascii _ refl)
@@ -225,29 +286,58 @@ length-hex bytes h = omega (arith, length-append (escape (encode_lower bytes)) (
 number_length : (n : ℕ) → n < 2 ^ 64 → length (decimal n) ≤ 20
 number_length n h = length-decimal-le 20 n (omega arith) (omega arith) h
 
-make_length : (new path : List ℕ) → length (codes "{\"kind\":\"make\",\"new\":" ++ new ++ codes ",\"path\":" ++ path ++ codes "}") ≤ 30 + (length new + length path)
-make_length new path = simp length-append (omega arith)
+make_length : (digest new path : List ℕ) → length (codes "{" ++ digest ++ codes "\"kind\":\"make\",\"new\":" ++ new ++ codes ",\"path\":" ++ path ++ codes "}") ≤ 30 + (length digest + length new + length path)
+make_length digest new path = simp length-append (omega arith)
 
-drop_length : (old path : List ℕ) → length (codes "{\"kind\":\"drop\",\"old\":" ++ old ++ codes ",\"path\":" ++ path ++ codes "}") ≤ 30 + (length old + length path)
-drop_length old path = simp length-append (omega arith)
+drop_length : (digest old path : List ℕ) → length (codes "{" ++ digest ++ codes "\"kind\":\"drop\",\"old\":" ++ old ++ codes ",\"path\":" ++ path ++ codes "}") ≤ 30 + (length digest + length old + length path)
+drop_length digest old path = simp length-append (omega arith)
 
-splice_length : (at new old path rest : List ℕ)
-    → length (codes "{\"at\":" ++ at ++ codes ",\"kind\":\"splice\",\"new\":" ++ new ++ codes ",\"old\":" ++ old ++ codes ",\"path\":" ++ path ++ codes ",\"rest\":" ++ rest ++ codes "}") ≤ 60 + (length at + length new + length old + length path + length rest)
-splice_length at new old path rest = simp length-append (omega arith)
+splice_length : (after at before new old path rest : List ℕ)
+    → length (codes "{" ++ after ++ codes "\"at\":" ++ at ++ codes "," ++ before ++ codes "\"kind\":\"splice\",\"new\":" ++ new ++ codes ",\"old\":" ++ old ++ codes ",\"path\":" ++ path ++ codes ",\"rest\":" ++ rest ++ codes "}")
+    ≤ 60 + (length after + length at + length before + length new + length old + length path + length rest)
+splice_length after at before new old path rest = simp length-append (omega arith)
+
+digest_front_length : (key digest : List ℕ) → length (codes "\"" ++ key ++ codes "\":" ++ digest ++ codes ",") ≡ 4 + (length key + length digest)
+digest_front_length key digest = simp length-append (omega arith)
+
+-- a digest with its key takes less than a hundred bytes, where one is recorded
+abbrev digest_room : Bool → ℕ
+digest_room false = 0
+digest_room true = 77
+
+digest_length : (key : List ℕ) (digest : Option (List ℕ)) → length key ≤ 6 → AreDigestBytes digest → length (digest_text key digest) ≤ digest_room (is_some digest)
+digest_length key None short h = omega arith
+digest_length key (Some digest) short h =
+    let n = length-hex digest h.0 in
+    let size : length digest ≡ 32 = h.1 in
+    let whole = digest_front_length key (hex_text digest) in
+    omega arith
 
 -- each change with its comma keeps to its size
 change_length : (c : Change) → IsWritable c → length (change_text c) + 1 ≤ change_size c
-change_length (Make path new) h =
+change_length (Make path new None) h =
     let n = length-hex new h.in_memory.written in
     let p = length-quoted-le path in
-    let whole = make_length (hex_text new) (quoted path) in
+    let whole = make_length [] (hex_text new) (quoted path) in
     omega arith
-change_length (Drop path old) h =
+change_length (Make path new (Some after)) h =
+    let n = length-hex new h.in_memory.written in
+    let p = length-quoted-le path in
+    let d = digest_length (codes "after") (Some after) (omega arith) h.in_memory.after in
+    let whole = make_length (digest_text (codes "after") (Some after)) (hex_text new) (quoted path) in
+    omega arith
+change_length (Drop path old None) h =
     let o = length-hex old h.in_memory.removed in
     let p = length-quoted-le path in
-    let whole = drop_length (hex_text old) (quoted path) in
+    let whole = drop_length [] (hex_text old) (quoted path) in
     omega arith
-change_length (Splice path at old new rest) h =
+change_length (Drop path old (Some before)) h =
+    let o = length-hex old h.in_memory.removed in
+    let p = length-quoted-le path in
+    let d = digest_length (codes "before") (Some before) (omega arith) h.in_memory.before in
+    let whole = drop_length (digest_text (codes "before") (Some before)) (hex_text old) (quoted path) in
+    omega arith
+change_length (Splice path at old new rest None) h =
     let low : at < 2 ^ 64 = omega (arith, h.small.0) in
     let high : rest < 2 ^ 64 = omega (arith, h.small.0) in
     let a = number_length at low in
@@ -255,7 +345,21 @@ change_length (Splice path at old new rest) h =
     let n = length-hex new h.in_memory.written in
     let o = length-hex old h.in_memory.removed in
     let p = length-quoted-le path in
-    let whole = splice_length (decimal at) (hex_text new) (hex_text old) (quoted path) (decimal rest) in
+    let whole = splice_length [] (decimal at) [] (hex_text new) (hex_text old) (quoted path) (decimal rest) in
+    omega arith
+change_length (Splice path at old new rest (Some seal)) h =
+    let low : at < 2 ^ 64 = omega (arith, h.small.0) in
+    let high : rest < 2 ^ 64 = omega (arith, h.small.0) in
+    let a = number_length at low in
+    let r = number_length rest high in
+    let n = length-hex new h.in_memory.written in
+    let o = length-hex old h.in_memory.removed in
+    let p = length-quoted-le path in
+    let after = digest_text (codes "after") (Some seal.after) in
+    let before = digest_text (codes "before") (Some seal.before) in
+    let d = digest_length (codes "after") (Some seal.after) (omega arith) h.in_memory.after in
+    let b = digest_length (codes "before") (Some seal.before) (omega arith) h.in_memory.before in
+    let whole = splice_length (digest_text (codes "after") (Some seal.after)) (decimal at) (digest_text (codes "before") (Some seal.before)) (hex_text new) (hex_text old) (quoted path) (decimal rest) in
     omega arith
 
 name_length : (w : CommandName) → length (command_name w) ≤ 12
@@ -263,8 +367,11 @@ name_length Annotate = omega arith
 name_length ConvertDep5 = omega arith
 name_length Download = omega arith
 
-around_length : (items name when : List ℕ) → length (codes "{\"changes\":[" ++ items ++ codes "],\"command\":\"" ++ name ++ codes "\",\"format\":1,\"when\":" ++ when ++ codes "}") ≤ 46 + (length items + length name + length when)
-around_length items name when = simp length-append (omega arith)
+format_length : (second : Bool) → length (decimal (format_number second)) ≤ 20
+format_length second = number_length (format_number second) (few_formats second)
+
+around_length : (items name format when : List ℕ) → length (codes "{\"changes\":[" ++ items ++ codes "],\"command\":\"" ++ name ++ codes "\",\"format\":" ++ format ++ codes ",\"when\":" ++ when ++ codes "}") ≤ 46 + (length items + length name + length format + length when)
+around_length items name format when = simp length-append (omega arith)
 
 -- the text of an entry is no longer than its entry size
 pub entry_length : (e : Entry) → IsSoundEntry e → length (entry_text e) ≤ entry_size e.changes
@@ -272,7 +379,8 @@ entry_length e sound =
     let each = AllByRecursion-weaker IsWritable (λ c. length (change_text c) + 1 ≤ change_size c) change_length e.changes (all_writable e sound) in
     omega (
       arith,
-      around_length (join_with_byte 44 (map change_text e.changes)) (command_name e.command) (decimal e.when),
+      around_length (join_with_byte 44 (map change_text e.changes)) (command_name e.command) (decimal (format_number (is_any_sealed e.changes))) (decimal e.when),
+      format_length (is_any_sealed e.changes),
       length-join-le change_text change_size e.changes each,
       name_length e.command,
       number_length e.when (omega (arith, sound.when)),
@@ -283,14 +391,49 @@ entry_length e sound =
 hex_is : (bytes : List ℕ) → IsBytes bytes → IsHex bytes (string (encode_lower bytes))
 hex_is bytes h = (encode_lower bytes, refl, decode_of-encode_lower bytes h)
 
+digest_is : (digest : List ℕ) → AreDigestBytes (Some digest) → IsHexDigest digest (string (encode_lower digest))
+digest_is digest h = (hex_is digest h.0, h.1)
+
 change_is : (c : Change) → IsWritable c → IsChangeValue c (change_value c)
-change_is (Make path new) h = (string (encode_lower new), hex_is new h.in_memory.written, refl)
-change_is (Drop path old) h = (string (encode_lower old), hex_is old h.in_memory.removed, refl)
-change_is (Splice path at old new rest) h = (string (encode_lower new), string (encode_lower old), hex_is new h.in_memory.written, hex_is old h.in_memory.removed, refl)
+change_is (Make path new None) h = (hex_value new, hex_is new h.in_memory.written, refl)
+change_is (Make path new (Some after)) h = (hex_value new, hex_is new h.in_memory.written, hex_value after, digest_is after h.in_memory.after, refl)
+change_is (Drop path old None) h = (hex_value old, hex_is old h.in_memory.removed, refl)
+change_is (Drop path old (Some before)) h = (hex_value old, hex_is old h.in_memory.removed, hex_value before, digest_is before h.in_memory.before, refl)
+change_is (Splice path at old new rest None) h = (hex_value new, hex_value old, hex_is new h.in_memory.written, hex_is old h.in_memory.removed, refl)
+change_is (Splice path at old new rest (Some seal)) h = (
+  hex_value new,
+  hex_value old,
+  hex_is new h.in_memory.written,
+  hex_is old h.in_memory.removed,
+  hex_value seal.after,
+  hex_value seal.before,
+  digest_is seal.after h.in_memory.after,
+  digest_is seal.before h.in_memory.before,
+  refl,
+)
+
+none_sealed : (cs : List Change) → AllByRecursion (λ c. is_sealed c ≡ false) cs → is_any_sealed cs ≡ false
+none_sealed [] h = refl
+none_sealed (c ∷ cs) h = ap (λ b. b || is_any_sealed cs) h.0 ∙ none_sealed cs h.1
+
+-- changes that are sealed alike are as one of them is
+any_is : (c : Change) (cs : List Change) (sealed : Bool) → AllByRecursion (λ x. is_sealed x ≡ sealed) (c ∷ cs) → sealed ≡ is_any_sealed (c ∷ cs)
+any_is c cs true h = sym (ap (λ b. b || is_any_sealed cs) h.0)
+any_is c cs false h = sym (none_sealed (c ∷ cs) h)
+
+as_any : (cs : List Change) (sealed : Bool) → AllByRecursion (λ c. is_sealed c ≡ sealed) cs → AllByRecursion (λ c. is_sealed c ≡ is_any_sealed cs) cs
+as_any [] sealed h = tt
+as_any (c ∷ cs) sealed h = subst (λ (b : Bool). AllByRecursion (λ x. is_sealed x ≡ b) (c ∷ cs)) (any_is c cs sealed h) h
 
 changes_are : (cs : List Change) → AllByRecursion IsWritable cs → AllZip IsChangeValue cs (map change_value cs)
 changes_are [] h = tt
 changes_are (c ∷ cs) h = (change_is c h.0, changes_are cs h.1)
+
+alike : (e : Entry) → IsSoundEntry e → AreAllSealed (is_any_sealed e.changes) e.changes
+alike e sound =
+    let IsAs : Bool → Change → Type 0 = λ b c. is_sealed c ≡ b in
+    let one = sound.changes.alike in
+    All-from_recursion (IsAs (is_any_sealed e.changes)) e.changes (as_any e.changes one.0 (recursion_from_All (IsAs one.0) e.changes one.1))
 
 pub entry_good : (e : Entry) → IsSoundEntry e → IsGoodEntry (entry_text e) e
 entry_good e sound = record {
@@ -298,7 +441,7 @@ entry_good e sound = record {
   value = (
     entry_value e,
     record { utf8 = entry_utf8 e sound; reads = ap read (sym (entry_compact e)) ∙ read-compact_text (entry_value e) (entry_readable e sound) },
-    (map change_value e.changes, changes_are e.changes (all_writable e sound), refl),
+    (is_any_sealed e.changes, map change_value e.changes, alike e sound, changes_are e.changes (all_writable e sound), refl),
   );
   changes = sound.changes;
   paths = λ k c below. (sound.in_memory k c below).path;

@@ -1,31 +1,34 @@
 -- What is read of an entry's value is the entry, and nothing else is.
-use Rattle.std.proofs.Common.{◌≡◌, ℕ, ◌≤◌, Bool, true, false, cond, List, [], ◌∷◌, codes, Option, Some, None, refl, sym, ap, ap₂, ◌∙◌, subst, le-leb, leb-true, Result, Ok, Err, ◌⊎◌, inl, inr}
+use Rattle.std.proofs.Common.{◌≡◌, ℕ, ◌≤◌, Bool, true, false, cond, ◌==◌, eqb-true, eq-eqb, List, [], ◌∷◌, length, codes, Option, Some, None, refl, sym, ap, ap₂, ◌∙◌, subst, le-leb, leb-true, Result, Ok, Err, ◌⊎◌, inl, inr}
 use Rattle.std.specs.Prelude.{IsTrue, IfOk}
 use Rattle.reuse_session.specs.declared.journal.fault.DecodeFault.{DecodeFault}
 use Rattle.reuse_session.specs.Decoded.{Gives, IsAnswer}
-use Rattle.std.specs.List.{AllZip}
+use Rattle.std.specs.List.{AllByRecursion, AllZip}
 use Rattle.std.specs.Result.{result_ok}
 use Rattle.std.specs.Str.{bytes_eq}
 use Rattle.std.proofs.lemmas.Option.{none-some, same_Some, cond_some}
 use Rattle.std.proofs.lemmas.Slice.Eq.{bytes_eq-Decides}
-use Rattle.std.proofs.lemmas.List.Elements.{All-head, All-tail}
+use Rattle.std.proofs.lemmas.Bool.{false≢true}
+use Rattle.std.proofs.lemmas.List.Elements.{All-head, All-tail, recursion_from_All, All-from_recursion}
 use Rattle.hex.specs.Hex.{decode_of}
 use Rattle.hex.specs.declared.error.FromHexError.{FromHexError}
 use Rattle.serde_json.specs.Data.{Data, string, array, object, Items, no_items, item, Members, no_members, member}
 use Rattle.serde_json.specs.Find.{as_array, as_object, as_str, get}
 use Rattle.serde_json.specs.View.{items_of}
 use Rattle.reuse_tree.specs.Path.{is_path}
-use Rattle.reuse_tree.specs.Change.{path_of}
-use Rattle.reuse_session.specs.Json.{count, array_of, IsJson}
-use Rattle.reuse_session.specs.EntryText.{command_name, IsHex, IsChangeValue, IsEntryValue, HavePaths, IsJsonEntry, IsGoodEntry}
-use Rattle.reuse_session.specs.JsonReading.{first_member, if_none_left, if_format_one, number_in, read_items}
-use Rattle.reuse_session.specs.EntryReading.{if_text, hex_in, path_in, command_from, moment_in, make_in, drop_in, splice_in, splice_bytes_in, splice_end_in, change_in, changes_in, entry_in}
+use Rattle.reuse_tree.specs.Change.{path_of, is_sealed}
+use Rattle.reuse_tree.specs.declared.digest.Seal.{Seal}
+use Rattle.reuse_session.specs.Entry.{AreAllSealed}
+use Rattle.reuse_session.specs.Json.{count, array_of, members_of, IsJson}
+use Rattle.reuse_session.specs.EntryText.{command_name, make_members, drop_members, splice_members, IsHex, IsHexDigest, IsChangeValue, IsEntryValue, HavePaths, IsJsonEntry, IsGoodEntry}
+use Rattle.reuse_session.specs.JsonReading.{first_member, if_none_left, format_in, number_in, read_items}
+use Rattle.reuse_session.specs.EntryReading.{if_text, digest_in, first_digest, seal_of, hex_in, path_in, command_from, moment_in, make_in, drop_in, splice_in, splice_bytes_in, splice_end_in, change_in, changes_in, entry_in}
 use Rattle.reuse_tree.specs.declared.change.Change.{Change}
 use Rattle.reuse_tree.specs.declared.change.Change.TheVariants.{Make, Drop, Splice}
 use Rattle.reuse_session.specs.declared.journal.entry.Entry.{Entry}
 use Rattle.reuse_session.specs.declared.command.CommandName.{CommandName}
 use Rattle.reuse_session.specs.declared.command.CommandName.TheVariants.{Annotate, ConvertDep5, Download}
-use Rattle.reuse_session.proofs.JsonParts.{either, bind_some, first_member_found, none_left_found, object_found, array_found, string_found, number_found, format_one_found, IfOk-from_gives, IsAnswer-from_gives, same_json}
+use Rattle.reuse_session.proofs.JsonParts.{either, bind_some, first_member_found, none_left_found, object_found, array_found, string_found, number_found, format_found, format_again, IfOk-from_gives, IsAnswer-from_gives, same_json}
 
 -- ---- parts
 
@@ -85,11 +88,44 @@ command_again Download = refl
 
 -- ---- a change
 
-make_found : (d : Data) (c : Change) → make_in d ≡ Some c → IsChangeValue c d
+digest_found : (d : Data) (digest : List ℕ) → digest_in d ≡ Some digest → IsHexDigest digest d
+digest_found d digest e =
+    let bytes = bind_some _ (hex_in d) digest e in
+    let t = cond_some (length bytes.0 == 32) bytes.0 digest bytes.2 in
+    subst (λ (x : List ℕ). IsHexDigest x d) t.1 (hex_found d bytes.0 bytes.1, eqb-true (length bytes.0) 32 t.0)
+
+digest_again : (d : Data) (digest : List ℕ) → IsHexDigest digest d → digest_in d ≡ Some digest
+digest_again d digest h = rw (hex_again d digest h.0, eq-eqb (length digest) 32 h.1) refl
+
+-- the members, in front of which a digest stands where changes are sealed
+abbrev IsInFront : Bool → List ℕ → Option (List ℕ) → Members → Members → Type 0
+IsInFront sealed key None fields rest = (sealed ≡ false) × (fields ≡ rest)
+IsInFront sealed key (Some digest) fields rest = (sealed ≡ true) × (d : Data) × IsHexDigest digest d × (fields ≡ member key d rest)
+
+first_digest_found : (sealed : Bool) (key : List ℕ) (fields : Members) (p : Option (List ℕ) × Members) → first_digest sealed key fields ≡ Some p → IsInFront sealed key p.0 fields p.1
+unfolding first_digest
+first_digest_found false key fields p e = subst (λ (q : Option (List ℕ) × Members). IsInFront false key q.0 fields q.1) (same_Some (None, fields) p e) (refl, refl)
+first_digest_found true key fields p e =
+    let first = bind_some _ (first_member key fields) p e in
+    let digest = bind_some _ (digest_in first.0.0) p first.2 in
+    subst (λ (q : Option (List ℕ) × Members). IsInFront true key q.0 fields q.1) (same_Some (Some digest.0, first.0.1) p digest.2)
+    (refl, first.0.0, digest_found first.0.0 digest.0 digest.1, first_member_found key fields first.0 first.1)
+
+-- a value of a change, sealed or not as all are
+abbrev IsValueIn : Bool → Change → Data → Type 0
+IsValueIn sealed c d = IsChangeValue c d × (is_sealed c ≡ sealed)
+
+make_value : (sealed : Bool) (after : Option (List ℕ)) (path new : List ℕ) (n : Data) (fields rest : Members) → IsInFront sealed (codes "after") after fields rest → IsHex new n
+    → rest ≡ members_of (make_members path n) → IsValueIn sealed (Make path new after) (object fields)
+make_value sealed None path new n fields rest front is e = ((n, is, ap object (front.1 ∙ e)), sym front.0)
+make_value sealed (Some after) path new n fields rest front is e = ((n, is, front.1, front.2, ap object (front.3 ∙ ap (member (codes "after") front.1) e)), sym front.0)
+
+make_found : (sealed : Bool) (d : Data) (c : Change) → make_in sealed d ≡ Some c → IsValueIn sealed c d
 unfolding make_in
-make_found d c e =
+make_found sealed d c e =
     let fields = bind_some _ (as_object d) c e in
-    let kind = bind_some _ (first_member (codes "kind") fields.0) c fields.2 in
+    let after = bind_some _ (first_digest sealed (codes "after") fields.0) c fields.2 in
+    let kind = bind_some _ (first_member (codes "kind") after.0.1) c after.2 in
     let make = bind_some _ (if_text (codes "make") kind.0.0) c kind.2 in
     let new = bind_some _ (first_member (codes "new") kind.0.1) c make.2 in
     let n = bind_some _ (hex_in new.0.0) c new.2 in
@@ -98,15 +134,23 @@ make_found d c e =
     let end = bind_some _ (if_none_left path.0.1) c p.2 in
     let third = first_member_found (codes "path") new.0.1 path.0 path.1 ∙ ap₂ (member (codes "path")) (path_found path.0.0 p.0 p.1).0 (none_left_found path.0.1 end.0 end.1) in
     let second = first_member_found (codes "new") kind.0.1 new.0 new.1 ∙ ap (member (codes "new") new.0.0) third in
-    let first = first_member_found (codes "kind") fields.0 kind.0 kind.1 ∙ ap₂ (member (codes "kind")) (if_text_found (codes "make") kind.0.0 make.0 make.1) second in
-    subst (λ (x : Change). IsChangeValue x d) (same_Some (Make p.0 n.0) c end.2)
-    (new.0.0, hex_found new.0.0 n.0 n.1, object_found d fields.0 fields.1 ∙ ap object first)
+    let first = first_member_found (codes "kind") after.0.1 kind.0 kind.1 ∙ ap₂ (member (codes "kind")) (if_text_found (codes "make") kind.0.0 make.0 make.1) second in
+    let front = first_digest_found sealed (codes "after") fields.0 after.0 after.1 in
+    subst (λ (x : Change). IsValueIn sealed x d) (same_Some (Make p.0 n.0 after.0.0) c end.2)
+    (subst (IsValueIn sealed (Make p.0 n.0 after.0.0)) (sym (object_found d fields.0 fields.1))
+    (make_value sealed after.0.0 p.0 n.0 new.0.0 fields.0 after.0.1 front (hex_found new.0.0 n.0 n.1) first))
 
-drop_found : (d : Data) (c : Change) → drop_in d ≡ Some c → IsChangeValue c d
+drop_value : (sealed : Bool) (before : Option (List ℕ)) (path old : List ℕ) (o : Data) (fields rest : Members) → IsInFront sealed (codes "before") before fields rest → IsHex old o
+    → rest ≡ members_of (drop_members path o) → IsValueIn sealed (Drop path old before) (object fields)
+drop_value sealed None path old o fields rest front is e = ((o, is, ap object (front.1 ∙ e)), sym front.0)
+drop_value sealed (Some before) path old o fields rest front is e = ((o, is, front.1, front.2, ap object (front.3 ∙ ap (member (codes "before") front.1) e)), sym front.0)
+
+drop_found : (sealed : Bool) (d : Data) (c : Change) → drop_in sealed d ≡ Some c → IsValueIn sealed c d
 unfolding drop_in
-drop_found d c e =
+drop_found sealed d c e =
     let fields = bind_some _ (as_object d) c e in
-    let kind = bind_some _ (first_member (codes "kind") fields.0) c fields.2 in
+    let before = bind_some _ (first_digest sealed (codes "before") fields.0) c fields.2 in
+    let kind = bind_some _ (first_member (codes "kind") before.0.1) c before.2 in
     let is = bind_some _ (if_text (codes "drop") kind.0.0) c kind.2 in
     let old = bind_some _ (first_member (codes "old") kind.0.1) c is.2 in
     let o = bind_some _ (hex_in old.0.0) c old.2 in
@@ -115,23 +159,26 @@ drop_found d c e =
     let end = bind_some _ (if_none_left path.0.1) c p.2 in
     let third = first_member_found (codes "path") old.0.1 path.0 path.1 ∙ ap₂ (member (codes "path")) (path_found path.0.0 p.0 p.1).0 (none_left_found path.0.1 end.0 end.1) in
     let second = first_member_found (codes "old") kind.0.1 old.0 old.1 ∙ ap (member (codes "old") old.0.0) third in
-    let first = first_member_found (codes "kind") fields.0 kind.0 kind.1 ∙ ap₂ (member (codes "kind")) (if_text_found (codes "drop") kind.0.0 is.0 is.1) second in
-    subst (λ (x : Change). IsChangeValue x d) (same_Some (Drop p.0 o.0) c end.2)
-    (old.0.0, hex_found old.0.0 o.0 o.1, object_found d fields.0 fields.1 ∙ ap object first)
+    let first = first_member_found (codes "kind") before.0.1 kind.0 kind.1 ∙ ap₂ (member (codes "kind")) (if_text_found (codes "drop") kind.0.0 is.0 is.1) second in
+    let front = first_digest_found sealed (codes "before") fields.0 before.0 before.1 in
+    subst (λ (x : Change). IsValueIn sealed x d) (same_Some (Drop p.0 o.0 before.0.0) c end.2)
+    (subst (IsValueIn sealed (Drop p.0 o.0 before.0.0)) (sym (object_found d fields.0 fields.1))
+    (drop_value sealed before.0.0 p.0 o.0 old.0.0 fields.0 before.0.1 front (hex_found old.0.0 o.0 o.1) first))
 
-splice_end_found : (at : ℕ) (new old : List ℕ) (fields : Members) (c : Change) → splice_end_in at new old fields ≡ Some c → (p : List ℕ) × (r : ℕ) × (c ≡ Splice p at old new r) × (fields ≡ member (codes "path") (string p) (member (codes "rest") (count r) no_members))
+splice_end_found : (at : ℕ) (new old : List ℕ) (seal : Option Seal) (fields : Members) (c : Change) → splice_end_in at new old seal fields ≡ Some c
+    → (p : List ℕ) × (r : ℕ) × (c ≡ Splice p at old new r seal) × (fields ≡ member (codes "path") (string p) (member (codes "rest") (count r) no_members))
 unfolding splice_end_in
-splice_end_found at new old fields c e =
+splice_end_found at new old seal fields c e =
     let path = bind_some _ (first_member (codes "path") fields) c e in
     let p = bind_some _ (path_in path.0.0) c path.2 in
     let rest = bind_some _ (first_member (codes "rest") path.0.1) c p.2 in
     let r = bind_some _ (number_in rest.0.0) c rest.2 in
     let end = bind_some _ (if_none_left rest.0.1) c r.2 in
     let sixth = first_member_found (codes "rest") path.0.1 rest.0 rest.1 ∙ ap₂ (member (codes "rest")) (number_found rest.0.0 r.0 r.1) (none_left_found rest.0.1 end.0 end.1) in
-    (p.0, r.0, sym (same_Some (Splice p.0 at old new r.0) c end.2), first_member_found (codes "path") fields path.0 path.1 ∙ ap₂ (member (codes "path")) (path_found path.0.0 p.0 p.1).0 sixth)
+    (p.0, r.0, sym (same_Some (Splice p.0 at old new r.0 seal) c end.2), first_member_found (codes "path") fields path.0 path.1 ∙ ap₂ (member (codes "path")) (path_found path.0.0 p.0 p.1).0 sixth)
 
--- the members of a splice from its new bytes on
-pub record SpliceBytes (at : ℕ) (fields : Members) (c : Change) : Type 0 where
+-- the members of a splice from its kind on
+pub record SpliceBytes (at : ℕ) (seal : Option Seal) (fields : Members) (c : Change) : Type 0 where
   pub path : List ℕ
   pub rest : ℕ
   pub new_bytes : List ℕ
@@ -140,17 +187,21 @@ pub record SpliceBytes (at : ℕ) (fields : Members) (c : Change) : Type 0 where
   pub old : Data
   pub is_new : IsHex new_bytes new
   pub is_old : IsHex old_bytes old
-  pub change : c ≡ Splice path at old_bytes new_bytes rest
-  pub all : fields ≡ member (codes "new") new (member (codes "old") old (member (codes "path") (string path) (member (codes "rest") (count rest) no_members)))
+  pub change : c ≡ Splice path at old_bytes new_bytes rest seal
+  pub all : fields ≡ members_of (splice_members path old new rest)
 
-splice_bytes_found : (at : ℕ) (fields : Members) (c : Change) → splice_bytes_in at fields ≡ Some c → SpliceBytes at fields c
+splice_bytes_found : (at : ℕ) (seal : Option Seal) (fields : Members) (c : Change) → splice_bytes_in at seal fields ≡ Some c → SpliceBytes at seal fields c
 unfolding splice_bytes_in
-splice_bytes_found at fields c e =
-    let new = bind_some _ (first_member (codes "new") fields) c e in
+splice_bytes_found at seal fields c e =
+    let kind = bind_some _ (first_member (codes "kind") fields) c e in
+    let is = bind_some _ (if_text (codes "splice") kind.0.0) c kind.2 in
+    let new = bind_some _ (first_member (codes "new") kind.0.1) c is.2 in
     let n = bind_some _ (hex_in new.0.0) c new.2 in
     let old = bind_some _ (first_member (codes "old") new.0.1) c n.2 in
     let o = bind_some _ (hex_in old.0.0) c old.2 in
-    let end = splice_end_found at n.0 o.0 old.0.1 c o.2 in
+    let end = splice_end_found at n.0 o.0 seal old.0.1 c o.2 in
+    let third = first_member_found (codes "old") new.0.1 old.0 old.1 ∙ ap (member (codes "old") old.0.0) end.3 in
+    let second = first_member_found (codes "new") kind.0.1 new.0 new.1 ∙ ap (member (codes "new") new.0.0) third in
     record {
       path = end.0;
       rest = end.1;
@@ -161,22 +212,35 @@ splice_bytes_found at fields c e =
       is_new = hex_found new.0.0 n.0 n.1;
       is_old = hex_found old.0.0 o.0 o.1;
       change = end.2;
-      all = first_member_found (codes "new") fields new.0 new.1 ∙ ap (member (codes "new") new.0.0) (first_member_found (codes "old") new.0.1 old.0 old.1 ∙ ap (member (codes "old") old.0.0) end.3);
+      all = first_member_found (codes "kind") fields kind.0 kind.1 ∙ ap₂ (member (codes "kind")) (if_text_found (codes "splice") kind.0.0 is.0 is.1) second;
     }
 
-splice_found : (d : Data) (c : Change) → splice_in d ≡ Some c → IsChangeValue c d
+-- a splice's members, given what stands in front of its kind
+splice_value : (sealed : Bool) (after before : Option (List ℕ)) (at : ℕ) (d : Data) (fields first second rest : Members) (c : Change)
+    → IsInFront sealed (codes "after") after fields first → first ≡ member (codes "at") (count at) second → IsInFront sealed (codes "before") before second rest
+    → SpliceBytes at (seal_of before after) rest c → d ≡ object fields → IsValueIn sealed c d
+splice_value sealed None None at d fields first second rest c a is b bytes e =
+    subst (λ (x : Change). IsValueIn sealed x d) (sym bytes.change)
+    ((bytes.new, bytes.old, bytes.is_new, bytes.is_old, e ∙ ap object (a.1 ∙ is ∙ ap (member (codes "at") (count at)) (b.1 ∙ bytes.all))), sym a.0)
+splice_value sealed (Some after) (Some before) at d fields first second rest c a is b bytes e =
+    let inner = b.3 ∙ ap (member (codes "before") b.1) bytes.all in
+    subst (λ (x : Change). IsValueIn sealed x d) (sym bytes.change)
+    ((bytes.new, bytes.old, bytes.is_new, bytes.is_old, a.1, b.1, a.2, b.2, e ∙ ap object (a.3 ∙ ap (member (codes "after") a.1) (is ∙ ap (member (codes "at") (count at)) inner))), sym a.0)
+splice_value sealed None (Some before) at d fields first second rest c a is b bytes e = absurd (false≢true (sym a.0 ∙ b.0))
+splice_value sealed (Some after) None at d fields first second rest c a is b bytes e = absurd (false≢true (sym b.0 ∙ a.0))
+
+splice_found : (sealed : Bool) (d : Data) (c : Change) → splice_in sealed d ≡ Some c → IsValueIn sealed c d
 unfolding splice_in
-splice_found d c e =
+splice_found sealed d c e =
     let fields = bind_some _ (as_object d) c e in
-    let at = bind_some _ (first_member (codes "at") fields.0) c fields.2 in
+    let after = bind_some _ (first_digest sealed (codes "after") fields.0) c fields.2 in
+    let at = bind_some _ (first_member (codes "at") after.0.1) c after.2 in
     let a = bind_some _ (number_in at.0.0) c at.2 in
-    let kind = bind_some _ (first_member (codes "kind") at.0.1) c a.2 in
-    let is = bind_some _ (if_text (codes "splice") kind.0.0) c kind.2 in
-    let b = splice_bytes_found a.0 kind.0.1 c is.2 in
-    let second = first_member_found (codes "kind") at.0.1 kind.0 kind.1 ∙ ap₂ (member (codes "kind")) (if_text_found (codes "splice") kind.0.0 is.0 is.1) b.all in
-    let first = first_member_found (codes "at") fields.0 at.0 at.1 ∙ ap₂ (member (codes "at")) (number_found at.0.0 a.0 a.1) second in
-    subst (λ (x : Change). IsChangeValue x d) (sym b.change)
-    (b.new, b.old, b.is_new, b.is_old, object_found d fields.0 fields.1 ∙ ap object first)
+    let before = bind_some _ (first_digest sealed (codes "before") at.0.1) c a.2 in
+    let place = first_member_found (codes "at") after.0.1 at.0 at.1 ∙ ap (λ (x : Data). member (codes "at") x at.0.1) (number_found at.0.0 a.0 a.1) in
+    splice_value sealed after.0.0 before.0.0 a.0 d fields.0 after.0.1 at.0.1 before.0.1 c
+    (first_digest_found sealed (codes "after") fields.0 after.0 after.1) place (first_digest_found sealed (codes "before") at.0.1 before.0 before.1)
+    (splice_bytes_found a.0 (seal_of before.0.0 after.0.0) before.0.1 c before.2) (object_found d fields.0 fields.1)
 
 -- one of three readers gave the value
 of_kind : (b1 b2 b3 : Bool) (x y z : Option Change) (c : Change) → cond b1 x (cond b2 y (cond b3 z None)) ≡ Some c → (x ≡ Some c) ⊎ ((y ≡ Some c) ⊎ (z ≡ Some c))
@@ -185,50 +249,61 @@ of_kind false true b3 x y z c e = inr (inl e)
 of_kind false false true x y z c e = inr (inr e)
 of_kind false false false x y z c e = absurd (none-some c e)
 
-change_found : (d : Data) (c : Change) → change_in d ≡ Some c → IsChangeValue c d
+change_found : (sealed : Bool) (d : Data) (c : Change) → change_in sealed d ≡ Some c → IsValueIn sealed c d
 unfolding change_in
-change_found d c e =
+change_found sealed d c e =
     let kind = bind_some _ (get (codes "kind") d) c e in
     let name = bind_some _ (as_str kind.0) c kind.2 in
-    elim (of_kind (bytes_eq name.0 (codes "make")) (bytes_eq name.0 (codes "drop")) (bytes_eq name.0 (codes "splice")) (make_in d) (drop_in d) (splice_in d) c name.2) [
-      | inl make ↦ make_found d c make
-      | inr other ↦ elim other [ inl dropped ↦ drop_found d c dropped | inr spliced ↦ splice_found d c spliced ]
+    elim (of_kind (bytes_eq name.0 (codes "make")) (bytes_eq name.0 (codes "drop")) (bytes_eq name.0 (codes "splice")) (make_in sealed d) (drop_in sealed d) (splice_in sealed d) c name.2) [
+      | inl make ↦ make_found sealed d c make
+      | inr other ↦ elim other [ inl dropped ↦ drop_found sealed d c dropped | inr spliced ↦ splice_found sealed d c spliced ]
     ]
 
-change_again : (c : Change) (d : Data) → IsChangeValue c d → is_path (path_of c) ≡ true → change_in d ≡ Some c
-unfolding change_in make_in drop_in splice_in splice_bytes_in splice_end_in
-change_again (Make path new) d h is = rw h.2 (rw (hex_again h.0 new h.1, is) refl)
-change_again (Drop path old) d h is = rw h.2 (rw (hex_again h.0 old h.1, is) refl)
-change_again (Splice path at old new rest) d h is = rw h.4 (rw (hex_again h.0 new h.2, hex_again h.1 old h.3, is) refl)
+change_again : (c : Change) (d : Data) → IsChangeValue c d → is_path (path_of c) ≡ true → change_in (is_sealed c) d ≡ Some c
+unfolding change_in make_in drop_in splice_in splice_bytes_in splice_end_in first_digest
+change_again (Make path new None) d h is = rw h.2 (rw (hex_again h.0 new h.1, is) refl)
+change_again (Make path new (Some after)) d h is = rw h.4 (rw (digest_again h.2 after h.3, hex_again h.0 new h.1, is) refl)
+change_again (Drop path old None) d h is = rw h.2 (rw (hex_again h.0 old h.1, is) refl)
+change_again (Drop path old (Some before)) d h is = rw h.4 (rw (digest_again h.2 before h.3, hex_again h.0 old h.1, is) refl)
+change_again (Splice path at old new rest None) d h is = rw h.4 (rw (hex_again h.0 new h.2, hex_again h.1 old h.3, is) refl)
+change_again (Splice path at old new rest (Some seal)) d h is =
+    rw h.8 (rw (digest_again h.4 seal.after h.6, digest_again h.5 seal.before h.7, hex_again h.0 new h.2, hex_again h.1 old h.3, is) refl)
 
-changes_found_in : (ds : Items) (cs : List Change) → read_items change_in ds ≡ Some cs → (values : List Data) × (ds ≡ items_of values) × AllZip IsChangeValue cs values
-unfolding read_items
-changes_found_in no_items cs e = ([], refl, subst (λ (xs : List Change). AllZip IsChangeValue xs []) (same_Some [] cs e) tt)
-changes_found_in (item d ds) cs e =
-    let first = bind_some _ (change_in d) cs e in
-    let others = bind_some _ (read_items change_in ds) cs first.2 in
-    let rest = changes_found_in ds others.0 others.1 in
-    (d ∷ rest.0, ap (item d) rest.1, subst (λ (xs : List Change). AllZip IsChangeValue xs (d ∷ rest.0)) (same_Some (first.0 ∷ others.0) cs others.2) (change_found d first.0 first.1, rest.2))
+abbrev AreValuesIn : Bool → List Change → List Data → Type 0
+AreValuesIn sealed cs values = AllByRecursion (λ c. is_sealed c ≡ sealed) cs × AllZip IsChangeValue cs values
 
-changes_again_in : (cs : List Change) (values : List Data) → AllZip IsChangeValue cs values → HavePaths cs → read_items change_in (items_of values) ≡ Some cs
+changes_found_in : (sealed : Bool) (ds : Items) (cs : List Change) → read_items (change_in sealed) ds ≡ Some cs → (values : List Data) × (ds ≡ items_of values) × AreValuesIn sealed cs values
 unfolding read_items
-changes_again_in [] [] h sound = refl
-changes_again_in [] (d ∷ ds) h sound = absurd h
-changes_again_in (c ∷ cs) [] h sound = absurd h
-changes_again_in (c ∷ cs) (d ∷ ds) h sound =
+changes_found_in sealed no_items cs e = ([], refl, subst (λ (xs : List Change). AreValuesIn sealed xs []) (same_Some [] cs e) (tt, tt))
+changes_found_in sealed (item d ds) cs e =
+    let first = bind_some _ (change_in sealed d) cs e in
+    let others = bind_some _ (read_items (change_in sealed) ds) cs first.2 in
+    let rest = changes_found_in sealed ds others.0 others.1 in
+    let value = change_found sealed d first.0 first.1 in
+    (d ∷ rest.0, ap (item d) rest.1, subst (λ (xs : List Change). AreValuesIn sealed xs (d ∷ rest.0)) (same_Some (first.0 ∷ others.0) cs others.2) ((value.1, rest.2.0), (value.0, rest.2.1)))
+
+changes_again_in : (sealed : Bool) (cs : List Change) (values : List Data) → AllZip IsChangeValue cs values → AllByRecursion (λ c. is_sealed c ≡ sealed) cs → HavePaths cs → read_items (change_in sealed) (items_of values) ≡ Some cs
+unfolding read_items
+changes_again_in sealed [] [] h are sound = refl
+changes_again_in sealed [] (d ∷ ds) h are sound = absurd h
+changes_again_in sealed (c ∷ cs) [] h are sound = absurd h
+changes_again_in sealed (c ∷ cs) (d ∷ ds) h are sound =
     let is_good = λ (x : Change). IsTrue (is_path (path_of x)) in
-    rw (change_again c d h.0 (All-head is_good c cs sound), changes_again_in cs ds h.1 (All-tail is_good c cs sound)) refl
+    let first : change_in sealed d ≡ Some c = subst (λ (b : Bool). change_in b d ≡ Some c) are.0 (change_again c d h.0 (All-head is_good c cs sound)) in
+    rw (first, changes_again_in sealed cs ds h.1 are.1 (All-tail is_good c cs sound)) refl
 
-changes_found : (d : Data) (cs : List Change) → changes_in d ≡ Some cs → (values : List Data) × (d ≡ array_of values) × AllZip IsChangeValue cs values
+changes_found : (sealed : Bool) (d : Data) (cs : List Change) → changes_in sealed d ≡ Some cs → (values : List Data) × (d ≡ array_of values) × AreValuesIn sealed cs values
 unfolding changes_in
-changes_found d cs e =
+changes_found sealed d cs e =
     let items = bind_some _ (as_array d) cs e in
-    let rest = changes_found_in items.0 cs items.2 in
+    let rest = changes_found_in sealed items.0 cs items.2 in
     (rest.0, array_found d items.0 items.1 ∙ ap array rest.1, rest.2)
 
-changes_again : (cs : List Change) (values : List Data) → AllZip IsChangeValue cs values → HavePaths cs → changes_in (array_of values) ≡ Some cs
+changes_again : (sealed : Bool) (cs : List Change) (values : List Data) → AllZip IsChangeValue cs values → AreAllSealed sealed cs → HavePaths cs → changes_in sealed (array_of values) ≡ Some cs
 unfolding changes_in
-changes_again cs values h sound = changes_again_in cs values h sound
+changes_again sealed cs values h are sound =
+    let IsAs : Change → Type 0 = λ c. is_sealed c ≡ sealed in
+    changes_again_in sealed cs values h (recursion_from_All IsAs cs are) sound
 
 -- ---- an entry
 
@@ -238,31 +313,32 @@ unfolding entry_in
 entry_found d entry e =
     let fields = bind_some _ (as_object d) entry e in
     let changes = bind_some _ (first_member (codes "changes") fields.0) entry fields.2 in
-    let cs = bind_some _ (changes_in changes.0.0) entry changes.2 in
-    let command = bind_some _ (first_member (codes "command") changes.0.1) entry cs.2 in
+    let command = bind_some _ (first_member (codes "command") changes.0.1) entry changes.2 in
     let text = bind_some _ (as_str command.0.0) entry command.2 in
     let name = bind_some _ (command_from text.0) entry text.2 in
     let format = bind_some _ (first_member (codes "format") command.0.1) entry name.2 in
-    let one = bind_some _ (if_format_one format.0.0) entry format.2 in
-    let when = bind_some _ (first_member (codes "when") format.0.1) entry one.2 in
+    let sealed = bind_some _ (format_in format.0.0) entry format.2 in
+    let when = bind_some _ (first_member (codes "when") format.0.1) entry sealed.2 in
     let w = bind_some _ (moment_in when.0.0) entry when.2 in
     let end = bind_some _ (if_none_left when.0.1) entry w.2 in
+    let cs = bind_some _ (changes_in sealed.0 changes.0.0) entry end.2 in
     let moment = moment_found when.0.0 w.0 w.1 in
-    let values = changes_found changes.0.0 cs.0 cs.1 in
+    let values = changes_found sealed.0 changes.0.0 cs.0 cs.1 in
+    let IsAs : Change → Type 0 = λ c. is_sealed c ≡ sealed.0 in
     let in_command = string_found command.0.0 text.0 text.1 ∙ ap string (command_found text.0 name.0 name.1) in
     let fourth = first_member_found (codes "when") format.0.1 when.0 when.1 ∙ ap₂ (member (codes "when")) moment.0 (none_left_found when.0.1 end.0 end.1) in
-    let third = first_member_found (codes "format") command.0.1 format.0 format.1 ∙ ap₂ (member (codes "format")) (format_one_found format.0.0 one.0 one.1) fourth in
+    let third = first_member_found (codes "format") command.0.1 format.0 format.1 ∙ ap₂ (member (codes "format")) (format_found format.0.0 sealed.0 sealed.1) fourth in
     let second = first_member_found (codes "command") changes.0.1 command.0 command.1 ∙ ap₂ (member (codes "command")) in_command third in
     let first = first_member_found (codes "changes") fields.0 changes.0 changes.1 ∙ ap₂ (member (codes "changes")) values.1 second in
     let found : Entry = record { changes = cs.0; command = name.0; when = w.0 } in
-    subst (λ (x : Entry). IsEntryValue x d × (x.when ≤ 250_000_000_000)) (same_Some found entry end.2)
-    ((values.0, values.2, object_found d fields.0 fields.1 ∙ ap object first), moment.1)
+    subst (λ (x : Entry). IsEntryValue x d × (x.when ≤ 250_000_000_000)) (same_Some found entry cs.2)
+    ((sealed.0, values.0, All-from_recursion IsAs cs.0 values.2.0, values.2.1, object_found d fields.0 fields.1 ∙ ap object first), moment.1)
 
 -- a value of an entry is read as the entry
 entry_again : (d : Data) (entry : Entry) → HavePaths entry.changes → entry.when ≤ 250_000_000_000 → IsEntryValue entry d → entry_in d ≡ Some entry
 unfolding entry_in
 entry_again d entry paths when h =
-    rw h.2 (rw (changes_again entry.changes h.0 h.1 paths, command_again entry.command, moment_again entry.when when) refl)
+    rw h.4 (rw (command_again entry.command, format_again h.0, moment_again entry.when when, changes_again h.0 entry.changes h.1 h.3 h.2 paths) refl)
 
 -- ---- what `read_entry` answers
 

@@ -1,5 +1,5 @@
 -- The ascending paths of changes, and the folders among them.
-use Rattle.std.proofs.Common.{◌≡◌, ℕ, zero, suc, ◌+◌, ◌-◌, ◌<◌, ◌≤◌, Bool, true, false, ◌||◌, ltb, lt-ltb, le-ltb, eqb, nat_lt, List, [], ◌∷◌, ◌++◌, length, get_or, take, drop, map, Less, Equal, Greater, Ordering, nat_cmp, refl, sym, ap, ap₂, ◌∙◌, subst, arith, length-append, add-one, ◌⊎◌, inl, inr}
+use Rattle.std.proofs.Common.{◌≡◌, ℕ, zero, suc, ◌+◌, ◌-◌, ◌<◌, ◌≤◌, Bool, true, false, ◌||◌, ltb, lt-ltb, le-ltb, eqb, nat_lt, List, [], ◌∷◌, ◌++◌, length, get_or, take, drop, map, Less, Equal, Greater, Ordering, nat_cmp, None, refl, sym, ap, ap₂, ◌∙◌, subst, arith, length-append, add-one, ◌⊎◌, inl, inr}
 use Rattle.std.specs.Prelude.{IsTrue, ◌↔◌}
 use Rattle.std.specs.Cmp.Lexicographic.{slice_cmp}
 use Rattle.std.specs.Ordering.{ordering_then, ordering_reverse, MatchOrdering, is_lt}
@@ -18,7 +18,7 @@ use Rattle.reuse_tree.specs.Change.{path_of, IsProper}
 use Rattle.reuse_tree.specs.declared.change.Change.{Change}
 use Rattle.reuse_tree.specs.declared.change.Change.TheVariants.{Make}
 use Rattle.reuse_session.specs.Tree.{is_of_tree}
-use Rattle.reuse_session.specs.Entry.{touches, IsEntry, IsSmall}
+use Rattle.reuse_session.specs.Entry.{touches, AreAllSealed, HasOwnDigest, IsEntry, IsSmall}
 use Rattle.reuse_session.specs.EntryText.{HavePaths}
 use Rattle.reuse_session.specs.EntryTests.{AreApart, IsSoundChange, Passes}
 use Rattle.reuse_session.specs.Listing.{ArePaths, is_among, is_folder_of}
@@ -64,8 +64,8 @@ point_of_paths : (target : List ℕ) (cs : List Change) (i : ℕ) → i ≤ leng
     → IsPartitionPoint (λ p. is_lt (before p target) ≡ true) (λ p. is_lt (before p target) ≡ false) (map path_of cs) i
 point_of_paths target cs i within point =
     let test = λ (p : List ℕ). is_lt (before p target) in (
-      λ k d from to. ap test (get_or-map path_of cs k (Make [] []) d (omega arith)) ∙ point.0 k (Make [] []) from to,
-      λ k d from to. let below : k < length cs = omega (arith, length-map cs path_of) in ap test (get_or-map path_of cs k (Make [] []) d below) ∙ point.1 k (Make [] []) from below,
+      λ k d from to. ap test (get_or-map path_of cs k (Make [] [] None) d (omega arith)) ∙ point.0 k (Make [] [] None) from to,
+      λ k d from to. let below : k < length cs = omega (arith, length-map cs path_of) in ap test (get_or-map path_of cs k (Make [] [] None) d below) ∙ point.1 k (Make [] [] None) from below,
     )
 
 pub folder_among : (folder : List ℕ) (cs : List Change) (i : ℕ) (c : Change) (r : Bool) → ArePaths (map path_of cs) → IsFirstInside folder cs i → i < length cs → c ≡ get_or cs i c → r ≡ lies_under (path_of c) folder → r ≡ is_folder_of (map path_of cs) folder
@@ -277,8 +277,8 @@ apart_from (p ∷ ps) f = (
   apart_from ps (λ path other a b. f path other (or_true (bytes_eq path p) (is_among ps path) a) (or_true (bytes_eq other p) (is_among ps other) b)),
 )
 
-pub entry_from_tests : (cs : List Change) → Passes cs → IsEntry cs
-entry_from_tests cs h = record {
+pub entry_from_tests : (cs : List Change) → (sealed : Bool) × AreAllSealed sealed cs → Passes cs → IsEntry cs
+entry_from_tests cs alike h = record {
   some = h.some;
   proper = All-weaker IsSoundChange IsProper (λ c s. s.proper) cs h.each;
   small = All-weaker IsSoundChange IsSmall (λ c s. s.small) cs h.each;
@@ -287,6 +287,8 @@ entry_from_tests cs h = record {
   apart = λ path other a b. apart_all (map path_of cs) h.apart path other (sym (touched cs path) ∙ a) (sym (touched cs other) ∙ b);
   few = h.few;
   light = h.light;
+  alike = alike;
+  own = All-weaker IsSoundChange HasOwnDigest (λ c s. s.own) cs h.each;
 }
 
 pub paths_from_tests : (cs : List Change) → Passes cs → HavePaths cs
@@ -297,7 +299,7 @@ tests_from_entry cs h paths = record {
   some = h.some;
   few = h.few;
   light = h.light;
-  each = λ i c within. record { path = paths i c within; proper = h.proper i c within; small = h.small i c within; of_tree = h.of_tree i c within };
+  each = λ i c within. record { path = paths i c within; proper = h.proper i c within; small = h.small i c within; of_tree = h.of_tree i c within; own = h.own i c within };
   ascending = h.ascending;
   apart = apart_from (map path_of cs) (λ path other a b. h.apart path other (touched cs path ∙ a) (touched cs other ∙ b));
 }

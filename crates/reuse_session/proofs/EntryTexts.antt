@@ -1,11 +1,11 @@
 -- The text of an entry is the compact text of its value.
-use Rattle.std.proofs.Common.{◌≡◌, ℕ, List, ◌++◌, map, codes, decimal, refl, ap₂, ◌∙◌, append_assoc, false}
+use Rattle.std.proofs.Common.{◌≡◌, ℕ, List, [], ◌++◌, map, codes, decimal, Some, None, refl, ap, ap₂, ◌∙◌, append_assoc, false}
 use Rattle.std.specs.List.{join_with_byte}
-use Rattle.std.specs.Fmt.{digits}
 use Rattle.json.specs.Print.{escape_byte, quoted}
 use Rattle.serde_json.specs.Written.{compact_text, items_text}
 use Rattle.serde_json.specs.View.{items_of}
-use Rattle.reuse_session.specs.EntryText.{command_name, hex_text, change_text, entry_text, change_value, entry_value}
+use Rattle.reuse_session.specs.EntryText.{command_name, hex_text, digest_text, is_any_sealed, change_text, entry_text, change_value, entry_value}
+use Rattle.reuse_session.specs.Format.{format_number}
 use Rattle.reuse_tree.specs.declared.change.Change.{Change}
 use Rattle.reuse_tree.specs.declared.change.Change.TheVariants.{Make, Drop, Splice}
 use Rattle.reuse_session.specs.declared.journal.entry.Entry.{Entry}
@@ -13,39 +13,75 @@ use Rattle.reuse_session.specs.declared.command.CommandName.{CommandName}
 use Rattle.reuse_session.specs.declared.command.CommandName.TheVariants.{Annotate, ConvertDep5, Download}
 use Rattle.reuse_session.proofs.JsonPrinting.{items_text-map}
 
-make_shape : (new path : List ℕ) → List ℕ
-make_shape new path = codes "{\"kind\":\"make\",\"new\":" ++ (new ++ (codes ",\"path\":" ++ (path ++ codes "}")))
+-- the members of a change from its kind on, one after another
+unfoldable make_end : (new path : List ℕ) → List ℕ
+make_end new path = codes "\"kind\":\"make\",\"new\":" ++ (new ++ (codes ",\"path\":" ++ (path ++ codes "}")))
 
-make_regroup : (new path : List ℕ) → make_shape new path ≡ codes "{\"kind\":\"make\",\"new\":" ++ new ++ codes ",\"path\":" ++ path ++ codes "}"
-unfolding make_shape
-make_regroup new path = simp append_assoc
+unfoldable drop_end : (old path : List ℕ) → List ℕ
+drop_end old path = codes "\"kind\":\"drop\",\"old\":" ++ (old ++ (codes ",\"path\":" ++ (path ++ codes "}")))
 
-drop_shape : (old path : List ℕ) → List ℕ
-drop_shape old path = codes "{\"kind\":\"drop\",\"old\":" ++ (old ++ (codes ",\"path\":" ++ (path ++ codes "}")))
+unfoldable splice_end : (new old path rest : List ℕ) → List ℕ
+splice_end new old path rest = codes "\"kind\":\"splice\",\"new\":" ++ (new ++ (codes ",\"old\":" ++ (old ++ (codes ",\"path\":" ++ (path ++ (codes ",\"rest\":" ++ (rest ++ codes "}")))))))
 
-drop_regroup : (old path : List ℕ) → drop_shape old path ≡ codes "{\"kind\":\"drop\",\"old\":" ++ old ++ codes ",\"path\":" ++ path ++ codes "}"
-unfolding drop_shape
-drop_regroup old path = simp append_assoc
+-- from its place on
+unfoldable at_end : (at digest end : List ℕ) → List ℕ
+at_end at digest end = codes "\"at\":" ++ (at ++ (codes "," ++ (digest ++ end)))
 
-splice_shape : (at new old path rest : List ℕ) → List ℕ
-splice_shape at new old path rest = codes "{\"at\":" ++ (at ++ (codes ",\"kind\":\"splice\",\"new\":" ++ (new ++ (codes ",\"old\":" ++ (old ++ (codes ",\"path\":" ++ (path ++ (codes ",\"rest\":" ++ (rest ++ codes "}")))))))))
+make_regroup : (digest new path : List ℕ) → codes "{" ++ (digest ++ make_end new path) ≡ codes "{" ++ digest ++ codes "\"kind\":\"make\",\"new\":" ++ new ++ codes ",\"path\":" ++ path ++ codes "}"
+unfolding make_end
+make_regroup digest new path = simp append_assoc
 
-splice_regroup : (at new old path rest : List ℕ)
-    → splice_shape at new old path rest ≡ codes "{\"at\":" ++ at ++ codes ",\"kind\":\"splice\",\"new\":" ++ new ++ codes ",\"old\":" ++ old ++ codes ",\"path\":" ++ path ++ codes ",\"rest\":" ++ rest ++ codes "}"
-unfolding splice_shape
-splice_regroup at new old path rest = simp append_assoc
+drop_regroup : (digest old path : List ℕ) → codes "{" ++ (digest ++ drop_end old path) ≡ codes "{" ++ digest ++ codes "\"kind\":\"drop\",\"old\":" ++ old ++ codes ",\"path\":" ++ path ++ codes "}"
+unfolding drop_end
+drop_regroup digest old path = simp append_assoc
+
+splice_regroup : (after at before new old path rest : List ℕ)
+    → codes "{" ++ (after ++ at_end at before (splice_end new old path rest))
+    ≡ codes "{" ++ after ++ codes "\"at\":" ++ at ++ codes "," ++ before ++ codes "\"kind\":\"splice\",\"new\":" ++ new ++ codes ",\"old\":" ++ old ++ codes ",\"path\":" ++ path ++ codes ",\"rest\":" ++ rest ++ codes "}"
+unfolding at_end splice_end
+splice_regroup after at before new old path rest = simp append_assoc
+
+-- a member whose value is a digest, in front of others
+unfoldable digest_front : (key digest rest : List ℕ) → List ℕ
+digest_front key digest rest = codes "\"" ++ (key ++ (codes "\":" ++ (digest ++ (codes "," ++ rest))))
+
+front_regroup : (a key b digest c rest : List ℕ) → a ++ (key ++ (b ++ (digest ++ (c ++ rest)))) ≡ (a ++ key ++ b ++ digest ++ c) ++ rest
+front_regroup a key b digest c rest = simp append_assoc
+
+digest_regroup : (key digest rest : List ℕ) → digest_front key (hex_text digest) rest ≡ digest_text key (Some digest) ++ rest
+unfolding digest_front
+digest_regroup key digest rest = front_regroup (codes "\"") key (codes "\":") (hex_text digest) (codes ",") rest
 
 pub change_compact : (c : Change) → compact_text (change_value c) ≡ change_text c
-unfolding escape_byte make_shape drop_shape splice_shape
-change_compact (Make path new) =
-    let whole : compact_text (change_value (Make path new)) ≡ make_shape (hex_text new) (quoted path) = refl in
-    whole ∙ make_regroup (hex_text new) (quoted path)
-change_compact (Drop path old) =
-    let whole : compact_text (change_value (Drop path old)) ≡ drop_shape (hex_text old) (quoted path) = refl in
-    whole ∙ drop_regroup (hex_text old) (quoted path)
-change_compact (Splice path at old new rest) =
-    let whole : compact_text (change_value (Splice path at old new rest)) ≡ splice_shape (decimal at) (hex_text new) (hex_text old) (quoted path) (decimal rest) = refl in
-    whole ∙ splice_regroup (decimal at) (hex_text new) (hex_text old) (quoted path) (decimal rest)
+unfolding escape_byte make_end drop_end splice_end at_end digest_front
+change_compact (Make path new None) =
+    let whole : compact_text (change_value (Make path new None)) ≡ codes "{" ++ ([] ++ make_end (hex_text new) (quoted path)) = refl in
+    whole ∙ make_regroup [] (hex_text new) (quoted path)
+change_compact (Make path new (Some after)) =
+    let end = make_end (hex_text new) (quoted path) in
+    let whole : compact_text (change_value (Make path new (Some after))) ≡ codes "{" ++ digest_front (codes "after") (hex_text after) end = refl in
+    whole ∙ ap (λ l. codes "{" ++ l) (digest_regroup (codes "after") after end) ∙ make_regroup (digest_text (codes "after") (Some after)) (hex_text new) (quoted path)
+change_compact (Drop path old None) =
+    let whole : compact_text (change_value (Drop path old None)) ≡ codes "{" ++ ([] ++ drop_end (hex_text old) (quoted path)) = refl in
+    whole ∙ drop_regroup [] (hex_text old) (quoted path)
+change_compact (Drop path old (Some before)) =
+    let end = drop_end (hex_text old) (quoted path) in
+    let whole : compact_text (change_value (Drop path old (Some before))) ≡ codes "{" ++ digest_front (codes "before") (hex_text before) end = refl in
+    whole ∙ ap (λ l. codes "{" ++ l) (digest_regroup (codes "before") before end) ∙ drop_regroup (digest_text (codes "before") (Some before)) (hex_text old) (quoted path)
+change_compact (Splice path at old new rest None) =
+    let end = splice_end (hex_text new) (hex_text old) (quoted path) (decimal rest) in
+    let whole : compact_text (change_value (Splice path at old new rest None)) ≡ codes "{" ++ ([] ++ at_end (decimal at) [] end) = refl in
+    whole ∙ splice_regroup [] (decimal at) [] (hex_text new) (hex_text old) (quoted path) (decimal rest)
+change_compact (Splice path at old new rest (Some seal)) =
+    let end = splice_end (hex_text new) (hex_text old) (quoted path) (decimal rest) in
+    let after = digest_text (codes "after") (Some seal.after) in
+    let before = digest_text (codes "before") (Some seal.before) in
+    let whole : compact_text (change_value (Splice path at old new rest (Some seal)))
+    ≡ codes "{" ++ digest_front (codes "after") (hex_text seal.after) (codes "\"at\":" ++ (decimal at ++ (codes "," ++ digest_front (codes "before") (hex_text seal.before) end))) = refl in
+    whole
+    ∙ ap (λ l. codes "{" ++ digest_front (codes "after") (hex_text seal.after) (codes "\"at\":" ++ (decimal at ++ (codes "," ++ l)))) (digest_regroup (codes "before") seal.before end)
+    ∙ ap (λ l. codes "{" ++ l) (digest_regroup (codes "after") seal.after (at_end (decimal at) before end))
+    ∙ splice_regroup after (decimal at) before (hex_text new) (hex_text old) (quoted path) (decimal rest)
 
 command_text : (w : CommandName) → quoted (command_name w) ≡ codes "\"" ++ command_name w ++ codes "\""
 unfolding escape_byte
@@ -53,20 +89,21 @@ command_text Annotate = refl
 command_text ConvertDep5 = refl
 command_text Download = refl
 
-unfoldable pub entry_shape : (items name when : List ℕ) → List ℕ
-entry_shape items name when = codes "{\"changes\":[" ++ (items ++ (codes ",\"command\":" ++ (name ++ (codes ",\"format\":1,\"when\":" ++ (when ++ codes "}")))))
+unfoldable pub entry_shape : (items name format when : List ℕ) → List ℕ
+entry_shape items name format when = codes "{\"changes\":[" ++ (items ++ (codes ",\"command\":" ++ (name ++ (codes ",\"format\":" ++ (format ++ (codes ",\"when\":" ++ (when ++ codes "}")))))))
 
-pub entry_regroup : (items name when : List ℕ)
-    → entry_shape (items ++ codes "]") (codes "\"" ++ name ++ codes "\"") when ≡ codes "{\"changes\":[" ++ items ++ codes "],\"command\":\"" ++ name ++ codes "\",\"format\":1,\"when\":" ++ when ++ codes "}"
+pub entry_regroup : (items name format when : List ℕ)
+    → entry_shape (items ++ codes "]") (codes "\"" ++ name ++ codes "\"") format when ≡ codes "{\"changes\":[" ++ items ++ codes "],\"command\":\"" ++ name ++ codes "\",\"format\":" ++ format ++ codes ",\"when\":" ++ when ++ codes "}"
 unfolding entry_shape
-entry_regroup items name when = simp append_assoc
+entry_regroup items name format when = simp append_assoc
 
 pub entry_compact : (e : Entry) → compact_text (entry_value e) ≡ entry_text e
-unfolding escape_byte digits entry_shape
+unfolding escape_byte entry_shape
 entry_compact e =
     let when = decimal e.when in
+    let format = decimal (format_number (is_any_sealed e.changes)) in
     let name = command_name e.command in
     let items = items_text false (items_of (map change_value e.changes)) in
     let joined = join_with_byte 44 (map change_text e.changes) in
-    let whole : compact_text (entry_value e) ≡ entry_shape items (quoted name) when = refl in
-    whole ∙ ap₂ (λ (a b : List ℕ). entry_shape a b when) (items_text-map change_value change_text change_compact e.changes) (command_text e.command) ∙ entry_regroup joined name when
+    let whole : compact_text (entry_value e) ≡ entry_shape items (quoted name) format when = refl in
+    whole ∙ ap₂ (λ (a b : List ℕ). entry_shape a b format when) (items_text-map change_value change_text change_compact e.changes) (command_text e.command) ∙ entry_regroup joined name format when

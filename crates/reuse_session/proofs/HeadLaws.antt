@@ -52,7 +52,7 @@ pending_no_float : (o : Option Pending) → has_float (pending_value o) ≡ fals
 pending_no_float None = refl
 pending_no_float (Some p) = refl
 
-pub head_no_float : (h : Head) → has_float (head_value h) ≡ false
+pub head_no_float : (h : Head) → has_float (head_value true h) ≡ false
 head_no_float h = rw (counts_no_float h.done, pending_no_float h.pending, counts_no_float h.undone) refl
 
 pending_flat : (o : Option Pending) → tree.depth (outline (pending_value o)) ≤ 1
@@ -67,12 +67,12 @@ pending_read : (o : Option Pending) → FitsSmall o → of_json (outline (pendin
 pending_read None h = refl
 pending_read (Some p) h = let fits : p.entry < 2 ^ 64 = omega arith in rw (number_of-decimal p.entry fits) refl
 
-head_readable : (h : Head) → IsSmallHead h → IsReadable (head_value h)
+head_readable : (h : Head) → IsSmallHead h → IsReadable (head_value true h)
 head_readable h small =
     let next : h.next < 2 ^ 64 = omega (arith, small.next) in record {
       shallow = omega (arith, counts_flat h.done, pending_flat h.pending, counts_flat h.undone);
-      numbers = (counts_numbers h.done small.done, (IsNumber-decimal 1 (omega arith), (IsNumber-decimal h.next next, (pending_numbers h.pending small.pending, (counts_numbers h.undone small.undone, tt)))));
-      again = rw (counts_read h.done small.done, number_of-decimal 1 (omega arith), number_of-decimal h.next next, pending_read h.pending small.pending, counts_read h.undone small.undone) refl;
+      numbers = (counts_numbers h.done small.done, (IsNumber-decimal 2 (omega arith), (IsNumber-decimal h.next next, (pending_numbers h.pending small.pending, (counts_numbers h.undone small.undone, tt)))));
+      again = rw (counts_read h.done small.done, number_of-decimal 2 (omega arith), number_of-decimal h.next next, pending_read h.pending small.pending, counts_read h.undone small.undone) refl;
     }
 
 -- ---- the head's text
@@ -105,7 +105,7 @@ head_utf8 h small =
     (IsUtf8-append _ (pending_text h.pending)
     (IsUtf8-append _ (codes ",\"pending\":")
     (IsUtf8-append _ (decimal h.next)
-    (IsUtf8-append _ (codes ",\"format\":1,\"next\":")
+    (IsUtf8-append _ (codes ",\"format\":2,\"next\":")
     (IsUtf8-append (codes "{\"done\":") (numbers_text h.done) (ascii _ refl) (numbers_utf8 h.done small.done))
     (ascii _ refl))
     (number_utf8 h.next small.next))
@@ -158,6 +158,6 @@ pub head_good : (h : Head) → IsSoundHead h → IsGoodHead (head_text h) h
 head_good h sound =
     let small = small_from_sound h sound in record {
       short = omega (arith, head_length h sound, sound.few);
-      value = record { utf8 = head_utf8 h small; reads = ap read (sym (head_compact h)) ∙ read-compact_text (head_value h) (head_readable h small) };
+      value = (true, record { utf8 = head_utf8 h small; reads = ap read (sym (head_compact h)) ∙ read-compact_text (head_value true h) (head_readable h small) });
       sound = sound;
     }

@@ -1,5 +1,5 @@
 -- What is read of a head's value is the head, and nothing else is.
-use Rattle.std.proofs.Common.{◌≡◌, ℕ, ◌^◌, ◌<◌, ◌≤◌, true, List, [], ◌∷◌, codes, Option, Some, None, option_map, refl, sym, ap, ap₂, ◌∙◌, subst, arith, inl, inr, length, ◌-◌, ◌++◌, Result}
+use Rattle.std.proofs.Common.{◌≡◌, ℕ, ◌^◌, ◌<◌, ◌≤◌, Bool, true, List, [], ◌∷◌, codes, Option, Some, None, option_map, refl, sym, ap, ap₂, ◌∙◌, subst, arith, inl, inr, length, ◌-◌, ◌++◌, Result}
 use Rattle.std.specs.Prelude.{⊤, IfOk}
 use Rattle.reuse_session.specs.declared.journal.fault.DecodeFault.{DecodeFault}
 use Rattle.reuse_session.specs.Decoded.{Gives, IsAnswer}
@@ -11,15 +11,16 @@ use Rattle.std.specs.Str.{bytes_eq}
 use Rattle.serde_json.specs.Data.{Data, null, boolean, number, string, array, object, member}
 use Rattle.serde_json.specs.Find.{as_object, as_str}
 use Rattle.reuse_session.specs.Json.{IsJson}
-use Rattle.reuse_session.specs.Head.{way_name, pending_value, head_value, FitsWay, PendingFits, IsSoundHead, IsGoodHead}
-use Rattle.reuse_session.specs.JsonReading.{first_member, if_none_left, small_in, smalls_in, if_format_one}
+use Rattle.reuse_session.specs.Head.{way_name, pending_value, head_value, FitsWay, PendingFits, IsJsonHead, IsSoundHead, IsGoodHead}
+use Rattle.reuse_session.specs.Format.{format_number}
+use Rattle.reuse_session.specs.JsonReading.{first_member, if_none_left, small_in, smalls_in, format_in}
 use Rattle.reuse_session.specs.HeadReading.{way_from, way_in, some_pending_in, pending_in, head_in}
 use Rattle.reuse_session.specs.declared.journal.head.Head.{Head}
 use Rattle.reuse_session.specs.declared.journal.head.Pending.{Pending}
 use Rattle.reuse_session.specs.declared.journal.head.PendingWay.{PendingWay}
 use Rattle.reuse_session.specs.declared.journal.head.PendingWay.TheVariants.{Do, Undo, Redo}
 use Rattle.reuse_session.proofs.JoinedTexts.{AllByRecursion-weaker}
-use Rattle.reuse_session.proofs.JsonParts.{either, bind_some, first_member_found, none_left_found, object_found, string_found, small_found, small_again, smalls_found, smalls_again, format_one_found, IfOk-from_gives, IsAnswer-from_gives, same_json}
+use Rattle.reuse_session.proofs.JsonParts.{either, bind_some, first_member_found, none_left_found, object_found, string_found, small_found, small_again, smalls_found, smalls_again, format_found, format_again, IfOk-from_gives, IsAnswer-from_gives, same_json}
 
 named : (name : List ℕ) (v w : PendingWay) → (bytes_eq name (way_name v) ≡ true) × (v ≡ w) → name ≡ way_name w
 named name v w h = (bytes_eq-Decides name (way_name v)).0 h.0 ∙ ap way_name h.1
@@ -93,15 +94,15 @@ pending_found (array ds) o e = not_null (array ds) o e
 pending_found (object ms) o e = not_null (object ms) o e
 
 -- what is read as a head is its value
-pub head_found : (d : Data) (h : Head) → head_in d ≡ Some h → d ≡ head_value h
+pub head_found : (d : Data) (h : Head) → head_in d ≡ Some h → (second : Bool) × (d ≡ head_value second h)
 unfolding head_in
 head_found d h e =
     let fields = bind_some _ (as_object d) h e in
     let done = bind_some _ (first_member (codes "done") fields.0) h fields.2 in
     let dones = bind_some _ (smalls_in done.0.0) h done.2 in
     let format = bind_some _ (first_member (codes "format") done.0.1) h dones.2 in
-    let one = bind_some _ (if_format_one format.0.0) h format.2 in
-    let next = bind_some _ (first_member (codes "next") format.0.1) h one.2 in
+    let second_one = bind_some _ (format_in format.0.0) h format.2 in
+    let next = bind_some _ (first_member (codes "next") format.0.1) h second_one.2 in
     let n = bind_some _ (small_in next.0.0) h next.2 in
     let pending = bind_some _ (first_member (codes "pending") next.0.1) h n.2 in
     let p = bind_some _ (pending_in pending.0.0) h pending.2 in
@@ -110,7 +111,7 @@ head_found d h e =
     let end = bind_some _ (if_none_left undone.0.1) h undones.2 in
     let last = same_Some _ h end.2 in
     let in_done = smalls_found done.0.0 dones.0 dones.1 in
-    let in_format = format_one_found format.0.0 one.0 one.1 in
+    let in_format = format_found format.0.0 second_one.0 second_one.1 in
     let in_next = (small_found next.0.0 n.0 n.1).0 in
     let in_pending = pending_found pending.0.0 p.0 p.1 in
     let in_undone = smalls_found undone.0.0 undones.0 undones.1 in
@@ -120,7 +121,7 @@ head_found d h e =
     let third = first_member_found (codes "next") format.0.1 next.0 next.1 ∙ ap₂ (member (codes "next")) in_next fourth in
     let second = first_member_found (codes "format") done.0.1 format.0 format.1 ∙ ap₂ (member (codes "format")) in_format third in
     let first = first_member_found (codes "done") fields.0 done.0 done.1 ∙ ap₂ (member (codes "done")) in_done second in
-    object_found d fields.0 fields.1 ∙ ap object first ∙ ap head_value last
+    (second_one.0, object_found d fields.0 fields.1 ∙ ap object first ∙ ap (head_value second_one.0) last)
 
 All-front : (P : ℕ → Type 0) (xs ys : List ℕ) → All P (xs ++ ys) → All P xs
 All-front P [] ys h = All-nil P
@@ -138,9 +139,9 @@ pub record IsSmallHead (h : Head) : Type 0 where
   pub pending : FitsSmall h.pending
 
 -- a head's value is read as the head
-pub head_again : (h : Head) → IsSmallHead h → head_in (head_value h) ≡ Some h
+pub head_again : (second : Bool) (h : Head) → IsSmallHead h → head_in (head_value second h) ≡ Some h
 unfolding head_in
-head_again h small = rw (smalls_again h.done small.done, small_again h.next small.next, pending_again h.pending small.pending, smalls_again h.undone small.undone) refl
+head_again second h small = rw (smalls_again h.done small.done, format_again second, small_again h.next small.next, pending_again h.pending small.pending, smalls_again h.undone small.undone) refl
 
 last_is : (ns : List ℕ) (n next : ℕ) → All (λ m. (1 ≤ m) × (m < next)) ns → slice_get ns (length ns - 1) ≡ Some n → n < next
 last_is ns n next h e =
@@ -192,15 +193,15 @@ small_from_sound h sound =
 
 -- ---- what `read_head` answers
 
-pub head_ok : (r : Result Head DecodeFault) (text : List ℕ) (d : Data) → IsJson text d → Gives r (head_in d) → IfOk r (λ h. IsJson text (head_value h))
-head_ok r text d is gives = IfOk-from_gives r (head_in d) (λ h. IsJson text (head_value h)) (λ h e. subst (IsJson text) (head_found d h e) is) gives
+pub head_ok : (r : Result Head DecodeFault) (text : List ℕ) (d : Data) → IsJson text d → Gives r (head_in d) → IfOk r (IsJsonHead text)
+head_ok r text d is gives = IfOk-from_gives r (head_in d) (IsJsonHead text) (λ h e. let f = head_found d h e in (f.0, subst (IsJson text) f.1 is)) gives
 
-pub head_only : (r : Result Head DecodeFault) (text : List ℕ) (d : Data) → IsJson text d → Gives r (head_in d) → (h : Head) → IsSoundHead h → IsJson text (head_value h) → IsAnswer r h
+pub head_only : (r : Result Head DecodeFault) (text : List ℕ) (d : Data) → IsJson text d → Gives r (head_in d) → (h : Head) → IsSoundHead h → IsJsonHead text h → IsAnswer r h
 head_only r text d is gives h sound other =
-    IsAnswer-from_gives r (head_in d) h gives (ap head_in (same_json text d (head_value h) is other) ∙ head_again h (small_from_sound h sound))
+    IsAnswer-from_gives r (head_in d) h gives (ap head_in (same_json text d (head_value other.0 h) is other.1) ∙ head_again other.0 h (small_from_sound h sound))
 
 -- a text stands for one head at most
 pub one_head : (text : List ℕ) (a b : Head) → IsGoodHead text a → IsGoodHead text b → a ≡ b
 one_head text a b is_a is_b =
-    let same = same_json text (head_value a) (head_value b) is_a.value is_b.value in
-    same_Some a b (sym (head_again a (small_from_sound a is_a.sound)) ∙ ap head_in same ∙ head_again b (small_from_sound b is_b.sound))
+    let same = same_json text (head_value is_a.value.0 a) (head_value is_b.value.0 b) is_a.value.1 is_b.value.1 in
+    same_Some a b (sym (head_again is_a.value.0 a (small_from_sound a is_a.sound)) ∙ ap head_in same ∙ head_again is_b.value.0 b (small_from_sound b is_b.sound))

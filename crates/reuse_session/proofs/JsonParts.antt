@@ -1,5 +1,5 @@
 -- What a value was, where a part of it was read.
-use Rattle.std.proofs.Common.{◌≡◌, ℕ, ◌+◌, ◌^◌, ◌<◌, ◌≤◌, length, get_or, drop, Bool, true, false, cond, ◌⊎◌, inl, inr, List, [], ◌∷◌, ◌++◌, map, Option, Some, None, option_and_then, refl, sym, ap, ap₂, ◌∙◌, subst, lt-ltb, ltb-true, eqb-true, append_assoc, append-nil, Result, Ok, Err}
+use Rattle.std.proofs.Common.{◌≡◌, ℕ, ◌+◌, ◌^◌, ◌==◌, ◌<◌, ◌≤◌, length, get_or, drop, Bool, true, false, cond, ◌⊎◌, inl, inr, List, [], ◌∷◌, ◌++◌, map, Option, Some, None, option_and_then, refl, sym, ap, ap₂, ◌∙◌, subst, lt-ltb, ltb-true, eqb-true, append_assoc, append-nil, Result, Ok, Err}
 use Rattle.std.specs.Prelude.{IfOk}
 use Rattle.std.specs.List.{AllByRecursion}
 use Rattle.std.proofs.lemmas.List.{drop_more, drop_all}
@@ -13,7 +13,8 @@ use Rattle.reuse_session.specs.declared.journal.fault.DecodeFault.{DecodeFault}
 use Rattle.reuse_session.specs.declared.journal.fault.DecodeFault.TheVariants.{NotGood, Memory}
 use Rattle.reuse_session.specs.Decoded.{Fails, Gives, IsAnswer}
 use Rattle.reuse_session.specs.Json.{count, counts, IsJson}
-use Rattle.reuse_session.specs.JsonReading.{first_member, if_none_left, number_in, small_in, smalls_in, read_items, if_format_one, with_front}
+use Rattle.reuse_session.specs.JsonReading.{first_member, if_none_left, number_in, small_in, smalls_in, read_items, format_of_number, format_in, with_front}
+use Rattle.reuse_session.specs.Format.{format_number}
 
 -- the two steps of a bind that gave a value
 pub bind_some : {A B : Type 0} (f : A → Option B) (o : Option A) (y : B) → option_and_then f o ≡ Some y → (x : A) × (o ≡ Some x) × (f x ≡ Some y)
@@ -86,11 +87,20 @@ small_found d n e =
 pub small_again : (n : ℕ) → n < 2 ^ 32 → small_in (count n) ≡ Some n
 small_again n h = rw (lt-ltb n (2 ^ 32) h) refl
 
-pub format_one_found : (d : Data) (u : Unit) → if_format_one d ≡ Some u → d ≡ count 1
-format_one_found d u e =
-    let b = bind_some _ (number_in d) u e in
-    let t = cond_some _ _ _ b.2 in
-    number_found d b.0 b.1 ∙ ap count (eqb-true b.0 1 t.0)
+number_of_format : (n : ℕ) (second : Bool) → format_of_number n ≡ Some second → n ≡ format_number second
+number_of_format n second e = elim (either (n == 1) false second _ e) [
+  | inl first ↦ eqb-true n 1 first.0 ∙ ap format_number first.1
+  | inr other ↦ let t = cond_some (n == 2) true second other in eqb-true n 2 t.0 ∙ ap format_number t.1
+]
+
+pub format_found : (d : Data) (second : Bool) → format_in d ≡ Some second → d ≡ count (format_number second)
+format_found d second e =
+    let b = bind_some _ (number_in d) second e in
+    number_found d b.0 b.1 ∙ ap count (number_of_format b.0 second b.2)
+
+pub format_again : (second : Bool) → format_in (count (format_number second)) ≡ Some second
+format_again false = refl
+format_again true = refl
 
 smalls_in_items_found : (ds : Items) (ns : List ℕ) → read_items small_in ds ≡ Some ns → ds ≡ items_of (map count ns)
 unfolding read_items

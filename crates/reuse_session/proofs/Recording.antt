@@ -10,7 +10,7 @@ use Rattle.reuse_tree.specs.declared.store.Store.{Ghosts}
 use Rattle.reuse_session.specs.Answer.{IsEarly, IsStop, IsPutRefusal, HasClash}
 use Rattle.reuse_session.specs.Calls.{files_of, folder_of, next_path, LeavesRun}
 use Rattle.reuse_session.specs.Command.{name_of}
-use Rattle.reuse_session.specs.Entry.{paths_of, entry_size, IsEntry, LeadsAll, CanBeMade}
+use Rattle.reuse_session.specs.Entry.{paths_of, entry_size, IsEntry, LeadsAll, CanBeMade, CanGo}
 use Rattle.reuse_session.specs.EntryText.{entry_text}
 use Rattle.reuse_session.specs.Head.{IsSoundHead}
 use Rattle.reuse_session.specs.History.{Memory, head_listing, remember_run}
@@ -80,6 +80,18 @@ module _ {S : Type 0} (store : Ghosts S) (old : Session S) (command : Command) (
         let size : entry_size changes ≡ recorded_size (edits_of command held.tree) =
         size_recorded tree (edits_of command tree) changes (here honest).recorded ∙ ap (λ t. recorded_size (edits_of command t)) stands.standing.tree in
         omega (arith, at_most good, size, ap (λ (e : Entry). entry_size e.changes) is_entry)
+
+    -- each of its changes can be made beside it
+    pub can_go : (made : List Change) → made ≡ entry.changes → store.honest put → CanGo way.Do (tree_of (store.files put)) made
+    can_go made is_made honest =
+        let files = files_of store old in
+        let plan = here honest in
+        let same : made ≡ changes = is_made ∙ ap (λ (e : Entry). e.changes) is_entry in
+        let tree : tree_of (store.files put) ≡ tree_of files = tree_beside files (store.files put) ((memory_of old).used + 1) (others honest) in record {
+          entry = subst IsEntry (sym same) plan.entry;
+          each = subst (λ t. All (CanBeMade way.Do t) made) (sym tree)
+              (subst (All (CanBeMade way.Do (tree_of files))) (sym same) (can_lead way.Do changes (tree_of files) plan.plan.after plan.entry plan.plan.are_files plan.plan.leads));
+        }
 
     -- the entry was not put
     pub unput_leaves : (refusal : Refusal) → IsPutRefusal refusal → (store.honest put → refusal ≡ Fault faults.Clash → Clashes (files_of store old) (entry_path (number + 1)))
@@ -215,10 +227,7 @@ module _ {S : Type 0} (store : Ghosts S) (old : Session S) (command : Command) (
               written = written_left;
               clash = λ honest.
                   let files = files_of store old in
-                  let plan = here (was_put honest) in
-                  let tree : tree_of (store.files put) ≡ tree_of files = tree_beside files (store.files put) ((memory_of old).used + 1) (others (was_put honest)) in
-                  let can : All (CanBeMade way.Do (tree_of (store.files put))) made =
-                  subst (λ t. All (CanBeMade way.Do t) made) (sym tree) (subst (All (CanBeMade way.Do (tree_of files))) (sym same) (can_lead way.Do changes (tree_of files) plan.plan.after plan.entry plan.plan.are_files plan.plan.leads)) in
+                  let can = (can_go made is_made (was_put honest)).each in
                   clash_of ⊥ (Clashes (store.files put) head_path) (Clashes files (next_path old)) (Clashes files head_path) (λ none. absurd none)
                   (head_clash_before files (store.files put) ((memory_of old).used + 1) (others (was_put honest))) refusal (clash honest (made_good (was_put honest)) can);
               free = free_left;

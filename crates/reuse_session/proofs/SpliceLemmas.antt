@@ -1,12 +1,14 @@
 -- The change of a file that an annotation's splice is.
 use Rattle.std.proofs.Common.{◌≡◌, ℕ, ◌+◌, ◌-◌, ◌≤◌, false, List, ◌++◌, length, take, drop, Some, refl, sym, ap, ◌∙◌, arith, length-append, append_assoc, length-drop}
+use Rattle.std.specs.Option.{option_map}
 use Rattle.std.specs.Str.{bytes_eq}
+use Rattle.sha2.specs.Sha256.{sha256}
 use Rattle.std.specs.FinMap.{get}
 use Rattle.std.proofs.lemmas.Bool.{false≢true}
 use Rattle.std.proofs.lemmas.List.{take-append-drop, length-take-le, drop-drop}
 use Rattle.std.proofs.lemmas.Slice.Eq.{bytes_eq-Decides}
 use Rattle.reuse_tree.specs.Files.{Files}
-use Rattle.reuse_tree.specs.declared.change.Change.TheVariants.{Splice}
+use Rattle.reuse_tree.specs.Change.{sealed_splice}
 use Rattle.reuse_session.specs.Plan.{Makes}
 
 module _ (bytes : List ℕ) (s n : ℕ) (within : s + n ≤ length bytes) where
@@ -26,18 +28,23 @@ module _ (bytes : List ℕ) (s n : ℕ) (within : s + n ≤ length bytes) where
   pub rest_len : length bytes - s - length (take n (drop s bytes)) ≡ length (drop (s + n) bytes)
   rest_len = omega (arith, old_len, length-drop (s + n) bytes, within)
 
-  -- the splice of a file, where it changes something
+  -- the sealed splice of a file, where it changes something
   pub makes_splice : (tree : Files) (at new : List ℕ) → get tree at ≡ Some bytes → length bytes ≤ 16_777_216 → length (take s bytes ++ new ++ drop (s + n) bytes) ≤ 16_777_216
-      → bytes_eq (take s bytes ++ new ++ drop (s + n) bytes) bytes ≡ false → (rest : ℕ) → rest ≡ length (drop (s + n) bytes)
-      → Makes tree (Splice at s (take n (drop s bytes)) new rest) (record { path = at; removed = take n (drop s bytes); written = new; file = Some (take s bytes ++ new ++ drop (s + n) bytes) })
-  makes_splice tree at new here short fits differs rest behind = record {
+      → bytes_eq (take s bytes ++ new ++ drop (s + n) bytes) bytes ≡ false
+      → Makes tree (sealed_splice at bytes s (take n (drop s bytes)) new) (record { path = at; removed = take n (drop s bytes); written = new; file = Some (take s bytes ++ new ++ drop (s + n) bytes) })
+  makes_splice tree at new here short fits differs = record {
     path = refl;
     removed = refl;
     written = refl;
     proper = λ e. false≢true (sym differs ∙ (bytes_eq-Decides _ bytes).1 (ap (λ o. take s bytes ++ o ++ drop (s + n) bytes) (sym e) ∙ sym whole));
     small = (
-      omega (arith, old_len, behind, length-drop (s + n) bytes, within, short),
-      omega (arith, front_len, behind, fits, length-append (take s bytes ++ new) (drop (s + n) bytes), length-append (take s bytes) new),
+      omega (arith, old_len, rest_len, length-drop (s + n) bytes, within, short),
+      omega (arith, front_len, rest_len, fits, length-append (take s bytes ++ new) (drop (s + n) bytes), length-append (take s bytes) new),
     );
-    turns = (take s bytes, drop (s + n) bytes, record { whole = here ∙ ap (λ b. Some b) whole; before = front_len; behind = sym behind }, record { whole = refl; before = front_len; behind = sym behind });
+    turns = record {
+      range = (take s bytes, drop (s + n) bytes, record { whole = here ∙ ap (λ b. Some b) whole; before = front_len; behind = sym rest_len }, record { whole = refl; before = front_len; behind = sym rest_len });
+      from = ap (option_map sha256) here;
+      to = ap (λ m. Some (sha256 (take s bytes ++ new ++ drop (s + m) bytes))) (sym old_len);
+    };
+    sealed = refl;
   }

@@ -30,12 +30,12 @@ use Rattle.reuse_session.proofs.Settling.{none_in_tree, none_outside}
 
 -- where a change leaves a file, it makes it or one was there
 there_or_made : (way : Way) (c : Change) (old new : Option (List ℕ)) → TurnsBy way c old new → IsSome new → (makes way c ≡ true) ⊎ IsSome old
-there_or_made Do (change.Make path bytes) old new turns some = inl refl
-there_or_made Do (change.Drop path bytes) old new turns some = inr (ap is_some turns.0)
-there_or_made Do (change.Splice path at before after rest) old new turns some = inr (ap is_some turns.2.whole)
-there_or_made Undo (change.Make path bytes) old new turns some = inr (ap is_some turns.1)
-there_or_made Undo (change.Drop path bytes) old new turns some = inl refl
-there_or_made Undo (change.Splice path at before after rest) old new turns some = inr (ap is_some turns.3.whole)
+there_or_made Do (change.Make path bytes digest) old new turns some = inl refl
+there_or_made Do (change.Drop path bytes digest) old new turns some = inr (ap is_some turns.range.0)
+there_or_made Do (change.Splice path at before after rest seal) old new turns some = inr (ap is_some turns.range.2.whole)
+there_or_made Undo (change.Make path bytes digest) old new turns some = inr (ap is_some turns.range.1)
+there_or_made Undo (change.Drop path bytes digest) old new turns some = inl refl
+there_or_made Undo (change.Splice path at before after rest seal) old new turns some = inr (ap is_some turns.range.3.whole)
 
 -- a file that can be there
 with_file_keeps : (tree : Files) (path : List ℕ) (file : Option (List ℕ)) → AreFiles tree → is_path path ≡ true → (IsSome file → ¬ (Clashes tree path)) → AreFiles (with_file tree path file)

@@ -64,9 +64,9 @@ module _ (m : Files) (are : AreFiles m) where
   nothing held e some = false≢true (sym (ap is_some e) ∙ some)
 
   pub makes_where_clash : (way : Way) (change : Change) (held : Option (List ℕ)) → TurnsBy way change (get m (path_of change)) held → IsSome held → Clashes m (path_of change) → makes way change ≡ true
-  makes_where_clash Do (Make path new) held turns some clash = refl
-  makes_where_clash Do (Drop path old) held turns some clash = absurd (nothing held turns.1 some)
-  makes_where_clash Do (Splice path at old new rest) held turns some clash = absurd (there path _ turns.2.whole clash)
-  makes_where_clash Undo (Make path new) held turns some clash = absurd (nothing held turns.0 some)
-  makes_where_clash Undo (Drop path old) held turns some clash = refl
-  makes_where_clash Undo (Splice path at old new rest) held turns some clash = absurd (there path _ turns.3.whole clash)
+  makes_where_clash Do (Make path new digest) held turns some clash = refl
+  makes_where_clash Do (Drop path old digest) held turns some clash = absurd (nothing held turns.range.1 some)
+  makes_where_clash Do (Splice path at old new rest seal) held turns some clash = absurd (there path _ turns.range.2.whole clash)
+  makes_where_clash Undo (Make path new digest) held turns some clash = absurd (nothing held turns.range.0 some)
+  makes_where_clash Undo (Drop path old digest) held turns some clash = refl
+  makes_where_clash Undo (Splice path at old new rest seal) held turns some clash = absurd (there path _ turns.range.3.whole clash)

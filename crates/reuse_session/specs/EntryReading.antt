@@ -1,13 +1,14 @@
 -- For private clauses: an entry's value as it is taken apart.
-use Rattle.std.specs.Prelude.{ℕ, nat_le, List, codes, Option, Some, None, if◌then◌else◌}
+use Rattle.std.specs.Prelude.{ℕ, ◌==◌, nat_le, Bool, true, false, List, length, codes, Option, Some, None, if◌then◌else◌}
 use Rattle.std.specs.Result.{result_ok}
 use Rattle.std.specs.Str.{bytes_eq}
 use Rattle.hex.specs.Hex.{decode_of}
 use Rattle.serde_json.specs.Data.{Data, Members}
 use Rattle.serde_json.specs.Find.{as_array, as_object, as_str, get}
 use Rattle.reuse_tree.specs.Path.{is_path}
-use Rattle.reuse_session.specs.JsonReading.{◌>>=◌, first_member, if_none_left, if_format_one, number_in, read_items}
+use Rattle.reuse_session.specs.JsonReading.{◌>>=◌, first_member, if_none_left, format_in, number_in, read_items}
 use Rattle.reuse_tree.specs.declared.change.Change.{Change}
+use Rattle.reuse_tree.specs.declared.digest.Seal.{Seal}
 use Rattle.reuse_tree.specs.declared.change.Change.TheVariants.{Make, Drop, Splice}
 use Rattle.reuse_session.specs.declared.journal.entry.Entry.{Entry}
 use Rattle.reuse_session.specs.declared.command.CommandName.{CommandName}
@@ -41,88 +42,111 @@ moment_in d = do
   n ← number_in d
   if nat_le n 250000000000 then Some n else None
 
-unfoldable pub make_in : Data → Option Change
-make_in d = do
+-- a digest of 32 bytes
+abbrev pub digest_in : Data → Option (List ℕ)
+digest_in d = do
+  digest ← hex_in d
+  if length digest == 32 then Some digest else None
+
+-- the digest of the first member, which has to have this key, and the members after it; where the changes are not sealed, none
+unfoldable pub first_digest : Bool → List ℕ → Members → Option (Option (List ℕ) × Members)
+first_digest false key fields = Some (None, fields)
+first_digest true key fields = do
+  first ← first_member key fields
+  digest ← digest_in first.0
+  Some (Some digest, first.1)
+
+unfoldable pub make_in : Bool → Data → Option Change
+make_in sealed d = do
   fields ← as_object d
-  kind ← first_member (codes "kind") fields
+  after ← first_digest sealed (codes "after") fields
+  kind ← first_member (codes "kind") after.1
   _ ← if_text (codes "make") kind.0
   new ← first_member (codes "new") kind.1
   n ← hex_in new.0
   path ← first_member (codes "path") new.1
   p ← path_in path.0
   _ ← if_none_left path.1
-  Some (Make p n)
+  Some (Make p n after.0)
 
-unfoldable pub drop_in : Data → Option Change
-drop_in d = do
+unfoldable pub drop_in : Bool → Data → Option Change
+drop_in sealed d = do
   fields ← as_object d
-  kind ← first_member (codes "kind") fields
+  before ← first_digest sealed (codes "before") fields
+  kind ← first_member (codes "kind") before.1
   _ ← if_text (codes "drop") kind.0
   old ← first_member (codes "old") kind.1
   o ← hex_in old.0
   path ← first_member (codes "path") old.1
   p ← path_in path.0
   _ ← if_none_left path.1
-  Some (Drop p o)
+  Some (Drop p o before.0)
+
+-- both digests, or none
+abbrev pub seal_of : Option (List ℕ) → Option (List ℕ) → Option Seal
+seal_of (Some before) (Some after) = Some (record { before = before; after = after })
+seal_of before after = None
 
 -- from the path on
-unfoldable pub splice_end_in : ℕ → List ℕ → List ℕ → Members → Option Change
-splice_end_in at new old fields = do
+unfoldable pub splice_end_in : ℕ → List ℕ → List ℕ → Option Seal → Members → Option Change
+splice_end_in at new old seal fields = do
   path ← first_member (codes "path") fields
   p ← path_in path.0
   rest ← first_member (codes "rest") path.1
   r ← number_in rest.0
   _ ← if_none_left rest.1
-  Some (Splice p at old new r)
+  Some (Splice p at old new r seal)
 
--- from the new bytes on
-unfoldable pub splice_bytes_in : ℕ → Members → Option Change
-splice_bytes_in at fields = do
-  new ← first_member (codes "new") fields
+-- from the kind on
+unfoldable pub splice_bytes_in : ℕ → Option Seal → Members → Option Change
+splice_bytes_in at seal fields = do
+  kind ← first_member (codes "kind") fields
+  _ ← if_text (codes "splice") kind.0
+  new ← first_member (codes "new") kind.1
   n ← hex_in new.0
   old ← first_member (codes "old") new.1
   o ← hex_in old.0
-  splice_end_in at n o old.1
+  splice_end_in at n o seal old.1
 
-unfoldable pub splice_in : Data → Option Change
-splice_in d = do
+unfoldable pub splice_in : Bool → Data → Option Change
+splice_in sealed d = do
   fields ← as_object d
-  at ← first_member (codes "at") fields
+  after ← first_digest sealed (codes "after") fields
+  at ← first_member (codes "at") after.1
   a ← number_in at.0
-  kind ← first_member (codes "kind") at.1
-  _ ← if_text (codes "splice") kind.0
-  splice_bytes_in a kind.1
+  before ← first_digest sealed (codes "before") at.1
+  splice_bytes_in a (seal_of before.0 after.0) before.1
 
 -- by the name of its kind
-abbrev pub change_of_kind : List ℕ → Data → Option Change
-change_of_kind name d =
-    if bytes_eq name (codes "make") then make_in d
-    else if bytes_eq name (codes "drop") then drop_in d
-    else if bytes_eq name (codes "splice") then splice_in d
+abbrev pub change_of_kind : Bool → List ℕ → Data → Option Change
+change_of_kind sealed name d =
+    if bytes_eq name (codes "make") then make_in sealed d
+    else if bytes_eq name (codes "drop") then drop_in sealed d
+    else if bytes_eq name (codes "splice") then splice_in sealed d
     else None
 
-unfoldable pub change_in : Data → Option Change
-change_in d = do
+unfoldable pub change_in : Bool → Data → Option Change
+change_in sealed d = do
   kind ← get (codes "kind") d
   name ← as_str kind
-  change_of_kind name d
+  change_of_kind sealed name d
 
-unfoldable pub changes_in : Data → Option (List Change)
-changes_in d = do
+unfoldable pub changes_in : Bool → Data → Option (List Change)
+changes_in sealed d = do
   ds ← as_array d
-  read_items change_in ds
+  read_items (change_in sealed) ds
 
 unfoldable pub entry_in : Data → Option Entry
 entry_in d = do
   fields ← as_object d
   changes ← first_member (codes "changes") fields
-  cs ← changes_in changes.0
   command ← first_member (codes "command") changes.1
   text ← as_str command.0
   name ← command_from text
   format ← first_member (codes "format") command.1
-  _ ← if_format_one format.0
+  sealed ← format_in format.0
   when ← first_member (codes "when") format.1
   w ← moment_in when.0
   _ ← if_none_left when.1
+  cs ← changes_in sealed changes.0
   Some (record { changes = cs; command = name; when = w })

@@ -8,7 +8,7 @@ use Rattle.reuse_tree.specs.Path.{is_path, lies_under}
 use Rattle.reuse_tree.specs.Change.{path_of, IsProper}
 use Rattle.reuse_tree.specs.declared.change.Change.{Change}
 use Rattle.reuse_session.specs.Tree.{is_of_tree}
-use Rattle.reuse_session.specs.Entry.{entry_size, paths_of, IsSmall}
+use Rattle.reuse_session.specs.Entry.{entry_size, paths_of, HasOwnDigest, IsSmall}
 
 -- what is asked of one change
 pub record IsSoundChange (change : Change) : Type 0 where
@@ -16,6 +16,7 @@ pub record IsSoundChange (change : Change) : Type 0 where
   pub proper : IsProper change
   pub small : IsSmall change
   pub of_tree : is_of_tree (path_of change) ≡ true
+  pub own : HasOwnDigest change
 
 -- no path lies under another
 abbrev pub AreApart : List (List ℕ) → Type 0

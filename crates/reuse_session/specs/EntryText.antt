@@ -1,14 +1,16 @@
 -- An entry of the journal: its text.
-use Rattle.std.specs.Prelude.{◌≡◌, ℕ, ◌≤◌, List, [], ◌∷◌, ◌++◌, length, map, codes, decimal, Ok, IsUtf8, IsTrue}
-use Rattle.std.specs.List.{All, join_with_byte, AllZip}
+use Rattle.std.specs.Prelude.{◌≡◌, ℕ, ◌≤◌, Bool, List, [], ◌∷◌, ◌++◌, length, map, codes, decimal, Option, Some, None, Ok, IsUtf8, IsTrue}
+use Rattle.std.specs.Option.{option_map}
+use Rattle.std.specs.List.{All, join_with_byte, list_any, AllZip}
 use Rattle.json.specs.Print.{quoted}
 use Rattle.hex.specs.Hex.{encode_lower, decode_of, IsBytes}
 use Rattle.serde_json.specs.Data.{Data, string}
 use Rattle.reuse_tree.specs.Path.{is_path}
-use Rattle.reuse_tree.specs.Change.{path_of}
+use Rattle.reuse_tree.specs.Change.{path_of, digest_after, digest_before, is_sealed}
 use Rattle.reuse_tree.specs.declared.change.Change.{Change}
 use Rattle.reuse_tree.specs.declared.change.Change.TheVariants.{Make, Drop, Splice}
-use Rattle.reuse_session.specs.Entry.{removed_by, written_by, IsEntry}
+use Rattle.reuse_session.specs.Entry.{removed_by, written_by, AreAllSealed, IsEntry}
+use Rattle.reuse_session.specs.Format.{format_number}
 use Rattle.reuse_session.specs.Json.{IsJson, count, object_of, array_of}
 use Rattle.reuse_session.specs.declared.journal.entry.Entry.{Entry}
 use Rattle.reuse_session.specs.declared.command.CommandName.{CommandName}
@@ -26,15 +28,28 @@ command_name Download = codes "download"
 abbrev pub hex_text : List ℕ → List ℕ
 hex_text bytes = quoted (encode_lower bytes)
 
+-- a member whose value is a digest, where one is recorded
+abbrev pub digest_text : List ℕ → Option (List ℕ) → List ℕ
+digest_text key None = []
+digest_text key (Some digest) = codes "\"" ++ key ++ codes "\":" ++ hex_text digest ++ codes ","
+
 -- a change, with the members in the order of their keys
 abbrev pub change_text : Change → List ℕ
-change_text (Make path new) = codes "{\"kind\":\"make\",\"new\":" ++ hex_text new ++ codes ",\"path\":" ++ quoted path ++ codes "}"
-change_text (Drop path old) = codes "{\"kind\":\"drop\",\"old\":" ++ hex_text old ++ codes ",\"path\":" ++ quoted path ++ codes "}"
-change_text (Splice path at old new rest) = codes "{\"at\":" ++ decimal at ++ codes ",\"kind\":\"splice\",\"new\":" ++ hex_text new ++ codes ",\"old\":" ++ hex_text old ++ codes ",\"path\":" ++ quoted path ++ codes ",\"rest\":" ++ decimal rest ++ codes "}"
+change_text (Make path new after) = codes "{" ++ digest_text (codes "after") after ++ codes "\"kind\":\"make\",\"new\":" ++ hex_text new ++ codes ",\"path\":" ++ quoted path ++ codes "}"
+change_text (Drop path old before) = codes "{" ++ digest_text (codes "before") before ++ codes "\"kind\":\"drop\",\"old\":" ++ hex_text old ++ codes ",\"path\":" ++ quoted path ++ codes "}"
+change_text (Splice path at old new rest seal) =
+    codes "{" ++ digest_text (codes "after") (option_map (λ s. s.after) seal) ++ codes "\"at\":" ++ decimal at ++ codes "," ++ digest_text (codes "before") (option_map (λ s. s.before) seal)
+    ++ codes "\"kind\":\"splice\",\"new\":" ++ hex_text new ++ codes ",\"old\":" ++ hex_text old ++ codes ",\"path\":" ++ quoted path ++ codes ",\"rest\":" ++ decimal rest ++ codes "}"
 
--- an entry, without space
+-- whether the entry of these changes is sealed
+abbrev pub is_any_sealed : List Change → Bool
+is_any_sealed changes = list_any is_sealed changes
+
+-- an entry, without space: in the second format where it is sealed
 abbrev pub entry_text : Entry → List ℕ
-entry_text e = codes "{\"changes\":[" ++ join_with_byte 44 (map change_text e.changes) ++ codes "],\"command\":\"" ++ command_name e.command ++ codes "\",\"format\":1,\"when\":" ++ decimal e.when ++ codes "}"
+entry_text e =
+    codes "{\"changes\":[" ++ join_with_byte 44 (map change_text e.changes) ++ codes "],\"command\":\"" ++ command_name e.command
+    ++ codes "\",\"format\":" ++ decimal (format_number (is_any_sealed e.changes)) ++ codes ",\"when\":" ++ decimal e.when ++ codes "}"
 
 -- ---- the value that is read
 
@@ -42,24 +57,43 @@ entry_text e = codes "{\"changes\":[" ++ join_with_byte 44 (map change_text e.ch
 abbrev pub IsHex : List ℕ → Data → Type 0
 IsHex bytes value = (digits : List ℕ) × (value ≡ string digits) × (decode_of digits ≡ Ok bytes)
 
+-- a digest so: it has 32 bytes
+abbrev pub IsHexDigest : List ℕ → Data → Type 0
+IsHexDigest digest value = IsHex digest value × (length digest ≡ 32)
+
+-- the members of a change that is not sealed
+abbrev pub make_members : List ℕ → Data → List (List ℕ × Data)
+make_members path new = (codes "kind", string (codes "make")) ∷ (codes "new", new) ∷ (codes "path", string path) ∷ []
+
+abbrev pub drop_members : List ℕ → Data → List (List ℕ × Data)
+drop_members path old = (codes "kind", string (codes "drop")) ∷ (codes "old", old) ∷ (codes "path", string path) ∷ []
+
+-- those of a splice after its place
+abbrev pub splice_members : List ℕ → Data → Data → ℕ → List (List ℕ × Data)
+splice_members path old new rest =
+    (codes "kind", string (codes "splice")) ∷
+    (codes "new", new) ∷
+    (codes "old", old) ∷
+    (codes "path", string path) ∷
+    (codes "rest", count rest) ∷ []
+
 -- a change: an object with just these keys and values
 abbrev pub IsChangeValue : Change → Data → Type 0
-IsChangeValue (Make path new) value = (n : Data) × IsHex new n × (value ≡ object_of ((codes "kind", string (codes "make")) ∷ (codes "new", n) ∷ (codes "path", string path) ∷ []))
-IsChangeValue (Drop path old) value = (o : Data) × IsHex old o × (value ≡ object_of ((codes "kind", string (codes "drop")) ∷ (codes "old", o) ∷ (codes "path", string path) ∷ []))
-IsChangeValue (Splice path at old new rest) value = (n : Data) × (o : Data) × IsHex new n × IsHex old o × (value ≡ object_of (
-    (codes "at", count at) ∷
-    (codes "kind", string (codes "splice")) ∷
-    (codes "new", n) ∷
-    (codes "old", o) ∷
-    (codes "path", string path) ∷
-    (codes "rest", count rest) ∷ []))
+IsChangeValue (Make path new None) value = (n : Data) × IsHex new n × (value ≡ object_of (make_members path n))
+IsChangeValue (Make path new (Some after)) value = (n : Data) × IsHex new n × (a : Data) × IsHexDigest after a × (value ≡ object_of ((codes "after", a) ∷ make_members path n))
+IsChangeValue (Drop path old None) value = (o : Data) × IsHex old o × (value ≡ object_of (drop_members path o))
+IsChangeValue (Drop path old (Some before)) value = (o : Data) × IsHex old o × (b : Data) × IsHexDigest before b × (value ≡ object_of ((codes "before", b) ∷ drop_members path o))
+IsChangeValue (Splice path at old new rest None) value = (n : Data) × (o : Data) × IsHex new n × IsHex old o × (value ≡ object_of ((codes "at", count at) ∷ splice_members path o n rest))
+IsChangeValue (Splice path at old new rest (Some seal)) value = (n : Data) × (o : Data) × IsHex new n × IsHex old o
+    × (a : Data) × (b : Data) × IsHexDigest seal.after a × IsHexDigest seal.before b
+    × (value ≡ object_of ((codes "after", a) ∷ (codes "at", count at) ∷ (codes "before", b) ∷ splice_members path o n rest))
 
--- an entry: an object with just these keys and values
+-- an entry: an object with just these keys and values, in the second format where its changes are sealed
 abbrev pub IsEntryValue : Entry → Data → Type 0
-IsEntryValue e value = (values : List Data) × AllZip IsChangeValue e.changes values × (value ≡ object_of (
+IsEntryValue e value = (sealed : Bool) × (values : List Data) × AreAllSealed sealed e.changes × AllZip IsChangeValue e.changes values × (value ≡ object_of (
     (codes "changes", array_of values) ∷
     (codes "command", string (command_name e.command)) ∷
-    (codes "format", count 1) ∷
+    (codes "format", count (format_number sealed)) ∷
     (codes "when", count e.when) ∷ []))
 
 -- `serde_json` reads the text as a value that stands for the entry
@@ -82,12 +116,19 @@ pub record IsGoodEntry (text : List ℕ) (entry : Entry) : Type 0 where
 
 -- ---- which entries can be written
 
--- what every change in memory is: its path is one, as UTF-8, and its bytes are bytes
+-- the digest, where one is recorded, is of 32 bytes
+abbrev pub AreDigestBytes : Option (List ℕ) → Type 0
+AreDigestBytes None = Unit {0}
+AreDigestBytes (Some digest) = IsBytes digest × (length digest ≡ 32)
+
+-- what every change in memory is: its path is one, as UTF-8, its bytes are bytes, and its digests are digests
 pub record IsChangeInMemory (change : Change) : Type 0 where
   pub path : IsTrue (is_path (path_of change))
   pub utf8 : IsUtf8 (path_of change)
   pub removed : IsBytes (removed_by change)
   pub written : IsBytes (written_by change)
+  pub before : AreDigestBytes (digest_before change)
+  pub after : AreDigestBytes (digest_after change)
 
 -- an entry whose text is good
 pub record IsSoundEntry (entry : Entry) : Type 0 where
@@ -97,22 +138,26 @@ pub record IsSoundEntry (entry : Entry) : Type 0 where
 
 -- ---- for private clauses
 
+-- bytes in small hexadecimal digits
+abbrev pub hex_value : List ℕ → Data
+hex_value bytes = string (encode_lower bytes)
+
+-- a member whose value is a digest, where one is recorded
+abbrev pub digest_members : List ℕ → Option (List ℕ) → List (List ℕ × Data)
+digest_members key None = []
+digest_members key (Some digest) = (key, hex_value digest) ∷ []
+
 -- the value that is written for a change, with small digits
 abbrev pub change_value : Change → Data
-change_value (Make path new) = object_of ((codes "kind", string (codes "make")) ∷ (codes "new", string (encode_lower new)) ∷ (codes "path", string path) ∷ [])
-change_value (Drop path old) = object_of ((codes "kind", string (codes "drop")) ∷ (codes "old", string (encode_lower old)) ∷ (codes "path", string path) ∷ [])
-change_value (Splice path at old new rest) = object_of (
-    (codes "at", count at) ∷
-    (codes "kind", string (codes "splice")) ∷
-    (codes "new", string (encode_lower new)) ∷
-    (codes "old", string (encode_lower old)) ∷
-    (codes "path", string path) ∷
-    (codes "rest", count rest) ∷ [])
+change_value (Make path new after) = object_of (digest_members (codes "after") after ++ make_members path (hex_value new))
+change_value (Drop path old before) = object_of (digest_members (codes "before") before ++ drop_members path (hex_value old))
+change_value (Splice path at old new rest seal) = object_of (
+    digest_members (codes "after") (option_map (λ s. s.after) seal) ++ (codes "at", count at) ∷ digest_members (codes "before") (option_map (λ s. s.before) seal) ++ splice_members path (hex_value old) (hex_value new) rest)
 
 -- the value that is written for an entry
 abbrev pub entry_value : Entry → Data
 entry_value e = object_of (
     (codes "changes", array_of (map change_value e.changes)) ∷
     (codes "command", string (command_name e.command)) ∷
-    (codes "format", count 1) ∷
+    (codes "format", count (format_number (is_any_sealed e.changes))) ∷
     (codes "when", count e.when) ∷ [])

@@ -1,8 +1,9 @@
 -- The head of the journal: which entries are done, which are undone, and which is under way.
-use Rattle.std.specs.Prelude.{◌≡◌, ◌≢◌, ℕ, ◌<◌, ◌≤◌, ◌-◌, List, [], ◌∷◌, ◌++◌, length, map, All, AllPairs, slice_get, codes, decimal, Option, Some, None, ⊤}
+use Rattle.std.specs.Prelude.{◌≡◌, ◌≢◌, ℕ, ◌<◌, ◌≤◌, ◌-◌, Bool, List, [], ◌∷◌, ◌++◌, length, map, All, AllPairs, slice_get, codes, decimal, Option, Some, None, ⊤}
 use Rattle.std.specs.List.{join_with_byte}
 use Rattle.serde_json.specs.Data.{Data, string, null}
 use Rattle.reuse_session.specs.Json.{IsJson, count, counts, object_of}
+use Rattle.reuse_session.specs.Format.{format_number}
 use Rattle.reuse_session.specs.declared.journal.head.Head.{Head}
 use Rattle.reuse_session.specs.declared.journal.head.Pending.{Pending}
 use Rattle.reuse_session.specs.declared.journal.head.PendingWay.{PendingWay}
@@ -40,7 +41,7 @@ pending_text (Some p) = codes "{\"entry\":" ++ decimal p.entry ++ codes ",\"way\
 
 -- a head, with the members in the order of their keys, without space
 abbrev pub head_text : Head → List ℕ
-head_text h = codes "{\"done\":" ++ numbers_text h.done ++ codes ",\"format\":1,\"next\":" ++ decimal h.next ++ codes ",\"pending\":" ++ pending_text h.pending ++ codes ",\"undone\":" ++ numbers_text h.undone ++ codes "}"
+head_text h = codes "{\"done\":" ++ numbers_text h.done ++ codes ",\"format\":2,\"next\":" ++ decimal h.next ++ codes ",\"pending\":" ++ pending_text h.pending ++ codes ",\"undone\":" ++ numbers_text h.undone ++ codes "}"
 
 -- ---- the value that is read
 
@@ -49,14 +50,18 @@ abbrev pub pending_value : Option Pending → Data
 pending_value None = null
 pending_value (Some p) = object_of ((codes "entry", count p.entry) ∷ (codes "way", string (way_name p.way)) ∷ [])
 
--- a head: an object with just these keys and values
-abbrev pub head_value : Head → Data
-head_value h = object_of (
+-- a head in the first format or the second: an object with just these keys and values
+abbrev pub head_value : Bool → Head → Data
+head_value second h = object_of (
     (codes "done", counts h.done) ∷
-    (codes "format", count 1) ∷
+    (codes "format", count (format_number second)) ∷
     (codes "next", count h.next) ∷
     (codes "pending", pending_value h.pending) ∷
     (codes "undone", counts h.undone) ∷ [])
+
+-- `serde_json` reads the text as a value that stands for the head
+abbrev pub IsJsonHead : List ℕ → Head → Type 0
+IsJsonHead text h = (second : Bool) × IsJson text (head_value second h)
 
 -- ---- which heads are good
 
@@ -94,5 +99,5 @@ max_head = 16777216
 -- The text is good, and stands for the head.
 pub record IsGoodHead (text : List ℕ) (h : Head) : Type 0 where
   pub short : length text ≤ max_head
-  pub value : IsJson text (head_value h)
+  pub value : IsJsonHead text h
   pub sound : IsSoundHead h

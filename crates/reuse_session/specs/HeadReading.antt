@@ -3,7 +3,7 @@ use Rattle.std.specs.Prelude.{List, ℕ, codes, Option, Some, None, is_some, opt
 use Rattle.std.specs.Str.{bytes_eq}
 use Rattle.serde_json.specs.Data.{Data}
 use Rattle.serde_json.specs.Find.{as_object, as_null, as_str}
-use Rattle.reuse_session.specs.JsonReading.{◌>>=◌, first_member, if_none_left, if_format_one, small_in, smalls_in}
+use Rattle.reuse_session.specs.JsonReading.{◌>>=◌, first_member, if_none_left, format_in, small_in, smalls_in}
 use Rattle.reuse_session.specs.declared.journal.head.Head.{Head}
 use Rattle.reuse_session.specs.declared.journal.head.Pending.{Pending}
 use Rattle.reuse_session.specs.declared.journal.head.PendingWay.{PendingWay}
@@ -40,7 +40,7 @@ head_in d = do
   done ← first_member (codes "done") fields
   dones ← smalls_in done.0
   format ← first_member (codes "format") done.1
-  _ ← if_format_one format.0
+  _ ← format_in format.0
   next ← first_member (codes "next") format.1
   n ← small_in next.0
   pending ← first_member (codes "pending") next.1

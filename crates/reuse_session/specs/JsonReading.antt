@@ -1,5 +1,5 @@
 -- For private clauses: a JSON value as it is taken apart, member by member.
-use Rattle.std.specs.Prelude.{ℕ, ◌^◌, ◌==◌, nat_lt, List, [], ◌∷◌, ◌++◌, Option, Some, None, option_map, option_and_then, if◌then◌else◌}
+use Rattle.std.specs.Prelude.{ℕ, ◌^◌, ◌==◌, nat_lt, Bool, true, false, List, [], ◌∷◌, ◌++◌, Option, Some, None, option_map, option_and_then, if◌then◌else◌}
 use Rattle.std.specs.Str.{bytes_eq}
 use Rattle.serde_json.specs.Data.{Data, Items, no_items, item, Members, no_members, member}
 use Rattle.serde_json.specs.Find.{as_array, as_number, as_u64}
@@ -40,11 +40,14 @@ smalls_in d = do
   ds ← as_array d
   read_items small_in ds
 
--- the number is 1
-abbrev pub if_format_one : Data → Option Unit
-if_format_one d = do
+-- whether the format is the second
+abbrev pub format_of_number : ℕ → Option Bool
+format_of_number n = if n == 1 then Some false else if n == 2 then Some true else None
+
+abbrev pub format_in : Data → Option Bool
+format_in d = do
   n ← number_in d
-  if n == 1 then Some tt else None
+  format_of_number n
 
 -- what is read of the rest, after what is read of the front
 abbrev pub with_front : {A : Type 0} → List A → Option (List A) → Option (List A)

@@ -2,20 +2,24 @@
 ghost use Rattle.std.specs.Prelude.{◌≡◌, ◌≢◌, ◌↔◌, List, map, ℕ, Ok};
 ghost use Rattle.std.specs.Ordering.{nat_cmp};
 ghost use Rattle.std.specs.Cmp.Lexicographic.{slice_cmp};
-ghost use Rattle.std.specs.List.{Contains};
+ghost use Rattle.std.specs.List.{All, Contains};
 ghost use Rattle.std.specs.List.Sorted.{IsPermutation, IsStrictlySortedBy};
 ghost use Rattle.std.specs.FinMap.{get};
 ghost use Rattle.reuse_tree.specs.Files.{Files};
 ghost use Rattle.reuse_tree.specs.Change.{inverse_of};
 ghost use Rattle.reuse_tree.specs.declared.change.Change.{Change};
-ghost use Rattle.reuse_session.specs.Entry.{IsEntry, LeadsAll, LeadsBy};
+ghost use Rattle.reuse_session.specs.Entry.{CanBeMade, IsEntry, LeadsAll, LeadsBy};
 ghost use Rattle.reuse_session.specs.InTurn.{LeadsInTurn};
 ghost use Rattle.reuse_session.specs.Journal.{State};
 ghost use Rattle.reuse_session.specs.Opening.{IsFirstBad, IsStuckAt, CanOpenOn};
 ghost use Rattle.reuse_session.specs.Outcome.{outcome_of};
+ghost use Rattle.reuse_session.specs.Seals.{tree_for, IsAsLeft, IsToldApart, IsUntouched};
+ghost use Rattle.reuse_session.specs.Session.{IsRun};
 ghost use Rattle.reuse_session.specs.TextsPut.{PutsTexts};
 ghost use Rattle.reuse_session.specs.Tree.{changed_paths};
+ghost use Rattle.reuse_session.specs.declared.command.Command.{Command};
 ghost use Rattle.reuse_session.specs.declared.command.Command.TheVariants.{Download};
+ghost use Rattle.reuse_session.specs.declared.entry.Way.{Way};
 ghost use Rattle.reuse_session.specs.declared.entry.Way.TheVariants.{Undo};
 ghost use Rattle.reuse_session.specs.declared.licence.LicenceText.{LicenceText};
 
@@ -46,4 +50,14 @@ pub fn downloads_put_each_text()
 pub fn changed_paths_are_where_trees_differ()
     ensures paths { (before after : Files) (path : List ℕ) → Contains (changed_paths before after) path ↔ (get before path ≢ get after path) }
     ensures ascend { (before after : Files) → IsStrictlySortedBy (slice_cmp nat_cmp) (changed_paths before after) }
+{}
+
+/// What the seals of a step give. After a run, its step can be undone only where each file of the step has the range, the length and the
+/// SHA-256 that the run left, and redone only where each has those from before the run. So, where no two files that are compared have one
+/// SHA-256, exactly where each is byte for byte as it was left, and no path that is made clashes.
+pub fn seals_tell_of_whole_files()
+    ensures told { (command : Command) (when : ℕ) (first second : State) (run : IsRun command when first second) (way : Way) (now : Files) → All (CanBeMade way now) run.step.changes
+        → All (IsAsLeft way (tree_for way first second) now) run.step.changes }
+    ensures exact { (command : Command) (when : ℕ) (first second : State) (run : IsRun command when first second) (way : Way) (now : Files) → All (IsToldApart (tree_for way first second) now) run.step.changes
+        → All (CanBeMade way now) run.step.changes ↔ All (IsUntouched way (tree_for way first second) now) run.step.changes }
 {}

@@ -4,7 +4,7 @@ ghost use Rattle.std.specs.FinMap.{get, keys};
 ghost use Rattle.reuse_tree.specs.Files.{Files, tree_of};
 ghost use Rattle.reuse_tree.specs.Store.{reading_of};
 ghost use Rattle.reuse_tree.specs.declared.fault.StoreFault.TheVariants as faults;
-ghost use Rattle.reuse_tree.specs.declared.change.Change.TheVariants.{Drop, Make};
+ghost use Rattle.reuse_tree.specs.Change.{sealed_drop, sealed_make};
 ghost use Rattle.reuse_session.specs.Answer.{IsOfPlan, RefusedAsRead};
 ghost use Rattle.reuse_session.specs.Refused.{IsNoFault, dep5_refusal};
 ghost use Rattle.reuse_session.specs.Listing.{is_among};
@@ -125,10 +125,10 @@ fn both_changes(
     toml: PathText,
     new: Bytes,
 ) -> Result<Vec<Change>, AllocError>
-    ensures { IfOk result (λ changes. changes.items ≡ Drop dep5 old ∷ Make toml new ∷ []) }
+    ensures { IfOk result (λ changes. changes.items ≡ sealed_drop dep5 old ∷ sealed_make toml new ∷ []) }
 {
     let mut changes = Vec::with_capacity(alloc, 2)?;
-    changes.push(Change::Drop { path: dep5, old })?;
-    changes.push(Change::Make { path: toml, new })?;
+    changes.push(Change::sealed_drop(dep5, old))?;
+    changes.push(Change::sealed_make(toml, new))?;
     Ok(changes)
 }

@@ -170,7 +170,7 @@ fn made_files(
     let mut changes = Vec::with_capacity(alloc, paths.len())?;
     for path in paths {
         let new = copied_text(alloc, texts, licence_id(path.as_bytes()))?;
-        changes.push(Change::Make { path, new })?;
+        changes.push(Change::sealed_make(path, new))?;
     }
     Ok(changes)
 }

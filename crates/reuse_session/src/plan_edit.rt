@@ -17,34 +17,29 @@ use reuse_text::Bytes;
 use reuse_tree::{Change, PathText};
 use std::alloc::{AllocError, Global};
 
-/// The change of a file that is there, of so many bytes, by what an annotation makes of it. A refusal names `path`.
+/// The change of a file that is there, of these bytes, by what an annotation makes of it. A refusal names `path`.
 pub(crate) fn change_by(
     alloc: Global,
     path: &PathText,
     at: &PathText,
-    len: usize,
+    file: &[u8],
     made: Result<Option<Splice>, HeaderRefusal>,
 ) -> Result<Option<Change>, Refusal>
-    ensures edit { (tree : Files) (bytes : List ℕ) (due : Due) → get tree at.now ≡ Some bytes → length bytes ≡ len → length bytes ≤ 16_777_216 → Fits bytes due → IsDue (answer_of bytes due) made
-        → AnswersEdit tree (edit_by path.now at.now bytes due) result }
+    ensures edit { (tree : Files) (due : Due) → get tree at.now ≡ Some file.now → length file.now ≤ 16_777_216 → Fits file.now due → IsDue (answer_of file.now due) made
+        → AnswersEdit tree (edit_by path.now at.now file.now due) result }
     ensures planned { IfErr result IsOfPlan }
     ensures fault { (fault : StoreFault) → result ≡ Err (Refusal.Fault fault) → ⊥ }
 {
     match made {
         Err(refusal) => Err(refused_by(alloc, path, refusal)?),
         Ok(None) => Ok(None),
-        Ok(Some(splice)) => {
-            let rest = len
-                .saturating_sub(splice.at)
-                .saturating_sub(splice.old.len());
-            Ok(Some(Change::Splice {
-                path: at.try_clone(alloc)?,
-                at: splice.at,
-                old: splice.old,
-                new: splice.new,
-                rest,
-            }))
-        }
+        Ok(Some(splice)) => Ok(Some(Change::sealed_splice(
+            at.try_clone(alloc)?,
+            file,
+            splice.at,
+            splice.old,
+            splice.new,
+        ))),
     }
 }
 
@@ -63,10 +58,7 @@ pub(crate) fn making_by(
     match made {
         Err(refusal) => Err(refused_by(alloc, path, refusal)?),
         Ok(None) => Ok(None),
-        Ok(Some(splice)) => Ok(Some(Change::Make {
-            path: at.try_clone(alloc)?,
-            new: splice.new,
-        })),
+        Ok(Some(splice)) => Ok(Some(Change::sealed_make(at.try_clone(alloc)?, splice.new))),
     }
 }
 

@@ -126,7 +126,7 @@ fn plan_inside(
     // That the edit lies within the file, and makes none that is too long.
     annotations_fit();
     let made = annotate_file(alloc, bytes, style, additions, how);
-    match change_by(alloc, path, path, bytes.len(), made) {
+    match change_by(alloc, path, path, bytes, made) {
         Ok(change) => Ok(Step::Done(change)),
         Err(refusal) => Err(refusal),
     }
@@ -161,7 +161,7 @@ pub(crate) fn plan_neighbour(
     // That the edit lies within the file, and makes none that is too long.
     annotations_fit();
     let made = annotate_neighbour(alloc, bytes.as_slice(), additions, how);
-    change_by(alloc, path, neighbour, bytes.len(), made)
+    change_by(alloc, path, neighbour, bytes.as_slice(), made)
 }
 
 /// The change that makes a neighbour. `paths` are those of the tree.

@@ -1,6 +1,7 @@
 // Whether changes are more than an entry holds.
 ghost use Rattle.std.specs.Prelude.{◌≡◌, ◌+◌, ◌-◌, ◌*◌, ◌<◌, ◌≤◌, ◌||◌, length, nat_lt, SomeIff};
-ghost use Rattle.reuse_session.specs.Entry.{change_size, entry_size, removed_by, written_by};
+ghost use Rattle.reuse_session.specs.Entry.{change_size, entry_size, fixed_size, removed_by, written_by};
+ghost use Rattle.reuse_tree.specs.Change.{is_sealed};
 
 use reuse_tree::Change;
 
@@ -30,10 +31,17 @@ fn room_after(room: usize, change: &Change) -> Option<usize>
     ensures { SomeIff result (change_size change.now ≤ room) (room - change_size change.now) }
 {
     let (removed, written) = lengths(change);
-    let room = without(room, 1, 256)?;
+    let room = without(room, 1, fixed_size(change))?;
     let room = without(room, 6, change.path().as_bytes().len())?;
     let room = without(room, 2, removed)?;
     without(room, 2, written)
+}
+
+// What a change counts for beside its path and its bytes.
+fn fixed_size(change: &Change) -> usize
+    ensures { result ≡ fixed_size (is_sealed change.now) }
+{
+    if change.is_sealed() { 512 } else { 256 }
 }
 
 // How many bytes a change takes away, and how many it writes.

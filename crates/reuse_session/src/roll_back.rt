@@ -186,6 +186,9 @@ fn set_back_from<S: Store>(
         return Ok(());
     }
     let back = opposite(way);
+    if !is_ready(change, back, file) {
+        return Err(Cause::Moved);
+    }
     let after = turned(change, back, file)?;
     *started = true;
     put_turned(alloc, store, change, after)

@@ -2,7 +2,7 @@
 ghost use Rattle.std.specs.Prelude.{◌≡◌, ◌≢◌, ◌⊎◌, ◌<◌, ◌≤◌, ◌+◌, OnOk, OnErr, IsErrOf, length};
 ghost use Rattle.std.specs.List.{All};
 ghost use Rattle.reuse_tree.specs.Files.{Clashes, tree_of};
-ghost use Rattle.reuse_session.specs.Entry.{IsEntry, CanBeMade};
+ghost use Rattle.reuse_session.specs.Entry.{IsEntry, CanBeMade, CanGo};
 ghost use Rattle.reuse_session.specs.Carried.{IsCarriedOut, IsStopped};
 ghost use Rattle.reuse_session.specs.JournalFiles.{head_path};
 ghost use Rattle.reuse_tree.specs.Asked.{IsLater};
@@ -14,7 +14,8 @@ use crate::reply::Cause;
 use reuse_tree::{Change, Store};
 use std::alloc::Global;
 
-/// Puts the head that tells the step as pending, makes its changes this way, and puts the head that lists it.
+/// Puts the head that tells the step as pending, makes its changes this way, and puts the head that lists it. Its caller has tested that
+/// each can be made.
 pub fn carry_out<S: Store>(
     alloc: Global,
     store: &mut S,
@@ -24,6 +25,7 @@ pub fn carry_out<S: Store>(
     pending: &[u8],
     settled: &[u8],
 ) -> Result<(), Cause>
+    requires { S.honest store.now → CanGo way (tree_of (S.files store.now)) changes.now }
     ensures done { S.honest store.new → IsEntry changes.now → OnOk result (IsCarriedOut way changes.now settled.now (S.files store.old) (S.files store.new)) }
     ensures stopped { S.honest store.new → IsEntry changes.now → OnErr result ((S.files store.new ≡ S.files store.old)
         ⊎ IsStopped way changes.now pending.now (S.files store.old) (S.files store.new)

@@ -6,6 +6,7 @@ ghost use Rattle.reuse_text.specs.Text.{spliced};
 ghost use Rattle.reuse_tree.specs.Files.{Clashes};
 ghost use Rattle.reuse_tree.specs.Change.{path_of, IsProper};
 ghost use Rattle.reuse_session.specs.Parts.{joined, held_in};
+ghost use Rattle.reuse_session.specs.Seals.{IsReadyByRange};
 ghost use Rattle.reuse_session.specs.Tree.{is_of_tree, Sets};
 ghost use Rattle.reuse_session.specs.Entry.{makes, IsSmall, IsReady, Steps, TurnsBy};
 ghost use Rattle.reuse_tree.specs.Asked.{OnlyReads, IsLater, FailsAsRead};
@@ -36,6 +37,17 @@ pub fn is_ready(change: &Change, way: Way, file: Option<&[u8]>) -> bool
     match way {
         Way::Do => change.state(file) == ChangeState::Before,
         Way::Undo => change.state(file) == ChangeState::After,
+    }
+}
+
+// Whether the change can be gone through this way where its path holds this, by range and length alone: it hashes nothing.
+fn is_ready_by_range(change: &Change, way: Way, file: Option<&[u8]>) -> bool
+    ensures ready { IsTrue result → IsReadyByRange way change.now (option_copied file.entry) }
+    ensures stuck { IsProper change.now → IsReadyByRange way change.now (option_copied file.entry) → IsTrue result }
+{
+    match way {
+        Way::Do => change.state_by_range(file) == ChangeState::Before,
+        Way::Undo => change.state_by_range(file) == ChangeState::After,
     }
 }
 
@@ -90,17 +102,18 @@ fn with_part<'a>(file: &'a [u8], at: usize, old_len: usize, new: &'a [u8]) -> Pa
 }
 
 /// What the path of the change holds once it is gone through this way, where it holds this now. It takes no memory and calls no store,
-/// so that it is no cause to stop once a put has started.
+/// so that it is no cause to stop once a put has started. It tests range and length alone: a file that was tested by its seal isn't
+/// hashed again.
 pub fn turned<'a>(
     change: &'a Change,
     way: Way,
     file: Option<&'a [u8]>,
 ) -> Result<Option<Parts<'a>>, Cause>
-    ensures turns { IfOk result (λ after. TurnsBy way change.now (option_copied file.entry) (held_in after)) }
+    ensures turns { IsReady way change.now (option_copied file.entry) → IfOk result (λ after. TurnsBy way change.now (option_copied file.entry) (held_in after)) }
     ensures moved { IsProper change.now → result ≡ Err Cause.Moved → ¬ (IsReady way change.now (option_copied file.entry)) }
     ensures cause { IfErr result (λ cause. cause ≡ Cause.Moved) }
 {
-    if !is_ready(change, way, file) {
+    if !is_ready_by_range(change, way, file) {
         return Err(Cause::Moved);
     }
     match (change, way) {
@@ -144,7 +157,7 @@ pub fn put_turned<S: Store>(
     Ok(())
 }
 
-// Makes the change this way, where its path holds this.
+// Makes the change this way, where its path holds this, and can be made so.
 fn turn_from<S: Store>(
     alloc: Global,
     store: &mut S,
@@ -152,6 +165,7 @@ fn turn_from<S: Store>(
     way: Way,
     file: Option<&[u8]>,
 ) -> Result<(), Cause>
+    requires { S.honest store.now → IsReady way change.now (map.get (S.files store.now) (path_of change.now)) }
     ensures ok { S.honest store.new → map.get (S.files store.old) (path_of change.now) ≡ option_copied file.entry
         → OnOk result (Steps way change.now (S.files store.old) (S.files store.new)) }
     ensures err { S.honest store.new → map.get (S.files store.old) (path_of change.now) ≡ option_copied file.entry
@@ -167,8 +181,10 @@ fn turn_from<S: Store>(
     put_turned(alloc, store, change, after)
 }
 
-/// Makes the change this way, by one read and one put or removal.
+/// Makes the change this way, by one read and one put or removal. Its caller has tested that it can be made, by the seal where there is
+/// one; here range and length are tested again.
 pub fn turn<S: Store>(alloc: Global, store: &mut S, change: &Change, way: Way) -> Result<(), Cause>
+    requires { S.honest store.now → IsReady way change.now (map.get (S.files store.now) (path_of change.now)) }
     ensures ok { S.honest store.new → OnOk result (Steps way change.now (S.files store.old) (S.files store.new)) }
     // A call that fails leaves the file as it was, or as the change makes it.
     ensures err { S.honest store.new → OnErr result ((S.files store.new ≡ S.files store.old) ⊎ Steps way change.now (S.files store.old) (S.files store.new)) }

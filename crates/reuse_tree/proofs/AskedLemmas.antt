@@ -1,5 +1,5 @@
 -- What was asked of a store in two calls, from each.
-use Rattle.std.proofs.Common.{refl, ◌∙◌, arith, ℕ, ◌≡◌, ◌≤◌}
+use Rattle.std.proofs.Common.{refl, ◌∙◌, arith}
 use Rattle.reuse_tree.specs.declared.store.Store.{Ghosts}
 use Rattle.reuse_tree.specs.Asked.{OnlyReads, IsLater}
 

@@ -1,5 +1,6 @@
 pub mod Path
 pub mod Files
+pub mod Digest
 pub mod Change
 pub mod Store
 pub mod StoreLaws

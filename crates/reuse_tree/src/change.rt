@@ -1,9 +1,11 @@
 // A change of one file, and its inverse.
-ghost use Rattle.std.specs.Prelude.{◌≡◌, ◌≢◌, ◌↔◌, ◌+◌, ◌≤◌, ◌++◌, IfOk, IsTrue, length, take, drop};
-ghost use Rattle.std.specs.Option.{option_copied};
+ghost use Rattle.std.specs.Prelude.{◌≡◌, ◌≢◌, ◌↔◌, ◌+◌, ◌≤◌, ◌++◌, ℕ, List, IfOk, IsTrue, length, take, drop};
+ghost use Rattle.std.specs.Option.{option_copied, option_map};
+ghost use Rattle.reuse_text.specs.Text.{spliced};
+ghost use Rattle.reuse_tree.specs.Digest.{IsDigestOf, IsSealOf, NothingHas, swapped};
 ghost use Rattle.reuse_tree.specs.Change.{HoldsPart};
 
-use crate::PathText;
+use crate::{Digest, PathText, Seal};
 use reuse_text::{Bytes, splice};
 use std::alloc::{AllocError, Global};
 
@@ -18,18 +20,20 @@ pub enum ChangeState {
     Neither,
 }
 
-/// A change of the file at one path.
+/// A change of the file at one path. Where it is sealed it holds the digest of the whole file before it and after it.
 #[derive(Debug, Drop)]
 pub enum Change {
     /// The file is made.
     Make {
         path: PathText,
         new: Bytes,
+        after: Option<Digest>,
     },
     /// The file is removed.
     Drop {
         path: PathText,
         old: Bytes,
+        before: Option<Digest>,
     },
     /// The bytes `old` at `at` give way to `new`; `rest` bytes follow them.
     Splice {
@@ -38,11 +42,53 @@ pub enum Change {
         old: Bytes,
         new: Bytes,
         rest: usize,
+        seal: Option<Seal>,
     },
 }
 
 impl Change {
-    ghost use Rattle.reuse_tree.specs.Change.{path_of, inverse_of, IsBefore, IsAfter, Turns};
+    ghost use Rattle.reuse_tree.specs.Change.{path_of, inverse_of, is_sealed, sealed_make, sealed_drop, sealed_splice, IsProper, IsBefore, IsAfter, IsBeforeByRange, IsAfterByRange, Records, Turns};
+
+    /// A file made of these bytes, sealed.
+    pub fn sealed_make(path: PathText, new: Bytes) -> Change
+        ensures { result ≡ sealed_make path new }
+    {
+        let after = Digest::of(new.as_slice());
+        Change::Make {
+            path,
+            new,
+            after: Some(after),
+        }
+    }
+
+    /// A file of these bytes removed, sealed.
+    pub fn sealed_drop(path: PathText, old: Bytes) -> Change
+        ensures { result ≡ sealed_drop path old }
+    {
+        let before = Digest::of(old.as_slice());
+        Change::Drop {
+            path,
+            old,
+            before: Some(before),
+        }
+    }
+
+    /// The bytes `old` of this file, which stand at `at`, give way to `new`, sealed.
+    pub fn sealed_splice(path: PathText, file: &[u8], at: usize, old: Bytes, new: Bytes) -> Change
+        ensures change { result ≡ sealed_splice path file.now at old new }
+        ensures turns { (rest : ℕ) → HoldsPart (Some file.now) old at rest → Turns result (Some file.now) (Some (spliced file.now at (length old) new)) }
+    {
+        let seal = Seal::of(file, at, old.len(), new.as_slice());
+        let rest = file.len().saturating_sub(at).saturating_sub(old.len());
+        Change::Splice {
+            path,
+            at,
+            old,
+            new,
+            rest,
+            seal: Some(seal),
+        }
+    }
 
     /// Lends the path that the change is of.
     pub fn path(&self) -> &PathText
@@ -55,18 +101,31 @@ impl Change {
         }
     }
 
+    /// Whether the digests of its files are recorded.
+    pub fn is_sealed(&self) -> bool
+        ensures { result ≡ is_sealed self.now }
+    {
+        match self {
+            Change::Make { after, .. } => after.is_some(),
+            Change::Drop { before, .. } => before.is_some(),
+            Change::Splice { seal, .. } => seal.is_some(),
+        }
+    }
+
     /// A copy.
     pub fn try_clone(&self, alloc: Global) -> Result<Change, AllocError>
         ensures { IfOk result (λ change. change ≡ self.now) }
     {
         match self {
-            Change::Make { path, new } => Ok(Change::Make {
+            Change::Make { path, new, after } => Ok(Change::Make {
                 path: path.try_clone(alloc)?,
                 new: new.try_clone(alloc)?,
+                after: *after,
             }),
-            Change::Drop { path, old } => Ok(Change::Drop {
+            Change::Drop { path, old, before } => Ok(Change::Drop {
                 path: path.try_clone(alloc)?,
                 old: old.try_clone(alloc)?,
+                before: *before,
             }),
             Change::Splice {
                 path,
@@ -74,12 +133,14 @@ impl Change {
                 old,
                 new,
                 rest,
+                seal,
             } => Ok(Change::Splice {
                 path: path.try_clone(alloc)?,
                 at: *at,
                 old: old.try_clone(alloc)?,
                 new: new.try_clone(alloc)?,
                 rest: *rest,
+                seal: *seal,
             }),
         }
     }
@@ -89,44 +150,77 @@ impl Change {
         ensures { result ≡ inverse_of self }
     {
         match self {
-            Change::Make { path, new } => Change::Drop { path, old: new },
-            Change::Drop { path, old } => Change::Make { path, new: old },
+            Change::Make {
+                path,
+                new: old,
+                after: before,
+            } => Change::Drop { path, old, before },
+            Change::Drop {
+                path,
+                old: new,
+                before: after,
+            } => Change::Make { path, new, after },
             Change::Splice {
                 path,
                 at,
                 old,
                 new,
                 rest,
+                seal,
             } => Change::Splice {
                 path,
                 at,
                 old: new,
                 new: old,
                 rest,
+                seal: swapped(seal),
             },
         }
     }
 
-    /// Where a file stands, or its absence. Where it is at both ends, as only a change of nothing allows, `Before`.
+    /// Where a file stands, or its absence. Where it is at both ends, as only a change of nothing allows, `Before`. It hashes only where
+    /// range and length fit, and takes no memory.
     pub fn state(&self, file: Option<&[u8]>) -> ChangeState
         ensures before { (result ≡ ChangeState.Before) ↔ IsBefore self.now (option_copied file.entry) }
         ensures after { (result ≡ ChangeState.After)
             ↔ (IsAfter self.now (option_copied file.entry) × ¬ (IsBefore self.now (option_copied file.entry))) }
         ensures neither { (result ≡ ChangeState.Neither)
             ↔ (¬ (IsAfter self.now (option_copied file.entry)) × ¬ (IsBefore self.now (option_copied file.entry))) }
+        // A digest that nothing has is that of no file.
+        ensures unmatched { (digest : List ℕ) → Records self.now digest → NothingHas digest → result ≡ ChangeState.Neither }
+        ensures apart { IsProper self.now → IsBefore self.now (option_copied file.entry) → ¬ (IsAfter self.now (option_copied file.entry)) }
     {
-        if self.is_before(file) {
+        match self.state_by_range(file) {
+            ChangeState::Before if self.is_sealed_before(file) => ChangeState::Before,
+            ChangeState::After if self.is_sealed_after(file) => ChangeState::After,
+            _ => ChangeState::Neither,
+        }
+    }
+
+    /// Where a file stands, or its absence, by range and length alone: it hashes nothing. So it is a cheap second test of a file that was
+    /// at an end by `state`.
+    pub fn state_by_range(&self, file: Option<&[u8]>) -> ChangeState
+        ensures before { (result ≡ ChangeState.Before) ↔ IsBeforeByRange self.now (option_copied file.entry) }
+        ensures after { (result ≡ ChangeState.After)
+            ↔ (IsAfterByRange self.now (option_copied file.entry) × ¬ (IsBeforeByRange self.now (option_copied file.entry))) }
+        ensures neither { (result ≡ ChangeState.Neither)
+            ↔ (¬ (IsAfterByRange self.now (option_copied file.entry)) × ¬ (IsBeforeByRange self.now (option_copied file.entry))) }
+        // It answers the end at which `state` finds the file.
+        ensures at_before { IsBefore self.now (option_copied file.entry) → result ≡ ChangeState.Before }
+        ensures at_after { IsAfter self.now (option_copied file.entry) → ¬ (IsBefore self.now (option_copied file.entry)) → result ≡ ChangeState.After }
+    {
+        if self.is_before_by_range(file) {
             ChangeState::Before
-        } else if self.is_after(file) {
+        } else if self.is_after_by_range(file) {
             ChangeState::After
         } else {
             ChangeState::Neither
         }
     }
 
-    // Whether the change can be made.
-    fn is_before(&self, file: Option<&[u8]>) -> bool
-        ensures { IsTrue result ↔ IsBefore self.now (option_copied file.entry) }
+    // Whether the change can be made, by range and length alone.
+    fn is_before_by_range(&self, file: Option<&[u8]>) -> bool
+        ensures { IsTrue result ↔ IsBeforeByRange self.now (option_copied file.entry) }
     {
         match self {
             Change::Make { .. } => file.is_none(),
@@ -135,14 +229,56 @@ impl Change {
         }
     }
 
-    // Whether the change has been made.
-    fn is_after(&self, file: Option<&[u8]>) -> bool
-        ensures { IsTrue result ↔ IsAfter self.now (option_copied file.entry) }
+    // Whether the change has been made, by range and length alone.
+    fn is_after_by_range(&self, file: Option<&[u8]>) -> bool
+        ensures { IsTrue result ↔ IsAfterByRange self.now (option_copied file.entry) }
     {
         match self {
             Change::Make { new, .. } => is_file(file, new),
             Change::Drop { .. } => file.is_none(),
             Change::Splice { at, new, rest, .. } => holds_part(file, *at, new, *rest),
+        }
+    }
+
+    // Whether a file before the change has its digest, and so what the change makes of it.
+    fn is_sealed_before(&self, file: Option<&[u8]>) -> bool
+        requires { IsBeforeByRange self.now (option_copied file) }
+        ensures { IsTrue result ↔ IsBefore self.now (option_copied file.entry) }
+    {
+        match self {
+            Change::Make { new, after, .. } => is_digest_of(*after, new.as_slice()),
+            Change::Drop { old, before, .. } => is_digest_of(*before, old.as_slice()),
+            Change::Splice {
+                at,
+                old,
+                new,
+                seal,
+                ..
+            } => {
+                let Some(file) = file else { unreachable!() };
+                is_seal_of(*seal, file, *at, old.len(), new.as_slice())
+            }
+        }
+    }
+
+    // Whether a file after the change has its digest, and so what the way back makes of it.
+    fn is_sealed_after(&self, file: Option<&[u8]>) -> bool
+        requires { IsAfterByRange self.now (option_copied file) }
+        ensures { IsTrue result ↔ IsAfter self.now (option_copied file.entry) }
+    {
+        match self {
+            Change::Make { new, after, .. } => is_digest_of(*after, new.as_slice()),
+            Change::Drop { old, before, .. } => is_digest_of(*before, old.as_slice()),
+            Change::Splice {
+                at,
+                old,
+                new,
+                seal,
+                ..
+            } => {
+                let Some(file) = file else { unreachable!() };
+                is_seal_of(swapped(*seal), file, *at, new.len(), old.as_slice())
+            }
         }
     }
 
@@ -160,6 +296,33 @@ impl Change {
             }
         }
     }
+}
+
+// Whether these bytes have the digest, where there is one.
+fn is_digest_of(digest: Option<Digest>, bytes: &[u8]) -> bool
+    ensures { IsTrue result ↔ IsDigestOf digest (Some bytes.now) }
+{
+    match digest {
+        None => true,
+        Some(digest) => Digest::of(bytes) == digest,
+    }
+}
+
+// Whether the seal, where there is one, is that of the file and of the file with new bytes in place of those from `at` on.
+fn is_seal_of(seal: Option<Seal>, file: &[u8], at: usize, old_len: usize, new: &[u8]) -> bool
+    ensures { IsTrue result ↔ IsSealOf seal file.now (spliced file.now at old_len new.now) }
+{
+    match seal {
+        None => true,
+        Some(seal) => Seal::of(file, at, old_len, new) == seal,
+    }
+}
+
+// The seal of the way back.
+fn swapped(seal: Option<Seal>) -> Option<Seal>
+    ensures { result ≡ option_map swapped seal }
+{
+    seal.map(|seal| seal.swapped())
 }
 
 // Whether the path holds these bytes.

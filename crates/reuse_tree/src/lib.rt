@@ -2,6 +2,7 @@
 #![tactic(auto)]
 
 mod change;
+mod digest;
 mod fault;
 mod faulty;
 mod file_map;
@@ -14,6 +15,7 @@ mod store;
 mod tests;
 
 pub use change::{Change, ChangeState};
+pub use digest::{Digest, Seal};
 pub use fault::StoreFault;
 pub use faulty::{FaultyStore, FuseStore, OnceStore};
 pub use memory::MemoryStore;

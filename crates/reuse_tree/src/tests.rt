@@ -1,7 +1,7 @@
 // Single calls with their answers, each call at least once.
 use crate::{
-    Change, ChangeState, FuseStore, MemoryStore, OnceStore, PathError, PathText, Reading, Store,
-    StoreFault,
+    Change, ChangeState, Digest, FuseStore, MemoryStore, OnceStore, PathError, PathText, Reading,
+    Store, StoreFault,
 };
 use reuse_text::Bytes;
 use std::alloc::Global;
@@ -15,6 +15,7 @@ fn splice(alloc: Global, at: usize, old: &[u8], new: &[u8], rest: usize) -> Resu
         old: Bytes::from_slice(alloc, old)?,
         new: Bytes::from_slice(alloc, new)?,
         rest,
+        seal: None,
     })
 }
 
@@ -52,6 +53,70 @@ fn a_splice_has_two_ends(rt: HostRuntime) -> Result<(), Fail> {
     }
     let back = change.try_clone(alloc)?.inverse();
     assert!(rt; back.state(Some(b"aXYc".as_slice())) == ChangeState::Before);
+    Ok(())
+}
+
+// The example of one block in FIPS 180-4.
+const DIGEST_OF_ABC: [u8; 32] = [
+    0xba, 0x78, 0x16, 0xbf, 0x8f, 0x01, 0xcf, 0xea, 0x41, 0x41, 0x40, 0xde, 0x5d, 0xae, 0x22, 0x23,
+    0xb0, 0x03, 0x61, 0xa3, 0x96, 0x17, 0x7a, 0x9c, 0xb4, 0x10, 0xff, 0x61, 0xf2, 0x00, 0x15, 0xad,
+];
+
+#[test]
+fn a_digest_is_of_the_joined_bytes(rt: HostRuntime) -> Result<(), Fail> {
+    let digest = Digest::of(b"abc");
+    assert!(rt; digest.as_slice() == DIGEST_OF_ABC.as_slice());
+    assert!(rt; Digest::of_parts(b"a", b"", b"bc") == digest);
+    assert!(rt; Digest::from_bytes(DIGEST_OF_ABC) == digest);
+    let read = Digest::from_slice(DIGEST_OF_ABC.as_slice()).ok_or("not 32 bytes")?;
+    assert!(rt; read == digest);
+    assert!(rt; Digest::from_slice(b"abc").is_none());
+    Ok(())
+}
+
+#[test]
+fn a_sealed_splice_is_of_two_files(rt: HostRuntime) -> Result<(), Fail> {
+    let alloc = rt.alloc();
+    let path = PathText::new(alloc, "a")?;
+    let old = Bytes::from_slice(alloc, b"b")?;
+    let new = Bytes::from_slice(alloc, b"XY")?;
+    let change = Change::sealed_splice(path, b"abc", 1, old, new);
+    assert!(rt; change.is_sealed());
+    assert!(rt; change.state(Some(b"abc".as_slice())) == ChangeState::Before);
+    assert!(rt; change.state(Some(b"aXYc".as_slice())) == ChangeState::After);
+    let edited = Some(b"aXYd".as_slice());
+    assert!(rt; change.state(edited) == ChangeState::Neither);
+    assert!(rt; change.state_by_range(edited) == ChangeState::After);
+    let back = change.try_clone(alloc)?.inverse();
+    assert!(rt; back.state(Some(b"aXYc".as_slice())) == ChangeState::Before);
+    assert!(rt; back.state(Some(b"abc".as_slice())) == ChangeState::After);
+    assert!(rt; back.state(edited) == ChangeState::Neither);
+    Ok(())
+}
+
+#[test]
+fn a_sealed_make_has_the_digest_of_its_bytes(rt: HostRuntime) -> Result<(), Fail> {
+    let alloc = rt.alloc();
+    let file = Some(b"abc".as_slice());
+    let change = Change::sealed_make(
+        PathText::new(alloc, "a")?,
+        Bytes::from_slice(alloc, b"abc")?,
+    );
+    assert!(rt; change.state(None) == ChangeState::Before);
+    assert!(rt; change.inverse().state(file) == ChangeState::Before);
+    let change = Change::sealed_drop(
+        PathText::new(alloc, "a")?,
+        Bytes::from_slice(alloc, b"abc")?,
+    );
+    assert!(rt; change.state(file) == ChangeState::Before);
+    assert!(rt; change.state(None) == ChangeState::After);
+    let change = Change::Make {
+        path: PathText::new(alloc, "a")?,
+        new: Bytes::from_slice(alloc, b"abd")?,
+        after: Some(Digest::of(b"abc")),
+    };
+    assert!(rt; change.state(None) == ChangeState::Neither);
+    assert!(rt; change.state(Some(b"abd".as_slice())) == ChangeState::Neither);
     Ok(())
 }
 

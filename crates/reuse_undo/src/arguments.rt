@@ -29,7 +29,7 @@ const PREFIXES: &[&str] = &[
 ];
 
 /// The version, and the format of the journal that this version writes.
-const VERSION: &str = "1.1.0 (journal format 1)";
+const VERSION: &str = "1.1.0 (journal format 2)";
 
 const ABOUT: &str = "Adds licensing information to the files of a source tree, and takes it back.";
 

@@ -157,7 +157,7 @@ fn tells_help(rt: HostRuntime) -> Result<(), Fail> {
     let alloc = rt.alloc();
     for (words, text) in [
         ("--help", "Adds licensing information"),
-        ("--version", "reuse-undo 1.1.0 (journal format 1)\n"),
+        ("--version", "reuse-undo 1.1.0 (journal format 2)\n"),
         (
             "annotate|--help",
             "Adds copyright and licensing information",

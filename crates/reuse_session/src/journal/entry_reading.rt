@@ -3,7 +3,7 @@ ghost use Rattle.std.specs.Prelude.{◌≡◌, ◌≤◌, IfOk};
 ghost use Rattle.serde_json.specs.View.{view, items_view};
 ghost use Rattle.reuse_session.specs.Decoded.{Gives, GivesBy, IsAnswer};
 ghost use Rattle.reuse_session.specs.EntryText.{HavePaths, IsGoodEntry, IsJsonEntry};
-ghost use Rattle.reuse_session.specs.EntryReading.{change_in, changes_in, command_from, drop_in, entry_in, make_in, splice_in};
+ghost use Rattle.reuse_session.specs.EntryReading.{change_in, changes_in, command_from, drop_in, entry_in, make_in, seal_of, splice_in};
 ghost use Rattle.reuse_session.specs.JsonReading.{read_items};
 ghost use Rattle.reuse_session.specs.Json.{IsJson};
 ghost use Rattle.reuse_session.specs.declared.journal.entry.Entry.{Entry};
@@ -13,10 +13,10 @@ use crate::journal::entry::{Changes, Entry};
 use crate::journal::entry_checks::are_sound;
 use crate::journal::fault::DecodeFault;
 use crate::journal::fields::{
-    bytes_of, expect_text, field, fields, finish, format_of, moment_of, number_of, parse, path_of,
-    text_of,
+    bytes_of, expect_text, field, fields, finish, is_second_format, moment_of, next_digest,
+    number_of, parse, path_of, text_of,
 };
-use reuse_tree::Change;
+use reuse_tree::{Change, Digest, Seal};
 use serde_json::Value;
 use std::alloc::Global;
 
@@ -53,11 +53,12 @@ fn entry_of(alloc: Global, value: &Value) -> Result<Entry, DecodeFault>
     ensures { Gives result (entry_in (view value.now)) }
 {
     let mut members = fields(value)?;
-    let changes = changes_of(alloc, field(&mut members, "changes")?)?;
+    let changes = field(&mut members, "changes")?;
     let command = command_of(text_of(field(&mut members, "command")?)?)?;
-    format_of(field(&mut members, "format")?)?;
+    let sealed = is_second_format(field(&mut members, "format")?)?;
     let when = moment_of(field(&mut members, "when")?)?;
     finish(members)?;
+    let changes = changes_of(alloc, changes, sealed)?;
     Ok(Entry {
         changes,
         command,
@@ -80,75 +81,80 @@ fn command_of(name: &str) -> Result<CommandName, DecodeFault>
 }
 
 #[tactic(auto, unfolding(crate::specs::EntryReading::changes_in))]
-fn changes_of(alloc: Global, value: &Value) -> Result<Changes, DecodeFault>
-    ensures { Gives result (changes_in (view value.now)) }
+fn changes_of(alloc: Global, value: &Value, sealed: bool) -> Result<Changes, DecodeFault>
+    ensures { Gives result (changes_in sealed (view value.now)) }
 {
     match value {
         Value::Array(values) => {
-            let changes = change_list(alloc, values.as_slice())?;
+            let changes = change_list(alloc, values.as_slice(), sealed)?;
             Ok(Changes::new(changes))
         }
         _ => Err(DecodeFault::NotGood),
     }
 }
 
-fn change_list(alloc: Global, values: &[Value]) -> Result<Vec<Change>, DecodeFault>
-    ensures { GivesBy (λ v. v.items) result (read_items change_in (items_view values.now)) }
+fn change_list(alloc: Global, values: &[Value], sealed: bool) -> Result<Vec<Change>, DecodeFault>
+    ensures { GivesBy (λ v. v.items) result (read_items (change_in sealed) (items_view values.now)) }
 {
     let mut changes = Vec::with_capacity(alloc, values.len())?;
     for value in values {
-        changes.push(change_of(alloc, value)?)?;
+        changes.push(change_of(alloc, value, sealed)?)?;
     }
     Ok(changes)
 }
 
 #[tactic(auto, unfolding(crate::specs::EntryReading::change_in))]
-fn change_of(alloc: Global, value: &Value) -> Result<Change, DecodeFault>
-    ensures { Gives result (change_in (view value.now)) }
+fn change_of(alloc: Global, value: &Value, sealed: bool) -> Result<Change, DecodeFault>
+    ensures { Gives result (change_in sealed (view value.now)) }
 {
     let kind = value.get("kind").ok_or(DecodeFault::NotGood)?;
     let name = text_of(kind)?;
     if name == "make" {
-        make_of(alloc, value)
+        make_of(alloc, value, sealed)
     } else if name == "drop" {
-        drop_of(alloc, value)
+        drop_of(alloc, value, sealed)
     } else if name == "splice" {
-        splice_of(alloc, value)
+        splice_of(alloc, value, sealed)
     } else {
         Err(DecodeFault::NotGood)
     }
 }
 
 #[tactic(auto, unfolding(crate::specs::EntryReading::make_in))]
-fn make_of(alloc: Global, value: &Value) -> Result<Change, DecodeFault>
-    ensures { Gives result (make_in (view value.now)) }
+fn make_of(alloc: Global, value: &Value, sealed: bool) -> Result<Change, DecodeFault>
+    ensures { Gives result (make_in sealed (view value.now)) }
 {
     let mut members = fields(value)?;
+    let after = next_digest(alloc, &mut members, "after", sealed)?;
     expect_text(field(&mut members, "kind")?, "make")?;
     let new = bytes_of(alloc, field(&mut members, "new")?)?;
     let path = path_of(alloc, field(&mut members, "path")?)?;
     finish(members)?;
-    Ok(Change::Make { path, new })
+    Ok(Change::Make { path, new, after })
 }
 
 #[tactic(auto, unfolding(crate::specs::EntryReading::drop_in))]
-fn drop_of(alloc: Global, value: &Value) -> Result<Change, DecodeFault>
-    ensures { Gives result (drop_in (view value.now)) }
+fn drop_of(alloc: Global, value: &Value, sealed: bool) -> Result<Change, DecodeFault>
+    ensures { Gives result (drop_in sealed (view value.now)) }
 {
     let mut members = fields(value)?;
+    let before = next_digest(alloc, &mut members, "before", sealed)?;
     expect_text(field(&mut members, "kind")?, "drop")?;
     let old = bytes_of(alloc, field(&mut members, "old")?)?;
     let path = path_of(alloc, field(&mut members, "path")?)?;
     finish(members)?;
-    Ok(Change::Drop { path, old })
+    Ok(Change::Drop { path, old, before })
 }
 
 #[tactic(auto, unfolding(crate::specs::EntryReading::splice_in, crate::specs::EntryReading::splice_bytes_in, crate::specs::EntryReading::splice_end_in))]
-fn splice_of(alloc: Global, value: &Value) -> Result<Change, DecodeFault>
-    ensures { Gives result (splice_in (view value.now)) }
+fn splice_of(alloc: Global, value: &Value, sealed: bool) -> Result<Change, DecodeFault>
+    ensures { Gives result (splice_in sealed (view value.now)) }
 {
     let mut members = fields(value)?;
+    let after = next_digest(alloc, &mut members, "after", sealed)?;
     let at = number_of(field(&mut members, "at")?)? as usize;
+    let before = next_digest(alloc, &mut members, "before", sealed)?;
+    let seal = seal_of(before, after);
     expect_text(field(&mut members, "kind")?, "splice")?;
     let new = bytes_of(alloc, field(&mut members, "new")?)?;
     let old = bytes_of(alloc, field(&mut members, "old")?)?;
@@ -161,5 +167,16 @@ fn splice_of(alloc: Global, value: &Value) -> Result<Change, DecodeFault>
         old,
         new,
         rest,
+        seal,
     })
+}
+
+// Both digests, or none.
+fn seal_of(before: Option<Digest>, after: Option<Digest>) -> Option<Seal>
+    ensures { result ≡ seal_of before after }
+{
+    match (before, after) {
+        (Some(before), Some(after)) => Some(Seal { before, after }),
+        _ => None,
+    }
 }

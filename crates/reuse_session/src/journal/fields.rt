@@ -4,8 +4,8 @@ ghost use Rattle.serde_json.specs.Data.{Data};
 ghost use Rattle.serde_json.specs.Find.{as_object, as_str};
 ghost use Rattle.serde_json.specs.View.{view, items_view, members_view};
 ghost use Rattle.reuse_session.specs.Decoded.{Gives, GivesBy};
-ghost use Rattle.reuse_session.specs.EntryReading.{hex_in, if_text, moment_in, path_in};
-ghost use Rattle.reuse_session.specs.JsonReading.{first_member, if_none_left, if_format_one, number_in, small_in, smalls_in, read_items};
+ghost use Rattle.reuse_session.specs.EntryReading.{digest_in, first_digest, hex_in, if_text, moment_in, path_in};
+ghost use Rattle.reuse_session.specs.JsonReading.{first_member, if_none_left, format_in, number_in, small_in, smalls_in, read_items};
 ghost use Rattle.reuse_session.specs.Json.{IsJson};
 
 use crate::Moment;
@@ -13,7 +13,7 @@ use crate::journal::fault::DecodeFault;
 use crate::journal::numbers::EntryNumbers;
 use hex::FromHexError;
 use reuse_text::Bytes;
-use reuse_tree::{PathError, PathText};
+use reuse_tree::{Digest, PathError, PathText};
 use serde_json::Value;
 use std::alloc::Global;
 use std::collections::btree_map::Iter;
@@ -100,6 +100,31 @@ pub(crate) fn bytes_of(alloc: Global, value: &Value) -> Result<Bytes, DecodeFaul
     }
 }
 
+/// A digest.
+pub(crate) fn digest_of(alloc: Global, value: &Value) -> Result<Digest, DecodeFault>
+    ensures { Gives result (digest_in (view value.now)) }
+{
+    let bytes = bytes_of(alloc, value)?;
+    Digest::from_slice(bytes.as_slice()).ok_or(DecodeFault::NotGood)
+}
+
+/// The digest of the next member, which has to have this key. Where changes are not sealed, none.
+#[tactic(auto, unfolding(crate::specs::EntryReading::first_digest))]
+pub(crate) fn next_digest<'a>(
+    alloc: Global,
+    fields: &mut Fields<'a>,
+    key: &str,
+    sealed: bool,
+) -> Result<Option<Digest>, DecodeFault>
+    ensures { GivesBy (λ digest. (digest, members_view fields.new)) result (first_digest sealed key.now (members_view fields.old)) }
+{
+    if sealed {
+        Ok(Some(digest_of(alloc, field(fields, key)?)?))
+    } else {
+        Ok(None)
+    }
+}
+
 /// A path.
 pub(crate) fn path_of(alloc: Global, value: &Value) -> Result<PathText, DecodeFault>
     ensures { Gives result (path_in (view value.now)) }
@@ -137,14 +162,14 @@ pub(crate) fn small_of(value: &Value) -> Result<u32, DecodeFault>
     }
 }
 
-/// Tests that the format is 1.
-pub(crate) fn format_of(value: &Value) -> Result<(), DecodeFault>
-    ensures { Gives result (if_format_one (view value.now)) }
+/// Whether the format is the second, in which entries are sealed, and not the first.
+pub(crate) fn is_second_format(value: &Value) -> Result<bool, DecodeFault>
+    ensures { Gives result (format_in (view value.now)) }
 {
-    if number_of(value)? == 1 {
-        Ok(())
-    } else {
-        Err(DecodeFault::NotGood)
+    match number_of(value)? {
+        1 => Ok(false),
+        2 => Ok(true),
+        _ => Err(DecodeFault::NotGood),
     }
 }
 

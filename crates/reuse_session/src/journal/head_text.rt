@@ -1,15 +1,15 @@
 // The head as text, and back.
-ghost use Rattle.std.specs.Prelude.{◌≡◌, ◌≢◌, ◌≤◌, ◌+◌, ◌*◌, ◌↔◌, AllPairs, IfOk, IsTrue, length};
+ghost use Rattle.std.specs.Prelude.{◌≡◌, ◌≢◌, ◌≤◌, ◌+◌, ◌*◌, ◌↔◌, true, AllPairs, IfOk, IsTrue, length};
 ghost use Rattle.serde_json.specs.View.{view};
 ghost use Rattle.reuse_session.specs.Decoded.{Gives, IsAnswer};
-ghost use Rattle.reuse_session.specs.Head.{head_text, listed, head_value, pending_value as value_of_pending, IsGoodHead, IsSoundHead, PendingFits};
+ghost use Rattle.reuse_session.specs.Head.{head_text, listed, head_value, pending_value as value_of_pending, IsGoodHead, IsJsonHead, IsSoundHead, PendingFits};
 ghost use Rattle.reuse_session.specs.HeadReading.{head_in, pending_in, some_pending_in, way_from};
-ghost use Rattle.reuse_session.specs.Json.{counts, IsJson};
+ghost use Rattle.reuse_session.specs.Json.{counts};
 ghost use Rattle.reuse_session.specs.declared.journal.head.Head.{Head};
 
 use crate::journal::fault::DecodeFault;
 use crate::journal::fields::{
-    field, fields, finish, format_of, numbers_of, parse, small_of, text_of,
+    field, fields, finish, is_second_format, numbers_of, parse, small_of, text_of,
 };
 use crate::journal::head::{Head, Pending, PendingWay};
 use serde_json::{Value, json};
@@ -34,14 +34,14 @@ pub fn encode_head(alloc: Global, head: &Head) -> Result<Vec<u8>, AllocError>
 }
 
 fn head_json(alloc: Global, head: &Head) -> Result<Value, AllocError>
-    ensures { IfOk result (λ v. view v ≡ head_value head.now) }
+    ensures { IfOk result (λ v. view v ≡ head_value true head.now) }
 {
     let done = numbers_value(alloc, head.done.as_slice())?;
     let undone = numbers_value(alloc, head.undone.as_slice())?;
     let pending = pending_value(alloc, head.pending)?;
     json!(in alloc; {
         "done": done,
-        "format": 1u32,
+        "format": 2u32,
         "next": head.next,
         "pending": pending,
         "undone": undone
@@ -85,8 +85,8 @@ pub fn decode_head(alloc: Global, text: &[u8]) -> Result<Head, DecodeFault>
 
 // The head whose value the text is, sound or not.
 fn read_head(alloc: Global, text: &[u8]) -> Result<Head, DecodeFault>
-    ensures ok { IfOk result (λ h. IsJson text.now (head_value h)) }
-    ensures only { (h : Head) → IsSoundHead h → IsJson text.now (head_value h) → IsAnswer result h }
+    ensures ok { IfOk result (IsJsonHead text.now) }
+    ensures only { (h : Head) → IsSoundHead h → IsJsonHead text.now h → IsAnswer result h }
 {
     let value = parse(alloc, text)?;
     head_of(alloc, &value)
@@ -98,7 +98,7 @@ fn head_of(alloc: Global, value: &Value) -> Result<Head, DecodeFault>
 {
     let mut members = fields(value)?;
     let done = numbers_of(alloc, field(&mut members, "done")?)?;
-    format_of(field(&mut members, "format")?)?;
+    let _second = is_second_format(field(&mut members, "format")?)?;
     let next = small_of(field(&mut members, "next")?)?;
     let pending = pending_of(field(&mut members, "pending")?)?;
     let undone = numbers_of(alloc, field(&mut members, "undone")?)?;

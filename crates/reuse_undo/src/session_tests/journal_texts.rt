@@ -1,10 +1,10 @@
 // Texts of the journal, with worked values.
 // The tags below are data: REUSE-IgnoreStart
-use crate::session_tests::trees::FIRST;
+use crate::session_tests::trees::{FIRST, FIRST_UNSEALED, PLAIN};
 use reuse_session::journal::laws::{written_entries_are_good, written_heads_are_good};
 use reuse_session::laws::{
     changed_paths_are_where_trees_differ, downloads_put_each_text, entries_lead_in_turn,
-    files_open_in_one_way,
+    files_open_in_one_way, seals_tell_of_whole_files,
 };
 use reuse_session::{
     Changes, CommandName, DecodeFault, Entry, EntryNumbers, Head, Moment, Pending, PendingWay,
@@ -37,7 +37,7 @@ fn head_text(
 fn heads_are_written(rt: HostRuntime) -> Result<(), Fail> {
     let alloc = rt.alloc();
     let text = head_text(alloc, &[], 1, None)?;
-    let empty = b"{\"done\":[],\"format\":1,\"next\":1,\"pending\":null,\"undone\":[]}";
+    let empty = b"{\"done\":[],\"format\":2,\"next\":1,\"pending\":null,\"undone\":[]}";
     assert_eq!(rt; text.as_slice(), empty.as_slice());
     let pending = Pending {
         entry: 1,
@@ -45,10 +45,10 @@ fn heads_are_written(rt: HostRuntime) -> Result<(), Fail> {
     };
     let text = head_text(alloc, &[], 1, Some(pending))?;
     let first =
-        b"{\"done\":[],\"format\":1,\"next\":1,\"pending\":{\"entry\":1,\"way\":\"do\"},\"undone\":[]}";
+        b"{\"done\":[],\"format\":2,\"next\":1,\"pending\":{\"entry\":1,\"way\":\"do\"},\"undone\":[]}";
     assert_eq!(rt; text.as_slice(), first.as_slice());
     let text = head_text(alloc, &[1, 3], 4, None)?;
-    let later = b"{\"done\":[1,3],\"format\":1,\"next\":4,\"pending\":null,\"undone\":[]}";
+    let later = b"{\"done\":[1,3],\"format\":2,\"next\":4,\"pending\":null,\"undone\":[]}";
     assert_eq!(rt; text.as_slice(), later.as_slice());
     written_heads_are_good();
     written_entries_are_good();
@@ -81,7 +81,7 @@ fn bad_heads_are_refused(rt: HostRuntime) {
         "{\"done\":[1,1],\"format\":1,\"next\":2,\"pending\":null,\"undone\":[]}",
         "{\"done\":[2],\"format\":1,\"next\":2,\"pending\":null,\"undone\":[]}",
         "{\"done\":[1.0],\"format\":1,\"next\":2,\"pending\":null,\"undone\":[]}",
-        "{\"done\":[1],\"format\":2,\"next\":2,\"pending\":null,\"undone\":[]}",
+        "{\"done\":[1],\"format\":3,\"next\":2,\"pending\":null,\"undone\":[]}",
         "{\"done\":[],\"format\":1,\"next\":1000001,\"pending\":null,\"undone\":[]}",
         "{\"done\":[],\"format\":1,\"more\":0,\"next\":1,\"pending\":null,\"undone\":[]}",
     ] {
@@ -90,8 +90,39 @@ fn bad_heads_are_refused(rt: HostRuntime) {
     }
 }
 
+fn entry_of(alloc: Global, change: Change) -> Result<Entry, Fail> {
+    Ok(Entry {
+        changes: Changes::new(vec![in alloc; change]?),
+        command: CommandName::Annotate,
+        when: Moment::new(1_704_067_200).ok_or("moment")?,
+    })
+}
+
+// Writes the entry of a change, and what is read of that text.
+fn twice(alloc: Global, change: Change) -> Result<(Vec<u8>, Vec<u8>), Fail> {
+    let text = encode_entry(alloc, &entry_of(alloc, change)?)?;
+    let again = encode_entry(alloc, &decode_entry(alloc, text.as_slice())?)?;
+    Ok((text, again))
+}
+
 #[test]
 fn an_entry_is_written_and_read(rt: HostRuntime) -> Result<(), Fail> {
+    let alloc = rt.alloc();
+    let change = Change::sealed_splice(
+        PathText::new(alloc, "a.py")?,
+        PLAIN,
+        0,
+        Bytes::new(alloc),
+        Bytes::from_slice(alloc, NEW)?,
+    );
+    let (text, again) = twice(alloc, change)?;
+    assert_eq!(rt; text.as_slice(), FIRST.as_bytes());
+    assert_eq!(rt; again.as_slice(), FIRST.as_bytes());
+    Ok(())
+}
+
+#[test]
+fn an_unsealed_entry_stays_so(rt: HostRuntime) -> Result<(), Fail> {
     let alloc = rt.alloc();
     let change = Change::Splice {
         path: PathText::new(alloc, "a.py")?,
@@ -99,16 +130,11 @@ fn an_entry_is_written_and_read(rt: HostRuntime) -> Result<(), Fail> {
         old: Bytes::new(alloc),
         new: Bytes::from_slice(alloc, NEW)?,
         rest: 9,
+        seal: None,
     };
-    let entry = Entry {
-        changes: Changes::new(vec![in alloc; change]?),
-        command: CommandName::Annotate,
-        when: Moment::new(1_704_067_200).ok_or("moment")?,
-    };
-    let text = encode_entry(alloc, &entry)?;
-    assert_eq!(rt; text.as_slice(), FIRST.as_bytes());
-    let again = encode_entry(alloc, &decode_entry(alloc, text.as_slice())?)?;
-    assert_eq!(rt; again.as_slice(), FIRST.as_bytes());
+    let (text, again) = twice(alloc, change)?;
+    assert_eq!(rt; text.as_slice(), FIRST_UNSEALED.as_bytes());
+    assert_eq!(rt; again.as_slice(), FIRST_UNSEALED.as_bytes());
     Ok(())
 }
 
@@ -155,15 +181,30 @@ fn bad_entries_are_refused(rt: HostRuntime) -> Result<(), Fail> {
             "{\"kind\":\"make\",\"new\":\"\",\"path\":\"a\"},{\"kind\":\"drop\",\"old\":\"\",\"path\":\"a-/b\"},{\"kind\":\"make\",\"new\":\"\",\"path\":\"ab\"}"
         )?
     );
-    for (from, to) in [
-        ("\"at\":0", "\"at\":18446744073709551615"),
-        ("\"rest\":9", "\"rest\":16777200"),
-        ("a.py", ".reuse/undo/x"),
+    Ok(())
+}
+
+// Whether an entry is good, when this part of the first is another.
+fn is_good(alloc: Global, first: &str, from: &str, to: &str) -> Result<bool, AllocError> {
+    let text = first.replace(alloc, from, to)?;
+    Ok(decode_entry(alloc, text.as_bytes()).is_ok())
+}
+
+#[test]
+fn entries_are_sealed_whole(rt: HostRuntime) -> Result<(), Fail> {
+    let alloc = rt.alloc();
+    for (first, from, to) in [
+        (FIRST_UNSEALED, "\"at\":0", "\"at\":18446744073709551615"),
+        (FIRST_UNSEALED, "\"format\":1", "\"format\":2"),
+        (FIRST, "\"format\":2", "\"format\":1"),
+        (FIRST, "70201\"", "7020\""),
+        (FIRST, "ea213\",", "ea213\",\"digest\":\"\","),
+        (FIRST, "\"after\"", "\"aft\""),
     ] {
-        let text = FIRST.replace(alloc, from, to)?;
-        let found = decode_entry(alloc, text.as_bytes());
-        assert!(rt; matches!(found, Err(DecodeFault::NotGood)), "{to}");
+        assert!(rt; !is_good(alloc, first, from, to)?, "{to}");
     }
+    assert!(rt; is_good(alloc, FIRST, "3f6ff4", "3F6FF4")?);
+    assert!(rt; is_good(alloc, FIRST, "3f6ff4", "3f6ff5")?);
     Ok(())
 }
 
@@ -173,4 +214,5 @@ fn laws_of_sessions_can_be_called() {
     entries_lead_in_turn();
     downloads_put_each_text();
     changed_paths_are_where_trees_differ();
+    seals_tell_of_whole_files();
 }

@@ -1,22 +1,25 @@
 // Journals in files: what a session writes, and what it makes of what is there.
 // The tags below are data: REUSE-IgnoreStart
 use crate::session_tests::trees::{
-    ANNOTATED, ENTRY, FIRST, HEAD, PLAIN, copy, dump, events_of, holds, lacks, leaves, path, plays,
-    signing, tree,
+    ANNOTATED, DONE_UNSEALED, ENTRY, FIRST, FIRST_UNSEALED, HEAD, PLAIN, copy, dump, events_of,
+    holds, lacks, leaves, path, plays, signing, tree,
 };
-use reuse_session::drive;
+use reuse_session::{Command, Event, Ids, LicenceText, LicenceTexts, Moment, drive};
+use reuse_text::Bytes;
 use reuse_tree::{FuseStore, MemoryStore, Store};
 use std::alloc::Global;
 use std::process::Abort;
 use std::test::Fail;
 
-const DONE: &[u8] = b"{\"done\":[1],\"format\":1,\"next\":2,\"pending\":null,\"undone\":[]}";
+const DONE: &[u8] = b"{\"done\":[1],\"format\":2,\"next\":2,\"pending\":null,\"undone\":[]}";
+
+const UNDONE: &[u8] = b"{\"done\":[],\"format\":2,\"next\":2,\"pending\":null,\"undone\":[1]}";
 
 const DONE_REVERSED: &[u8] =
     b"{ \"undone\": [ ], \"pending\": null, \"next\": 2, \"format\": 1, \"done\": [ 1 ] }";
 
 const PENDING: &[u8] =
-    b"{\"done\":[],\"format\":1,\"next\":1,\"pending\":{\"entry\":1,\"way\":\"do\"},\"undone\":[]}";
+    b"{\"done\":[],\"format\":2,\"next\":1,\"pending\":{\"entry\":1,\"way\":\"do\"},\"undone\":[]}";
 
 const PENDING_ANOTHER: &[u8] =
     b"{\"done\":[1],\"format\":1,\"next\":2,\"pending\":{\"entry\":2,\"way\":\"undo\"},\"undone\":[]}";
@@ -25,7 +28,7 @@ const USED_UP: &[u8] =
     b"{\"done\":[],\"format\":1,\"next\":1000000,\"pending\":null,\"undone\":[]}";
 
 const FIRST_AND_THIRD: &[u8] =
-    b"{\"done\":[1,3],\"format\":1,\"next\":4,\"pending\":null,\"undone\":[]}";
+    b"{\"done\":[1,3],\"format\":2,\"next\":4,\"pending\":null,\"undone\":[]}";
 
 // A store of one annotated file, with its journal.
 fn signed(alloc: Global) -> Result<MemoryStore, Fail> {
@@ -107,14 +110,30 @@ fn a_moved_file_is_not_undone(rt: HostRuntime) -> Result<(), Fail> {
     Ok(())
 }
 
+const ANOTHER: &[u8] =
+    b"# SPDX-FileCopyrightText: 2024 Jane Doe\n#\n# SPDX-License-Identifier: MIT\n\nprint(2)\n";
+
 #[test]
-fn bytes_beside_a_header_may_change(rt: HostRuntime) -> Result<(), Fail> {
+fn no_edit_is_undone_over(rt: HostRuntime) -> Result<(), Fail> {
     let alloc = rt.alloc();
-    let another =
-        b"# SPDX-FileCopyrightText: 2024 Jane Doe\n#\n# SPDX-License-Identifier: MIT\n\nprint(2)\n";
-    let store = changed_to(alloc, another)?;
+    let mut start = changed_to(alloc, ANOTHER)?;
+    let store = copy(alloc, &mut start)?;
+    let mut store = plays(&rt, alloc, store, &["undo"], "opened\na.py: moved\n")?;
+    assert!(rt; dump(alloc, &mut store)? == dump(alloc, &mut start)?);
+    Ok(())
+}
+
+#[test]
+fn bytes_beside_an_unsealed_header_may_change(rt: HostRuntime) -> Result<(), Fail> {
+    let alloc = rt.alloc();
+    let entry = (ENTRY, FIRST_UNSEALED.as_bytes());
+    let start = tree(alloc, &[("a.py", ANOTHER), (HEAD, DONE_UNSEALED), entry])?;
+    let mut store = plays(&rt, alloc, start, &["log"], "opened\nlog 1 done\n")?;
+    assert!(rt; holds(alloc, &mut store, HEAD, DONE_UNSEALED)?);
     let mut store = plays(&rt, alloc, store, &["undo"], "opened\nundone a.py\n")?;
     assert!(rt; holds(alloc, &mut store, "a.py", b"print(2)\n")?);
+    assert!(rt; holds(alloc, &mut store, HEAD, UNDONE)?);
+    assert!(rt; holds(alloc, &mut store, ENTRY, FIRST_UNSEALED.as_bytes())?);
     Ok(())
 }
 
@@ -184,7 +203,7 @@ fn bad_entries_are_refused(rt: HostRuntime) -> Result<(), Fail> {
         ("\"rest\":9", "\"rest\":16777200"),
         ("a.py", ".reuse/undo/x"),
     ] {
-        let entry = FIRST.replace(alloc, from, to)?;
+        let entry = FIRST_UNSEALED.replace(alloc, from, to)?;
         let entry = (ENTRY, entry.as_bytes());
         let line = ".reuse/undo/000001.json: bad journal\n";
         refuses(
@@ -222,4 +241,33 @@ fn numbers_are_used_up(rt: HostRuntime) -> Result<(), Fail> {
     assert!(rt; holds(alloc, &mut store, "a.py", PLAIN)?);
     assert!(rt; lacks(alloc, &mut store, ENTRY)?);
     Ok(())
+}
+
+// The first entry, where it is a download of a text of the bytes `abc` at the first moment, with the digest of NIST's example.
+const DOWNLOADED: &str =
+    "{\"changes\":[{\"after\":\"ba7816bf8f01cfea414140de5dae2223b00361a396177a9cb410ff61f20015ad\",\"kind\":\"make\",\"new\":\"616263\",\"path\":\"LICENSES/MIT.txt\"}],\"command\":\"download\",\"format\":2,\"when\":0}";
+
+#[test]
+fn a_download_is_sealed(rt: HostRuntime) -> Result<(), Fail> {
+    let alloc = rt.alloc();
+    let id = Bytes::from_slice(alloc, b"MIT")?;
+    let text = LicenceText {
+        id: id.try_clone(alloc)?,
+        text: Some(Bytes::from_slice(alloc, b"abc")?),
+    };
+    let command = Command::Download {
+        ids: Ids::new(vec![in alloc; id]?),
+        texts: LicenceTexts::new(vec![in alloc; text]?),
+    };
+    let when = Moment::new(0).ok_or("moment")?;
+    let (mut store, _) = drive(alloc, MemoryStore::new(), &[Event::Run(command, when)]);
+    assert!(rt; holds(alloc, &mut store, ENTRY, DOWNLOADED.as_bytes())?);
+    let wrong = DOWNLOADED.replace(alloc, "20015ad", "20015ac")?;
+    let files = [
+        ("LICENSES/MIT.txt", b"abc".as_slice()),
+        (HEAD, DONE),
+        (ENTRY, wrong.as_bytes()),
+    ];
+    let line = ".reuse/undo/000001.json: bad journal\n";
+    refuses(&rt, alloc, &files, line)
 }

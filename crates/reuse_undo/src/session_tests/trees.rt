@@ -19,9 +19,18 @@ pub const HEAD: &str = ".reuse/undo/head.json";
 
 pub const ENTRY: &str = ".reuse/undo/000001.json";
 
-/// The first entry, where it is an annotation of `a.py` at that moment.
+/// The first entry, where it is an annotation of `a.py` at that moment. The digests are those that `sha256sum` prints of the file
+/// before and after.
 pub const FIRST: &str =
+    "{\"changes\":[{\"after\":\"3f6ff4280e99750b9c673f7a16659c664206bc7eb0a4932f4c59c84ebbd70201\",\"at\":0,\"before\":\"cc42155088fca5730758db72b2a5bca33112a941dfaa2d43098ec422ce4ea213\",\"kind\":\"splice\",\"new\":\"2320535044582d46696c65436f70797269676874546578743a2032303234204a616e6520446f650a230a2320535044582d4c6963656e73652d4964656e7469666965723a204d49540a0a\",\"old\":\"\",\"path\":\"a.py\",\"rest\":9}],\"command\":\"annotate\",\"format\":2,\"when\":1704067200}";
+
+/// The first entry, where it is an annotation of `a.py` at that moment, as it was written before entries were sealed.
+pub const FIRST_UNSEALED: &str =
     "{\"changes\":[{\"at\":0,\"kind\":\"splice\",\"new\":\"2320535044582d46696c65436f70797269676874546578743a2032303234204a616e6520446f650a230a2320535044582d4c6963656e73652d4964656e7469666965723a204d49540a0a\",\"old\":\"\",\"path\":\"a.py\",\"rest\":9}],\"command\":\"annotate\",\"format\":1,\"when\":1704067200}";
+
+/// The head of a journal that has that entry alone, as it was written before entries were sealed.
+pub const DONE_UNSEALED: &[u8] =
+    b"{\"done\":[1],\"format\":1,\"next\":2,\"pending\":null,\"undone\":[]}";
 
 const LONGEST_FILE: usize = 16_777_216;
 

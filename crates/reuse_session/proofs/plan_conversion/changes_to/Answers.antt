@@ -1,5 +1,5 @@
 use Rattle.std.proofs.Common.{◌∙◌, [], ◌∷◌, sym, ap, ap₂, subst, Err}
-use Rattle.reuse_tree.specs.declared.change.Change.TheVariants.{Make, Drop}
+use Rattle.reuse_tree.specs.Change.{sealed_drop, sealed_make}
 use Rattle.reuse_session.specs.Clash.{is_clash_of}
 use Rattle.reuse_session.specs.Conversion.{conversion_edits}
 use Rattle.reuse_session.specs.Listing.{ArePaths}
@@ -18,5 +18,5 @@ returns-then-branch-clause-edits c tree are here there found short absent is fit
 pub returns-clause-edits : goal.returns-clause-edits
 returns-clause-edits c tree are here there found short absent is fits =
     let sorted : ArePaths c.args.paths.now = subst ArePaths (sym are) (keys_ascend tree) in
-    subst (MakesEdits tree (conversion_edits tree)) (sym (c.in_ok-both_changes.ensures ∙ ap₂ (λ p q. Drop p c.args.old ∷ Make q c.args.new ∷ []) here there))
+    subst (MakesEdits tree (conversion_edits tree)) (sym (c.in_ok-both_changes.ensures ∙ ap₂ (λ p q. sealed_drop p c.args.old ∷ sealed_make q c.args.new ∷ []) here there))
     (made_answer tree c.args.paths.now c.args.old are found short c.args.new is absent (ap (is_clash_of c.args.paths.now) (sym there) ∙ sym (c.in_ok-is_clash.ensures sorted) ∙ c.if-branch.false) fits)

@@ -1,4 +1,4 @@
-use Rattle.std.proofs.Common.{◌≡◌, ◌∙◌, false, ◌&&◌, is_some, sym, ap, refl, subst}
+use Rattle.std.proofs.Common.{◌≡◌, ◌∙◌, false, ◌&&◌, is_some, sym, ap, subst}
 use Rattle.reuse_header.specs.Annotation.{annotation_of}
 use Rattle.reuse_header.specs.Found.{block_view}
 use Rattle.reuse_header.specs.Header.{header_of, span_in}
@@ -17,7 +17,7 @@ returns-in-Ok-clause-step c tree here =
       | else-scope-via-else-scope w ↦ ap (λ b. b && is_some (header_of c.args.style c.args.bytes.now)) w.if-scope.false
     ] in
     subst (λ r. MakesEdit tree r c.in-Ok.change) (sym (inside_is c.args.how.now c.args.scope.now c.args.additions.now c.args.path.now c.args.bytes.now c.args.style kept))
-    (c.in-Ok.ensures.edit tree c.args.bytes.now due here refl c.requires
+    (c.in-Ok.ensures.edit tree due here c.requires
     (fits_by c.args.bytes.now due (λ edit e. c.annotations_fit.ensures.files c.args.style c.args.how.now c.args.additions.now c.args.bytes.now edit e)) c.annotate_file-made.ensures)
 
 pub returns-in-Err-clause-step : goal.returns-in-Err-clause-step
@@ -30,5 +30,5 @@ returns-in-Err-clause-step c tree here =
       | else-scope-via-else-scope w ↦ ap (λ b. b && is_some (header_of c.args.style c.args.bytes.now)) w.if-scope.false
     ] in
     subst (λ r. IsRefusalOf r c.in-Err.refusal) (sym (inside_is c.args.how.now c.args.scope.now c.args.additions.now c.args.path.now c.args.bytes.now c.args.style kept))
-    (c.in-Err.ensures.edit tree c.args.bytes.now due here refl c.requires
+    (c.in-Err.ensures.edit tree due here c.requires
     (fits_by c.args.bytes.now due (λ edit e. c.annotations_fit.ensures.files c.args.style c.args.how.now c.args.additions.now c.args.bytes.now edit e)) c.annotate_file-made.ensures)

@@ -23,7 +23,8 @@ returns-clause-edit c tree bytes is here reading =
     let same : bytes ≡ c.in-Found.bytes = some_is bytes c.in-Found.bytes (found_is (Some bytes) 16_777_216 c.in-Found.bytes (sym c.in-Found.is ∙ reading)).0 in
     let size = ap length same in
     let short : length bytes ≤ 16_777_216 = omega (arith, size, c.len.ensures, c.if-len-gt-LONGEST_FILE.false) in
-    let due = neighbour_annotation_of c.args.how.now c.args.additions.now bytes in
+    let file = c.as_slice-3.result.now in
+    let due = neighbour_annotation_of c.args.how.now c.args.additions.now file in
     let kept : (c.args.scope.now.skip_existing && neighbour_is_tagged bytes) ≡ false = elim c.else-scope.branch [
       | else-scope-via-then-scope+else-neighbour_has_tag w ↦
           ap (λ b. b && neighbour_is_tagged bytes) w.if-scope.true ∙ ap neighbour_is_tagged (same ∙ sym w.as_slice.ensures) ∙ sym w.neighbour_has_tag.ensures ∙ w.if-neighbour_has_tag.false
@@ -31,6 +32,7 @@ returns-clause-edit c tree bytes is here reading =
     ] in
     subst (λ r. AnswersEdit tree r c.change_by.result) (sym (neighbour_is c.args.how.now c.args.scope.now c.args.additions.now tree c.args.path.now bytes (not_over (length bytes) short) kept))
     (subst (λ n. AnswersEdit tree (edit_by c.args.path.now n bytes (neighbour_annotation_of c.args.how.now c.args.additions.now bytes)) c.change_by.result) is
-    (c.change_by.ensures.edit tree bytes due here (size ∙ sym c.len-2.ensures) short
-    (fits_by bytes due (λ edit e. c.annotations_fit.ensures.neighbours c.args.how.now c.args.additions.now bytes edit e))
-    (subst (λ xs. IsDue (answer_of xs (neighbour_annotation_of c.args.how.now c.args.additions.now xs)) c.annotate_neighbour-made.result) (c.as_slice-2.ensures ∙ sym same) c.annotate_neighbour-made.ensures)))
+    (subst (λ xs. AnswersEdit tree (edit_by c.args.path.now c.args.neighbour.now xs (neighbour_annotation_of c.args.how.now c.args.additions.now xs)) c.change_by.result) (c.as_slice-3.ensures ∙ sym same)
+    (c.change_by.ensures.edit tree due (here ∙ ap (λ xs. Some xs) (same ∙ sym c.as_slice-3.ensures)) (omega (arith, ap length c.as_slice-3.ensures, c.len.ensures, c.if-len-gt-LONGEST_FILE.false))
+    (fits_by file due (λ edit e. c.annotations_fit.ensures.neighbours c.args.how.now c.args.additions.now file edit e))
+    (subst (λ xs. IsDue (answer_of xs (neighbour_annotation_of c.args.how.now c.args.additions.now xs)) c.annotate_neighbour-made.result) (c.as_slice-2.ensures ∙ sym c.as_slice-3.ensures) c.annotate_neighbour-made.ensures))))

@@ -1,4 +1,4 @@
-use Rattle.std.proofs.Common.{◌⊎◌, inl, inr, ⊎_elim, ◌≡◌, arith, sym, ap, subst}
+use Rattle.std.proofs.Common.{◌⊎◌, inl, inr, ⊎_elim, ◌≡◌, arith, refl, sym, ap, subst}
 use Rattle.std.proofs.lemmas.Result.{on_ok_weaker, on_err_weaker}
 use Rattle.std.specs.FinMap.{get}
 use Rattle.reuse_tree.specs.Change.{path_of}
@@ -14,7 +14,7 @@ returns-clause-ok g c honest here =
     let files = g.S.Store.files in
     let held = held_in c.in_ok-after.after in
     let way = opposite c.args.way in
-    let turns = subst (λ w. TurnsBy w c.args.change.now (get (g.S.Store.files c.args.store.now) (path_of c.args.change.now)) held) c.opposite-back.ensures (subst (λ f. TurnsBy c.opposite-back.result c.args.change.now f held) (sym here) c.in_ok-after.ensures.turns) in
+    let turns = subst (λ w. TurnsBy w c.args.change.now (get (g.S.Store.files c.args.store.now) (path_of c.args.change.now)) held) c.opposite-back.ensures (subst (λ f. TurnsBy c.opposite-back.result c.args.change.now f held) (sym here) (c.in_ok-after.ensures.turns (c.if-not-is_ready.ensures.ready refl))) in
     on_ok_weaker c.put_turned.result
     (λ sets. inr (step_by way c.args.change.now (files c.args.store.now) (files c.put_turned.new.store) held turns sets))
     (c.put_turned.ensures.ok honest)
@@ -24,7 +24,7 @@ returns-clause-err g c honest here =
     let files = g.S.Store.files in
     let held = held_in c.in_ok-after.after in
     let way = opposite c.args.way in
-    let turns = subst (λ w. TurnsBy w c.args.change.now (get (g.S.Store.files c.args.store.now) (path_of c.args.change.now)) held) c.opposite-back.ensures (subst (λ f. TurnsBy c.opposite-back.result c.args.change.now f held) (sym here) c.in_ok-after.ensures.turns) in
+    let turns = subst (λ w. TurnsBy w c.args.change.now (get (g.S.Store.files c.args.store.now) (path_of c.args.change.now)) held) c.opposite-back.ensures (subst (λ f. TurnsBy c.opposite-back.result c.args.change.now f held) (sym here) (c.in_ok-after.ensures.turns (c.if-not-is_ready.ensures.ready refl))) in
     on_err_weaker c.put_turned.result
     (λ either. ⊎_elim (λ same. inl same) (λ sets. inr (step_by way c.args.change.now (files c.args.store.now) (files c.put_turned.new.store) held turns sets)) either)
     (c.put_turned.ensures.err honest)
@@ -33,7 +33,7 @@ pub returns-clause-clash : goal.returns-clause-clash
 returns-clause-clash g c honest proper here e =
     let held = held_in c.in_ok-after.after in
     let way = opposite c.args.way in
-    let turns = subst (λ w. TurnsBy w c.args.change.now (get (g.S.Store.files c.args.store.now) (path_of c.args.change.now)) held) c.opposite-back.ensures (subst (λ f. TurnsBy c.opposite-back.result c.args.change.now f held) (sym here) c.in_ok-after.ensures.turns) in
+    let turns = subst (λ w. TurnsBy w c.args.change.now (get (g.S.Store.files c.args.store.now) (path_of c.args.change.now)) held) c.opposite-back.ensures (subst (λ f. TurnsBy c.opposite-back.result c.args.change.now f held) (sym here) (c.in_ok-after.ensures.turns (c.if-not-is_ready.ensures.ready refl))) in
     let clash = c.put_turned.ensures.clash honest e in
     let are = g.met.S.Store.are_files c.args.store.now (c.put_turned.ensures.later.was_honest honest) in (
       λ ready. let yes = c.is_ready.ensures.stuck proper ready in let no = c.if-is_ready.false in absurd (cc),

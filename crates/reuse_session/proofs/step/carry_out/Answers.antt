@@ -7,7 +7,7 @@ use Rattle.reuse_tree.specs.declared.change.Change.{Change}
 use Rattle.reuse_session.specs.declared.entry.Way.{Way}
 use Rattle.reuse_session.specs.Carried.{IsCarriedOut, IsStopped}
 use Rattle.reuse_session.specs.Tree.{undo_folder_of, Sets}
-use Rattle.reuse_session.specs.Entry.{LeadsBy, SomeMade, CanBeMade}
+use Rattle.reuse_session.specs.Entry.{LeadsBy, SomeMade, CanBeMade, CanGo}
 use Rattle.reuse_session.specs.JournalFiles.{head_path}
 use Rattle.reuse_session.proofs.MadeLemmas.{made_none, made_all, made_of_front}
 use Rattle.reuse_session.proofs.HeadPuts.{head_sets, head_keeps_tree, head_is_free, sets_again}
@@ -38,6 +38,13 @@ module _ (way : Way) (changes : List Change) (pending settled : List ℕ) (old s
     -- the head that is there is put again
     free : AreFiles now → Clashes now head_path → ⊥
     free are clash = head_is_free now pending are (ap (λ files. get files head_path) folder ∙ (head_sets old started (Some pending) first).here) clash
+
+-- the head's put leaves the tree
+pub perform-requires : goal.perform-requires
+perform-requires g c honest =
+    let first = c.in_ok-put_head.ensures.ok honest in
+    let stays = tree_stays c.args.way c.args.changes.now c.args.pending.now c.args.settled.now (g.S.Store.files c.args.store.now) (g.S.Store.files c.put_head.new.store) first in
+    subst (λ t. CanGo c.args.way t c.args.changes.now) (sym stays) (c.requires (c.put_head.ensures.later.was_honest honest))
 
 pub returns-in_err-put_head-clause-stopped : goal.returns-in_err-put_head-clause-stopped
 returns-in_err-put_head-clause-stopped g c honest good =

@@ -7,4 +7,4 @@ use Rattle.reuse_session.proofs.journal.entry_reading.change_list.Given as goal
 -- the changes so far, and those of what is left, are those of all
 abbrev pub invariant-loop-value : goal.invariant-loop-value
 invariant-loop-value l =
-    with_front l.changes.items (read_items change_in (items_view (drop l.value-index l.values))) ≡ read_items change_in (items_view l.values)
+    with_front l.changes.items (read_items (change_in l.sealed) (items_view (drop l.value-index l.values))) ≡ read_items (change_in l.sealed) (items_view l.values)

@@ -11,7 +11,7 @@ returns-then-are_sound-clause-ok c =
     let passes : Passes changes = subst Passes c.as_slice.ensures (c.are_sound.ensures.0 c.if-are_sound.true) in record {
       short = c.if-text-gt-LONGEST_TEXT.false;
       value = c.in_ok-entry.ensures.ok.0;
-      changes = entry_from_tests changes passes;
+      changes = entry_from_tests changes (c.in_ok-entry.ensures.ok.0.2.0, c.in_ok-entry.ensures.ok.0.2.2) passes;
       paths = paths_from_tests changes passes;
       when = c.in_ok-entry.ensures.ok.1;
     }

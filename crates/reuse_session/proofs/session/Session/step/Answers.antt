@@ -3,7 +3,7 @@ use Rattle.std.specs.List.{All}
 use Rattle.reuse_tree.specs.Files.{Clashes, tree_of}
 use Rattle.reuse_tree.specs.declared.change.Change.{Change}
 use Rattle.reuse_session.specs.Carried.{IsCarriedOut, IsStopped}
-use Rattle.reuse_session.specs.Entry.{IsEntry, CanBeMade}
+use Rattle.reuse_session.specs.Entry.{IsEntry, CanBeMade, CanGo}
 use Rattle.reuse_session.specs.Head.{way_of}
 use Rattle.reuse_session.specs.History.{head_listing}
 use Rattle.reuse_session.specs.JournalFiles.{head_path}
@@ -14,6 +14,10 @@ use Rattle.reuse_session.proofs.JournalReading.{file_in_folder}
 use Rattle.reuse_session.proofs.Standings.{carried, stopped}
 use Rattle.reuse_session.proofs.Stepping.{good_between, good_second, stop_clash}
 use Rattle.reuse_session.proofs.session.Session.step.Goals as goal
+
+pub carry_out-carried-requires : goal.carry_out-carried-requires
+carry_out-carried-requires g c honest =
+    subst (λ w. CanGo w (tree_of (g.S.Store.files (store_of c.args.self.now))) c.args.changes.now) (sym c.way.ensures) (c.requires honest)
 
 pub returns-in-Ok-clause-moves : goal.returns-in-Ok-clause-moves
 returns-in-Ok-clause-moves g c honest held second stands is =

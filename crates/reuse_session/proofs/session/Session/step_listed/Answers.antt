@@ -46,6 +46,18 @@ returns-in_err-paths-clause-exact g c honest held stands told =
       subst (λ r. Travels way (ahead way held.journal) held r held) (sym (is ∙ ap (λ x. Err x) told_as.1)) (stuck next c.as_slice-changes.result.now told_as.0 changes first),
     )
 
+-- each change was tested
+pub step-requires : goal.step-requires
+step-requires g c honest =
+    let store = g.S.Store in
+    let way = c.args.way in
+    let made = c.as_slice-changes.result.now in
+    let good : IsEntry made = subst IsEntry (sym c.as_slice-changes.ensures) c.in_ok-entry.ensures.good in record {
+      entry = good;
+      each = subst (λ w. All (CanBeMade w (tree_of (store.files c.prepare.new.store))) made) (sym (ap way_of c.of_listed.ensures ∙ same_way way))
+          (subst (λ f. All (CanBeMade way (tree_of f)) made) (sym (c.prepare.ensures.reads.files honest)) (c.in_ok-paths.ensures.ready honest good));
+    }
+
 -- the step is carried out
 pub returns-in_err-step-clause-exact : goal.returns-in_err-step-clause-exact
 returns-in_err-step-clause-exact g c honest held stands told =

@@ -8,7 +8,7 @@ use Rattle.reuse_session.specs.declared.history.ListedEntry.{ListedEntry}
 use Rattle.reuse_session.specs.declared.journal.entry.Entry.{Entry}
 use Rattle.reuse_session.specs.declared.reply.Reply.TheVariants.{Changed}
 use Rattle.reuse_session.proofs.OnlyReading.{is_refused}
-use Rattle.reuse_session.proofs.Recording.{unput_leaves, recording, record_leaves, halt_leaves}
+use Rattle.reuse_session.proofs.Recording.{can_go, unput_leaves, recording, record_leaves, halt_leaves}
 use Rattle.reuse_session.proofs.StepAnswers.{failure_told}
 use Rattle.reuse_session.proofs.session.Session.step_new.Goals as goal
 
@@ -25,6 +25,20 @@ returns-in_err-put_entry-clause-leaves g c =
     subst (λ r. LeavesRun store command when r session (record session { store = c.put_entry.new.store })) (sym (is_refused c.from_residual-in_err-put_entry.result c.from_residual-in_err-put_entry.ensures.1))
     (unput_leaves store session command when changes c.put_entry.new.store c.requires.room c.requires.planned c.used-number.result c.used-number.ensures entry is_entry put.later.was_honest put.others put.written
     c.in_err-put_entry.field-0.0 c.in_err-put_entry.ensures.refusal (λ honest e. put.clash honest (c.in_err-put_entry.was ∙ ap (λ x. Err x) e)))
+
+-- each change can be made beside the entry
+pub step-requires : goal.step-requires
+step-requires g c honest =
+    let store = g.S.Store in
+    let session = c.args.self.now in
+    let command = c.args.command.now in
+    let when = c.args.when in
+    let changes = c.args.changes.items in
+    let entry : Entry = record { changes = c.new.result; command = c.name-command.result; when = when } in
+    let is_entry : entry ≡ record { changes = changes; command = name_of command; when = when } = λ i. record { changes = c.new.ensures i; command = c.name-command.ensures i; when = when } in
+    let put = c.put_entry.ensures in
+    can_go store session command when changes c.put_entry.new.store c.requires.room c.requires.planned c.used-number.result c.used-number.ensures entry is_entry put.later.was_honest put.others put.written
+    c.as_slice.result.now c.as_slice.ensures honest
 
 pub returns-in_err-step-clause-exact : goal.returns-in_err-step-clause-exact
 returns-in_err-step-clause-exact g c honest held stands told =

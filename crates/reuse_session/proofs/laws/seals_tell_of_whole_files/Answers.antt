@@ -1,0 +1,5 @@
+use Rattle.reuse_session.proofs.SealLemmas.{told, exact}
+use Rattle.reuse_session.proofs.laws.seals_tell_of_whole_files.Goals as goal
+
+pub returns : goal.returns
+returns c = record { told = told; exact = exact }

@@ -1,0 +1,36 @@
+-- What the seals of a step tell of its files.
+use Rattle.std.specs.Prelude.{◌≡◌, ℕ, true, List, Option}
+use Rattle.std.specs.Option.{option_map}
+use Rattle.std.specs.FinMap.{get}
+use Rattle.sha2.specs.Sha256.{sha256}
+use Rattle.reuse_tree.specs.Files.{Files, Clashes}
+use Rattle.reuse_tree.specs.Change.{path_of, IsBeforeByRange, IsAfterByRange}
+use Rattle.reuse_tree.specs.declared.change.Change.{Change}
+use Rattle.reuse_session.specs.Entry.{makes}
+use Rattle.reuse_session.specs.Journal.{State}
+use Rattle.reuse_session.specs.declared.entry.Way.{Way}
+use Rattle.reuse_session.specs.declared.entry.Way.TheVariants.{Do, Undo}
+
+-- by range and length alone, the change can be gone through this way where its path holds this
+abbrev pub IsReadyByRange : Way → Change → Option (List ℕ) → Type 0
+IsReadyByRange Do change file = IsBeforeByRange change file
+IsReadyByRange Undo change file = IsAfterByRange change file
+
+-- the tree from which a run's step is gone through this way: that before the run, or that after it
+abbrev pub tree_for : Way → State → State → Files
+tree_for Do first second = first.tree
+tree_for Undo first second = second.tree
+
+-- the file of the change has the range, the length and the SHA-256 that it had on the tree left
+pub record IsAsLeft (way : Way) (left now : Files) (change : Change) : Type 0 where
+  pub range : IsReadyByRange way change (get now (path_of change))
+  pub digest : option_map sha256 (get now (path_of change)) ≡ option_map sha256 (get left (path_of change))
+
+-- the file of the change is byte for byte as on the tree left, and nothing clashes with one that the change makes
+pub record IsUntouched (way : Way) (left now : Files) (change : Change) : Type 0 where
+  pub same : get now (path_of change) ≡ get left (path_of change)
+  pub free : makes way change ≡ true → ¬ (Clashes now (path_of change))
+
+-- the change has one file, or none, on both trees, if it has one digest on both
+abbrev pub IsToldApart : Files → Files → Change → Type 0
+IsToldApart left now change = option_map sha256 (get now (path_of change)) ≡ option_map sha256 (get left (path_of change)) → get now (path_of change) ≡ get left (path_of change)
