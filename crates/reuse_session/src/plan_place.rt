@@ -23,7 +23,8 @@ use crate::plan_edit::{change_by, making_by};
 use crate::plan_target::{Target, neighbour_of, target_by_bytes};
 use crate::reply::Refusal;
 use reuse_header::{
-    How, Style, StyleTable, annotate_file, annotate_neighbour, annotations_fit, find, neighbour_has_tag,
+    How, Style, StyleTable, annotate_file, annotate_neighbour, annotations_fit, find,
+    neighbour_has_tag,
 };
 use reuse_notice::Additions;
 use reuse_tree::{Change, PathError, PathText, Reading};

@@ -36,8 +36,8 @@ returns-clause-refusal c file here is =
           told (styles_of None) (ap styles_where (absent_is file 16_777_216 (sym w.in-Absent.is ∙ is)))
           (subst (λ read. IfErr read (λ refusal. IsRefused (styles_of None) refusal)) (sym w.read-is) w.read-read.ensures.refused)
       | in-Found w ↦
-          let found = found_is file 16_777_216 w.in-Found.bytes.now (sym w.in-Found.is ∙ is) in
-          told (styles_of (Some w.in-Found.bytes.now)) (ap styles_where found.0 ∙ of_bytes w.in-Found.bytes.now found.1)
-          (subst (λ read. IfErr read (λ refusal. IsRefused (styles_of (Some w.in-Found.bytes.now)) refusal)) (sym w.read-is)
+          let found = found_is file 16_777_216 w.in-Found.bytes (sym w.in-Found.is ∙ is) in
+          told (styles_of (Some w.in-Found.bytes)) (ap styles_where found.0 ∙ of_bytes w.in-Found.bytes found.1)
+          (subst (λ read. IfErr read (λ refusal. IsRefused (styles_of (Some w.in-Found.bytes)) refusal)) (sym w.read-is)
           (subst (λ bytes. IfErr w.read-read-in-Found.result (λ refusal. IsRefused (styles_of (Some bytes)) refusal)) w.as_slice.ensures w.read-read-in-Found.ensures.refused))
     ]
