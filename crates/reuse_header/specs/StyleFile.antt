@@ -1,5 +1,5 @@
 -- The kinds that a project's file of styles gives to names (TOML 1.0, and this project's own keys).
-use Rattle.std.specs.Prelude.{◌≡◌, ℕ, pos, Bool, true, ◌&&◌, ◌||◌, ◌==◌, List, [], ◌∷◌, ◌++◌, Option, Some, None, is_none, Result, Ok, Err, if◌then◌else◌, codes}
+use Rattle.std.specs.Prelude.{◌≡◌, ℕ, pos, Bool, true, false, ◌&&◌, ◌||◌, ◌==◌, List, [], ◌∷◌, ◌++◌, Option, Some, None, is_none, Result, Ok, Err, if◌then◌else◌, codes}
 use Rattle.std.specs.List.{list_any, filter_map}
 use Rattle.std.specs.Option.{option_or, option_map}
 use Rattle.std.specs.Ordering.{int_eq}
@@ -27,10 +27,20 @@ texts_in no_members = Some []
 texts_in (member name (string text) others) = option_map (λ texts. (name, text) ∷ texts) (texts_in others)
 texts_in (member name value others) = None
 
--- those of a document whose only keys, in byte order, are `styles`, a table, and `version`, the number 1
+-- the same of a value that is a table
+abbrev pub texts_of_value : Data → Option (List NamedText)
+texts_of_value (table names) = texts_in names
+texts_of_value value = None
+
+-- the version of the file's form
+abbrev pub is_version : Data → Bool
+is_version (integer version) = int_eq version (pos 1)
+is_version value = false
+
+-- the names and texts of a document whose only keys are, in byte order, `styles` and `version`
 unfoldable pub texts_of_document : Members → Option (List NamedText)
-texts_of_document (member first (table names) (member second (integer version) no_members)) =
-    if bytes_eq first (codes "styles") && bytes_eq second (codes "version") && int_eq version (pos 1) then texts_in names else None
+texts_of_document (member first names (member second version no_members)) =
+    if bytes_eq first (codes "styles") && bytes_eq second (codes "version") && is_version version then texts_of_value names else None
 texts_of_document document = None
 
 -- no last part of a path is such a name
@@ -81,3 +91,8 @@ styles_of (Some bytes) = styles_in (read_document bytes)
 abbrev pub IsRefused : Result (List ℕ → Option Kind) StylesRefusal → StylesRefusal → Type 0
 IsRefused due (Memory e) = Unit {0}
 IsRefused due refusal = due ≡ Err refusal
+
+-- the same, of the first refusal of names
+abbrev pub IsFirst : Option StylesRefusal → StylesRefusal → Type 0
+IsFirst due (Memory e) = Unit {0}
+IsFirst due refusal = due ≡ Some refusal
