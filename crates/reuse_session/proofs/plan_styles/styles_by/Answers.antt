@@ -1,5 +1,4 @@
-use Rattle.std.proofs.Common.{◌≡◌, ◌∙◌, ◌≤◌, ℕ, Bool, true, false, cond, nat_lt, List, length, Option, Some, None, Result, Ok, Err, IfErr, sym, ap, subst, arith}
-use Rattle.std.specs.Option.{option_copied}
+use Rattle.std.proofs.Common.{◌≡◌, ◌∙◌, ◌≤◌, ℕ, false, cond, nat_lt, List, length, Some, None, Result, Err, IfErr, sym, ap, subst, arith}
 use Rattle.std.proofs.lemmas.Bool.Decides.{nat_tests}
 use Rattle.reuse_header.specs.StyleFile.{styles_of, IsRefused}
 use Rattle.reuse_header.specs.declared.style_refusal.StylesRefusal.{StylesRefusal}

@@ -1,4 +1,4 @@
-use Rattle.std.proofs.Common.{◌≡◌, ◌∙◌, true, Some, Ok, Err, IsSome, sym, ap, subst}
+use Rattle.std.proofs.Common.{◌∙◌, true, Some, Ok, Err, IsSome, sym, ap, subst}
 use Rattle.std.specs.FinMap.{get}
 use Rattle.reuse_tree.specs.Files.{tree_of}
 use Rattle.reuse_session.specs.Plan.{AnswersEdit}
