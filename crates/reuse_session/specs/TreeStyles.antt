@@ -21,14 +21,15 @@ abbrev pub styles_refusal : StylesRefusal → Refusal
 styles_refusal (styles.Memory e) = Memory
 styles_refusal refusal = BadStyles refusal
 
-abbrev pub own_names : Result OwnNames StylesRefusal → Result OwnNames Refusal
-own_names (Ok own) = Ok own
-own_names (Err refusal) = Err (styles_refusal refusal)
+-- what the file gives, its refusal as one of the command
+abbrev pub styles_read : Result OwnNames StylesRefusal → Result OwnNames Refusal
+styles_read (Ok own) = Ok own
+styles_read (Err refusal) = Err (styles_refusal refusal)
 
 -- by the file, where there is one
 abbrev pub styles_where : Option (List ℕ) → Result OwnNames Refusal
-styles_where None = own_names (styles_of None)
-styles_where (Some bytes) = if nat_lt 16_777_216 (length bytes) then Err (TooLong styles_path) else own_names (styles_of (Some bytes))
+styles_where None = styles_read (styles_of None)
+styles_where (Some bytes) = if nat_lt 16_777_216 (length bytes) then Err (TooLong styles_path) else styles_read (styles_of (Some bytes))
 
 abbrev pub styles_in : Files → Result OwnNames Refusal
 styles_in tree = styles_where (get tree styles_path)
