@@ -1,5 +1,5 @@
 -- Names in lower case as keys, with their kinds (this project's own).
-use Rattle.std.specs.Prelude.{◌≡◌, ℕ, Bool, List, map, Option, is_some}
+use Rattle.std.specs.Prelude.{◌≡◌, ℕ, List, map, Option, is_some}
 use Rattle.std.specs.List.{list_any}
 use Rattle.std.specs.List.Sorted.{IsStrictlySortedBy}
 use Rattle.std.specs.Ordering.{nat_cmp}

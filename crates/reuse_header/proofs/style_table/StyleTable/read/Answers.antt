@@ -1,4 +1,4 @@
-use Rattle.std.proofs.Common.{◌≡◌, ℕ, List, subst, sym, ap, ◌∙◌, Option, Ok}
+use Rattle.std.proofs.Common.{ℕ, List, subst, sym, ap, ◌∙◌, Option, Ok}
 use Rattle.std.proofs.lemmas.Result.{err_from_is_err_and}
 use Rattle.std.specs.Option.{option_copied}
 use Rattle.reuse_header.specs.declared.style.Kind.{Kind}
