@@ -58,14 +58,14 @@ sample() {
   shift 2
   samples=$((samples + 1))
   command -v "$1" > /dev/null || return 0
-  rm -rf "$room/sample" "$tree"
+  rm -rf "$room/sample" "$room/used" "$tree"
   mkdir -p "$room/sample/.reuse"
   cp "$top/share/styles.toml" "$room/sample/.reuse/"
   printf %b "$text" > "$room/sample/$path"
   cp -r "$room/sample" "$tree"
   annotate "$path" > "$room/out" || fail "$path isn't annotated"
-  (cd "$tree" && "$@" "$path" > "$room/out" 2>&1) || fail "$* $path: $(head -n 3 "$room/out")"
-  rm -rf "$tree/__pycache__"
+  cp -r "$tree" "$room/used"
+  (cd "$room/used" && "$@" "$path" > "$room/out" 2>&1) || fail "$* $path: $(head -n 3 "$room/out")"
   taken_back "$room/sample"
   passed=$((passed + 1))
 }
