@@ -108,13 +108,6 @@ fn standing_of(alloc: Global, files: &[(&str, &[u8])], rows: &str) -> Result<Vec
     Ok(text)
 }
 
-/// The same text of files without a history.
-pub fn standing_alone(alloc: Global, files: &[(&str, &[u8])]) -> Result<Vec<u8>, Fail> {
-    let mut text = dump(alloc, &mut tree(alloc, files)?)?;
-    text.extend_from_slice(b"opened\nlog\n")?;
-    Ok(text)
-}
-
 /// The same text of what the next opening finds.
 fn find_standing(alloc: Global, store: MemoryStore) -> Result<Vec<u8>, Fail> {
     let (mut store, log) = play(alloc, store, &[Event::Log])?;

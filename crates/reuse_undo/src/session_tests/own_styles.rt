@@ -1,9 +1,9 @@
 //! Trees that give styles to their own names.
 // The tags below are data: REUSE-IgnoreStart
-use crate::session_tests::growths::{Call, refuse_growths, standing_alone};
+use crate::session_tests::growths::{Call, refuse_growths};
 use crate::session_tests::scarce_memory::ScarceMemory;
 use crate::session_tests::trees::{
-    has_just, licence, moment, path, plain_scope, plays, runs, tree,
+    dump, has_just, licence, moment, path, plain_scope, plays, runs, tree,
 };
 use reuse_header::Style;
 use reuse_session::{Command, Event, Refusal, Scope, drive};
@@ -117,6 +117,13 @@ fn bad_styles_are_refused_first(rt: HostRuntime) -> Result<(), Fail> {
     Ok(())
 }
 
+/// The text of files without a history, with their log.
+fn standing_of(alloc: Global, files: &[(&str, &[u8])]) -> Result<Vec<u8>, Fail> {
+    let mut text = dump(alloc, &mut tree(alloc, files)?)?;
+    text.extend_from_slice(b"opened\nlog\n")?;
+    Ok(text)
+}
+
 #[test]
 fn bad_styles_are_refused_in_scarce_memory(rt: HostRuntime) -> Result<(), Fail> {
     let alloc = rt.alloc();
@@ -128,8 +135,8 @@ fn bad_styles_are_refused_in_scarce_memory(rt: HostRuntime) -> Result<(), Fail> 
             start: tree(alloc, &files)?,
             event: &event,
             answer: String::from_str(alloc, ".reuse/styles.toml: bad styles")?,
-            before: standing_alone(alloc, &files)?,
-            after: standing_alone(alloc, &files)?,
+            before: standing_of(alloc, &files)?,
+            after: standing_of(alloc, &files)?,
             stops: false,
         };
         refuse_growths(&rt, alloc, &memory, call)?;
