@@ -84,6 +84,8 @@ places() {
   refused 1 'src/LICENSE: not covered' annotate -l MIT src/LICENSE
   refused 1 'b.xyz: unrecognised' annotate -l MIT a.py b.xyz
   refused 1 'a.py: no such form' annotate -l MIT --multi-line a.py
+  files a.py 'x\n' .reuse/styles.toml '['
+  refused 1 '.reuse/styles.toml: bad styles' annotate -l MIT --style python a.py
   files i.html '<p>\n' p.png '\0211' p.png.license '\0'
   refused 1 'i.html: holds the closer' annotate -c 'A --> B' i.html
   refused 1 'p.png: neighbour is not text' annotate -l MIT p.png

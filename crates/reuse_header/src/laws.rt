@@ -1,5 +1,5 @@
 //! Laws of the definitions that the contracts cite.
-ghost use Rattle.std.specs.Prelude.{◌≡◌, ◌≤◌, ◌+◌, ◌⊎◌, ◌↔◌, ◌++◌, ℕ, List, Option, None, Some, Ok, true, false, length, take, drop, map, [], All};
+ghost use Rattle.std.specs.Prelude.{◌≡◌, ◌≤◌, ◌+◌, ◌⊎◌, ◌↔◌, ◌++◌, ℕ, List, Option, None, Some, Ok, true, false, length, take, drop, map, [], ◌==◌, All};
 ghost use Rattle.reuse_header.specs.declared.style.Style.{Style};
 ghost use Rattle.reuse_header.specs.declared.blocks.BlockSize.{BlockSize};
 ghost use Rattle.reuse_header.specs.Body.{PlacedLines, body_lines, place_in};
@@ -26,6 +26,11 @@ ghost use Rattle.reuse_text.specs.Text.{file_lines, mark_len_of};
 ghost use Rattle.reuse_header.specs.Laws.{part, IsFirstPlace, StandsNowhere, IsEndedBy, IsEnclosed, IsCutAtBarrier, IsInsertion, Keeps, IsBlockText, ReadsAs, AreContents, EndsPlainly, information_in, info_written, neighbour_info_written};
 ghost use Rattle.reuse_header.specs.Splices.{answer_of};
 ghost use Rattle.reuse_header.specs.Split.{AreCommentBlocks, comment_blocks, IsSplit, IsHeaderBlock, HasNoHeader};
+ghost use Rattle.std.specs.List.{after_last};
+ghost use Rattle.std.specs.Str.{str_eq_ignore_ascii_case};
+ghost use Rattle.reuse_header.specs.declared.style.Kind.{Kind};
+ghost use Rattle.reuse_header.specs.Names.{slash, dot, from_last, kind_of_name, kind_in, lookup};
+ghost use Rattle.reuse_header.specs.StyleFile.{own_names};
 
 use reuse_notice::{
     holders_are_values, longest_prefix_counts, merged_notices_are_written, merging_keeps_holders,
@@ -225,3 +230,16 @@ pub fn annotating_again_changes_nothing()
     holders_are_values();
     repeating_adds_nothing();
 }
+
+/// Own names stand before the table's: the whole of a path's last part is looked for first. A path neither of whose
+/// parts is an own name has the table's kind, as each has where there are no own names. Letters of either case are
+/// the same.
+pub fn own_names_stand_first()
+    ensures none { (path : List ℕ) → kind_in (lookup []) path ≡ kind_of_name path }
+    ensures empty { own_names (Some []) ≡ Ok (lookup []) }
+    ensures others { (own : List ℕ → Option Kind) (path : List ℕ)
+        → let part = after_last (λ b. b == slash) path in
+        own part ≡ None → own (from_last (λ b. b == dot) part) ≡ None → kind_in own path ≡ kind_of_name path }
+    ensures whole { (own : List ℕ → Option Kind) (path : List ℕ) (kind : Kind) → own (after_last (λ b. b == slash) path) ≡ Some kind → kind_in own path ≡ kind }
+    ensures cases { (own : List (List ℕ × Kind)) (name other : List ℕ) → str_eq_ignore_ascii_case name other ≡ true → lookup own name ≡ lookup own other }
+{}

@@ -25,6 +25,7 @@ use Rattle.reuse_session.specs.Listing.{ArePaths, is_among, is_folder_of}
 use Rattle.reuse_session.specs.Outcome.{Edit, with_edit, or_first, edits_at, edited, tree_after}
 use Rattle.reuse_session.specs.Annotate.{annotated_where, annotated_at}
 use Rattle.reuse_header.specs.declared.annotation.How.{How}
+use Rattle.reuse_session.specs.TreeStyles.{OwnNames}
 use Rattle.reuse_notice.specs.declared.adding.Additions.{Additions}
 use Rattle.reuse_session.specs.declared.command.Scope.{Scope}
 use Rattle.reuse_session.specs.Plan.{IsPlan, IsRefusalOf, Makes, MakesEdit, MakesEach, MakesEdits}
@@ -234,9 +235,9 @@ module _ (how : How) (scope : Scope) (additions : Additions) (tree : Files) (pat
   pub is_absent : is_among paths path ≡ false → get tree path ≡ None
   is_absent none = is_none_of (get tree path) (sym (among_keys tree path) ∙ ap (λ ps. is_among ps path) (sym are) ∙ none)
 
-  pub absent_answer : (b : Bool) → is_among paths path ≡ false → is_folder_of paths path ≡ b → annotated_at how scope additions tree path ≡ cond b (refused (refusals.IsFolder (place.Path path))) (refused (refusals.NoSuchPath path))
-  absent_answer b none folder =
-      ap (annotated_where how scope additions tree path) (is_absent none)
+  pub absent_answer : (own : OwnNames) (b : Bool) → is_among paths path ≡ false → is_folder_of paths path ≡ b → annotated_at how scope additions own tree path ≡ cond b (refused (refusals.IsFolder (place.Path path))) (refused (refusals.NoSuchPath path))
+  absent_answer own b none folder =
+      ap (annotated_where how scope additions own tree path) (is_absent none)
       ∙ ap (λ t. cond t (refused (refusals.IsFolder (place.Path path))) (refused (refusals.NoSuchPath path))) (ap (λ ps. is_folder_of ps path) (sym are) ∙ folder)
 
   pub some_file : is_among paths path ≡ true → IsSome (get tree path)

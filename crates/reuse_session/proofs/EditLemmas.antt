@@ -6,6 +6,7 @@ use Rattle.std.specs.FinMap.{get}
 use Rattle.std.proofs.lemmas.Bool.{false≢true}
 use Rattle.reuse_notice.specs.declared.adding.Additions.{Additions}
 use Rattle.reuse_header.specs.declared.style.Style.{Style}
+use Rattle.reuse_session.specs.TreeStyles.{OwnNames}
 use Rattle.reuse_header.specs.declared.annotation.How.{How}
 use Rattle.reuse_header.specs.declared.annotation.HeaderRefusal.{HeaderRefusal}
 use Rattle.reuse_header.specs.declared.annotation.Splice.{Splice}
@@ -170,14 +171,14 @@ module _ (how : How) (scope : Scope) (additions : Additions) (tree : Files) (pat
   beside_is file short is =
       ap (λ b. cond b (refused (refusals.TooLong path)) (edit_neighbour how scope additions tree path (get tree (neighbour_of path)))) short ∙ ap (edit_neighbour how scope additions tree path) is
 
-  pub uncovered_is : (file : Option (List ℕ)) → IsSome file → is_covered path ≡ false → annotated_where how scope additions tree path file ≡ refused (refusals.NotCovered path)
-  uncovered_is None some e = absurd (false≢true some)
-  uncovered_is (Some bytes) some e =
-      ap (λ b. cond (not b) (refused (refusals.NotCovered path)) (edit_target how scope additions tree path bytes (target_of scope tree path bytes))) e
+  pub uncovered_is : (own : OwnNames) (file : Option (List ℕ)) → IsSome file → is_covered path ≡ false → annotated_where how scope additions own tree path file ≡ refused (refusals.NotCovered path)
+  uncovered_is own None some e = absurd (false≢true some)
+  uncovered_is own (Some bytes) some e =
+      ap (λ b. cond (not b) (refused (refusals.NotCovered path)) (edit_target how scope additions tree path bytes (target_of scope own tree path bytes))) e
 
-  pub covered_is : (bytes : List ℕ) (b : Bool) → get tree path ≡ Some bytes → is_covered path ≡ true → goes_beside scope tree path ≡ b
-      → annotated_at how scope additions tree path ≡ edit_target how scope additions tree path bytes (cond b (aimed Beside) (target_by_bytes scope path bytes))
-  covered_is bytes b here covered beside =
-      ap (annotated_where how scope additions tree path) here
-      ∙ ap (λ t. cond (not t) (refused (refusals.NotCovered path)) (edit_target how scope additions tree path bytes (target_of scope tree path bytes))) covered
-      ∙ ap (λ t. edit_target how scope additions tree path bytes (cond t (aimed Beside) (target_by_bytes scope path bytes))) beside
+  pub covered_is : (own : OwnNames) (bytes : List ℕ) (b : Bool) → get tree path ≡ Some bytes → is_covered path ≡ true → goes_beside scope own tree path ≡ b
+      → annotated_at how scope additions own tree path ≡ edit_target how scope additions tree path bytes (cond b (aimed Beside) (target_by_bytes scope own path bytes))
+  covered_is own bytes b here covered beside =
+      ap (annotated_where how scope additions own tree path) here
+      ∙ ap (λ t. cond (not t) (refused (refusals.NotCovered path)) (edit_target how scope additions tree path bytes (target_of scope own tree path bytes))) covered
+      ∙ ap (λ t. edit_target how scope additions tree path bytes (cond t (aimed Beside) (target_by_bytes scope own path bytes))) beside

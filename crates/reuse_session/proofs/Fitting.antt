@@ -30,8 +30,9 @@ use Rattle.reuse_session.specs.Clash.{is_clash}
 use Rattle.reuse_session.specs.Command.{has_root, paths_among}
 use Rattle.reuse_session.specs.Covered.{last_part, is_in, is_outside, has_stem, is_covered}
 use Rattle.reuse_session.specs.Listing.{ArePaths, is_among, is_folder}
-use Rattle.reuse_session.specs.Outcome.{edits_at, edits_of}
+use Rattle.reuse_session.specs.Outcome.{edits_at, edits_by_names, edits_of}
 use Rattle.reuse_session.specs.Tree.{is_of_tree}
+use Rattle.reuse_session.specs.TreeStyles.{OwnNames, styles_in}
 use Rattle.reuse_session.specs.Worked.{expanded, worked_paths}
 use Rattle.reuse_session.specs.declared.command.Command.{Command}
 use Rattle.reuse_session.specs.declared.command.Command.TheVariants.{Annotate, ConvertDep5, Download}
@@ -208,14 +209,14 @@ module _ (how : How) (scope : Scope) (additions : Additions) (tree : Files) (pat
   target_at bytes (Ok Beside) e = inr (beside_at e)
   target_at bytes (Ok (Inside style)) e = inl (inside_at bytes style e)
 
-  is_placed : annotated_at how scope additions tree path ≡ some_edit edit → IsPlaced tree path edit
-  is_placed e = of_file (get tree path) refl e
+  is_placed : (own : OwnNames) → annotated_at how scope additions own tree path ≡ some_edit edit → IsPlaced tree path edit
+  is_placed own e = of_file (get tree path) refl e
     where
-      of_file : (file : Option (List ℕ)) → get tree path ≡ file → annotated_where how scope additions tree path file ≡ some_edit edit → IsPlaced tree path edit
+      of_file : (file : Option (List ℕ)) → get tree path ≡ file → annotated_where how scope additions own tree path file ≡ some_edit edit → IsPlaced tree path edit
       of_file None is h = absurd (both_err (is_folder tree path) (refusals.IsFolder (place.Path path)) (refusals.NoSuchPath path) (Some edit) h)
       of_file (Some bytes) is h =
           let k = after_err (not (is_covered path)) (refusals.NotCovered path) _ edit h in
-          record { there = ap is_some is; covered = not_false (is_covered path) k.0; placed = target_at bytes (target_of scope tree path bytes) k.1 }
+          record { there = ap is_some is; covered = not_false (is_covered path) k.0; placed = target_at bytes (target_of scope own tree path bytes) k.1 }
 
 -- ---- one edit is fit
 
@@ -307,9 +308,9 @@ among_all P (e ∷ edits) each q h = by_case (or_either (bytes_eq q e.path) (is_
     by_case (inl same) rest = subst P (sym ((bytes_eq-Decides q e.path).0 same)) each.0
     by_case (inr later) rest = rest later
 
-module _ (how : How) (scope : Scope) (additions : Additions) (tree : Files) where
+module _ (how : How) (scope : Scope) (additions : Additions) (own : OwnNames) (tree : Files) where
   abbrev at : List ℕ → Result (Option Edit) Refusal
-  at = annotated_at how scope additions tree
+  at = annotated_at how scope additions own tree
 
   others : (path : List ℕ) (edit : Edit) → IsPlaced tree path edit → (ps : List (List ℕ)) (edits : List Edit) → edits_at at ps ≡ Ok edits
       → AllByRecursion (λ p. slice_cmp nat_cmp path p ≡ Less) ps → AllByRecursion (λ q. bytes_eq edit.path q ≡ false) (paths_at edits)
@@ -319,7 +320,7 @@ module _ (how : How) (scope : Scope) (additions : Additions) (tree : Files) wher
     | inr some ↦
         let rest : AllByRecursion (λ q. bytes_eq edit.path q ≡ false) (paths_at some.1) = others path edit here ps some.1 some.3 above.1 in
         subst (λ es. AllByRecursion (λ q. bytes_eq edit.path q ≡ false) (paths_at es)) (sym some.4)
-        (differ tree path p edit some.0 here (is_placed how scope additions tree p some.0 some.2) (not_itself path p above.0), rest)
+        (differ tree path p edit some.0 here (is_placed how scope additions tree p some.0 own some.2) (not_itself path p above.0), rest)
   ]
 
   are_distinct : (ps : List (List ℕ)) (edits : List Edit) → edits_at at ps ≡ Ok edits → ArePaths ps → AreDistinct edits
@@ -328,18 +329,18 @@ module _ (how : How) (scope : Scope) (additions : Additions) (tree : Files) wher
     | inl none ↦ are_distinct ps edits none.1 (sorted_tail (slice_cmp nat_cmp) p ps sorted)
     | inr some ↦
         let rest : AreDistinct some.1 = are_distinct ps some.1 some.3 (sorted_tail (slice_cmp nat_cmp) p ps sorted) in
-        let apart = others p some.0 (is_placed how scope additions tree p some.0 some.2) ps some.1 some.3 (sorted_head (slice_cmp nat_cmp) p ps sorted) in
+        let apart = others p some.0 (is_placed how scope additions tree p some.0 own some.2) ps some.1 some.3 (sorted_head (slice_cmp nat_cmp) p ps sorted) in
         subst (λ es. IsDistinct bytes_eq (paths_at es)) (sym some.4) (IsDistinct-cons bytes_eq some.0.path (paths_at some.1) apart rest)
   ]
 
   -- the edits at paths in byte order
   pub edits_fit : AreFiles tree → (ps : List (List ℕ)) (edits : List Edit) → edits_at at ps ≡ Ok edits → ArePaths ps → AreFit tree edits
   edits_fit are ps edits h sorted =
-      let all : AllByRecursion (λ (e : Edit). Stands tree e.path) edits = all_edits at (λ (e : Edit). Stands tree e.path) (λ p e k. stands tree p e (is_placed how scope additions tree p e k)) ps edits h in
+      let all : AllByRecursion (λ (e : Edit). Stands tree e.path) edits = all_edits at (λ (e : Edit). Stands tree e.path) (λ p e k. stands tree p e (is_placed how scope additions tree p e own k)) ps edits h in
       record {
         distinct = are_distinct ps edits h sorted;
         apart = λ p q in_p in_q. are_apart tree are p q (among_all (Stands tree) edits all p in_p) (among_all (Stands tree) edits all q in_q);
-        each = all_edits at (IsFit tree) (λ p e k. is_fit tree are p e (is_placed how scope additions tree p e k)) ps edits h;
+        each = all_edits at (IsFit tree) (λ p e k. is_fit tree are p e (is_placed how scope additions tree p e own k)) ps edits h;
       }
 
 -- edits in byte order are of distinct paths
@@ -351,9 +352,13 @@ fit_of tree edits are = record { distinct = distinct_of (paths_at edits) are.asc
 
 -- the edits of a command
 pub command_fits : (command : Command) (tree : Files) → AreFiles tree → (edits : List Edit) → edits_of command tree ≡ Ok edits → AreFit tree edits
-command_fits (Annotate places additions how scope) tree are edits h =
-    edits_fit how scope additions tree are (worked_paths scope.recursive places tree) edits
-    (if_not (not scope.recursive && has_root places) (refusals.IsFolder place.Root) (edits_at (annotated_at how scope additions tree) (worked_paths scope.recursive places tree)) edits h)
-    (sorted-set_of (cond scope.recursive (flat_map (expanded tree) places) (paths_among places)))
+command_fits (Annotate places additions how scope) tree are edits h = by_names (styles_in tree) h
+  where
+    by_names : (styles : Result OwnNames Refusal) → edits_by_names places additions how scope tree styles ≡ Ok edits → AreFit tree edits
+    by_names (Err refusal) e = absurd (cc)
+    by_names (Ok own) e =
+        edits_fit how scope additions own tree are (worked_paths scope.recursive places tree) edits
+        (if_not (not scope.recursive && has_root places) (refusals.IsFolder place.Root) (edits_at (annotated_at how scope additions own tree) (worked_paths scope.recursive places tree)) edits e)
+        (sorted-set_of (cond scope.recursive (flat_map (expanded tree) places) (paths_among places)))
 command_fits ConvertDep5 tree are edits h = fit_of tree edits (conversion_fits tree edits h)
 command_fits (Download ids texts) tree are edits h = fit_of tree edits (download_fits ids texts tree edits h)

@@ -1,5 +1,5 @@
 -- Where the licensing information of a file goes, by the tests of the code.
-use Rattle.std.proofs.Common.{◌≡◌, ℕ, zero, suc, [], ◌∷◌, ◌==◌, ◌≤◌, ◌<◌, Bool, true, false, cond, not, ◌||◌, ◌&&◌, nat_lt, List, length, Option, Some, None, is_some, is_none, Result, Ok, Err, refl, sym, ap, ◌∙◌, arith}
+use Rattle.std.proofs.Common.{◌≡◌, ℕ, zero, suc, [], ◌∷◌, ◌==◌, ◌≤◌, ◌<◌, Bool, true, false, cond, not, ◌||◌, ◌&&◌, nat_lt, List, length, Some, None, is_some, Result, Ok, Err, refl, sym, ap, ◌∙◌, arith}
 use Rattle.std.specs.FinMap.{get, keys}
 use Rattle.std.proofs.lemmas.Bool.{false≢true}
 use Rattle.std.proofs.lemmas.Bool.Decides.{nat_tests}
@@ -10,14 +10,14 @@ use Rattle.std.specs.Str.{is_utf8}
 use Rattle.reuse_text.specs.Text.{IsText}
 use Rattle.reuse_tree.specs.Files.{Files}
 use Rattle.reuse_header.specs.Neighbour.{is_text}
-use Rattle.reuse_header.specs.Names.{kind_of_name}
+use Rattle.reuse_session.specs.TreeStyles.{OwnNames}
 use Rattle.reuse_session.specs.declared.command.Scope.{Scope}
 use Rattle.reuse_session.specs.declared.plan_target.Target.{Target}
 use Rattle.reuse_session.specs.declared.plan_target.Target.TheVariants.{Beside}
 use Rattle.reuse_session.specs.declared.reply.Refusal.{Refusal}
 use Rattle.reuse_session.specs.declared.reply.Refusal.TheVariants.{TooLong}
 use Rattle.reuse_session.specs.Listing.{is_among}
-use Rattle.reuse_session.specs.Annotate.{neighbour_of, is_uncommentable, goes_beside, goes_beside_unread, target_by_style, target_by_bytes}
+use Rattle.reuse_session.specs.Annotate.{neighbour_of, goes_beside, goes_beside_unread, target_by_style, target_by_bytes}
 use Rattle.reuse_session.proofs.TreeLemmas.{among_keys}
 
 not_over : (n : ℕ) → n ≤ 16_777_216 → nat_lt 16_777_216 n ≡ false
@@ -32,26 +32,26 @@ target t = Ok t
 abbrev refused : Refusal → Result Target Refusal
 refused r = Err r
 
-pub by_bytes : (scope : Scope) (path bytes : List ℕ) (b : Bool) → length bytes ≤ 16_777_216 → is_text bytes ≡ b → target_by_bytes scope path bytes ≡ cond (not b) (target Beside) (target_by_style scope path scope.style)
-by_bytes scope path bytes b h e =
-    ap (λ t. cond t (refused (TooLong path)) (cond (not (is_text bytes)) (target Beside) (target_by_style scope path scope.style))) (not_over (length bytes) h)
-    ∙ ap (λ t. cond (not t) (target Beside) (target_by_style scope path scope.style)) e
+pub by_bytes : (scope : Scope) (own : OwnNames) (path bytes : List ℕ) (b : Bool) → length bytes ≤ 16_777_216 → is_text bytes ≡ b → target_by_bytes scope own path bytes ≡ cond (not b) (target Beside) (target_by_style scope own path scope.style)
+by_bytes scope own path bytes b h e =
+    ap (λ t. cond t (refused (TooLong path)) (cond (not (is_text bytes)) (target Beside) (target_by_style scope own path scope.style))) (not_over (length bytes) h)
+    ∙ ap (λ t. cond (not t) (target Beside) (target_by_style scope own path scope.style)) e
 
-pub long_bytes : (scope : Scope) (path bytes : List ℕ) → 16_777_216 < length bytes → target_by_bytes scope path bytes ≡ Err (TooLong path)
-long_bytes scope path bytes h = ap (λ t. cond t (refused (TooLong path)) (cond (not (is_text bytes)) (target Beside) (target_by_style scope path scope.style))) (over (length bytes) h)
+pub long_bytes : (scope : Scope) (own : OwnNames) (path bytes : List ℕ) → 16_777_216 < length bytes → target_by_bytes scope own path bytes ≡ Err (TooLong path)
+long_bytes scope own path bytes h = ap (λ t. cond t (refused (TooLong path)) (cond (not (is_text bytes)) (target Beside) (target_by_style scope own path scope.style))) (over (length bytes) h)
 
-pub beside_by : (tree : Files) (paths : List (List ℕ)) (path : List ℕ) (scope : Scope) (r : Bool) → paths ≡ keys tree
-    → r ≡ (is_among paths (neighbour_of path) || goes_beside_unread scope path) → r ≡ goes_beside scope tree path
-beside_by tree paths path scope r are e =
-    e ∙ ap (λ b. b || goes_beside_unread scope path) (ap (λ ps. is_among ps (neighbour_of path)) are ∙ among_keys tree (neighbour_of path))
+pub beside_by : (tree : Files) (paths : List (List ℕ)) (path : List ℕ) (scope : Scope) (own : OwnNames) (r : Bool) → paths ≡ keys tree
+    → r ≡ (is_among paths (neighbour_of path) || goes_beside_unread scope own path) → r ≡ goes_beside scope own tree path
+beside_by tree paths path scope own r are e =
+    e ∙ ap (λ b. b || goes_beside_unread scope own path) (ap (λ ps. is_among ps (neighbour_of path)) are ∙ among_keys tree (neighbour_of path))
 
 -- where the neighbour isn't there it is the place by what is asked for and by the name alone
-pub unread_by : (tree : Files) (path : List ℕ) (scope : Scope) (r : Bool) → get tree (neighbour_of path) ≡ None → r ≡ goes_beside_unread scope path → goes_beside scope tree path ≡ r
-unread_by tree path scope r absent e = ap (λ f. is_some f || goes_beside_unread scope path) absent ∙ sym e
+pub unread_by : (tree : Files) (path : List ℕ) (scope : Scope) (own : OwnNames) (r : Bool) → get tree (neighbour_of path) ≡ None → r ≡ goes_beside_unread scope own path → goes_beside scope own tree path ≡ r
+unread_by tree path scope own r absent e = ap (λ f. is_some f || goes_beside_unread scope own path) absent ∙ sym e
 
 -- where it is there, it is the place
-pub beside_there : (tree : Files) (path bytes : List ℕ) (scope : Scope) → get tree (neighbour_of path) ≡ Some bytes → goes_beside scope tree path ≡ true
-beside_there tree path bytes scope here = ap (λ f. is_some f || goes_beside_unread scope path) here
+pub beside_there : (tree : Files) (path bytes : List ℕ) (scope : Scope) (own : OwnNames) → get tree (neighbour_of path) ≡ Some bytes → goes_beside scope own tree path ≡ true
+beside_there tree path bytes scope own here = ap (λ f. is_some f || goes_beside_unread scope own path) here
 
 refuted : (b : Bool) → (b ≡ true → ⊥) → b ≡ false
 refuted true h = absurd (h refl)

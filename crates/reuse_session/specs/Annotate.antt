@@ -10,7 +10,8 @@ use Rattle.reuse_header.specs.declared.style.Kind.{Kind}
 use Rattle.reuse_header.specs.declared.style.Kind.TheVariants as kind
 use Rattle.reuse_header.specs.declared.annotation.How.{How}
 use Rattle.reuse_header.specs.declared.annotation.HeaderRefusal.{HeaderRefusal}
-use Rattle.reuse_header.specs.Names.{kind_of_name}
+use Rattle.reuse_header.specs.Names.{kind_in}
+use Rattle.reuse_session.specs.TreeStyles.{OwnNames}
 use Rattle.reuse_header.specs.Header.{header_of, neighbour_contents}
 use Rattle.reuse_header.specs.Tagged.{has_tag}
 use Rattle.reuse_header.specs.Annotation as header
@@ -48,17 +49,17 @@ target_by_name asked path (kind.Style style) = Ok (Inside style)
 target_by_name asked path kind.Uncommentable = Ok Beside
 target_by_name asked path kind.Unknown = target_of_unknown asked path
 
--- by the style that is asked for, else by the name
-abbrev pub target_by_style : Scope → List ℕ → Option Style → Result Target Refusal
-target_by_style scope path (Some style) = Ok (Inside style)
-target_by_style scope path None = target_by_name scope.unknown path (kind_of_name path)
+-- by the style that is asked for, else by the name; the tree's own names stand first
+abbrev pub target_by_style : Scope → OwnNames → List ℕ → Option Style → Result Target Refusal
+target_by_style scope own path (Some style) = Ok (Inside style)
+target_by_style scope own path None = target_by_name scope.unknown path (kind_in own path)
 
 -- by the bytes of the file: a binary goes to its neighbour
-abbrev pub target_by_bytes : Scope → List ℕ → List ℕ → Result Target Refusal
-target_by_bytes scope path bytes =
+abbrev pub target_by_bytes : Scope → OwnNames → List ℕ → List ℕ → Result Target Refusal
+target_by_bytes scope own path bytes =
     if nat_lt 16_777_216 (length bytes) then Err (TooLong path)
     else if not (is_text bytes) then Ok Beside
-    else target_by_style scope path scope.style
+    else target_by_style scope own path scope.style
 
 -- a name that takes no comment
 abbrev pub is_uncommentable : Kind → Bool
@@ -67,15 +68,15 @@ is_uncommentable kind.Uncommentable = true
 is_uncommentable kind.Unknown = false
 
 -- the target is the neighbour, whether that is there or not: it is asked for, or the name takes no comment and no style is asked for
-abbrev pub goes_beside_unread : Scope → List ℕ → Bool
-goes_beside_unread scope path = scope.force_dot_license || (is_none scope.style && is_uncommentable (kind_of_name path))
+abbrev pub goes_beside_unread : Scope → OwnNames → List ℕ → Bool
+goes_beside_unread scope own path = scope.force_dot_license || (is_none scope.style && is_uncommentable (kind_in own path))
 
 -- the target is the neighbour, whatever the file holds: so, or since it is there
-abbrev pub goes_beside : Scope → Files → List ℕ → Bool
-goes_beside scope tree path = is_some (get tree (neighbour_of path)) || goes_beside_unread scope path
+abbrev pub goes_beside : Scope → OwnNames → Files → List ℕ → Bool
+goes_beside scope own tree path = is_some (get tree (neighbour_of path)) || goes_beside_unread scope own path
 
-abbrev pub target_of : Scope → Files → List ℕ → List ℕ → Result Target Refusal
-target_of scope tree path bytes = if goes_beside scope tree path then Ok Beside else target_by_bytes scope path bytes
+abbrev pub target_of : Scope → OwnNames → Files → List ℕ → List ℕ → Result Target Refusal
+target_of scope own tree path bytes = if goes_beside scope own tree path then Ok Beside else target_by_bytes scope own path bytes
 
 -- ---- what is done there
 
@@ -123,11 +124,11 @@ edit_target how scope additions tree path bytes (Ok Beside) = edit_beside how sc
 edit_target how scope additions tree path bytes (Ok (Inside style)) = edit_inside how scope additions path bytes style
 
 -- what annotate does at a path, where the tree has this
-abbrev pub annotated_where : How → Scope → Additions → Files → List ℕ → Option (List ℕ) → Result (Option Edit) Refusal
-annotated_where how scope additions tree path None = if is_folder tree path then Err (IsFolder (place.Path path)) else Err (NoSuchPath path)
-annotated_where how scope additions tree path (Some bytes) =
+abbrev pub annotated_where : How → Scope → Additions → OwnNames → Files → List ℕ → Option (List ℕ) → Result (Option Edit) Refusal
+annotated_where how scope additions own tree path None = if is_folder tree path then Err (IsFolder (place.Path path)) else Err (NoSuchPath path)
+annotated_where how scope additions own tree path (Some bytes) =
     if not (is_covered path) then Err (NotCovered path)
-    else edit_target how scope additions tree path bytes (target_of scope tree path bytes)
+    else edit_target how scope additions tree path bytes (target_of scope own tree path bytes)
 
-abbrev pub annotated_at : How → Scope → Additions → Files → List ℕ → Result (Option Edit) Refusal
-annotated_at how scope additions tree path = annotated_where how scope additions tree path (get tree path)
+abbrev pub annotated_at : How → Scope → Additions → OwnNames → Files → List ℕ → Result (Option Edit) Refusal
+annotated_at how scope additions own tree path = annotated_where how scope additions own tree path (get tree path)

@@ -2,6 +2,8 @@
 ghost use Rattle.std.specs.Prelude.{◌≡◌, ◌≤◌, ◌++◌, ℕ, List, false, true, length, IfOk, IfErr, IfSome, IfNone, Some, None, Ok, Err, nat_lt};
 ghost use Rattle.std.specs.FinMap.{get, keys};
 ghost use Rattle.reuse_header.specs.declared.annotation.How.{How};
+ghost use Rattle.reuse_header.specs.Names.{lookup};
+ghost use Rattle.reuse_session.specs.TreeStyles.{OwnNames};
 ghost use Rattle.reuse_notice.specs.declared.adding.Additions.{Additions};
 ghost use Rattle.reuse_tree.specs.Files.{Files};
 ghost use Rattle.reuse_tree.specs.Store.{reading_of};
@@ -21,7 +23,8 @@ use crate::plan_edit::{change_by, making_by};
 use crate::plan_target::{Target, neighbour_of, target_by_bytes};
 use crate::reply::Refusal;
 use reuse_header::{
-    How, Style, annotate_file, annotate_neighbour, annotations_fit, find, neighbour_has_tag,
+    How, Style, StyleTable, annotate_file, annotate_neighbour, annotations_fit, find,
+    neighbour_has_tag,
 };
 use reuse_notice::Additions;
 use reuse_tree::{Change, PathError, PathText, Reading};
@@ -44,7 +47,7 @@ pub(crate) fn plan_absent(
     paths: &[PathText],
     path: &PathText,
 ) -> Result<Option<Change>, Refusal>
-    ensures edit { (how : How) (scope : Scope) (additions : Additions) (tree : Files) → paths.now ≡ keys tree → is_among paths.now path.now ≡ false → AnswersEdit tree (annotated_at how scope additions tree path.now) result }
+    ensures edit { (how : How) (scope : Scope) (additions : Additions) (own : OwnNames) (tree : Files) → paths.now ≡ keys tree → is_among paths.now path.now ≡ false → AnswersEdit tree (annotated_at how scope additions own tree path.now) result }
     ensures planned { IfErr result IsOfPlan }
     ensures fault { (fault : StoreFault) → result ≡ Err (Refusal.Fault fault) → ⊥ }
 {
@@ -80,10 +83,11 @@ pub(crate) fn plan_reading(
     additions: &Additions,
     how: &How,
     scope: &Scope,
+    styles: &StyleTable,
     reading: Reading,
 ) -> Result<Step, Refusal>
     ensures step { (tree : Files) (bytes : List ℕ) → get tree path.now ≡ Some bytes → reading ≡ reading_of (Some bytes) 16_777_216
-        → StepsTo tree how.now scope.now additions.now path.now bytes result }
+        → StepsTo tree how.now scope.now additions.now (lookup styles.now) path.now bytes result }
     ensures planned { IfErr result IsOfPlan }
     ensures fault { (fault : StoreFault) → result ≡ Err (Refusal.Fault fault) → ⊥ }
 {
@@ -95,7 +99,7 @@ pub(crate) fn plan_reading(
     if bytes.len() > LONGEST_FILE {
         return Err(Refusal::TooLong(path.try_clone(alloc)?));
     }
-    match target_by_bytes(alloc, path, bytes.as_slice(), scope) {
+    match target_by_bytes(alloc, path, bytes.as_slice(), scope, styles) {
         Ok(Target::Inside(style)) => {
             plan_inside(alloc, path, bytes.as_slice(), style, additions, how, scope)
         }

@@ -1,7 +1,7 @@
 // Where the licensing information of a file goes.
 ghost use Rattle.std.specs.Prelude.{◌≡◌, ◌≤◌, ◌++◌, IfOk, IfErr, length};
 ghost use Rattle.std.specs.FinMap.{keys};
-ghost use Rattle.reuse_header.specs.Names.{kind_of_name};
+ghost use Rattle.reuse_header.specs.Names.{kind_in, lookup};
 ghost use Rattle.reuse_tree.specs.Files.{Files};
 ghost use Rattle.reuse_session.specs.Answer.{IsOfPlan};
 ghost use Rattle.reuse_session.specs.Annotate.{neighbour_of, is_uncommentable, goes_beside, goes_beside_unread, target_of_unknown, target_by_name, target_by_style, target_by_bytes};
@@ -11,7 +11,7 @@ ghost use Rattle.reuse_tree.specs.declared.fault.StoreFault.{StoreFault};
 use crate::command::{Scope, Unknown};
 use crate::listing::is_among;
 use crate::reply::Refusal;
-use reuse_header::{Kind, Style, style_of};
+use reuse_header::{Kind, Style, StyleTable};
 use reuse_text::{Bytes, is_text};
 use reuse_tree::PathText;
 use std::alloc::{AllocError, Global};
@@ -43,18 +43,20 @@ pub(crate) fn goes_beside(
     paths: &[PathText],
     path: &PathText,
     scope: &Scope,
+    styles: &StyleTable,
 ) -> Result<bool, AllocError>
-    ensures { (tree : Files) → paths.now ≡ keys tree → IfOk result (λ beside. beside ≡ goes_beside scope.now tree path.now) }
+    ensures { (tree : Files) → paths.now ≡ keys tree → IfOk result (λ beside. beside ≡ goes_beside scope.now (lookup styles.now) tree path.now) }
 {
     let neighbour = neighbour_of(alloc, path)?;
-    Ok(is_among(paths, neighbour.as_slice()) || goes_beside_unread(path, scope))
+    Ok(is_among(paths, neighbour.as_slice()) || goes_beside_unread(path, scope, styles))
 }
 
 /// Whether the neighbour is the place, though it may not be there and whatever the file holds.
-pub(crate) fn goes_beside_unread(path: &PathText, scope: &Scope) -> bool
-    ensures { result ≡ goes_beside_unread scope.now path.now }
+pub(crate) fn goes_beside_unread(path: &PathText, scope: &Scope, styles: &StyleTable) -> bool
+    ensures { result ≡ goes_beside_unread scope.now (lookup styles.now) path.now }
 {
-    scope.force_dot_license || (scope.style.is_none() && is_uncommentable(style_of(path.text())))
+    scope.force_dot_license
+        || (scope.style.is_none() && is_uncommentable(styles.style_of(path.text())))
 }
 
 fn is_uncommentable(kind: Kind) -> bool
@@ -73,37 +75,48 @@ pub(crate) fn target_by_bytes(
     path: &PathText,
     bytes: &[u8],
     scope: &Scope,
+    styles: &StyleTable,
 ) -> Result<Target, Refusal>
     requires { length bytes.now ≤ 16_777_216 }
-    ensures target { AnswersOf (target_by_bytes scope.now path.now bytes.now) result }
+    ensures target { AnswersOf (target_by_bytes scope.now (lookup styles.now) path.now bytes.now) result }
     ensures planned { IfErr result IsOfPlan }
     ensures fault { (fault : StoreFault) → result ≡ Err (Refusal.Fault fault) → ⊥ }
 {
     if !is_text(bytes) {
         return Ok(Target::Beside);
     }
-    target_by_style(alloc, path, scope)
+    target_by_style(alloc, path, scope, styles)
 }
 
 // The place by the style that is asked for, else by the name.
-fn target_by_style(alloc: Global, path: &PathText, scope: &Scope) -> Result<Target, Refusal>
-    ensures target { AnswersOf (target_by_style scope.now path.now scope.now.style) result }
+fn target_by_style(
+    alloc: Global,
+    path: &PathText,
+    scope: &Scope,
+    styles: &StyleTable,
+) -> Result<Target, Refusal>
+    ensures target { AnswersOf (target_by_style scope.now (lookup styles.now) path.now scope.now.style) result }
     ensures planned { IfErr result IsOfPlan }
     ensures fault { (fault : StoreFault) → result ≡ Err (Refusal.Fault fault) → ⊥ }
 {
     match scope.style {
         Some(style) => Ok(Target::Inside(style)),
-        None => target_by_name(alloc, path, scope.unknown),
+        None => target_by_name(alloc, path, scope.unknown, styles),
     }
 }
 
 // The place by the name.
-fn target_by_name(alloc: Global, path: &PathText, unknown: Unknown) -> Result<Target, Refusal>
-    ensures target { AnswersOf (target_by_name unknown path.now (kind_of_name path.now)) result }
+fn target_by_name(
+    alloc: Global,
+    path: &PathText,
+    unknown: Unknown,
+    styles: &StyleTable,
+) -> Result<Target, Refusal>
+    ensures target { AnswersOf (target_by_name unknown path.now (kind_in (lookup styles.now) path.now)) result }
     ensures planned { IfErr result IsOfPlan }
     ensures fault { (fault : StoreFault) → result ≡ Err (Refusal.Fault fault) → ⊥ }
 {
-    match style_of(path.text()) {
+    match styles.style_of(path.text()) {
         Kind::Style(style) => Ok(Target::Inside(style)),
         Kind::Uncommentable => Ok(Target::Beside),
         Kind::Unknown => target_of_unknown(alloc, path, unknown),

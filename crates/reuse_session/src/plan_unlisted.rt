@@ -1,6 +1,8 @@
 // What annotate does at a path, as far as that is known without a listing of the tree.
 ghost use Rattle.std.specs.Prelude.{◌≡◌, ℕ, List, true, false, length, nat_lt, IfErr, None, Some};
 ghost use Rattle.std.specs.FinMap.{get};
+ghost use Rattle.reuse_header.specs.Names.{lookup};
+ghost use Rattle.reuse_session.specs.TreeStyles.{OwnNames};
 ghost use Rattle.reuse_tree.specs.Asked.{OnlyReads};
 ghost use Rattle.reuse_tree.specs.Files.{tree_of};
 ghost use Rattle.reuse_tree.specs.Store.{reading_of};
@@ -15,7 +17,7 @@ use crate::covered::is_covered;
 use crate::plan_place::{Step, neighbour_path, plan_neighbour, plan_reading};
 use crate::plan_target::goes_beside_unread;
 use crate::reply::Refusal;
-use reuse_header::How;
+use reuse_header::{How, StyleTable};
 use reuse_notice::Additions;
 use reuse_tree::{Change, PathText, Reading, Store};
 use std::alloc::Global;
@@ -40,8 +42,9 @@ pub(crate) fn plan_unlisted<S: Store>(
     additions: &Additions,
     how: &How,
     scope: &Scope,
+    styles: &StyleTable,
 ) -> Result<Unlisted<Option<Change>>, Refusal>
-    ensures edit { S.honest store.new → IfKnown (AnswersEdit (tree_of (S.files store.old)) (annotated_at how.now scope.now additions.now (tree_of (S.files store.old)) path.now)) result }
+    ensures edit { S.honest store.new → IfKnown (AnswersEdit (tree_of (S.files store.old)) (annotated_at how.now scope.now additions.now (lookup styles.now) (tree_of (S.files store.old)) path.now)) result }
     ensures fails { RefusedAsRead S.Store store.old store.new result }
     ensures reads { OnlyReads S.Store store.old store.new }
     ensures planned { IfErr result IsOfPlan }
@@ -53,7 +56,7 @@ pub(crate) fn plan_unlisted<S: Store>(
         return Ok(Unlisted::Unknown);
     };
     match store.read(alloc, &neighbour, LONGEST_FILE)? {
-        Reading::Absent => plan_alone(alloc, store, path, additions, how, scope),
+        Reading::Absent => plan_alone(alloc, store, path, additions, how, scope, styles),
         reading => plan_beside_file(
             alloc, store, path, &neighbour, additions, how, scope, reading,
         ),
@@ -68,22 +71,23 @@ fn plan_alone<S: Store>(
     additions: &Additions,
     how: &How,
     scope: &Scope,
+    styles: &StyleTable,
 ) -> Result<Unlisted<Option<Change>>, Refusal>
     requires { is_covered path.now ≡ true }
     ensures edit { S.honest store.new → get (tree_of (S.files store.old)) (neighbour_of path.now) ≡ None
-        → IfKnown (AnswersEdit (tree_of (S.files store.old)) (annotated_at how.now scope.now additions.now (tree_of (S.files store.old)) path.now)) result }
+        → IfKnown (AnswersEdit (tree_of (S.files store.old)) (annotated_at how.now scope.now additions.now (lookup styles.now) (tree_of (S.files store.old)) path.now)) result }
     ensures fails { RefusedAsRead S.Store store.old store.new result }
     ensures reads { OnlyReads S.Store store.old store.new }
     ensures planned { IfErr result IsOfPlan }
 {
-    if goes_beside_unread(path, scope) {
+    if goes_beside_unread(path, scope, styles) {
         return Ok(Unlisted::Unknown);
     }
     let reading = match store.read(alloc, path, LONGEST_FILE)? {
         Reading::Absent => return Ok(Unlisted::Unknown),
         reading => reading,
     };
-    match plan_reading(alloc, path, additions, how, scope, reading) {
+    match plan_reading(alloc, path, additions, how, scope, styles, reading) {
         Ok(Step::Done(change)) => Ok(Unlisted::Known(change)),
         Ok(Step::Beside) => Ok(Unlisted::Unknown),
         Err(refusal) => Err(refusal),
@@ -104,8 +108,8 @@ fn plan_beside_file<S: Store>(
     requires covered { is_covered path.now ≡ true }
     requires neighbour { neighbour.now ≡ neighbour_of path.now }
     requires short { nat_lt 4096 (length (neighbour_of path.now)) ≡ false }
-    ensures edit { S.honest store.new → (bytes : List ℕ) → get (tree_of (S.files store.old)) (neighbour_of path.now) ≡ Some bytes → reading ≡ reading_of (Some bytes) 16_777_216
-        → IfKnown (AnswersEdit (tree_of (S.files store.old)) (annotated_at how.now scope.now additions.now (tree_of (S.files store.old)) path.now)) result }
+    ensures edit { S.honest store.new → (own : OwnNames) (bytes : List ℕ) → get (tree_of (S.files store.old)) (neighbour_of path.now) ≡ Some bytes → reading ≡ reading_of (Some bytes) 16_777_216
+        → IfKnown (AnswersEdit (tree_of (S.files store.old)) (annotated_at how.now scope.now additions.now own (tree_of (S.files store.old)) path.now)) result }
     ensures fails { RefusedAsRead S.Store store.old store.new result }
     ensures reads { OnlyReads S.Store store.old store.new }
     ensures planned { IfErr result IsOfPlan }

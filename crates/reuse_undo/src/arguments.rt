@@ -47,6 +47,9 @@ const AFTER_ANNOTATE: &str = "\
 PATHs are relative to the root. A file that can't hold a comment gets its information in PATH.license. Where one
 file is refused, none is changed.
 
+DIR/.reuse/styles.toml gives styles to the tree's own names. Its lines are `version = 1`, `[styles]`, and for each name
+or ending a style, as `\".proto\" = \"c\"`, or `\".blend\" = \"uncommentable\"`.
+
 Example: the licence and this year's copyright for all files beneath src:
   reuse-undo annotate --copyright \"Jane Doe\" --license MIT --recursive src";
 

@@ -6,6 +6,7 @@ mod histories;
 mod journal_texts;
 mod journals;
 mod openings;
+mod own_styles;
 mod places;
 mod scarce_memory;
 mod scarce_store;

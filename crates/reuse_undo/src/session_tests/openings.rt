@@ -6,7 +6,7 @@ use std::alloc::Global;
 use std::test::Fail;
 
 /// The calls of an opening and of a run before its last put, which then fails.
-const ALL_MADE: u64 = 17;
+const ALL_MADE: u64 = 18;
 
 /// More calls than an opening makes.
 const CALLS: u64 = 30;

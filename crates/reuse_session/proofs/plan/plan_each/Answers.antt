@@ -1,5 +1,6 @@
-use Rattle.std.proofs.Common.{◌+◌, ◌∷◌, ◌∙◌, drop, Ok, sym, ap, subst, arith}
+use Rattle.std.proofs.Common.{◌+◌, ◌∷◌, ◌∙◌, drop, Ok, sym, ap, subst}
 use Rattle.std.proofs.lemmas.List.{drop_more}
+use Rattle.reuse_header.specs.Names.{lookup}
 use Rattle.reuse_tree.specs.Files.{tree_of}
 use Rattle.reuse_tree.proofs.AskedLemmas.{reads_more}
 use Rattle.reuse_session.specs.Annotate.{annotated_at}
@@ -14,12 +15,12 @@ loop-path-preserved g c = record {
   so_far = λ h.
       let before = c.plan_unlisted.ensures.reads.was_honest h in
       let same = c.loop-path.invariant.reads.files before in
-      let at = annotated_at c.args.how.now c.args.scope.now c.args.additions.now (tree_of (g.S.Store.files c.args.store.now)) in
+      let at = annotated_at c.args.how.now c.args.scope.now c.args.additions.now (lookup c.args.styles.now) (tree_of (g.S.Store.files c.args.store.now)) in
       let next = drop_more c.args.paths.now c.loop-path.path-index c.path-item.result c.loop-path-test.true ∙ ap (λ p. p ∷ drop (c.loop-path.path-index + 1) c.args.paths.now) (sym c.path-item.is) in
-      let so = subst (λ left. SoFar (annotated_at c.args.how.now c.args.scope.now c.args.additions.now (tree_of (g.S.Store.files c.args.store.now))) (tree_of (g.S.Store.files c.args.store.now)) c.args.paths.now left c.loop-path.changes.items) next (c.loop-path.invariant.so_far before) in
-      let edit = subst (λ u. IfKnown (AnswersEdit (tree_of (g.S.Store.files c.loop-path.store)) (annotated_at c.args.how.now c.args.scope.now c.args.additions.now (tree_of (g.S.Store.files c.loop-path.store)) c.path-item.result)) (Ok u)) c.in-Ok-Known.field-0-is (c.in-Ok-Known.ensures.edit h) in
-      let makes = subst (λ f. MakesEdit (tree_of f) (annotated_at c.args.how.now c.args.scope.now c.args.additions.now (tree_of f) c.path-item.result) c.in-Ok-Known.change) same edit in
-      subst (λ cs. SoFar (annotated_at c.args.how.now c.args.scope.now c.args.additions.now (tree_of (g.S.Store.files c.args.store.now))) (tree_of (g.S.Store.files c.args.store.now)) c.args.paths.now (drop (c.loop-path.path-index + 1) c.args.paths.now) cs) (sym c.in_ok-push_change.ensures)
+      let so = subst (λ left. SoFar (annotated_at c.args.how.now c.args.scope.now c.args.additions.now (lookup c.args.styles.now) (tree_of (g.S.Store.files c.args.store.now))) (tree_of (g.S.Store.files c.args.store.now)) c.args.paths.now left c.loop-path.changes.items) next (c.loop-path.invariant.so_far before) in
+      let edit = subst (λ u. IfKnown (AnswersEdit (tree_of (g.S.Store.files c.loop-path.store)) (annotated_at c.args.how.now c.args.scope.now c.args.additions.now (lookup c.args.styles.now) (tree_of (g.S.Store.files c.loop-path.store)) c.path-item.result)) (Ok u)) c.in-Ok-Known.field-0-is (c.in-Ok-Known.ensures.edit h) in
+      let makes = subst (λ f. MakesEdit (tree_of f) (annotated_at c.args.how.now c.args.scope.now c.args.additions.now (lookup c.args.styles.now) (tree_of f) c.path-item.result) c.in-Ok-Known.change) same edit in
+      subst (λ cs. SoFar (annotated_at c.args.how.now c.args.scope.now c.args.additions.now (lookup c.args.styles.now) (tree_of (g.S.Store.files c.args.store.now))) (tree_of (g.S.Store.files c.args.store.now)) c.args.paths.now (drop (c.loop-path.path-index + 1) c.args.paths.now) cs) (sym c.in_ok-push_change.ensures)
       (after_path at (tree_of (g.S.Store.files c.args.store.now)) c.args.paths.now c.path-item.result (drop (c.loop-path.path-index + 1) c.args.paths.now) c.loop-path.changes.items c.in-Ok-Known.change so makes);
 }
 
@@ -27,8 +28,8 @@ pub returns-in-Err-clause-edits : goal.returns-in-Err-clause-edits
 returns-in-Err-clause-edits g c h =
     let before = c.plan_unlisted.ensures.reads.was_honest h in
     let same = c.loop-path.invariant.reads.files before in
-    let at = annotated_at c.args.how.now c.args.scope.now c.args.additions.now (tree_of (g.S.Store.files c.args.store.now)) in
+    let at = annotated_at c.args.how.now c.args.scope.now c.args.additions.now (lookup c.args.styles.now) (tree_of (g.S.Store.files c.args.store.now)) in
     let next = drop_more c.args.paths.now c.loop-path.path-index c.path-item.result c.loop-path-test.true ∙ ap (λ p. p ∷ drop (c.loop-path.path-index + 1) c.args.paths.now) (sym c.path-item.is) in
-    let so = subst (λ left. SoFar (annotated_at c.args.how.now c.args.scope.now c.args.additions.now (tree_of (g.S.Store.files c.args.store.now))) (tree_of (g.S.Store.files c.args.store.now)) c.args.paths.now left c.loop-path.changes.items) next (c.loop-path.invariant.so_far before) in
-    let refused = subst (λ f. IsRefusalOf (annotated_at c.args.how.now c.args.scope.now c.args.additions.now (tree_of f) c.path-item.result) c.in-Err.refusal) same (c.in-Err.ensures.edit h) in
+    let so = subst (λ left. SoFar (annotated_at c.args.how.now c.args.scope.now c.args.additions.now (lookup c.args.styles.now) (tree_of (g.S.Store.files c.args.store.now))) (tree_of (g.S.Store.files c.args.store.now)) c.args.paths.now left c.loop-path.changes.items) next (c.loop-path.invariant.so_far before) in
+    let refused = subst (λ f. IsRefusalOf (annotated_at c.args.how.now c.args.scope.now c.args.additions.now (lookup c.args.styles.now) (tree_of f) c.path-item.result) c.in-Err.refusal) same (c.in-Err.ensures.edit h) in
     at_refusal at (tree_of (g.S.Store.files c.args.store.now)) c.args.paths.now c.path-item.result (drop (c.loop-path.path-index + 1) c.args.paths.now) c.loop-path.changes.items c.in-Err.refusal so refused

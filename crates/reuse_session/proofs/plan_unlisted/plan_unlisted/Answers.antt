@@ -1,5 +1,6 @@
-use Rattle.std.proofs.Common.{◌≡◌, ◌∙◌, true, false, length, nat_lt, None, Some, IfSome, IsSome, sym, ap, subst}
+use Rattle.std.proofs.Common.{◌≡◌, ◌∙◌, true, None, IfSome, IsSome, sym, ap, subst}
 use Rattle.std.specs.FinMap.{get}
+use Rattle.reuse_header.specs.Names.{lookup}
 use Rattle.reuse_tree.specs.Files.{tree_of}
 use Rattle.reuse_tree.specs.Store.{reading_of}
 use Rattle.reuse_session.specs.Annotate.{annotated_at, neighbour_of}
@@ -23,7 +24,7 @@ returns-in-Absent-clause-edit g c honest =
     let none : get files c.in-Some.neighbour ≡ None = absent_is (get files c.in-Some.neighbour) 16_777_216 (sym c.in-Absent.is ∙ read) in
     let absent : get (tree_of files) (neighbour_of c.args.path.now) ≡ None =
     tree_at files (neighbour_of c.args.path.now) (neighbour_of_tree c.args.path.now covered) ∙ ap (get files) (sym is) ∙ none in
-    subst (λ f. IfKnown (AnswersEdit (tree_of f) (annotated_at c.args.how.now c.args.scope.now c.args.additions.now (tree_of f) c.args.path.now)) c.plan_alone.result) same
+    subst (λ f. IfKnown (AnswersEdit (tree_of f) (annotated_at c.args.how.now c.args.scope.now c.args.additions.now (lookup c.args.styles.now) (tree_of f) c.args.path.now)) c.plan_alone.result) same
     (c.plan_alone.ensures.edit honest (ap (λ f. get (tree_of f) (neighbour_of c.args.path.now)) same ∙ absent))
 
 pub returns-clause-edit : goal.returns-clause-edit
@@ -37,6 +38,6 @@ returns-clause-edit g c honest =
     let some = there_is (get files c.in-Some.neighbour) 16_777_216 (λ e. c.in_default-2.not-Absent (read ∙ e)) in
     let kept = tree_at files (neighbour_of c.args.path.now) (neighbour_of_tree c.args.path.now covered) ∙ ap (get files) (sym is) in
     let found = some_bytes (get (tree_of files) (neighbour_of c.args.path.now)) (subst IsSome (sym kept) some) in
-    subst (λ f. IfKnown (AnswersEdit (tree_of f) (annotated_at c.args.how.now c.args.scope.now c.args.additions.now (tree_of f) c.args.path.now)) c.plan_beside_file.result) same
-    (c.plan_beside_file.ensures.edit honest found.0 (ap (λ f. get (tree_of f) (neighbour_of c.args.path.now)) same ∙ found.1)
+    subst (λ f. IfKnown (AnswersEdit (tree_of f) (annotated_at c.args.how.now c.args.scope.now c.args.additions.now (lookup c.args.styles.now) (tree_of f) c.args.path.now)) c.plan_beside_file.result) same
+    (c.plan_beside_file.ensures.edit honest (lookup c.args.styles.now) found.0 (ap (λ f. get (tree_of f) (neighbour_of c.args.path.now)) same ∙ found.1)
     (read ∙ ap (λ f. reading_of f 16_777_216) (sym kept ∙ found.1)))

@@ -1,0 +1,59 @@
+// The styles that a tree gives to its own names.
+ghost use Rattle.std.specs.Prelude.{◌≡◌, List, ℕ, Option, IfOk, IfErr, Ok, Err};
+ghost use Rattle.reuse_header.specs.Names.{lookup};
+ghost use Rattle.reuse_tree.specs.Asked.{OnlyReads};
+ghost use Rattle.reuse_tree.specs.Files.{tree_of};
+ghost use Rattle.reuse_tree.specs.Store.{reading_of};
+ghost use Rattle.reuse_tree.specs.declared.fault.StoreFault.{StoreFault};
+ghost use Rattle.reuse_session.specs.Answer.{IsOfPlan, RefusedAsRead};
+ghost use Rattle.reuse_session.specs.Plan.{IsRefusalOf};
+ghost use Rattle.reuse_session.specs.TreeStyles.{styles_path, styles_where, styles_in, styles_refusal};
+
+use crate::journal_files::path_of_text;
+use crate::reply::Refusal;
+use reuse_header::{StyleTable, StylesRefusal};
+use reuse_tree::{PathText, Reading, Store};
+use std::alloc::Global;
+
+const LONGEST_FILE: usize = 16_777_216;
+
+/// The styles by the `.reuse/styles.toml` of the tree that the store has: those of every tree where it has no such file.
+pub(crate) fn read_styles<S: Store>(alloc: Global, store: &mut S) -> Result<StyleTable, Refusal>
+    ensures styles { S.honest store.new → IfOk result (λ styles. styles_in (tree_of (S.files store.old)) ≡ Ok (lookup styles)) }
+    ensures refusal { S.honest store.new → IfErr result (λ refusal. IsRefusalOf (styles_in (tree_of (S.files store.old))) refusal) }
+    ensures fails { RefusedAsRead S.Store store.old store.new result }
+    ensures reads { OnlyReads S.Store store.old store.new }
+    ensures planned { IfErr result IsOfPlan }
+{
+    let path = path_of_text(alloc, ".reuse/styles.toml")?;
+    let reading = store.read(alloc, &path, LONGEST_FILE)?;
+    styles_by(alloc, path, reading)
+}
+
+// The styles by what was read of the file.
+fn styles_by(alloc: Global, path: PathText, reading: Reading) -> Result<StyleTable, Refusal>
+    ensures styles { (file : Option (List ℕ)) → reading ≡ reading_of file 16_777_216 → IfOk result (λ styles. styles_where file ≡ Ok (lookup styles)) }
+    ensures refusal { (file : Option (List ℕ)) → path ≡ styles_path → reading ≡ reading_of file 16_777_216 → IfErr result (λ refusal. IsRefusalOf (styles_where file) refusal) }
+    ensures planned { IfErr result IsOfPlan }
+    ensures fault { (fault : StoreFault) → result ≡ Err (Refusal.Fault fault) → ⊥ }
+{
+    let read = match &reading {
+        Reading::Absent => StyleTable::read(alloc, None),
+        Reading::Found(bytes) => StyleTable::read(alloc, Some(bytes.as_slice())),
+        Reading::TooLong => return Err(Refusal::TooLong(path)),
+    };
+    match read {
+        Ok(styles) => Ok(styles),
+        Err(refusal) => Err(of_styles(refusal)),
+    }
+}
+
+// A refusal of the file as one of the command.
+fn of_styles(refusal: StylesRefusal) -> Refusal
+    ensures { result ≡ styles_refusal refusal }
+{
+    match refusal {
+        StylesRefusal::Memory(_) => Refusal::Memory,
+        refusal => Refusal::BadStyles(refusal),
+    }
+}

@@ -1,0 +1,94 @@
+#!/usr/bin/env bash
+# A tree with a file of each name that the program knows by itself or that share/styles.toml gives a style: annotate writes a header or a
+# neighbour for each, which it finds again, and undo takes all back byte for byte. Annotated samples of common languages still pass their
+# compilers or interpreters, as far as those are there. Ends with status 1 at the first fault.
+# usage: tests/styles.sh PROGRAM
+# The tags below are data: REUSE-IgnoreStart
+set -euo pipefail
+. "$(dirname "$0")/common.sh"
+top=$(realpath "$(dirname "$0")/..")
+plain=$room/plain
+tree=$room/tree
+
+# The names: those of the sources, and those of the table for everybody
+known() { sed -nE 's/^    \(b"([^"]+)", Kind::.*/\1/p' "$top/crates/reuse_header/src/style.rt"; }
+own() { sed -nE 's/^"([^"]+)" *= *"[a-z]+".*/\1/p' "$top/share/styles.toml"; }
+
+# Puts a file of each name from standard input into a folder of its own, so that names that differ in case alone don't meet.
+make_files() {
+  local name folder k=0
+  while IFS= read -r name; do
+    k=$((k + 1))
+    folder=$plain/$1$k
+    mkdir -p "$folder"
+    if [[ $name == .* ]]; then name=x$name; fi
+    printf 'x\n' > "$folder/$name"
+  done
+}
+
+annotate() { "$program" --root "$tree" annotate -c "Jane Doe" -y 2024 -l MIT "$@"; }
+
+# Takes the last step back, after which all is as in the other folder.
+taken_back() {
+  "$program" --root "$tree" undo > "$room/out"
+  diff -r -x undo "$1" "$tree" > "$room/diff" || fail "undo: $(head -n 3 "$room/diff")"
+}
+
+mkdir -p "$plain/.reuse"
+cp "$top/share/styles.toml" "$plain/.reuse/"
+known > "$room/known"
+own > "$room/own"
+[[ $(wc -l < "$room/known") == 58 && $(wc -l < "$room/own") -ge 100 ]] || fail 'fewer names than there were'
+make_files known < "$room/known"
+make_files own < "$room/own"
+cp -r "$plain" "$tree"
+files=$(find "$plain" -type f -not -path '*/.reuse/*' | wc -l)
+annotate -r . > "$room/out"
+[[ $(grep -c '^changed ' "$room/out") == "$files" ]] || fail "$files files, $(wc -l < "$room/out") changed"
+while read -r _ path; do
+  grep -q 'SPDX-License-Identifier: MIT' "$tree/$path" || fail "$path has no header"
+done < "$room/out"
+[[ $(annotate -r .) == 'nothing changed' ]] || fail 'a header is not found again'
+taken_back "$plain"
+
+# Samples: a path, the command that takes its file, and the text
+samples=0 passed=0
+sample() {
+  local path=$1 text=$2
+  shift 2
+  samples=$((samples + 1))
+  command -v "$1" > /dev/null || return 0
+  rm -rf "$room/sample" "$room/used" "$tree"
+  mkdir -p "$room/sample/.reuse"
+  cp "$top/share/styles.toml" "$room/sample/.reuse/"
+  printf %b "$text" > "$room/sample/$path"
+  cp -r "$room/sample" "$tree"
+  annotate "$path" > "$room/out" || fail "$path isn't annotated"
+  cp -r "$tree" "$room/used"
+  (cd "$room/used" && "$@" "$path" > "$room/out" 2>&1) || fail "$* $path: $(head -n 3 "$room/out")"
+  taken_back "$room/sample"
+  passed=$((passed + 1))
+}
+sample a.py '#!/usr/bin/env python3\n# coding: utf-8\n"""Text."""\nfrom __future__ import annotations\nprint(1)\n' python3 -m py_compile
+sample a.sh '#!/bin/sh\necho 1\n' bash -n
+sample a.bash 'echo 1\n' bash -n
+sample a.pl '#!/usr/bin/perl\nuse strict;\nprint 1;\n' perl -c
+sample a.awk 'BEGIN { print 1 }\n' awk -f
+sample Makefile 'all:\n\t@echo 1\n' make -f
+sample a.c 'int main(void) { return 0; }\n' gcc -fsyntax-only
+sample a.h '#define ONE 1\n' gcc -fsyntax-only
+for ending in cc cpp cxx hpp hh hxx inl; do sample "a.$ending" 'int one() { return 1; }\n' gcc -x c++ -fsyntax-only; done
+sample a.xml '<?xml version="1.0" encoding="UTF-8"?>\n<a/>\n' xmllint --noout
+sample a.html '<!DOCTYPE html>\n<p>1</p>\n' xmllint --html --noout
+for ending in xsl xslt xsd plist xhtml; do sample "a.$ending" '<?xml version="1.0"?>\n<a/>\n' xmllint --noout; done
+sample a.js '#!/usr/bin/env node\n"use strict";\nconsole.log(1);\n' node --check
+sample a.cjs 'module.exports = 1;\n' node --check
+sample a.mjs 'export default 1;\n' node --check
+sample a.rb '#!/usr/bin/env ruby\n# frozen_string_literal: true\nputs 1\n' ruby -c
+sample Rakefile 'task :default\n' ruby -c
+sample a.lua 'print(1)\n' luac -p
+sample a.tcl 'puts 1\n' tclsh
+sample a.php '<?php\necho 1;\n' php -l
+sample a.go 'package a\n' gofmt -e
+sample a.rs 'fn main() {}\n' rustc --emit metadata
+echo "$files names are annotated and taken back; $passed of $samples samples pass their languages' own tools, and the others' aren't there"
