@@ -64,6 +64,11 @@ failure_told (Fault fault) is told = told
 failure_told (Interrupted cause) is told = told
 failure_told refusal is told = is
 
+pub put_fails : (refusal : Refusal) → IsPutRefusal refusal → IsFailure refusal
+put_fails OutOfMemory is = tt
+put_fails (Fault fault) is = tt
+put_fails refusal is = absurd is
+
 -- an entry's file that was put is in the folder of the journal
 pub kept_put : (files : Files) (number : ℕ) (entry : Entry) → EntrySays (get files (entry_path number)) entry → EntrySays (get (undo_folder_of files) (entry_path number)) entry
 kept_put files number entry says =

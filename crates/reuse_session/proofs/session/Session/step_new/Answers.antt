@@ -9,8 +9,14 @@ use Rattle.reuse_session.specs.declared.journal.entry.Entry.{Entry}
 use Rattle.reuse_session.specs.declared.reply.Reply.TheVariants.{Changed}
 use Rattle.reuse_session.proofs.OnlyReading.{is_refused}
 use Rattle.reuse_session.proofs.Recording.{can_go, unput_leaves, recording, record_leaves, halt_leaves}
-use Rattle.reuse_session.proofs.StepAnswers.{failure_told}
+use Rattle.reuse_session.proofs.StepAnswers.{failure_told, put_fails}
 use Rattle.reuse_session.proofs.session.Session.step_new.Goals as goal
+
+pub returns-in_err-put_entry-clause-exact : goal.returns-in_err-put_entry-clause-exact
+returns-in_err-put_entry-clause-exact g c honest held stands told =
+    let is = is_refused c.from_residual-in_err-put_entry.result c.from_residual-in_err-put_entry.ensures.1 in
+    let fails = put_fails c.in_err-put_entry.field-0.0 c.in_err-put_entry.ensures.refusal in
+    absurd (failure_told c.in_err-put_entry.field-0.0 fails (subst TellsNoFault is told))
 
 pub returns-in_err-put_entry-clause-leaves : goal.returns-in_err-put_entry-clause-leaves
 returns-in_err-put_entry-clause-leaves g c =
