@@ -1,5 +1,6 @@
 //! Sessions with worked values, by the public calls of `reuse_session` alone.
 mod downloads_and_conversions;
+mod formats;
 mod growths;
 mod headers;
 mod histories;

@@ -2,8 +2,8 @@
 // The tags below are data: REUSE-IgnoreStart
 use crate::session_tests::downloads_and_conversions::{DEP5, TOML};
 use crate::session_tests::trees::{
-    ANNOTATED, DONE_UNSEALED, ENTRY, FIRST_UNSEALED, HEAD, PLAIN, copy, dump, has_just, lacks,
-    licence, moment, path, plain_scope, play, signing, tree,
+    ANNOTATED, PLAIN, copy, dump, has_just, lacks, licence, moment, path, plain_scope, play,
+    signing, tree,
 };
 use reuse_session::{Answer, Command, Event, Refusal, Reply, Session, drive};
 use reuse_tree::{FuseStore, MemoryStore, OnceStore, Store, StoreFault};
@@ -13,14 +13,14 @@ use std::test::Fail;
 
 const PATHS: [&str; 3] = ["a.py", "b.py", "c.py"];
 
-// More calls than an opening and one event make.
-const CALLS: u64 = 30;
+/// More calls than an opening and one event make.
+pub const CALLS: u64 = 30;
 
 /// What a session finds: its log, and the files besides those of the journal.
 #[derive(Clone, Copy)]
-struct Standing<'a> {
-    log: &'a str,
-    files: &'a [(&'a str, &'a [u8])],
+pub struct Standing<'a> {
+    pub log: &'a str,
+    pub files: &'a [(&'a str, &'a [u8])],
 }
 
 const OLD: &[(&str, &[u8])] = &[("a.py", PLAIN), ("b.py", PLAIN), ("c.py", PLAIN)];
@@ -52,8 +52,8 @@ fn after(alloc: Global, events: &[Event]) -> Result<MemoryStore, Fail> {
     Ok(store)
 }
 
-// The store that an opening and the events leave where it fails after so many calls.
-fn stop(
+/// The store that an opening and the events leave where it fails after so many calls.
+pub fn stop(
     alloc: Global,
     start: &mut MemoryStore,
     events: &[Event],
@@ -116,8 +116,8 @@ fn stops_at_each(
     Ok(())
 }
 
-// Stops the events at each call, and lets them end.
-fn stops_everywhere(
+/// Stops the events at each call, and lets them end.
+pub fn stops_everywhere(
     rt: &impl Abort,
     alloc: Global,
     start: &mut MemoryStore,
@@ -163,54 +163,6 @@ fn a_redo_stops_at_any_call(rt: HostRuntime) -> Result<(), Fail> {
         "+++++"
     );
     Ok(())
-}
-
-// A store of an annotated file and another, whose journal is from before entries were sealed.
-fn unsealed(alloc: Global) -> Result<MemoryStore, Fail> {
-    let files = [
-        ("a.py", ANNOTATED),
-        ("b.py", PLAIN),
-        (HEAD, DONE_UNSEALED),
-        (ENTRY, FIRST_UNSEALED.as_bytes()),
-    ];
-    tree(alloc, &files)
-}
-
-#[test]
-fn a_journal_of_both_formats_stops_at_any_call(rt: HostRuntime) -> Result<(), Fail> {
-    let alloc = rt.alloc();
-    let both = [("a.py", ANNOTATED), ("b.py", ANNOTATED)];
-    let first = [("a.py", ANNOTATED), ("b.py", PLAIN)];
-    let none = [("a.py", PLAIN), ("b.py", PLAIN)];
-    let run = [signing(alloc, &["b.py"])?];
-    let back = [Event::Undo];
-    let mut start = unsealed(alloc)?;
-    for (events, logs, files) in [
-        (&run, ["1 done", "1 done 2 done"], [&first, &both]),
-        (&back, ["1 done 2 done", "1 done 2 undone"], [&both, &first]),
-        (
-            &back,
-            ["1 done 2 undone", "1 undone 2 undone"],
-            [&first, &none],
-        ),
-    ] {
-        let texts = [line_of(alloc, logs[0])?, line_of(alloc, logs[1])?];
-        let before = Standing {
-            log: texts[0].as_str(),
-            files: files[0],
-        };
-        let after = Standing {
-            log: texts[1].as_str(),
-            files: files[1],
-        };
-        stops_everywhere(&rt, alloc, &mut start, events, before, after)?;
-        start = stop(alloc, &mut start, events, CALLS, false)?;
-    }
-    Ok(())
-}
-
-fn line_of(alloc: Global, log: &str) -> Result<String, Fail> {
-    Ok(format!(in alloc; "opened\nlog {log}\n")?)
 }
 
 /// The store that the event leaves where it stops just before the put of its last head.
