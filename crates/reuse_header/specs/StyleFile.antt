@@ -43,6 +43,14 @@ texts_of_document (member first names (member second version no_members)) =
     if bytes_eq first (codes "styles") && bytes_eq second (codes "version") && is_version version then texts_of_value names else None
 texts_of_document document = None
 
+-- texts as the table of their names, and as the document that says them
+abbrev pub text_members : List NamedText → Members
+text_members [] = no_members
+text_members (named ∷ texts) = member named.0 (string named.1) (text_members texts)
+
+abbrev pub document_of : List NamedText → Members
+document_of texts = member (codes "styles") (table (text_members texts)) (member (codes "version") (integer (pos 1)) no_members)
+
 -- no last part of a path is such a name
 abbrev pub is_bad_name : List ℕ → Bool
 is_bad_name [] = true

@@ -29,8 +29,9 @@ ghost use Rattle.reuse_header.specs.Split.{AreCommentBlocks, comment_blocks, IsS
 ghost use Rattle.std.specs.List.{after_last};
 ghost use Rattle.std.specs.Str.{str_eq_ignore_ascii_case};
 ghost use Rattle.reuse_header.specs.declared.style.Kind.{Kind};
+ghost use Rattle.toml.specs.Data.{Members};
 ghost use Rattle.reuse_header.specs.Names.{slash, dot, from_last, kind_of_name, kind_in, lookup};
-ghost use Rattle.reuse_header.specs.StyleFile.{own_names};
+ghost use Rattle.reuse_header.specs.StyleFile.{NamedText, texts_of_document, document_of, own_names};
 
 use reuse_notice::{
     holders_are_values, longest_prefix_counts, merged_notices_are_written, merging_keeps_holders,
@@ -242,4 +243,10 @@ pub fn own_names_stand_first()
         own part ≡ None → own (from_last (λ b. b == dot) part) ≡ None → kind_in own path ≡ kind_of_name path }
     ensures whole { (own : List ℕ → Option Kind) (path : List ℕ) (kind : Kind) → own (after_last (λ b. b == slash) path) ≡ Some kind → kind_in own path ≡ kind }
     ensures cases { (own : List (List ℕ × Kind)) (name other : List ℕ) → str_eq_ignore_ascii_case name other ≡ true → lookup own name ≡ lookup own other }
+{}
+
+/// The names and texts of a document of styles are those that it states: it has the keys `styles` and `version` alone,
+/// the one a table of these texts, and the other the number 1.
+pub fn style_documents_are_stated()
+    ensures { (document : Members) (texts : List NamedText) → (texts_of_document document ≡ Some texts) ↔ (document ≡ document_of texts) }
 {}

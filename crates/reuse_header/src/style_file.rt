@@ -2,10 +2,10 @@
 ghost use Rattle.std.specs.Prelude.{◌≡◌, List, ℕ, [], ◌∷◌, ◌++◌, Option, None, Some, Ok, IfOk, IfErr, map, codes, ◌&&◌};
 ghost use Rattle.std.specs.Option.{option_map};
 ghost use Rattle.std.specs.Str.{bytes_eq};
-ghost use Rattle.reuse_header.specs.declared.style.Kind.{Kind};
 ghost use Rattle.toml.specs.View.{view, table_view};
+ghost use Rattle.reuse_header.specs.declared.style.Kind.{Kind};
 ghost use Rattle.reuse_header.specs.StyleFile.{kind_named, texts_in, texts_of_document, is_version, is_bad_name, refusal_at, own_names, read_document, styles_in, IsRefused, IsFirst};
-ghost use Rattle.reuse_header.specs.Keyed.{Keyed, IsKeyed, AreKeys};
+ghost use Rattle.reuse_header.specs.Keyed.{Keyed, IsKeyed};
 
 use crate::style::Kind;
 use crate::style_refusal::StylesRefusal;

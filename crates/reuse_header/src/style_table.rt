@@ -1,9 +1,8 @@
 //! The table of names, with a project's own names before it.
-ghost use Rattle.std.specs.Prelude.{◌≡◌, IfOk, IfErr, IsOk, None, Some, Ok, map};
+ghost use Rattle.std.specs.Prelude.{◌≡◌, IfOk, IfErr, IsOk, None, Ok};
 ghost use Rattle.std.specs.Option.{option_copied};
 ghost use Rattle.std.specs.Ordering.{nat_cmp};
 ghost use Rattle.std.specs.Cmp.Lexicographic.{slice_cmp};
-ghost use Rattle.std.specs.Char.{to_ascii_lowercase};
 ghost use Rattle.std.specs.Str.{str_to_ascii_lowercase};
 ghost use Rattle.reuse_header.specs.Names.{lookup, joined, kind_in};
 ghost use Rattle.reuse_header.specs.StyleFile.{styles_of, IsRefused};
