@@ -12,7 +12,6 @@ use Rattle.serde_json.specs.Data.{Data, null, boolean, number, string, array, ob
 use Rattle.serde_json.specs.Find.{as_object, as_str}
 use Rattle.reuse_session.specs.Json.{IsJson}
 use Rattle.reuse_session.specs.Head.{way_name, pending_value, head_value, FitsWay, PendingFits, IsJsonHead, IsSoundHead, IsGoodHead}
-use Rattle.reuse_session.specs.Format.{format_number}
 use Rattle.reuse_session.specs.JsonReading.{first_member, if_none_left, small_in, smalls_in, format_in}
 use Rattle.reuse_session.specs.HeadReading.{way_from, way_in, some_pending_in, pending_in, head_in}
 use Rattle.reuse_session.specs.declared.journal.head.Head.{Head}

@@ -1,5 +1,5 @@
 -- What the seals of a step tell of its files.
-use Rattle.std.proofs.Common.{◌≡◌, ℕ, ◌<◌, true, List, length, get_or, Option, refl, sym, subst}
+use Rattle.std.proofs.Common.{◌≡◌, ℕ, true, List, length, get_or, Option, sym, subst}
 use Rattle.std.specs.Prelude.{◌↔◌}
 use Rattle.std.specs.Option.{option_map}
 use Rattle.std.specs.List.{All}
@@ -12,8 +12,6 @@ use Rattle.reuse_tree.specs.declared.change.Change.{Change}
 use Rattle.reuse_tree.proofs.Sealed.{same_after, same_before}
 use Rattle.reuse_session.specs.Entry.{IsReady, CanBeMade, AreAllSealed}
 use Rattle.reuse_session.specs.Journal.{State}
-use Rattle.reuse_session.specs.Outcome.{edits_of}
-use Rattle.reuse_session.specs.Plan.{Records}
 use Rattle.reuse_session.specs.Seals.{IsReadyByRange, tree_for, IsAsLeft, IsUntouched, IsToldApart}
 use Rattle.reuse_session.specs.Session.{IsRun}
 use Rattle.reuse_session.specs.declared.command.Command.{Command}

@@ -1,5 +1,5 @@
 // The change of a place, by what an annotation makes of its bytes.
-ghost use Rattle.std.specs.Prelude.{◌≡◌, ◌≤◌, [], ℕ, List, IfOk, IfErr, Some, None, length};
+ghost use Rattle.std.specs.Prelude.{◌≡◌, ◌≤◌, [], IfOk, IfErr, Some, None, length};
 ghost use Rattle.std.specs.FinMap.{get};
 ghost use Rattle.reuse_header.specs.Splices.{IsDue, answer_of};
 ghost use Rattle.reuse_tree.specs.Files.{Files};

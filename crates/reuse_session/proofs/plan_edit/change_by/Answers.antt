@@ -1,8 +1,5 @@
 use Rattle.std.proofs.Common.{Ok, subst, ap, ◌∙◌}
 use Rattle.reuse_header.specs.Splices.{IsDue, answer_of}
-use Rattle.reuse_tree.specs.declared.change.Change.{Change}
-use Rattle.reuse_session.specs.Annotate.{edit_by}
-use Rattle.reuse_session.specs.Plan.{MakesEdit}
 use Rattle.reuse_session.proofs.EditLemmas.{change_made}
 use Rattle.reuse_session.proofs.plan_edit.change_by.Goals as goal
 
