@@ -138,7 +138,6 @@ read_only() {
   tells 0 $'undone p.png.license\n' undo
   rm -r "$tree/p.png" "$tree/p.png.license" "$tree/.reuse/undo"
   chmod 755 "$tree/closed"
-  rm -r "$tree/.reuse/undo"
   [[ $(state_of "$tree") == "$before" ]] || fail 'a folder that can not be read: files are changed'
   mkdir -m 000 "$tree/.svn"
   tells 0 $'changed b.py\nchanged closed/a.py\n' annotate -l MIT -r .

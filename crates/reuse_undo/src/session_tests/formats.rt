@@ -4,54 +4,49 @@ use crate::session_tests::trees::{
     ANNOTATED, DONE_UNSEALED, ENTRY, FIRST_UNSEALED, HEAD, PLAIN, signing, tree,
 };
 use reuse_session::Event;
-use reuse_tree::MemoryStore;
-use std::alloc::Global;
 use std::test::Fail;
 
-// A store of an annotated file and another, whose journal is from before entries were sealed.
-fn unsealed(alloc: Global) -> Result<MemoryStore, Fail> {
-    let files = [
-        ("a.py", ANNOTATED),
-        ("b.py", PLAIN),
-        (HEAD, DONE_UNSEALED),
-        (ENTRY, FIRST_UNSEALED.as_bytes()),
-    ];
-    tree(alloc, &files)
-}
+const FIRST: &[(&str, &[u8])] = &[("a.py", ANNOTATED), ("b.py", PLAIN)];
+
+// The first file is annotated, by a step from before entries were sealed.
+const UNSEALED: Standing = Standing {
+    log: "opened\nlog 1 done\n",
+    files: FIRST,
+};
+
+// So is the second, by a step that is sealed.
+const SEALED: Standing = Standing {
+    log: "opened\nlog 1 done 2 done\n",
+    files: &[("a.py", ANNOTATED), ("b.py", ANNOTATED)],
+};
+
+const ONE_BACK: Standing = Standing {
+    log: "opened\nlog 1 done 2 undone\n",
+    files: FIRST,
+};
+
+const BOTH_BACK: Standing = Standing {
+    log: "opened\nlog 1 undone 2 undone\n",
+    files: &[("a.py", PLAIN), ("b.py", PLAIN)],
+};
 
 #[test]
 fn a_journal_of_both_formats_stops_at_any_call(rt: HostRuntime) -> Result<(), Fail> {
     let alloc = rt.alloc();
-    let both = [("a.py", ANNOTATED), ("b.py", ANNOTATED)];
-    let first = [("a.py", ANNOTATED), ("b.py", PLAIN)];
-    let none = [("a.py", PLAIN), ("b.py", PLAIN)];
     let run = [signing(alloc, &["b.py"])?];
     let back = [Event::Undo];
-    let mut start = unsealed(alloc)?;
-    for (events, logs, files) in [
-        (&run, ["1 done", "1 done 2 done"], [&first, &both]),
-        (&back, ["1 done 2 done", "1 done 2 undone"], [&both, &first]),
-        (
-            &back,
-            ["1 done 2 undone", "1 undone 2 undone"],
-            [&first, &none],
-        ),
-    ] {
-        let texts = [line_of(alloc, logs[0])?, line_of(alloc, logs[1])?];
-        let before = Standing {
-            log: texts[0].as_str(),
-            files: files[0],
-        };
-        let after = Standing {
-            log: texts[1].as_str(),
-            files: files[1],
-        };
-        stops_everywhere(&rt, alloc, &mut start, events, before, after)?;
-        start = stop(alloc, &mut start, events, CALLS, false)?;
-    }
-    Ok(())
-}
-
-fn line_of(alloc: Global, log: &str) -> Result<String, Fail> {
-    Ok(format!(in alloc; "opened\nlog {log}\n")?)
+    let mut unsealed = tree(
+        alloc,
+        &[
+            ("a.py", ANNOTATED),
+            ("b.py", PLAIN),
+            (HEAD, DONE_UNSEALED),
+            (ENTRY, FIRST_UNSEALED.as_bytes()),
+        ],
+    )?;
+    stops_everywhere(&rt, alloc, &mut unsealed, &run, UNSEALED, SEALED)?;
+    let mut sealed = stop(alloc, &mut unsealed, &run, CALLS, false)?;
+    stops_everywhere(&rt, alloc, &mut sealed, &back, SEALED, ONE_BACK)?;
+    let mut one_back = stop(alloc, &mut sealed, &back, CALLS, false)?;
+    stops_everywhere(&rt, alloc, &mut one_back, &back, ONE_BACK, BOTH_BACK)
 }
