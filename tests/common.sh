@@ -11,6 +11,17 @@ make_dep5() {
     'Copyright: 2020 Jane Doe' 'License: MIT' > "$1/.reuse/dep5"
 }
 
+# Makes `$tree` anew of files, each by its path and its text with escapes.
+files() {
+  rm -rf "$tree"
+  mkdir "$tree"
+  while (($#)); do
+    mkdir -p "$(dirname "$tree/$1")"
+    printf %b "$2" > "$tree/$1"
+    shift 2
+  done
+}
+
 # The log, and one checksum over all names, bits and bytes of a tree outside of the journal
 state_of() {
   "$program" --root "$1" log || return 1

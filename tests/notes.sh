@@ -10,17 +10,6 @@ tree=$room/tree
 jane=(-c "Jane Doe" -y 2024)
 notes=0
 
-# Makes the tree anew of files, each by its path and its text with escapes.
-files() {
-  rm -rf "$tree"
-  mkdir "$tree"
-  while (($#)); do
-    mkdir -p "$(dirname "$tree/$1")"
-    printf %b "$2" > "$tree/$1"
-    shift 2
-  done
-}
-
 # The call with this root, as a text for a shell
 spelt() { printf '%q ' "$program" --root "$tree" "$@"; }
 

@@ -12,17 +12,6 @@ texts=$room/texts
 jane=(-c "Jane Doe" -y 2024)
 refusals=0
 
-# Makes the tree anew of files, each by its path and its text with escapes.
-files() {
-  rm -rf "$tree"
-  mkdir "$tree"
-  while (($#)); do
-    mkdir -p "$(dirname "$tree/$1")"
-    printf %b "$2" > "$tree/$1"
-    shift 2
-  done
-}
-
 # One checksum over all names, bits and bytes of the tree
 all_files() { tar -C "$room" --sort=name --mtime=@0 -cf - tree | sha256sum; }
 
