@@ -1,5 +1,5 @@
 -- The text of a glob, read as a glob again, is that glob.
-use Rattle.std.proofs.Common.{◌≡◌, ℕ, ◌&&◌, Bool, true, false, cond, List, [], ◌∷◌, ◌++◌, Some, refl, sym, ap, ◌∙◌}
+use Rattle.std.proofs.Common.{◌≡◌, ℕ, ◌&&◌, Bool, true, false, cond, List, [], ◌∷◌, ◌++◌, Option, Some, None, refl, sym, ap, ◌∙◌, append_assoc}
 use Rattle.std.specs.Prelude.{◌==◌, encode_utf8, encode_utf8_all}
 use Rattle.std.specs.Str.{chars, all_scalars}
 use lib.Utf8.{scalar, encode}
@@ -111,3 +111,21 @@ glob_scalars (AnyRun ∷ pieces) e = all_scalars-append (42 ∷ 42 ∷ []) (glob
 pub read_text : (glob : List GlobPiece) → HasRunsApart glob → all_scalars (glob_literals glob) ≡ true → read_glob (chars (glob_text glob)) ≡ Some glob
 read_text glob apart e =
     ap (λ t. read_glob (chars t)) (sym (glob_encoded glob)) ∙ ap read_glob (chars-encodes (glob_chars glob) (glob_scalars glob e)) ∙ read_chars glob apart
+
+-- what is read of a text is the pieces that were read behind which more stand
+abbrev pub behind : List GlobPiece → Option (List GlobPiece) → Option (List GlobPiece)
+behind pieces None = None
+behind pieces (Some more) = Some (pieces ++ more)
+
+pub behind_none : (more : Option (List GlobPiece)) → more ≡ behind [] more
+behind_none None = refl
+behind_none (Some more) = refl
+
+pub behind_more : (pieces : List GlobPiece) (piece : GlobPiece) (more : Option (List GlobPiece)) → behind pieces (onto_glob piece more) ≡ behind (pieces ++ piece ∷ []) more
+behind_more pieces piece None = refl
+behind_more pieces piece (Some more) = ap Some (sym (append_assoc pieces (piece ∷ []) more))
+
+pub behind_step : (text first tail left : List ℕ) (c : ℕ) (old new : List GlobPiece) (piece : GlobPiece) → read_glob text ≡ behind old (read_glob first) → first ≡ c ∷ tail
+    → read_glob (c ∷ tail) ≡ onto_glob piece (read_glob left) → new ≡ old ++ piece ∷ [] → read_glob text ≡ behind new (read_glob left)
+behind_step text first tail left c old new piece so at read pushed =
+    so ∙ ap (λ t. behind old (read_glob t)) at ∙ ap (behind old) read ∙ behind_more old piece (read_glob left) ∙ ap (λ ps. behind ps (read_glob left)) (sym pushed)

@@ -8,6 +8,7 @@ ghost use Rattle.reuse_dep5.specs.LastMatch.{EachPasses};
 ghost use Rattle.toml.specs.Data.{Members};
 ghost use Rattle.reuse_dep5.specs.Dep5.{Dep5Value, paragraphs_of, dep5_of};
 ghost use Rattle.reuse_dep5.specs.Grammar.{IsGrammatical, IsFirstFault, IsDep5Text, IsTextFault};
+ghost use Rattle.reuse_dep5.specs.GlobMatch.{GlobMatches, matches_glob};
 ghost use Rattle.reuse_dep5.specs.GlobText.{glob_text, read_glob, glob_literals, HasRunsApart};
 ghost use Rattle.reuse_dep5.specs.ReadBack.{table_of};
 ghost use Rattle.reuse_dep5.specs.ReuseToml.{IsReuseToml, IsTomlRefusal};
@@ -47,6 +48,11 @@ pub fn values_are_text()
 pub fn glob_text_is_read_back()
     ensures { (glob : List GlobPiece) → HasRunsApart glob → all_scalars (glob_literals glob) ≡ true
         → read_glob (chars (glob_text glob)) ≡ Some glob }
+{}
+
+/// The test of a glob is true of a path exactly where the glob matches the path.
+pub fn globs_are_decided()
+    ensures { (glob : List GlobPiece) (path : List ℕ) → (matches_glob glob path ≡ true) ↔ GlobMatches glob path }
 {}
 
 /// A table passes the test against the stated table of a dep5 exactly where it is that table.

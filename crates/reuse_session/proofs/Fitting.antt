@@ -357,8 +357,8 @@ command_fits (Annotate places additions how scope) tree are edits h = by_names (
     by_names : (styles : Result OwnNames Refusal) → edits_by_names places additions how scope tree styles ≡ Ok edits → AreFit tree edits
     by_names (Err refusal) e = absurd (cc)
     by_names (Ok own) e =
-        edits_fit how scope additions own tree are (worked_paths scope.recursive places tree) edits
-        (if_not (not scope.recursive && has_root places) (refusals.IsFolder place.Root) (edits_at (annotated_at how scope additions own tree) (worked_paths scope.recursive places tree)) edits e)
-        (sorted-set_of (cond scope.recursive (flat_map (expanded tree) places) (paths_among places)))
+        edits_fit how scope additions own tree are (worked_paths scope places tree) edits
+        (if_not (not scope.recursive && has_root places) (refusals.IsFolder place.Root) (edits_at (annotated_at how scope additions own tree) (worked_paths scope places tree)) edits e)
+        (sorted-set_of (cond scope.recursive (flat_map (expanded scope tree) places) (paths_among places)))
 command_fits ConvertDep5 tree are edits h = fit_of tree edits (conversion_fits tree edits h)
 command_fits (Download ids texts) tree are edits h = fit_of tree edits (download_fits ids texts tree edits h)

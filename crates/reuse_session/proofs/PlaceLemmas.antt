@@ -9,10 +9,11 @@ use Rattle.std.proofs.lemmas.List.Concat.{flat_map-append}
 use Rattle.std.proofs.lemmas.List.Elements.{filter-append}
 use Rattle.reuse_tree.specs.Path.{lies_under}
 use Rattle.reuse_tree.specs.Files.{Files}
-use Rattle.reuse_session.specs.Covered.{is_covered}
+use Rattle.reuse_session.specs.Choice.{is_chosen}
 use Rattle.reuse_session.specs.Worked.{expanded}
 use Rattle.reuse_session.specs.declared.command.Place.{Place}
 use Rattle.reuse_session.specs.declared.command.Place.TheVariants.{Path}
+use Rattle.reuse_session.specs.declared.command.Scope.{Scope}
 
 -- what is kept of one more
 pub kept_more : (test : List ℕ → Bool) (xs : List (List ℕ)) (i : ℕ) (d : List ℕ) (start old new : List (List ℕ)) → i < length xs → old ≡ start ++ filter test (take i xs)
@@ -26,12 +27,12 @@ append_nil [] = refl
 append_nil (x ∷ xs) = ap (λ ys. x ∷ ys) (append_nil xs)
 
 -- what stands for one more
-pub expanded_more : (tree : Files) (places : List Place) (i : ℕ) (d : Place) (old new : List (List ℕ)) → i < length places → old ≡ flat_map (expanded tree) (take i places)
-    → new ≡ old ++ expanded tree (get_or places i d) → new ≡ flat_map (expanded tree) (take (i + 1) places)
-expanded_more tree places i d old new low so is =
-    is ∙ ap (λ ys. ys ++ expanded tree (get_or places i d)) so
-    ∙ ap (λ ys. flat_map (expanded tree) (take i places) ++ ys) (sym (append_nil (expanded tree (get_or places i d))))
-    ∙ sym (flat_map-append (expanded tree) (take i places) (get_or places i d ∷ [])) ∙ ap (flat_map (expanded tree)) (sym (take_more places i d low))
+pub expanded_more : (scope : Scope) (tree : Files) (places : List Place) (i : ℕ) (d : Place) (old new : List (List ℕ)) → i < length places → old ≡ flat_map (expanded scope tree) (take i places)
+    → new ≡ old ++ expanded scope tree (get_or places i d) → new ≡ flat_map (expanded scope tree) (take (i + 1) places)
+expanded_more scope tree places i d old new low so is =
+    is ∙ ap (λ ys. ys ++ expanded scope tree (get_or places i d)) so
+    ∙ ap (λ ys. flat_map (expanded scope tree) (take i places) ++ ys) (sym (append_nil (expanded scope tree (get_or places i d))))
+    ∙ sym (flat_map-append (expanded scope tree) (take i places) (get_or places i d ∷ [])) ∙ ap (flat_map (expanded scope tree)) (sym (take_more places i d low))
 
 -- where nothing is kept, nothing passes
 none_passes : (test : List ℕ → Bool) (ks : List (List ℕ)) → length (filter test ks) ≡ 0 → list_any test ks ≡ false
@@ -50,17 +51,17 @@ one_passes test (k ∷ ks) h = of_test (test k) h (one_passes test ks)
     of_test true h rest = refl
     of_test false h rest = rest h
 
-module _ (tree : Files) (path : List ℕ) (beneath : List (List ℕ)) (are : beneath ≡ filter (λ other. lies_under other path) (keys tree)) where
+module _ (scope : Scope) (tree : Files) (path : List ℕ) (beneath : List (List ℕ)) (are : beneath ≡ filter (λ other. lies_under other path) (keys tree)) where
   -- a path that is no folder
-  pub stands_alone : length beneath ≡ 0 → expanded tree (Path path) ≡ path ∷ []
+  pub stands_alone : length beneath ≡ 0 → expanded scope tree (Path path) ≡ path ∷ []
   stands_alone h =
-      ap (λ b. cond b (filter is_covered (filter (λ other. lies_under other path) (keys tree))) (path ∷ [])) (none_passes (λ other. lies_under other path) (keys tree) (ap length (sym are) ∙ h))
+      ap (λ b. cond b (filter (is_chosen scope) (filter (λ other. lies_under other path) (keys tree))) (path ∷ [])) (none_passes (λ other. lies_under other path) (keys tree) (ap length (sym are) ∙ h))
 
   -- a folder
-  pub stands_for : (length beneath ≡ 0 → ⊥) → expanded tree (Path path) ≡ filter is_covered beneath
+  pub stands_for : (length beneath ≡ 0 → ⊥) → expanded scope tree (Path path) ≡ filter (is_chosen scope) beneath
   stands_for h =
-      ap (λ b. cond b (filter is_covered (filter (λ other. lies_under other path) (keys tree))) (path ∷ [])) (one_passes (λ other. lies_under other path) (keys tree) (λ e. h (ap length are ∙ e)))
-      ∙ ap (filter is_covered) (sym are)
+      ap (λ b. cond b (filter (is_chosen scope) (filter (λ other. lies_under other path) (keys tree))) (path ∷ [])) (one_passes (λ other. lies_under other path) (keys tree) (λ e. h (ap length are ∙ e)))
+      ∙ ap (filter (is_chosen scope)) (sym are)
 
 pub is_zero : (n : ℕ) → (n == 0) ≡ true → n ≡ 0
 is_zero n h = grind (arith, nat_tests)

@@ -2,14 +2,14 @@
 ghost use Rattle.std.specs.Prelude.{◌≡◌, ◌++◌, [], ◌∷◌, IfOk, OnOk, filter, flat_map};
 ghost use Rattle.std.specs.FinMap.{keys};
 ghost use Rattle.reuse_tree.specs.Files.{Files};
-ghost use Rattle.reuse_session.specs.Covered.{is_covered};
+ghost use Rattle.reuse_session.specs.Choice.{is_chosen, is_listed};
 ghost use Rattle.reuse_session.specs.Worked.{expanded, worked_paths};
 ghost use Rattle.reuse_session.specs.declared.command.Place.TheVariants as place;
 ghost use Rattle.std.specs.Option.{option_to_list};
 ghost use Rattle.reuse_notice.specs.Sets.{set_of};
 ghost use Rattle.reuse_session.specs.Command.{is_root, has_root, path_in, paths_among};
 
-use crate::command::Place;
+use crate::command::{Place, Scope};
 use crate::covered::is_covered;
 use crate::listing::paths_beneath;
 use reuse_tree::PathText;
@@ -32,17 +32,17 @@ fn is_root(place: &Place) -> bool
 }
 
 /// The paths that a command goes through, in byte order and without repeats: those among the places, and, where folders are gone
-/// through, the covered files beneath a folder in its place. `paths` are those of the tree.
+/// through, the covered files beneath a folder that are asked for in its place. `paths` are those of the tree.
 pub(crate) fn worked_paths(
     alloc: Global,
     paths: &[PathText],
     places: &[Place],
-    recursive: bool,
+    scope: &Scope,
 ) -> Result<Vec<PathText>, AllocError>
-    ensures { (tree : Files) → paths.now ≡ keys tree → IfOk result (λ worked. worked.items ≡ worked_paths recursive places.now tree) }
+    ensures { (tree : Files) → paths.now ≡ keys tree → IfOk result (λ worked. worked.items ≡ worked_paths scope.now places.now tree) }
 {
-    if recursive {
-        Ok(sorted(expanded(alloc, paths, places)?))
+    if scope.recursive {
+        Ok(sorted(expanded(alloc, paths, places, scope)?))
     } else {
         given_paths(alloc, places)
     }
@@ -55,8 +55,8 @@ pub(crate) fn given_paths(alloc: Global, places: &[Place]) -> Result<Vec<PathTex
     Ok(sorted(paths_among(alloc, places)?))
 }
 
-// The set of the paths, in byte order.
-fn sorted(paths: Vec<PathText>) -> Vec<PathText>
+/// The set of the paths, in byte order.
+pub(crate) fn sorted(paths: Vec<PathText>) -> Vec<PathText>
     ensures { result.items ≡ set_of paths.items }
 {
     let mut paths = paths;
@@ -65,17 +65,18 @@ fn sorted(paths: Vec<PathText>) -> Vec<PathText>
     paths
 }
 
-// The paths among the places, with the covered files beneath a folder in its place.
+// The paths among the places, with the covered files beneath a folder that are asked for in its place.
 fn expanded(
     alloc: Global,
     paths: &[PathText],
     places: &[Place],
+    scope: &Scope,
 ) -> Result<Vec<PathText>, AllocError>
-    ensures { (tree : Files) → paths.now ≡ keys tree → IfOk result (λ found. found.items ≡ flat_map (expanded tree) places.now) }
+    ensures { (tree : Files) → paths.now ≡ keys tree → IfOk result (λ found. found.items ≡ flat_map (expanded scope.now tree) places.now) }
 {
     let mut found = Vec::new(alloc);
     for place in places {
-        push_expanded(alloc, &mut found, paths, place)?;
+        push_expanded(alloc, &mut found, paths, place, scope)?;
     }
     Ok(found)
 }
@@ -86,54 +87,58 @@ fn push_expanded(
     found: &mut Vec<PathText>,
     paths: &[PathText],
     place: &Place,
+    scope: &Scope,
 ) -> Result<(), AllocError>
-    ensures { (tree : Files) → paths.now ≡ keys tree → OnOk result (found.new.items ≡ found.old.items ++ expanded tree place.now) }
+    ensures { (tree : Files) → paths.now ≡ keys tree → OnOk result (found.new.items ≡ found.old.items ++ expanded scope.now tree place.now) }
 {
     match place {
-        Place::Root => push_covered(alloc, found, paths),
-        Place::Path(path) => push_beneath(alloc, found, paths, path),
+        Place::Root => push_chosen(alloc, found, paths, scope),
+        Place::Path(path) => push_beneath(alloc, found, paths, path, scope),
     }
 }
 
-// Adds a path, or the covered files beneath it where it is a folder.
+// Adds a path, or the covered files beneath it that are asked for where it is a folder.
 fn push_beneath(
     alloc: Global,
     found: &mut Vec<PathText>,
     paths: &[PathText],
     path: &PathText,
+    scope: &Scope,
 ) -> Result<(), AllocError>
-    ensures { (tree : Files) → paths.now ≡ keys tree → OnOk result (found.new.items ≡ found.old.items ++ expanded tree (place.Path path.now)) }
+    ensures { (tree : Files) → paths.now ≡ keys tree → OnOk result (found.new.items ≡ found.old.items ++ expanded scope.now tree (place.Path path.now)) }
 {
     let beneath = paths_beneath(alloc, paths, path)?;
     if beneath.is_empty() {
         found.push(path.try_clone(alloc)?)?;
         return Ok(());
     }
-    push_covered(alloc, found, beneath)
+    push_chosen(alloc, found, beneath, scope)
 }
 
-// Adds the covered ones of some paths.
-fn push_covered(
+// Adds the ones that are asked for.
+fn push_chosen(
     alloc: Global,
     found: &mut Vec<PathText>,
     paths: &[PathText],
+    scope: &Scope,
 ) -> Result<(), AllocError>
-    ensures { OnOk result (found.new.items ≡ found.old.items ++ filter is_covered paths.now) }
+    ensures { OnOk result (found.new.items ≡ found.old.items ++ filter (is_chosen scope.now) paths.now) }
 {
     for path in paths {
-        push_if_covered(alloc, found, path)?;
+        push_if_chosen(alloc, found, path, scope)?;
     }
     Ok(())
 }
 
-fn push_if_covered(
+fn push_if_chosen(
     alloc: Global,
     found: &mut Vec<PathText>,
     path: &PathText,
+    scope: &Scope,
 ) -> Result<(), AllocError>
-    ensures { OnOk result (found.new.items ≡ found.old.items ++ filter is_covered (path.now ∷ [])) }
+    ensures { OnOk result (found.new.items ≡ found.old.items ++ filter (is_chosen scope.now) (path.now ∷ [])) }
 {
-    if is_covered(path.as_bytes()) {
+    if is_chosen(scope, path) {
         found.push(path.try_clone(alloc)?)?;
     }
     Ok(())
@@ -159,5 +164,22 @@ fn push_path(alloc: Global, paths: &mut Vec<PathText>, place: &Place) -> Result<
             paths.push(path.try_clone(alloc)?)?;
             Ok(())
         }
+    }
+}
+
+// Whether a file beneath a folder is worked.
+fn is_chosen(scope: &Scope, path: &PathText) -> bool
+    ensures { result ≡ is_chosen scope.now path.now }
+{
+    is_covered(path.as_bytes()) && is_listed(scope, path) && !scope.excluded.matches(path)
+}
+
+// Whether the path is listed, where there is a list.
+fn is_listed(scope: &Scope, path: &PathText) -> bool
+    ensures { result ≡ is_listed scope.now.listed path.now }
+{
+    match &scope.listed {
+        None => true,
+        Some(listed) => listed.has(path),
     }
 }

@@ -6,4 +6,4 @@ use Rattle.reuse_session.specs.Worked.{expanded}
 use Rattle.reuse_session.proofs.places.expanded.Given as goal
 
 abbrev pub invariant-loop-place : goal.invariant-loop-place
-invariant-loop-place l = (tree : Files) → l.paths ≡ keys tree → l.found.items ≡ flat_map (expanded tree) (take l.place-index l.places)
+invariant-loop-place l = (tree : Files) → l.paths ≡ keys tree → l.found.items ≡ flat_map (expanded l.scope tree) (take l.place-index l.places)

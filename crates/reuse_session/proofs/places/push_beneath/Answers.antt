@@ -11,12 +11,12 @@ returns-then-is_empty c tree are =
     let sorted : ArePaths c.args.paths.now = subst ArePaths (sym are) (keys_ascend tree) in
     let beneath = c.in_ok-beneath.ensures sorted ∙ ap (filter (λ other. lies_under other c.args.path.now)) are in
     c.in_ok-push.ensures.items ∙ ap (λ p. c.args.found.now.items ++ p ∷ []) c.in_ok-try_clone.ensures
-    ∙ ap (λ ps. c.args.found.now.items ++ ps) (sym (stands_alone tree c.args.path.now c.in_ok-beneath.beneath.now beneath (is_zero _ (sym c.is_empty.ensures ∙ c.if-is_empty.true))))
+    ∙ ap (λ ps. c.args.found.now.items ++ ps) (sym (stands_alone c.args.scope.now tree c.args.path.now c.in_ok-beneath.beneath.now beneath (is_zero _ (sym c.is_empty.ensures ∙ c.if-is_empty.true))))
 
 pub returns : goal.returns
 returns c tree are =
     let sorted : ArePaths c.args.paths.now = subst ArePaths (sym are) (keys_ascend tree) in
     let beneath = c.in_ok-beneath.ensures sorted ∙ ap (filter (λ other. lies_under other c.args.path.now)) are in
-    MatchResult-weaker c.push_covered.result c.push_covered.ensures
-    (λ x h. h ∙ ap (λ ps. c.args.found.now.items ++ ps) (sym (stands_for tree c.args.path.now c.in_ok-beneath.beneath.now beneath (not_zero _ (sym c.is_empty.ensures ∙ c.if-is_empty.false)))))
+    MatchResult-weaker c.push_chosen.result c.push_chosen.ensures
+    (λ x h. h ∙ ap (λ ps. c.args.found.now.items ++ ps) (sym (stands_for c.args.scope.now tree c.args.path.now c.in_ok-beneath.beneath.now beneath (not_zero _ (sym c.is_empty.ensures ∙ c.if-is_empty.false)))))
     (λ y h. h)

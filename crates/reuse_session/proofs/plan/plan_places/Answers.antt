@@ -17,7 +17,7 @@ returns-in-Ok-Unknown-clause-edits g c honest =
     let rootless : (not c.args.scope.now.recursive && has_root c.args.places.now) ≡ false =
     ap (λ r. not r && has_root c.args.places.now) c.if-scope.false ∙ sym c.has_root.ensures ∙ c.if-has_root.false in
     let tree = tree_of (g.S.Store.files c.args.store.now) in
-    let edits = edits_at (annotated_at c.args.how.now c.args.scope.now c.args.additions.now (lookup c.args.styles.now) tree) (worked_paths c.args.scope.now.recursive c.args.places.now tree) in
+    let edits = edits_at (annotated_at c.args.how.now c.args.scope.now c.args.additions.now (lookup c.args.styles.now) tree) (worked_paths c.args.scope.now c.args.places.now tree) in
     subst (λ b. AnswersEdits tree (cond b (Err (IsFolder place.Root)) edits) c.plan_listed-in-Ok-Unknown.result) (sym rootless)
-    (subst (λ f. AnswersEdits (tree_of f) (edits_at (annotated_at c.args.how.now c.args.scope.now c.args.additions.now (lookup c.args.styles.now) (tree_of f)) (worked_paths c.args.scope.now.recursive c.args.places.now (tree_of f))) c.plan_listed-in-Ok-Unknown.result) same
+    (subst (λ f. AnswersEdits (tree_of f) (edits_at (annotated_at c.args.how.now c.args.scope.now c.args.additions.now (lookup c.args.styles.now) (tree_of f)) (worked_paths c.args.scope.now c.args.places.now (tree_of f))) c.plan_listed-in-Ok-Unknown.result) same
     (c.plan_listed-in-Ok-Unknown.ensures.edits honest))
