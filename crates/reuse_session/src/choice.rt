@@ -4,7 +4,7 @@ ghost use Rattle.std.specs.Str.{chars};
 ghost use Rattle.reuse_dep5.specs.GlobMatch.{matches_glob};
 ghost use Rattle.reuse_notice.specs.Sets.{set_of};
 ghost use Rattle.reuse_session.specs.Choice.{matches_one};
-ghost use Rattle.reuse_session.specs.Listing.{ArePaths, is_among};
+ghost use Rattle.reuse_session.specs.Listing.{is_among};
 
 use crate::listing::is_among;
 use crate::places::sorted;
@@ -20,6 +20,7 @@ pub struct PathList {
 
 impl Model for PathList {
     ghost use Rattle.std.specs.Prelude.{List, ℕ};
+    ghost use Rattle.reuse_session.specs.Listing.{ArePaths};
 
     ghost Value = { List (List ℕ) };
 

@@ -1,5 +1,5 @@
 //! Laws of the definitions that the contracts of a session cite.
-ghost use Rattle.std.specs.Prelude.{◌≡◌, ◌≢◌, ◌↔◌, List, map, ℕ, Ok};
+ghost use Rattle.std.specs.Prelude.{◌≡◌, ◌≢◌, ◌↔◌, ◌⊎◌, [], List, map, ℕ, true, Ok, None};
 ghost use Rattle.std.specs.Ordering.{nat_cmp};
 ghost use Rattle.std.specs.Cmp.Lexicographic.{slice_cmp};
 ghost use Rattle.std.specs.List.{All, Contains};
@@ -8,6 +8,9 @@ ghost use Rattle.std.specs.FinMap.{get};
 ghost use Rattle.reuse_tree.specs.Files.{Files};
 ghost use Rattle.reuse_tree.specs.Change.{inverse_of};
 ghost use Rattle.reuse_tree.specs.declared.change.Change.{Change};
+ghost use Rattle.reuse_session.specs.Choice.{is_chosen};
+ghost use Rattle.reuse_session.specs.Chosen.{IsNamed, StandsBeneath, IsAskedFor};
+ghost use Rattle.reuse_session.specs.Covered.{is_covered};
 ghost use Rattle.reuse_session.specs.Entry.{CanBeMade, IsEntry, LeadsAll, LeadsBy};
 ghost use Rattle.reuse_session.specs.InTurn.{LeadsInTurn};
 ghost use Rattle.reuse_session.specs.Journal.{State};
@@ -17,8 +20,11 @@ ghost use Rattle.reuse_session.specs.Seals.{tree_for, IsAsLeft, IsToldApart, IsU
 ghost use Rattle.reuse_session.specs.Session.{IsRun};
 ghost use Rattle.reuse_session.specs.TextsPut.{PutsTexts};
 ghost use Rattle.reuse_session.specs.Tree.{changed_paths};
+ghost use Rattle.reuse_session.specs.Worked.{worked_paths};
 ghost use Rattle.reuse_session.specs.declared.command.Command.{Command};
 ghost use Rattle.reuse_session.specs.declared.command.Command.TheVariants.{Download};
+ghost use Rattle.reuse_session.specs.declared.command.Place.{Place};
+ghost use Rattle.reuse_session.specs.declared.command.Scope.{Scope};
 ghost use Rattle.reuse_session.specs.declared.entry.Way.{Way};
 ghost use Rattle.reuse_session.specs.declared.entry.Way.TheVariants.{Undo};
 ghost use Rattle.reuse_session.specs.declared.licence.LicenceText.{LicenceText};
@@ -60,4 +66,12 @@ pub fn seals_tell_of_whole_files()
         → All (IsAsLeft way (tree_for way first second) now) run.step.changes }
     ensures exact { (command : Command) (when : ℕ) (first second : State) (run : IsRun command when first second) (way : Way) (now : Files) → All (IsToldApart (tree_for way first second) now) run.step.changes
         → All (CanBeMade way now) run.step.changes ↔ All (IsUntouched way (tree_for way first second) now) run.step.changes }
+{}
+
+/// Where folders are gone through, a path is worked exactly where it is given and no folder, or is a file beneath a folder that is given, and
+/// is covered, listed, where there is a list, and matched by no glob that is excluded. Without a list and globs all covered files are chosen.
+pub fn worked_paths_are_asked_for()
+    ensures asked { (scope : Scope) (places : List Place) (tree : Files) (path : List ℕ) → scope.recursive ≡ true
+        → Contains (worked_paths scope places tree) path ↔ (IsNamed places tree path ⊎ (StandsBeneath places tree path × IsAskedFor scope path)) }
+    ensures all { (scope : Scope) (path : List ℕ) → scope.listed ≡ None → scope.excluded ≡ [] → is_chosen scope path ≡ is_covered path }
 {}
