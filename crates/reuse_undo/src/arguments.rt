@@ -50,11 +50,11 @@ file is refused, none is changed.
 DIR/.reuse/styles.toml gives styles to the tree's own names. Its lines are `version = 1`, `[styles]`, and for each name
 or ending a style, as `\".proto\" = \"c\"`, or `\".blend\" = \"uncommentable\"`.
 
-With --recursive, FILE lists paths relative to the root, one a line, or, where FILE holds a NUL, one between two NULs; what is listed
-and isn't a file beneath a PATH is passed over. GLOB is a glob as in REUSE.toml, for whole paths relative to the root: `*` is any run
-of characters without `/`, `**` any run. A PATH that is a file itself is annotated all the same.
+FILE lists paths relative to the root, one a line, or, where FILE holds a NUL, one between two NULs. What is listed
+and isn't a file beneath a PATH is passed over. GLOB is a glob as in REUSE.toml, of whole paths relative to the root:
+`*` is any run without `/`, `**` any run. A PATH that is a file itself is annotated all the same.
 
-Examples: the licence and this year's copyright for all files beneath src, and for the files that git tracks:
+Examples: the licence and this year's copyright for all files beneath src, and for all files that git tracks:
   reuse-undo annotate --copyright \"Jane Doe\" --license MIT --recursive src
   git ls-files -z | reuse-undo annotate -c \"Jane Doe\" -l MIT -r --files-from - .";
 
