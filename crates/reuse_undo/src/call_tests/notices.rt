@@ -1,5 +1,8 @@
+//! Tags, licence expressions, what is added, and merges.
 // The tags below are data: REUSE-IgnoreStart
-use super::*;
+use reuse_notice::{
+    Additions, Info, NoticeRefusal, Prefix, Tag, Years, check_expression, read_tag,
+};
 use reuse_text::Bytes;
 use std::alloc::{AllocError, Global};
 use std::test::Fail;
@@ -127,24 +130,20 @@ fn reads_information(rt: HostRuntime) -> Result<(), Fail> {
     Ok(())
 }
 
+/// What the additions make of a block that holds these contents.
+fn merged(alloc: Global, contents: &[&[u8]], added: &Additions) -> Result<Info, AllocError> {
+    let info = Info::read(alloc, contents, b"#")?;
+    info.union(alloc, added)?.merge(alloc, added)
+}
+
 #[test]
 fn adds_years(rt: HostRuntime) -> Result<(), Fail> {
     let years = ["2018", "2016"];
     let alloc = rt.alloc();
     let added = Additions::new(alloc, &["Jo"], &[], &[], &years, false, 2024, Prefix::Spdx)?;
-    assert!(rt;
-        is_one(
-            added.notices.as_slice(),
-            b"SPDX-FileCopyrightText: 2016 - 2018 Jo"
-        )
-    );
+    let info = merged(alloc, &[], &added)?;
+    assert!(rt; is_one(info.notices(), b"SPDX-FileCopyrightText: 2016 - 2018 Jo"));
     Ok(())
-}
-
-/// What the additions make of a block that holds these contents.
-fn merged(alloc: Global, contents: &[&[u8]], added: &Additions) -> Result<Info, AllocError> {
-    let info = Info::read(alloc, contents, b"#")?;
-    info.union(alloc, added)?.merge(alloc, added)
 }
 
 #[test]

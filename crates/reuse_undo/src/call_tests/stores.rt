@@ -1,9 +1,9 @@
-// Single calls with their answers, each call at least once.
-use crate::{
+//! Paths, changes, digests and stores.
+use reuse_text::Bytes;
+use reuse_tree::{
     Change, ChangeState, Digest, FuseStore, MemoryStore, OnceStore, PathError, PathText, Reading,
     Store, StoreFault,
 };
-use reuse_text::Bytes;
 use std::alloc::Global;
 use std::process::Abort;
 use std::test::Fail;

@@ -1,5 +1,6 @@
+//! Headers that are added to files and to neighbours.
 // The tags below are data: REUSE-IgnoreStart
-use super::*;
+use reuse_header::{Form, HeaderRefusal, How, Splice, Style, annotate_file, annotate_neighbour};
 use reuse_notice::{Additions, Prefix};
 use std::alloc::Global;
 use std::test::Fail;
