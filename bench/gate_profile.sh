@@ -3,7 +3,9 @@
 # time, and lists the twenty slowest functions, tests and edits. It works in a copy of the repository, one check at a time and from nothing, so the
 # seconds are those of one processor; the gate has several checks side by side. A function's time is that between its line of the check and the line
 # before, so the first that cites a lemma pays for it.
-# usage: bench/gate_profile.sh [-m EDITS] [-o TABLE] [CRATE..]
+# usage: bench/gate_profile.sh [-k] [-m EDITS] [-o TABLE] [CRATE..]
+#   -k         begins with the work that the repository keeps in out/: no proof from nothing and no tests, but a check of nothing new, which
+#              is what each edit costs at least, and the edits
 #   -m EDITS   tries so many edits of each crate, evenly chosen (0: none), and not all
 #   -o TABLE   keeps all figures in this file too: kind, crate, name, processor seconds, wall seconds
 # Without a CRATE it measures all of them, which takes hours.
@@ -12,8 +14,10 @@ top=$(cd "$(dirname "$0")/.." && pwd)
 rt=${RT:-rt}
 most=1000
 table=
-while getopts m:o: flag; do
+kept=
+while getopts km:o: flag; do
   case $flag in
+    k) kept=1 ;;
     m) most=$OPTARG ;;
     o) table=$(realpath "$OPTARG") ;;
     *) exit 2 ;;
@@ -68,16 +72,10 @@ apply() {
   done < "$2"
 }
 
-for crate in "${crates[@]}"; do
-  folder=$room/crates/$crate
-  # the libraries that it stands on: as the repository keeps them, or proved now
-  for below in "${all[@]}"; do
-    [ "$below" != "$crate" ] || break
-    [ -e "$room/crates/$below/out" ] || ! [ -d "$top/crates/$below/out" ] || cp -a "$top/crates/$below/out" "$room/crates/$below/"
-    (cd "$room/crates/$below" && [ -e out/rlib/stamp ] || "$rt" lib --jobs 1) > "$room/below" 2>&1 || { tail -n 20 "$room/below"; exit 1; }
-  done
+# Proves a crate from nothing, then its tests, and builds and runs both.
+prove() {
+  local crate=$1 folder=$2
   rm -rf "$folder/out"
-  : > "$room/seen"
   measure "$folder" "$rt" check --jobs 1 || { tail -n 20 "$room/log"; exit 1; }
   note proof "$crate" "$(grep -o 'functions=[0-9]*' "$room/log" || true)" "$spent"
   functions "$crate" function
@@ -94,6 +92,25 @@ for crate in "${crates[@]}"; do
   if [ -e "$folder/src/main.rt" ]; then
     measure "$folder" "$rt" run --jobs 1 -- log || { tail -n 20 "$room/log"; exit 1; }
     note run "$crate" "program, built and run" "$spent"
+  fi
+}
+
+for crate in "${crates[@]}"; do
+  folder=$room/crates/$crate
+  # the libraries that it stands on: as the repository keeps them, or proved now
+  for below in "${all[@]}"; do
+    [ "$below" != "$crate" ] || break
+    [ -e "$room/crates/$below/out" ] || ! [ -d "$top/crates/$below/out" ] || cp -a "$top/crates/$below/out" "$room/crates/$below/"
+    (cd "$room/crates/$below" && [ -e out/rlib/stamp ] || "$rt" lib --jobs 1) > "$room/below" 2>&1 || { tail -n 20 "$room/below"; exit 1; }
+  done
+  : > "$room/seen"
+  if [ "$kept" ]; then
+    [ -e "$folder/out" ] || cp -a "$top/crates/$crate/out" "$folder/"
+    (cd "$folder" && "$rt" check --jobs 1) > "$room/log" 2>&1 || { tail -n 20 "$room/log"; exit 1; }
+    measure "$folder" "$rt" check --jobs 1
+    note again "$crate" "nothing new" "$spent"
+  else
+    prove "$crate" "$folder"
   fi
   tried=("$folder"/must-fail/*.edit)
   if [ "$most" -gt 0 ] && [ -e "${tried[0]}" ]; then

@@ -22,6 +22,3 @@ pub use laws::{
 pub use prefixes::Prefix;
 pub use tags::{Notice, Tag, Years, read_tag};
 pub use text_lists::{TextSet, Texts};
-
-#[cfg(test)]
-mod tests;

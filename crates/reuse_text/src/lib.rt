@@ -158,6 +158,3 @@ pub fn lines_are_one()
     ensures only { (text : List ℕ) (lines : List TextLine) → AreLines lines → text_of lines ≡ text → lines ≡ lines_of text }
     ensures placed { (file : List ℕ) → All (StandsIn file) (file_lines file) }
 {}
-
-#[cfg(test)]
-mod tests;

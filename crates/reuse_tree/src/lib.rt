@@ -11,8 +11,6 @@ mod memory;
 mod path;
 mod record;
 mod store;
-#[cfg(test)]
-mod tests;
 
 pub use change::{Change, ChangeState};
 pub use digest::{Digest, Seal};

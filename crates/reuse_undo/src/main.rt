@@ -3,6 +3,8 @@
 
 mod above;
 mod arguments;
+#[cfg(test)]
+mod call_tests;
 mod date;
 mod disk;
 mod fault;

@@ -12,4 +12,5 @@ mod places;
 mod scarce_memory;
 mod scarce_store;
 mod stops;
+mod tally;
 pub mod trees;

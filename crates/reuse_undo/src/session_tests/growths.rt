@@ -5,6 +5,7 @@ use crate::session_tests::downloads_and_conversions::{DEP5, TOML, download};
 use crate::session_tests::scarce_memory::{GRAIN, PIECE, ScarceMemory};
 use crate::session_tests::scarce_store::ScarceStore;
 use crate::session_tests::stops::{before_the_last_head, call};
+use crate::session_tests::tally::{Tally, Told};
 use crate::session_tests::trees::{
     ANNOTATED, PLAIN, annotate, copy, dump, licence, moment, path, plain_how, plain_scope, play,
     push_answer, sign, signing, tree,
@@ -45,41 +46,6 @@ pub struct Call<'a> {
     pub before: Vec<u8>,
     pub after: Vec<u8>,
     pub stops: bool,
-}
-
-/// What a call answered.
-#[derive(Clone, Copy, PartialEq, Eq)]
-enum Told {
-    WantOfMemory,
-    Interruption,
-    RightAnswer,
-    WrongAnswer,
-}
-
-/// How often a call told want of memory, was interrupted by it, and was answered right in spite of it.
-#[derive(Drop)]
-struct Tally {
-    refused: u32,
-    interrupted: u32,
-    answered: u32,
-}
-
-impl Tally {
-    fn new() -> Tally {
-        Tally {
-            refused: 0,
-            interrupted: 0,
-            answered: 0,
-        }
-    }
-
-    fn count(&mut self, told: Told) {
-        match told {
-            Told::WantOfMemory => self.refused = self.refused.saturating_add(1),
-            Told::Interruption => self.interrupted = self.interrupted.saturating_add(1),
-            _ => self.answered = self.answered.saturating_add(1),
-        }
-    }
 }
 
 /// The files and two more, of which the first has these bytes.

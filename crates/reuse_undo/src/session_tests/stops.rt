@@ -2,11 +2,10 @@
 // The tags below are data: REUSE-IgnoreStart
 use crate::session_tests::downloads_and_conversions::{DEP5, TOML};
 use crate::session_tests::trees::{
-    ANNOTATED, PLAIN, copy, dump, has_just, lacks, licence, moment, path, plain_scope, play,
-    signing, tree,
+    ANNOTATED, PLAIN, copy, dump, has_just, licence, moment, plain_scope, play, signing, tree,
 };
 use reuse_session::{Answer, Command, Event, Refusal, Reply, Session, drive};
-use reuse_tree::{FuseStore, MemoryStore, OnceStore, Store, StoreFault};
+use reuse_tree::{FuseStore, MemoryStore, OnceStore, Store};
 use std::alloc::Global;
 use std::process::Abort;
 use std::test::Fail;
@@ -354,24 +353,5 @@ fn a_made_file_is_undone_or_not_at_any_stop(rt: HostRuntime) -> Result<(), Fail>
         changing_calls(alloc, &mut start, &[Event::Undo])?.as_str(),
         "+++"
     );
-    Ok(())
-}
-
-fn fails_to_remove<S: Store>(alloc: Global, store: &mut S) -> Result<bool, Fail> {
-    let removed = store.remove(alloc, &path(alloc, "a.py")?);
-    Ok(matches!(removed, Err(StoreFault::Device)))
-}
-
-#[test]
-fn a_removal_that_fails_takes_effect_or_not(rt: HostRuntime) -> Result<(), Fail> {
-    let alloc = rt.alloc();
-    for takes_effect in [false, true] {
-        let mut fuse = FuseStore::new(tree(alloc, &[("a.py", PLAIN)])?, 0, takes_effect);
-        assert!(rt; fails_to_remove(alloc, &mut fuse)?);
-        assert_eq!(rt; lacks(alloc, &mut fuse.into_inner(), "a.py")?, takes_effect);
-        let mut once = OnceStore::new(tree(alloc, &[("a.py", PLAIN)])?, 0, takes_effect);
-        assert!(rt; fails_to_remove(alloc, &mut once)?);
-        assert_eq!(rt; lacks(alloc, &mut once, "a.py")?, takes_effect);
-    }
     Ok(())
 }

@@ -1,6 +1,6 @@
 //! Worked command lines: the files that they find, what is told, and the files that they leave.
 // The tags below are data: REUSE-IgnoreStart
-use super::{START_OF_2024, holds, prints, refuses, run, run_at};
+use super::{holds, prints, refuses, run};
 use crate::session_tests::trees::{has_just, tree};
 use reuse_tree::MemoryStore;
 use std::alloc::Global;
@@ -387,18 +387,4 @@ fn a_neighbours_path_is_bounded(rt: HostRuntime) -> Result<(), Fail> {
     let (_, longest) = longer.as_str().split_once("a").ok_or("a longest path")?;
     is_told_in(&rt, alloc, longest, "changed ", ".license\n")?;
     is_told_in(&rt, alloc, longer.as_str(), "", ": too long")
-}
-
-#[test]
-fn a_log_has_done_and_undone_steps(rt: HostRuntime) -> Result<(), Fail> {
-    let alloc = rt.alloc();
-    let store = tree(alloc, &[("a.py", b"print(1)\n"), ("b.py", b"print(1)\n")])?;
-    let words = "annotate|-c|Jane Doe|-l|MIT|-y|2024|a.py";
-    let (store, _) = run_at(alloc, store, words, 0)?;
-    let words = "annotate|-c|Jane Doe|-l|MIT|-y|2024|b.py";
-    let (store, _) = run_at(alloc, store, words, START_OF_2024)?;
-    let (store, _) = tell(alloc, store, "undo")?;
-    let rows = "1 1970-01-01 annotate 1 done\n2 2024-01-01 annotate 1 undone\n";
-    prints(&rt, alloc, store, "log", rows)?;
-    Ok(())
 }

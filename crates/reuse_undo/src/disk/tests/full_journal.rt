@@ -1,6 +1,6 @@
 //! A journal that has as many steps done as it can have. It is in a folder, since a store in memory compares each file that it takes
 //! with each that it has.
-use super::Scratch;
+use super::scratch::Scratch;
 use crate::disk::DiskStore;
 use crate::session_tests::trees::{ANNOTATED, FIRST, HEAD, PLAIN, events_of, play};
 use std::fs;
