@@ -1,6 +1,6 @@
 #!/usr/bin/env bash
-# Measures the program on a tmpfs, beside `cp -r` of the same tree, and beside what a careful person does by hand: that copy and the SHA-256 of each file
-# before and after. Measured are annotating a tree of Python files, undo and redo; an undo of the same step without seals, which hashes nothing; the opening of
+# Measures the program on a tmpfs, beside `cp -r` of the same tree, beside what a careful person does by hand (that copy and the SHA-256 of each file
+# before and after), and beside the floor: a C program that reads each file once, writes it aside with a header, and renames it. Measured are annotating a tree of Python files, undo and redo; an undo of the same step without seals, which hashes nothing; the opening of
 # a long history; and a step of very many changes. Prints seconds and those of the processor, the ratios, and the peak memory.
 # usage: bench/undo_speed.sh PROGRAM [FILES]      (20,000 files by default)
 set -euo pipefail
@@ -8,6 +8,8 @@ set -euo pipefail
 . "$(dirname "$0")/python_tree.sh"
 files=${2:-20000}
 annotate=(annotate -c "Jane Doe" -l MIT -y 2024 -r .)
+header=$'# SPDX-FileCopyrightText: 2024 Jane Doe\n#\n# SPDX-License-Identifier: MIT\n\n'
+cc -O2 -o "$room/floor" "$(dirname "$0")/floor.c"
 
 # Runs a command, and notes its times and its peak memory if it was never faster.
 declare -A best
@@ -19,14 +21,14 @@ measure() {
   if [[ -z ${best[$name]:-} ]] || awk -v one="${took%% *}" -v other="${best[$name]%% *}" 'BEGIN { exit !(one < other) }'; then best[$name]=$took; fi
 }
 
-# Prints what was noted of these commands, beside the first two.
+# Prints what was noted of these commands, beside the first three.
 report() {
-  local name seconds user system kilobytes copy=${best[$1]%% *} by_hand=${best[${2:-$1}]%% *}
+  local name seconds user system kilobytes copy=${best[$1]%% *} by_hand=${best[${2:-$1}]%% *} floor=${best[${3:-$1}]%% *}
   for name in "$@"; do
     read -r seconds user system kilobytes <<< "${best[$name]}"
-    awk -v name="$name" -v time="$seconds" -v busy="$user" -v system_busy="$system" -v copy="$copy" -v hand="$by_hand" -v memory="$kilobytes" 'BEGIN {
-      printf "  %-18s %6.2f s (processor %6.2f s)  %5.2f of cp -r  %5.2f of by hand  %5.0f MB\n", name, time, busy + system_busy,
-        copy ? time / copy : 0, hand ? time / hand : 0, memory / 1024
+    awk -v name="$name" -v time="$seconds" -v busy="$user" -v system_busy="$system" -v copy="$copy" -v hand="$by_hand" -v floor="$floor" -v memory="$kilobytes" 'BEGIN {
+      printf "  %-18s %6.2f s (processor %6.2f s)  %5.2f of cp -r  %5.2f of by hand  %5.2f of the floor  %5.0f MB\n", name, time, busy + system_busy,
+        copy ? time / copy : 0, hand ? time / hand : 0, floor ? time / floor : 0, memory / 1024
     }'
   done
   best=()
@@ -46,6 +48,9 @@ work_on() {
   measure "by hand" bash -c 'copy_by_hand "$@"' by_hand "$1" "$room/tree"
   rm -rf "$room/tree"
   measure "cp -r" cp -r "$1" "$room/tree"
+  measure floor "$room/floor" "$room/tree" "$header"
+  rm -rf "$room/tree"
+  cp -r "$1" "$room/tree"
   measure annotate "$program" --root "$room/tree" "${annotate[@]}"
   measure undo "$program" --root "$room/tree" undo
   diff -r -x .reuse "$1" "$room/tree" || { echo "undo doesn't give the tree back" >&2; exit 1; }
@@ -59,7 +64,7 @@ undo_on() { "$program" --root "$room/$1" "${@:2}"; }
 make_tree "$room/plain" "$files"
 echo "$files files, $(du -sm --apparent-size "$room/plain" | cut -f1) MB, the least of three (load $(cut -d' ' -f1 /proc/loadavg)):"
 for _ in 1 2 3; do work_on "$room/plain"; done
-report "cp -r" "by hand" annotate undo redo log "undo without seals"
+report "cp -r" "by hand" floor annotate undo redo log "undo without seals"
 rm -rf "$room/plain" "$room/tree"
 
 # One entry of 100 changes, listed a thousand times
@@ -80,4 +85,4 @@ for folder in {1..100}; do
 done
 echo "100,000 files of some bytes:"
 work_on "$room/wide"
-report "cp -r" "by hand" annotate undo redo log "undo without seals"
+report "cp -r" "by hand" floor annotate undo redo log "undo without seals"

@@ -12,8 +12,8 @@ const LEAST: u64 = 1_000;
 /// The time between two lines.
 const STEP: u64 = 100;
 
-/// How many files were read and written so far, which one line on standard error tells: it is written over by the next, and cleared
-/// before anything else is told.
+/// How many files were read and written so far, and how many there are where the call lists the tree. One line on standard error tells
+/// it, which is written over by the next, and cleared before anything else is told.
 #[derive(Drop)]
 pub struct Progress<R: Runtime> {
     rt: R,
@@ -21,6 +21,8 @@ pub struct Progress<R: Runtime> {
     start: Option<Instant>,
     read: Cell<u64>,
     written: Cell<u64>,
+    /// How many files the tree has, once it is listed.
+    listed: Cell<Option<usize>>,
     /// How long the work took so far when the line was written that stands there.
     told: Cell<Option<Duration>>,
 }
@@ -38,6 +40,7 @@ impl<R: Runtime> Progress<R> {
             start,
             read: Cell::new(0),
             written: Cell::new(0),
+            listed: Cell::new(None),
             told: Cell::new(None),
         }
     }
@@ -58,7 +61,12 @@ impl<R: Runtime> Progress<R> {
             return;
         }
         let (read, written) = (self.read.get(), self.written.get());
-        let _ = eprint!(&self.rt; "\r{read} files read, {written} written\x1b[K");
+        let _ = match self.listed.get() {
+            Some(listed) => {
+                eprint!(&self.rt; "\r{read} files read of {listed} in the tree, {written} written\x1b[K")
+            }
+            None => eprint!(&self.rt; "\r{read} files read, {written} written\x1b[K"),
+        };
         self.told.set(Some(elapsed));
     }
 
@@ -129,7 +137,9 @@ impl<S: Store + Drop, R: Runtime> Store for WatchedStore<'_, S, R> {
     ghost honest = { λ store. S.honest store.inner };
 
     fn list(&mut self, alloc: Global) -> Result<Vec<PathText>, StoreFault> {
-        self.inner.list(alloc)
+        let paths = self.inner.list(alloc)?;
+        self.progress.listed.set(Some(paths.len()));
+        Ok(paths)
     }
 
     fn read(
