@@ -78,7 +78,7 @@ outer_name false true c d e f g h = refl
 outer_name a false c d e f g h = absurd (false≢true h)
 
 -- a neighbour isn't covered
-uncovered_neighbour : (path : List ℕ) → is_covered (path ++ ending) ≡ false
+pub uncovered_neighbour : (path : List ℕ) → is_covered (path ++ ending) ≡ false
 uncovered_neighbour path =
     let name = last_part (path ++ ending) in
     outer_name (is_outside (path ++ ending)) (ends_with nat_eq name ending) (ends_with nat_eq name (codes ".spdx")) (bytes_eq name (codes "REUSE.toml"))
@@ -113,7 +113,7 @@ take_front : (xs ys : List ℕ) → take (length xs) (xs ++ ys) ≡ xs
 take_front [] ys = refl
 take_front (x ∷ xs) ys = ap (λ zs. x ∷ zs) (take_front xs ys)
 
-same_file : (path other : List ℕ) → path ++ ending ≡ other ++ ending → path ≡ other
+pub same_file : (path other : List ℕ) → path ++ ending ≡ other ++ ending → path ≡ other
 same_file path other e =
     let size = ap length e in
     let long : length path ≡ length other = omega (arith, size, length-append path ending, length-append other ending) in
@@ -135,10 +135,10 @@ neighbour_of_tree path covered =
 -- ---- where an edit is
 
 -- it is of a covered file of the tree, or of that one's neighbour, which clashes with no file if it is made
-record IsPlaced (tree : Files) (path : List ℕ) (edit : Edit) : Type 0 where
-  there : IsSome (get tree path)
-  covered : is_covered path ≡ true
-  placed : (edit.path ≡ path) ⊎ ((edit.path ≡ path ++ ending) × (length edit.path ≤ 4096) × (get tree edit.path ≡ None → is_clash tree edit.path ≡ false))
+pub record IsPlaced (tree : Files) (path : List ℕ) (edit : Edit) : Type 0 where
+  pub there : IsSome (get tree path)
+  pub covered : is_covered path ≡ true
+  pub placed : (edit.path ≡ path) ⊎ ((edit.path ≡ path ++ ending) × (length edit.path ≤ 4096) × (get tree edit.path ≡ None → is_clash tree edit.path ≡ false))
 
 abbrev no_edit : Result (Option Edit) Refusal
 no_edit = Ok None
@@ -209,7 +209,7 @@ module _ (how : How) (scope : Scope) (additions : Additions) (tree : Files) (pat
   target_at bytes (Ok Beside) e = inr (beside_at e)
   target_at bytes (Ok (Inside style)) e = inl (inside_at bytes style e)
 
-  is_placed : (own : OwnNames) → annotated_at how scope additions own tree path ≡ some_edit edit → IsPlaced tree path edit
+  pub is_placed : (own : OwnNames) → annotated_at how scope additions own tree path ≡ some_edit edit → IsPlaced tree path edit
   is_placed own e = of_file (get tree path) refl e
     where
       of_file : (file : Option (List ℕ)) → get tree path ≡ file → annotated_where how scope additions own tree path file ≡ some_edit edit → IsPlaced tree path edit

@@ -37,7 +37,7 @@ few_edits : (b : Bool) (made after : Files) → cond b (Err TooMany) (accepted m
 few_edits true made after e = absurd (not_ok after TooMany e)
 few_edits false made after e = ok_is made after e
 
-edits_of_tree : (tree after : Files) (given : Result (List Edit) Refusal) → tree_after tree given ≡ Ok after → (edits : List Edit) × (given ≡ Ok edits) × (edited tree edits ≡ after)
+pub edits_of_tree : (tree after : Files) (given : Result (List Edit) Refusal) → tree_after tree given ≡ Ok after → (edits : List Edit) × (given ≡ Ok edits) × (edited tree edits ≡ after)
 edits_of_tree tree after (Err refusal) e = absurd (not_ok after refusal e)
 edits_of_tree tree after (Ok edits) e = (edits, refl, few_edits (is_too_many edits) (edited tree edits) after e)
 
@@ -47,7 +47,7 @@ edits_unless None edits given e = (refl, ok_is edits given e)
 
 -- ---- the paths of ids
 
-pick : (P : List ℕ → Type 0) (paths : List (List ℕ)) (path : List ℕ) → In path paths → AllByRecursion P paths → P path
+pub pick : (P : List ℕ → Type 0) (paths : List (List ℕ)) (path : List ℕ) → In path paths → AllByRecursion P paths → P path
 pick P [] path h all = absurd h
 pick P (first ∷ paths) path (inl same) all = subst P (sym same) all.0
 pick P (first ∷ paths) path (inr later) all = pick P paths path later all.1

@@ -5,29 +5,38 @@ ghost use Rattle.std.specs.Cmp.Lexicographic.{slice_cmp};
 ghost use Rattle.std.specs.List.{All, Contains};
 ghost use Rattle.std.specs.List.Sorted.{IsPermutation, IsStrictlySortedBy};
 ghost use Rattle.std.specs.FinMap.{get};
+ghost use Rattle.reuse_header.specs.declared.annotation.How.{How};
+ghost use Rattle.reuse_notice.specs.declared.adding.Additions.{Additions};
 ghost use Rattle.reuse_tree.specs.Files.{Files};
 ghost use Rattle.reuse_tree.specs.Change.{inverse_of};
 ghost use Rattle.reuse_tree.specs.declared.change.Change.{Change};
+ghost use Rattle.reuse_session.specs.Annotated.{Annotates};
 ghost use Rattle.reuse_session.specs.Choice.{is_chosen};
 ghost use Rattle.reuse_session.specs.Chosen.{IsNamed, StandsBeneath, IsAskedFor};
 ghost use Rattle.reuse_session.specs.Covered.{is_covered};
 ghost use Rattle.reuse_session.specs.Entry.{CanBeMade, IsEntry, LeadsAll, LeadsBy};
+ghost use Rattle.reuse_session.specs.Fresh.{IsFresh, first_state};
 ghost use Rattle.reuse_session.specs.InTurn.{LeadsInTurn};
 ghost use Rattle.reuse_session.specs.Journal.{State};
+ghost use Rattle.reuse_session.specs.JournalFiles.{IsFree};
 ghost use Rattle.reuse_session.specs.Opening.{IsFirstBad, IsStuckAt, CanOpenOn};
 ghost use Rattle.reuse_session.specs.Outcome.{outcome_of};
 ghost use Rattle.reuse_session.specs.Seals.{tree_for, IsAsLeft, IsToldApart, IsUntouched};
 ghost use Rattle.reuse_session.specs.Session.{IsRun};
+ghost use Rattle.reuse_session.specs.Stops.{HoldState};
+ghost use Rattle.reuse_session.specs.TablePut.{PutsTable};
 ghost use Rattle.reuse_session.specs.TextsPut.{PutsTexts};
-ghost use Rattle.reuse_session.specs.Tree.{changed_paths};
+ghost use Rattle.reuse_session.specs.Tree.{changed_paths, undo_folder_of};
 ghost use Rattle.reuse_session.specs.Worked.{worked_paths};
 ghost use Rattle.reuse_session.specs.declared.command.Command.{Command};
-ghost use Rattle.reuse_session.specs.declared.command.Command.TheVariants.{Download};
+ghost use Rattle.reuse_session.specs.declared.command.Command.TheVariants.{Annotate, ConvertDep5, Download};
 ghost use Rattle.reuse_session.specs.declared.command.Place.{Place};
 ghost use Rattle.reuse_session.specs.declared.command.Scope.{Scope};
 ghost use Rattle.reuse_session.specs.declared.entry.Way.{Way};
 ghost use Rattle.reuse_session.specs.declared.entry.Way.TheVariants.{Undo};
 ghost use Rattle.reuse_session.specs.declared.licence.LicenceText.{LicenceText};
+
+use reuse_header::annotating_keeps_other_bytes;
 
 /// Any files open in one way: at most one path is the first at fault, at most one is where the pending step is stuck, at most one
 /// standing can be opened on, and no two of these three are there.
@@ -50,6 +59,29 @@ pub fn entries_lead_in_turn()
 /// A download that isn't refused puts the text of each id at `LICENSES/ID.txt`, where no file was, and changes no other path.
 pub fn downloads_put_each_text()
     ensures { (ids : List (List ℕ)) (texts : List LicenceText) (tree after : Files) → outcome_of (Download ids texts) tree ≡ Ok after → PutsTexts ids texts tree after }
+{}
+
+/// What annotate does on a tree, in other words. Where it isn't refused, each file that is gone through is commented: it holds what the
+/// header rules make of its own bytes in its style; or accompanied: its neighbour holds what they make of the neighbour's own bytes, or
+/// of none; or skipped, where that is asked for. Every byte outside the old header block stays, and so does every other path.
+pub fn annotations_change_chosen_places_alone()
+    ensures { (places : List Place) (additions : Additions) (how : How) (scope : Scope) (tree after : Files) → outcome_of (Annotate places additions how scope) tree ≡ Ok after
+        → Annotates places additions how scope tree after }
+{
+    annotating_keeps_other_bytes();
+}
+
+/// Where a conversion isn't refused, `.reuse/dep5` was there and is gone, `REUSE.toml` wasn't and holds the text that the dep5 is
+/// converted to, and every other path holds what it held.
+pub fn conversions_put_a_table()
+    ensures { (tree after : Files) → outcome_of ConvertDep5 tree ≡ Ok after → PutsTable tree after }
+{}
+
+/// A tree with nothing under `.reuse/undo/` holds the state of the machine without earlier and later trees, of which no number is used;
+/// and no path of a file of the journal is a folder there. So what is proved of a driven session from such a state holds from such a tree.
+pub fn trees_without_a_journal_hold_no_steps()
+    ensures holds { (files : Files) → IsFresh files → HoldState files (first_state files) }
+    ensures free { (files : Files) → IsFresh files → IsFree (undo_folder_of files) }
 {}
 
 /// The changed paths of two trees are those at which they differ, in byte order and none twice.
