@@ -1,5 +1,5 @@
 -- Which paths a list of files names.
-use Rattle.std.specs.Prelude.{ℕ, List, Option, None, Some, filter_map, ◌==◌, if◌then◌else◌}
+use Rattle.std.specs.Prelude.{ℕ, Bool, List, Option, None, Some, filter_map, ◌==◌, if◌then◌else◌}
 use Rattle.std.specs.List.{list_any, slice_split}
 use Rattle.std.specs.Str.{is_utf8}
 use Rattle.reuse_session.specs.Command.{path_in}
@@ -7,8 +7,11 @@ use Rattle.reuse_session.specs.declared.command.Place.{Place}
 use Rattle.reuse_undo.specs.Places.{place_of_word}
 
 -- what stands between two words: NULs where the list holds one, else line feeds
+abbrev pub has_nul : List ℕ → Bool
+has_nul list = list_any (λ byte. byte == 0) list
+
 abbrev pub separator_of : List ℕ → ℕ
-separator_of list = if list_any (λ byte. byte == 0) list then 0 else 10
+separator_of list = if has_nul list then 0 else 10
 
 abbrev pub words_of : List ℕ → List (List ℕ)
 words_of list = slice_split (λ byte. byte == separator_of list) list

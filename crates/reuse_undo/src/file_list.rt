@@ -2,7 +2,7 @@
 ghost use Rattle.std.specs.Prelude.{◌≡◌, ◌++◌, IfOk, OnOk};
 ghost use Rattle.std.specs.Option.{option_to_list};
 ghost use Rattle.reuse_notice.specs.Sets.{set_of};
-ghost use Rattle.reuse_undo.specs.FileLists.{separator_of, path_of_word, listed_paths};
+ghost use Rattle.reuse_undo.specs.FileLists.{has_nul, separator_of, path_of_word, listed_paths};
 
 use crate::line::{Action, Line, LineFault};
 use crate::place_word::place_of_word;
@@ -84,11 +84,13 @@ pub fn paths_of_list(alloc: Global, list: &[u8]) -> Result<PathList, AllocError>
 fn separator_of(list: &[u8]) -> u8
     ensures { result ≡ separator_of list.now }
 {
-    if list.iter().any(|byte| *byte == 0) {
-        0
-    } else {
-        b'\n'
-    }
+    if has_nul(list) { 0 } else { b'\n' }
+}
+
+fn has_nul(list: &[u8]) -> bool
+    ensures { result ≡ has_nul list.now }
+{
+    list.iter().any(|byte| *byte == 0)
 }
 
 // Adds the path that a word names, if it names one.

@@ -1,0 +1,20 @@
+-- The words of a list of files, one after the other.
+use Rattle.std.proofs.Common.{◌≡◌, ℕ, Bool, true, false, cond, List, [], ◌∷◌, ◌++◌, Option, Some, None, map, Bor, refl, sym, ap, ◌∙◌}
+use Rattle.std.specs.Prelude.{filter_map}
+use Rattle.std.specs.Str.{IsUtf8, is_utf8}
+use Rattle.std.specs.Option.{option_to_list}
+use Rattle.std.proofs.lemmas.List.Elements.{filter_map-append}
+use Rattle.std.proofs.lemmas.Str.{is_utf8-from_IsUtf8}
+use Rattle.reuse_dep5.proofs.PieceLemmas.{not_utf8}
+use Rattle.reuse_session.specs.declared.command.Place.{Place}
+use Rattle.reuse_session.specs.declared.command.Place.TheVariants.{Root, Path}
+use Rattle.reuse_undo.specs.FileLists.{path_at, path_of_word}
+use Rattle.reuse_undo.specs.Places.{place_of_word}
+
+-- a word that is UTF-8, and one that isn't
+pub named : (word text : List ℕ) (place : Option Place) (path : List ℕ) → IsUtf8 word → text ≡ word → place ≡ place_of_word text → place ≡ Some (Path path) → Some path ≡ path_of_word word
+named word text place path utf8 same e is =
+    sym (ap (λ b. cond b (path_at (place_of_word word)) None) (is_utf8-from_IsUtf8 word utf8) ∙ ap (λ t. path_at (place_of_word t)) (sym same) ∙ ap path_at (sym e ∙ is))
+
+pub unnamed : (word : List ℕ) → ¬ IsUtf8 word → None ≡ path_of_word word
+unnamed word h = sym (ap (λ b. cond b (path_at (place_of_word word)) None) (not_utf8 word h))
