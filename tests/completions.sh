@@ -102,7 +102,8 @@ completes --root ../there und gives undo
 completes help re gives redo
 completes annotate --co gives --contributor --copyright --copyright-prefix --copyright-style
 completes annotate --s gives --single-line --skip-existing --skip-unrecognised --style
-completes annotate --f gives --fallback-dot-license --force-dot-license
+completes annotate --f gives --fallback-dot-license --files-from --force-dot-license
+completes annotate --files-from s gives setup.py source
 completes annotate -s h gives html haskell
 completes annotate --copyright-style spdx-string- gives spdx-string-c spdx-string-symbol
 completes annotate -l MIT s gives setup.py source

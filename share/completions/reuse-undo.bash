@@ -23,7 +23,7 @@ _reuse_undo_read() {
       --root=*) root=${words[index]#*=} ;;
       --texts=*) texts=${words[index]#*=} ;;
       --texts) texts=${words[++index]-.} ;;
-      --copyright | -c | --license | -l | --contributor | --year | -y | --style | -s | --copyright-prefix | --copyright-style) index=$((index + 1)) ;;
+      --copyright | -c | --license | -l | --contributor | --year | -y | --style | -s | --copyright-prefix | --copyright-style | --files-from | --exclude) index=$((index + 1)) ;;
       --) only_paths=yes ;;
       -*) ;;
       *) subcommand=${subcommand:-${words[index]}} ;;
@@ -69,7 +69,11 @@ _reuse_undo() {
         _reuse_undo_paths . folders
         return
         ;;
-      --copyright | -c | --license | -l | --contributor | --year | -y) return ;;
+      --files-from)
+        _reuse_undo_paths .
+        return
+        ;;
+      --copyright | -c | --license | -l | --contributor | --year | -y | --exclude) return ;;
     esac
   fi
   if [[ $word == -* && -z $only_paths ]]; then
@@ -77,7 +81,7 @@ _reuse_undo() {
       '') _reuse_undo_of '--root --verbose --help --version' ;;
       annotate)
         _reuse_undo_of '--copyright --license --contributor --year --exclude-year --style --copyright-prefix --copyright-style
-          --merge-copyrights --single-line --multi-line --no-replace --recursive --force-dot-license --fallback-dot-license
+          --merge-copyrights --single-line --multi-line --no-replace --recursive --files-from --exclude --force-dot-license --fallback-dot-license
           --skip-unrecognised --skip-existing --root --verbose --help'
         ;;
       download) _reuse_undo_of '--texts --root --verbose --help' ;;

@@ -1,4 +1,5 @@
 pub mod Dates
+pub mod FileLists
 pub mod FolderFault
 pub mod Honesty
 pub mod Within

@@ -50,8 +50,13 @@ file is refused, none is changed.
 DIR/.reuse/styles.toml gives styles to the tree's own names. Its lines are `version = 1`, `[styles]`, and for each name
 or ending a style, as `\".proto\" = \"c\"`, or `\".blend\" = \"uncommentable\"`.
 
-Example: the licence and this year's copyright for all files beneath src:
-  reuse-undo annotate --copyright \"Jane Doe\" --license MIT --recursive src";
+FILE lists paths relative to the root, one a line, or, where FILE holds a NUL, one between two NULs. What is listed
+and isn't a file beneath a PATH is passed over. GLOB is a glob as in REUSE.toml, of whole paths relative to the root:
+`*` is any run without `/`, `**` any run. A PATH that is a file itself is annotated all the same.
+
+Examples: the licence and this year's copyright for all files beneath src, and for all files that git tracks:
+  reuse-undo annotate --copyright \"Jane Doe\" --license MIT --recursive src
+  git ls-files -z | reuse-undo annotate -c \"Jane Doe\" -l MIT -r --files-from - .";
 
 const AFTER_DOWNLOAD: &str = "\
 Nothing is fetched from a network: the text of ID is DIR/ID.txt. DIR is relative to the working folder.
@@ -188,8 +193,23 @@ fn with_scope<'a>(alloc: Global, command: Command<'a>) -> Result<Command<'a>, Al
     let unknown = ArgGroup::new(alloc, "unknown")
         .arg("fallback-dot-license")?
         .arg("skip-unrecognised")?;
+    let files_from = Arg::new(alloc, "files-from")
+        .long("files-from")
+        .value_name("FILE")
+        .action(ArgAction::Set)
+        .requires_arg("recursive")?
+        .help("Of the files beneath folders, those that FILE lists; `-` is standard input");
+    let exclude = repeated(
+        alloc,
+        "exclude",
+        "GLOB",
+        "Of the files beneath folders, none that GLOB matches; may be repeated",
+    )
+    .requires_arg("recursive")?;
     command
         .arg(flag(alloc, "recursive", "Annotate the files beneath folders").short('r'))?
+        .arg(files_from)?
+        .arg(exclude)?
         .arg(flag(
             alloc,
             "force-dot-license",

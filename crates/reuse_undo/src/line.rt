@@ -50,6 +50,12 @@ pub enum LineFault {
     /// The arguments of `annotate` add nothing.
     #[error("{0}")]
     BadAdditions(NoticeRefusal),
+    /// A word is no glob.
+    #[error("bad glob: {0}")]
+    BadGlob(String),
+    /// The list of files can't be read.
+    #[error("{0}: cannot be read")]
+    Unreadable(String),
     /// Memory ran out.
     #[error("out of memory")]
     Memory,

@@ -6,6 +6,7 @@ mod arguments;
 mod date;
 mod disk;
 mod fault;
+mod file_list;
 mod findings;
 mod line;
 mod lines;
@@ -26,6 +27,7 @@ mod words;
 
 use disk::DiskStore;
 use fault::Fault;
+use file_list::with_list;
 use findings::Findings;
 use line::{Action, Line, LineFault};
 use lock::lock_root;
@@ -145,11 +147,8 @@ fn run<R: Runtime + Files<File = File> + AllocGlobal>(
     at_terminal: bool,
 ) -> u8 {
     let said = match read_words(rt, alloc) {
-        Ok(words) => words_to_command(alloc, words.as_slice(), moment),
-        Err(fault) => Said {
-            verbose: false,
-            line: Err(fault),
-        },
+        Ok(words) => with_list(rt, alloc, words_to_command(alloc, words.as_slice(), moment)),
+        Err(fault) => Said::fault(fault),
     };
     let extras = Extras {
         notes: at_terminal || said.verbose,

@@ -20,6 +20,10 @@ pub fn line_status(fault: &LineFault) -> u8
     match fault {
         LineFault::Help(_) => 0,
         LineFault::Memory | LineFault::BadAdditions(NoticeRefusal::Memory(_)) => 1,
-        LineFault::Usage(_) | LineFault::BadPath(_) | LineFault::BadAdditions(_) => 2,
+        LineFault::Usage(_)
+        | LineFault::BadPath(_)
+        | LineFault::BadAdditions(_)
+        | LineFault::BadGlob(_)
+        | LineFault::Unreadable(_) => 2,
     }
 }

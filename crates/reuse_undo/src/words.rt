@@ -6,9 +6,10 @@ use crate::place_word::place_of_word;
 use crate::prefix_name::prefix_of_name;
 use clap::error::ErrorKind;
 use clap::{ArgMatches, Error};
+use reuse_dep5::Glob;
 use reuse_header::{Form, How, Style};
 use reuse_notice::{Additions, Prefix};
-use reuse_session::{Command, Ids, Moment, Place, Places, Scope, Unknown};
+use reuse_session::{Command, Globs, Ids, Moment, Place, Places, Scope, Unknown};
 use reuse_text::Bytes;
 use std::alloc::{AllocError, Global};
 
@@ -17,23 +18,47 @@ use std::alloc::{AllocError, Global};
 pub struct Said {
     /// Whether notes are asked for.
     pub verbose: bool,
+    /// The file that lists the files of an annotation, where one is named.
+    pub files_from: Option<String>,
     pub line: Result<Line, LineFault>,
+}
+
+impl Said {
+    /// Words that are no line.
+    pub fn fault(fault: LineFault) -> Said {
+        Said {
+            verbose: false,
+            files_from: None,
+            line: Err(fault),
+        }
+    }
 }
 
 /// Reads the words, of which the first is the program's name. The current year is that of the moment.
 ///
-/// Faults come in this order: those of the words themselves, the first word that names no place, and those of
-/// what `annotate` is to add.
+/// Faults come in this order: those of the words themselves, the first word that names no place, those of what
+/// `annotate` is to add, and the first glob that is none.
 pub fn words_to_command(alloc: Global, words: &[String], moment: Moment) -> Said {
     match matches_of(alloc, words) {
-        Ok(matches) => Said {
-            verbose: matches.get_flag("verbose"),
-            line: read_line(alloc, &matches, moment),
+        Ok(matches) => match files_from(alloc, &matches) {
+            Ok(files_from) => Said {
+                verbose: matches.get_flag("verbose"),
+                files_from,
+                line: read_line(alloc, &matches, moment),
+            },
+            Err(error) => Said::fault(LineFault::from(error)),
         },
-        Err(fault) => Said {
-            verbose: false,
-            line: Err(fault),
-        },
+        Err(fault) => Said::fault(fault),
+    }
+}
+
+fn files_from(alloc: Global, matches: &ArgMatches<'_>) -> Result<Option<String>, AllocError> {
+    let Some((_, inner)) = matches.subcommand() else {
+        return Ok(None);
+    };
+    match inner.get_str("files-from") {
+        Some(file) => Ok(Some(String::from_str(alloc, file)?)),
+        None => Ok(None),
     }
 }
 
@@ -116,7 +141,7 @@ fn read_annotate(
         places,
         additions,
         how: read_how(matches),
-        scope: read_scope(matches),
+        scope: read_scope(alloc, matches)?,
     })
 }
 
@@ -157,7 +182,7 @@ fn read_how(matches: &ArgMatches<'_>) -> How {
     }
 }
 
-fn read_scope(matches: &ArgMatches<'_>) -> Scope {
+fn read_scope(alloc: Global, matches: &ArgMatches<'_>) -> Result<Scope, LineFault> {
     let unknown = if matches.get_flag("fallback-dot-license") {
         Unknown::Neighbour
     } else if matches.get_flag("skip-unrecognised") {
@@ -165,11 +190,24 @@ fn read_scope(matches: &ArgMatches<'_>) -> Scope {
     } else {
         Unknown::Refuse
     };
-    Scope {
+    Ok(Scope {
         recursive: matches.get_flag("recursive"),
         style: matches.get_str("style").and_then(Style::of_name),
         force_dot_license: matches.get_flag("force-dot-license"),
         unknown,
         skip_existing: matches.get_flag("skip-existing"),
+        listed: None,
+        excluded: read_globs(alloc, matches)?,
+    })
+}
+
+fn read_globs(alloc: Global, matches: &ArgMatches<'_>) -> Result<Globs, LineFault> {
+    let mut globs = Vec::new(alloc);
+    for text in matches.get_strs("exclude").unwrap_or(&[]) {
+        match Glob::read(alloc, text)? {
+            Some(glob) => globs.push(glob)?,
+            None => return Err(LineFault::BadGlob(String::from_str(alloc, text)?)),
+        }
     }
+    Ok(Globs::new(globs))
 }

@@ -382,7 +382,7 @@ fn a_header_is_added_in_scarce_memory(rt: HostRuntime) -> Result<(), Fail> {
 #[test]
 fn a_header_is_replaced_in_scarce_memory(rt: HostRuntime) -> Result<(), Fail> {
     let alloc = rt.alloc();
-    let (how, scope) = (plain_how(), plain_scope());
+    let (how, scope) = (plain_how(), plain_scope(alloc));
     let command = annotate(alloc, &["k.h"], &["Jane Doe"], &[], how, scope)?;
     let example = Example {
         old: &[("k.h", OLD_HEADER)],
@@ -395,7 +395,7 @@ fn a_header_is_replaced_in_scarce_memory(rt: HostRuntime) -> Result<(), Fail> {
 #[test]
 fn a_picture_gets_a_neighbour_in_scarce_memory(rt: HostRuntime) -> Result<(), Fail> {
     let alloc = rt.alloc();
-    let command = licence(alloc, &["p.png"], "MIT", plain_scope())?;
+    let command = licence(alloc, &["p.png"], "MIT", plain_scope(alloc))?;
     let example = Example {
         old: &[("p.png", PICTURE)],
         new: &[("p.png", PICTURE), ("p.png.license", TAG)],

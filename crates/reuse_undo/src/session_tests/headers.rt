@@ -18,7 +18,7 @@ fn notices_of_one_holder_are_merged(rt: HostRuntime) -> Result<(), Fail> {
         merge: true,
         ..plain_how()
     };
-    let command = annotate(alloc, &["m.py"], &["Jane Doe"], &[], how, plain_scope())?;
+    let command = annotate(alloc, &["m.py"], &["Jane Doe"], &[], how, plain_scope(alloc))?;
     let merged = b"# SPDX-FileCopyrightText: 2019 - 2024 Jane Doe\nx\n".as_slice();
     gives(
         &rt,
@@ -34,7 +34,7 @@ fn notices_of_one_holder_are_merged(rt: HostRuntime) -> Result<(), Fail> {
         &["Jane Doe"],
         &[],
         plain_how(),
-        plain_scope(),
+        plain_scope(alloc),
     )?;
     let both =
         b"# SPDX-FileCopyrightText: 2019 Jane Doe\n# SPDX-FileCopyrightText: 2024 Jane Doe\nx\n".as_slice();
@@ -51,7 +51,7 @@ fn notices_of_one_holder_are_merged(rt: HostRuntime) -> Result<(), Fail> {
 #[test]
 fn a_mark_stays_in_front(rt: HostRuntime) -> Result<(), Fail> {
     let alloc = rt.alloc();
-    let command = licence(alloc, &["m.py"], "MIT", plain_scope())?;
+    let command = licence(alloc, &["m.py"], "MIT", plain_scope(alloc))?;
     let marked = b"\xEF\xBB\xBF# SPDX-License-Identifier: MIT\n\nx = 1".as_slice();
     let files: [(&str, &[u8]); 1] = [("m.py", b"\xEF\xBB\xBFx = 1")];
     gives(
@@ -67,7 +67,7 @@ fn a_mark_stays_in_front(rt: HostRuntime) -> Result<(), Fail> {
 #[test]
 fn an_empty_file_is_empty_again(rt: HostRuntime) -> Result<(), Fail> {
     let alloc = rt.alloc();
-    let command = licence(alloc, &["e.py"], "MIT", plain_scope())?;
+    let command = licence(alloc, &["e.py"], "MIT", plain_scope(alloc))?;
     let (old, new) = ([("e.py", b"".as_slice())], [("e.py", PYTHON_TAG)]);
     let lines = "opened\nchanged e.py\n";
     let mut store = runs(&rt, alloc, &old, command, lines)?;

@@ -36,7 +36,7 @@ const BAD: [(&[u8], &str); 4] = [
 fn own_names_stand_first(rt: HostRuntime) -> Result<(), Fail> {
     let alloc = rt.alloc();
     let files = [(FILE, STYLES), ("a.py", OLD), ("x.foo", OLD)];
-    let command = licence(alloc, &["x.foo", "a.py"], "MIT", plain_scope())?;
+    let command = licence(alloc, &["x.foo", "a.py"], "MIT", plain_scope(alloc))?;
     let lines = "opened\nchanged a.py x.foo\n";
     let mut store = runs(&rt, alloc, &files, command, lines)?;
     let tex = b"% SPDX-License-Identifier: MIT\n\nx\n".as_slice();
@@ -60,7 +60,7 @@ fn a_tree_may_have_no_names_of_its_own(rt: HostRuntime) -> Result<(), Fail> {
     let alloc = rt.alloc();
     let folder = [(".reuse/styles.toml/x", OLD), ("x.foo", OLD)];
     for files in [&folder[1..], &folder] {
-        let command = licence(alloc, &["x.foo"], "MIT", plain_scope())?;
+        let command = licence(alloc, &["x.foo"], "MIT", plain_scope(alloc))?;
         runs(&rt, alloc, files, command, "opened\nx.foo: unrecognised\n")?;
     }
     Ok(())
@@ -70,12 +70,12 @@ fn a_tree_may_have_no_names_of_its_own(rt: HostRuntime) -> Result<(), Fail> {
 fn readers(alloc: Global) -> Result<[Command; 3], Fail> {
     let given = Scope {
         style: Some(Style::C),
-        ..plain_scope()
+        ..plain_scope(alloc)
     };
     Ok([
-        licence(alloc, &["a.py"], "MIT", plain_scope())?,
+        licence(alloc, &["a.py"], "MIT", plain_scope(alloc))?,
         licence(alloc, &["a.py"], "MIT", given)?,
-        licence(alloc, &["zz"], "MIT", plain_scope())?,
+        licence(alloc, &["zz"], "MIT", plain_scope(alloc))?,
     ])
 }
 
@@ -128,7 +128,7 @@ fn standing_of(alloc: Global, files: &[(&str, &[u8])]) -> Result<Vec<u8>, Fail> 
 fn bad_styles_are_refused_in_scarce_memory(rt: HostRuntime) -> Result<(), Fail> {
     let alloc = rt.alloc();
     let memory = ScarceMemory::new(&rt, alloc)?;
-    let event = Event::Run(licence(alloc, &["a.py"], "MIT", plain_scope())?, moment()?);
+    let event = Event::Run(licence(alloc, &["a.py"], "MIT", plain_scope(alloc))?, moment()?);
     for (text, _) in BAD {
         let files = [(FILE, text), ("a.py", OLD)];
         let call = Call {

@@ -17,7 +17,7 @@ const PYTHON_FILE: &[u8] = b"# SPDX-License-Identifier: MIT\n\nx\n";
 #[test]
 fn a_picture_gets_a_neighbour(rt: HostRuntime) -> Result<(), Fail> {
     let alloc = rt.alloc();
-    let command = licence(alloc, &["p.png"], "MIT", plain_scope())?;
+    let command = licence(alloc, &["p.png"], "MIT", plain_scope(alloc))?;
     let picture = ("p.png", b"\x89\x00".as_slice());
     let lines = "opened\nchanged p.png.license\n";
     let mut store = runs(&rt, alloc, &[picture], command, lines)?;
@@ -28,10 +28,10 @@ fn a_picture_gets_a_neighbour(rt: HostRuntime) -> Result<(), Fail> {
     Ok(())
 }
 
-fn scope_of(unknown: Unknown) -> Scope {
+fn scope_of(alloc: Global, unknown: Unknown) -> Scope {
     Scope {
         unknown,
-        ..plain_scope()
+        ..plain_scope(alloc)
     }
 }
 
@@ -40,7 +40,7 @@ fn unknown_names_are_refused_or_skipped(rt: HostRuntime) -> Result<(), Fail> {
     let alloc = rt.alloc();
     let files: [(&str, &[u8]); 2] = [("a.py", b"x\n"), ("b.xyz", b"x\n")];
     let paths = ["a.py", "b.xyz"];
-    let command = licence(alloc, &paths, "MIT", scope_of(Unknown::Refuse))?;
+    let command = licence(alloc, &paths, "MIT", scope_of(alloc, Unknown::Refuse))?;
     gives(
         &rt,
         alloc,
@@ -49,7 +49,7 @@ fn unknown_names_are_refused_or_skipped(rt: HostRuntime) -> Result<(), Fail> {
         "opened\nb.xyz: unrecognised\n",
         ("a.py", b"x\n"),
     )?;
-    let command = licence(alloc, &paths, "MIT", scope_of(Unknown::Skip))?;
+    let command = licence(alloc, &paths, "MIT", scope_of(alloc, Unknown::Skip))?;
     gives(
         &rt,
         alloc,
@@ -68,7 +68,7 @@ fn an_old_header_stays_where_it_is_asked(rt: HostRuntime) -> Result<(), Fail> {
         replace: false,
         ..plain_how()
     };
-    let command = annotate(alloc, &["a.py"], &[], &["ISC"], how, plain_scope())?;
+    let command = annotate(alloc, &["a.py"], &[], &["ISC"], how, plain_scope(alloc))?;
     let both = b"# SPDX-License-Identifier: ISC\n\n# SPDX-License-Identifier: MIT\nx\n".as_slice();
     gives(
         &rt,
@@ -80,7 +80,7 @@ fn an_old_header_stays_where_it_is_asked(rt: HostRuntime) -> Result<(), Fail> {
     )?;
     let scope = Scope {
         skip_existing: true,
-        ..plain_scope()
+        ..plain_scope(alloc)
     };
     let command = licence(alloc, &["a.py"], "ISC", scope)?;
     gives(
@@ -106,7 +106,7 @@ fn places_are_covered_files(rt: HostRuntime) -> Result<(), Fail> {
         ("src/LICENSE", "opened\nsrc/LICENSE: not covered\n"),
         ("zz", "opened\nzz: no such path\n"),
     ] {
-        let command = licence(alloc, &[place], "MIT", plain_scope())?;
+        let command = licence(alloc, &[place], "MIT", plain_scope(alloc))?;
         gives(&rt, alloc, &files, command, line, ("src/a.py", b"x\n"))?;
     }
     Ok(())
@@ -121,7 +121,7 @@ fn big(alloc: Global, count: usize) -> Result<MemoryStore, Fail> {
 
 // The refusal of `MIT` for it.
 fn refusal_of_big(alloc: Global, count: usize) -> Result<Refusal, Fail> {
-    let command = licence(alloc, &["big.py"], "MIT", plain_scope())?;
+    let command = licence(alloc, &["big.py"], "MIT", plain_scope(alloc))?;
     let run = [Event::Run(command, moment()?)];
     let (_, mut answers) = drive(alloc, big(alloc, count)?, &run);
     match answers.pop() {
@@ -149,7 +149,7 @@ fn a_long_picture_gets_a_neighbour(rt: HostRuntime) -> Result<(), Fail> {
     let alloc = rt.alloc();
     let mut bytes = Vec::new(alloc);
     bytes.resize(16_777_217, b'x')?;
-    let command = licence(alloc, &["big.png"], "MIT", plain_scope())?;
+    let command = licence(alloc, &["big.png"], "MIT", plain_scope(alloc))?;
     let line = "opened\nchanged big.png.license\n";
     gives(
         &rt,
@@ -169,7 +169,7 @@ fn a_neighbour_is_written_or_refused(rt: HostRuntime) -> Result<(), Fail> {
         replace: false,
         ..plain_how()
     };
-    let command = annotate(alloc, &["p.png"], &[], &["ISC"], how, plain_scope())?;
+    let command = annotate(alloc, &["p.png"], &[], &["ISC"], how, plain_scope(alloc))?;
     let both = b"SPDX-License-Identifier: ISC\n\nSPDX-License-Identifier: MIT\n".as_slice();
     let line = "opened\nchanged p.png.license\n";
     gives(
@@ -180,7 +180,7 @@ fn a_neighbour_is_written_or_refused(rt: HostRuntime) -> Result<(), Fail> {
         line,
         ("p.png.license", both),
     )?;
-    let command = licence(alloc, &["p.png"], "MIT", plain_scope())?;
+    let command = licence(alloc, &["p.png"], "MIT", plain_scope(alloc))?;
     let line = "opened\np.png.license: clash\n";
     gives(
         &rt,
@@ -190,7 +190,7 @@ fn a_neighbour_is_written_or_refused(rt: HostRuntime) -> Result<(), Fail> {
         line,
         picture,
     )?;
-    let command = licence(alloc, &["p.png"], "MIT", plain_scope())?;
+    let command = licence(alloc, &["p.png"], "MIT", plain_scope(alloc))?;
     let line = "opened\np.png: neighbour is not text\n";
     gives(
         &rt,
@@ -205,7 +205,7 @@ fn a_neighbour_is_written_or_refused(rt: HostRuntime) -> Result<(), Fail> {
 #[test]
 fn a_file_that_is_no_text_gets_a_neighbour(rt: HostRuntime) -> Result<(), Fail> {
     let alloc = rt.alloc();
-    let command = licence(alloc, &["a.py"], "MIT", plain_scope())?;
+    let command = licence(alloc, &["a.py"], "MIT", plain_scope(alloc))?;
     let line = "opened\nchanged a.py.license\n";
     gives(
         &rt,

@@ -346,7 +346,7 @@ fn a_made_file_is_undone_or_not_at_any_stop(rt: HostRuntime) -> Result<(), Fail>
         log: "opened\nlog 1 undone\n",
         files: &[("p.png", b"\x89\x00")],
     };
-    let command = licence(alloc, &["p.png"], "MIT", plain_scope())?;
+    let command = licence(alloc, &["p.png"], "MIT", plain_scope(alloc))?;
     let run = [Event::Run(command, moment()?)];
     let (mut start, _) = drive(alloc, tree(alloc, after.files)?, &run);
     stops_everywhere(&rt, alloc, &mut start, &[Event::Undo], before, after)?;

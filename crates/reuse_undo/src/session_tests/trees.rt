@@ -3,7 +3,7 @@
 use reuse_header::How;
 use reuse_notice::{Additions, Prefix};
 use reuse_session::{
-    Answer, Command, Event, Moment, Paths, Place, Places, Reply, Scope, Unknown, drive,
+    Answer, Command, Event, Globs, Moment, Paths, Place, Places, Reply, Scope, Unknown, drive,
 };
 use reuse_tree::{MemoryStore, PathText, Reading, Store};
 use std::alloc::Global;
@@ -249,13 +249,15 @@ pub fn plain_how() -> How {
     }
 }
 
-pub fn plain_scope() -> Scope {
+pub fn plain_scope(alloc: Global) -> Scope {
     Scope {
         recursive: false,
         style: None,
         force_dot_license: false,
         unknown: Unknown::Refuse,
         skip_existing: false,
+        listed: None,
+        excluded: Globs::new(Vec::new(alloc)),
     }
 }
 
@@ -267,7 +269,7 @@ pub fn sign(alloc: Global, paths: &[&str]) -> Result<Command, Fail> {
         &["Jane Doe"],
         &["MIT"],
         plain_how(),
-        plain_scope(),
+        plain_scope(alloc),
     )
 }
 

@@ -11,7 +11,7 @@ const PLAIN: &str = "Line { root: \".\", action: Annotate(Annotate { \
     licences: Texts { texts: [Bytes { bytes: [77, 73, 84] }] } }, \
     how: How { form: None, merge: false, replace: true }, \
     scope: Scope { recursive: false, style: None, force_dot_license: false, unknown: Refuse, \
-    skip_existing: false } }), moment: Moment { since_1970: 1704067200 } }";
+    skip_existing: false, listed: None, excluded: Globs { globs: [] } } }), moment: Moment { since_1970: 1704067200 } }";
 
 /// Words behind `annotate -l MIT`, and which text of the plain line gives way to which.
 const SETTINGS: &[(&str, &str, &str)] = &[
@@ -38,6 +38,13 @@ const SETTINGS: &[(&str, &str, &str)] = &[
         "unknown: Skip",
     ),
     ("--skip-existing|a.py", "existing: false", "existing: true"),
+    (
+        "--recursive|--exclude|**a|--exclude=*|a.py",
+        "recursive: false, style: None, force_dot_license: false, unknown: Refuse, skip_existing: false, listed: None, \
+         excluded: Globs { globs: [] }",
+        "recursive: true, style: None, force_dot_license: false, unknown: Refuse, skip_existing: false, listed: None, \
+         excluded: Globs { globs: [Glob { pieces: [AnyRun, Literal('a')] }, Glob { pieces: [RunInPart] }] }",
+    ),
     ("--style|python|a.py", "style: None", "style: Some(Python)"),
     ("-s|c|a.py", "style: None", "style: Some(C)"),
     ("-s|css|a.py", "style: None", "style: Some(Css)"),
@@ -169,6 +176,9 @@ fn options_exclude_each_other(rt: HostRuntime) -> Result<(), Fail> {
         ("--style|c|--style|c", "cannot be used multiple times"),
         ("--exclude-year|-y|2024", "--year and --exclude-year"),
         ("--texts|x", "unexpected argument"),
+        ("--files-from|x", "--recursive"),
+        ("--exclude|x", "--recursive"),
+        ("-r|--exclude|a\\b", "bad glob: a\\b"),
         ("--year", "a value is required"),
     ] {
         let line = format!(in alloc; "annotate|-l|MIT|a.py|{words}")?;

@@ -1,0 +1,115 @@
+//! Lists of files: of the files beneath folders, those that are annotated.
+ghost use Rattle.std.specs.Prelude.{◌≡◌, ◌++◌, IfOk, OnOk};
+ghost use Rattle.std.specs.Option.{option_to_list};
+ghost use Rattle.reuse_notice.specs.Sets.{set_of};
+ghost use Rattle.reuse_undo.specs.FileLists.{separator_of, path_of_word, listed_paths};
+
+use crate::line::{Action, Line, LineFault};
+use crate::place_word::place_of_word;
+use crate::words::Said;
+use reuse_session::{Command, PathList, Place};
+use reuse_tree::PathText;
+use std::alloc::{AllocError, Global};
+use std::fs;
+use std::io::{self, ErrorKind, Read};
+use std::rt::{Files, Runtime};
+
+/// The most bytes that a list may have.
+const LONGEST_LIST: u64 = 268_435_456;
+
+/// What the words say, with the list of files that they name. One that can't be read is a fault.
+pub fn with_list<R: Runtime>(rt: &R, alloc: Global, said: Said) -> Said {
+    let Said {
+        verbose,
+        files_from,
+        line,
+    } = said;
+    let line = match (line, &files_from) {
+        (Ok(line), Some(file)) => with_list_of(rt, alloc, line, file),
+        (line, _) => line,
+    };
+    Said {
+        verbose,
+        files_from,
+        line,
+    }
+}
+
+fn with_list_of<R: Runtime>(
+    rt: &R,
+    alloc: Global,
+    line: Line,
+    file: &String,
+) -> Result<Line, LineFault> {
+    let mut line = line;
+    let listed = read_list(rt, alloc, file.as_str())?;
+    if let Action::Annotate(Command::Annotate { scope, .. }) = &mut line.action {
+        scope.listed = Some(listed);
+    }
+    Ok(line)
+}
+
+fn read_list<R: Runtime>(rt: &R, alloc: Global, file: &str) -> Result<PathList, LineFault> {
+    match read_bytes(rt, alloc, file) {
+        Ok(bytes) if bytes.len() as u64 <= LONGEST_LIST => Ok(paths_of_list(alloc, &bytes)?),
+        Err(error) if error.kind() == ErrorKind::OutOfMemory => Err(LineFault::Memory),
+        _ => Err(LineFault::Unreadable(String::from_str(alloc, file)?)),
+    }
+}
+
+/// The bytes of a file, or of standard input for `-`, as far as one past the longest list.
+fn read_bytes<R: Runtime>(rt: &R, alloc: Global, file: &str) -> io::Result<Vec<u8>> {
+    let mut bytes = Vec::new(alloc);
+    if file == "-" {
+        rt.reader().take(LONGEST_LIST + 1).read_to_end(&mut bytes)?;
+    } else {
+        fs::open(rt, file)?.take(LONGEST_LIST + 1).read_to_end(&mut bytes)?;
+    }
+    Ok(bytes)
+}
+
+/// The paths that a list names, one a line, or, where it holds a NUL, one between two NULs. A word that names no path is passed over.
+pub fn paths_of_list(alloc: Global, list: &[u8]) -> Result<PathList, AllocError>
+    ensures { IfOk result (λ paths. paths ≡ set_of (listed_paths list.now)) }
+{
+    let separator = separator_of(list);
+    let mut paths = Vec::new(alloc);
+    for word in list.split(|byte| *byte == separator) {
+        push_listed(alloc, &mut paths, word)?;
+    }
+    Ok(PathList::new(paths))
+}
+
+// What stands between two words.
+fn separator_of(list: &[u8]) -> u8
+    ensures { result ≡ separator_of list.now }
+{
+    if list.iter().any(|byte| *byte == 0) {
+        0
+    } else {
+        b'\n'
+    }
+}
+
+// Adds the path that a word names, if it names one.
+fn push_listed(alloc: Global, paths: &mut Vec<PathText>, word: &[u8]) -> Result<(), AllocError>
+    ensures { OnOk result (paths.new.items ≡ paths.old.items ++ option_to_list (path_of_word word.now)) }
+{
+    if let Some(path) = path_of_word(alloc, word)? {
+        paths.push(path)?;
+    }
+    Ok(())
+}
+
+// The path that a word names, if it names one.
+fn path_of_word(alloc: Global, word: &[u8]) -> Result<Option<PathText>, AllocError>
+    ensures { IfOk result (λ path. path ≡ path_of_word word.now) }
+{
+    match str::from_utf8(word) {
+        Ok(word) => match place_of_word(alloc, word)? {
+            Some(Place::Path(path)) => Ok(Some(path)),
+            _ => Ok(None),
+        },
+        Err(_) => Ok(None),
+    }
+}
