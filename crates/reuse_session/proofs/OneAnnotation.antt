@@ -20,7 +20,7 @@ use Rattle.reuse_session.specs.Worked.{worked_paths}
 use Rattle.reuse_session.specs.declared.command.Place.{Place}
 use Rattle.reuse_session.specs.declared.command.Scope.{Scope}
 use Rattle.reuse_session.specs.declared.reply.Refusal.{Refusal}
-use Rattle.reuse_session.proofs.AnnotatedFiles.{no_neighbour_too, one_style}
+use Rattle.reuse_session.proofs.AnnotationPlaces.{no_neighbour_too, one_style}
 
 same_bytes : (one two : List ℕ) → Some one ≡ Some two → one ≡ two
 same_bytes one two e = cc

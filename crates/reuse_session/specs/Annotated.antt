@@ -68,8 +68,8 @@ pub record TakesComment (scope : Scope) (own : OwnNames) (path bytes : List ℕ)
   pub unforced : scope.force_dot_license ≡ false
   pub of_style : IsStyleOf scope own path style
 
--- its neighbour takes the information: it is there or asked for, or the file is none of text, or its name takes no comment, or has no
--- style and such files have neighbours
+-- its neighbour takes the information: it is there or asked for, or the file isn't text, or its name takes no comment, or has no style and
+-- such files have neighbours
 abbrev pub TakesNeighbour : Scope → OwnNames → List ℕ → List ℕ → Pair → Type 0
 TakesNeighbour scope own path bytes pair =
     IsSome pair.neighbour ⊎ (scope.force_dot_license ≡ true) ⊎ (is_text bytes ≡ false) ⊎ HasKind scope own path kind.Uncommentable
