@@ -21,7 +21,7 @@ use Rattle.reuse_header.specs.Names.{kind_in}
 use Rattle.reuse_header.specs.Neighbour.{is_text, neighbour_annotation_of, neighbour_annotated, neighbour_end}
 use Rattle.reuse_tree.specs.Files.{Files}
 use Rattle.reuse_session.specs.Annotate.{neighbour_of, neighbour_is_tagged, is_uncommentable, goes_beside, goes_beside_unread, target_of, target_of_unknown, target_by_name, target_by_style, target_by_bytes, edit_by, edit_inside, edit_neighbour, edit_beside, edit_target, annotated_where, annotated_at}
-use Rattle.reuse_session.specs.Annotated.{IsSameAround, KeepsOthers, block_replaced, part_replaced, Pair, pair_at, HasKind, TakesComment, TakesNeighbour, IsCommented, IsAccompanied, IsSkipped, IsAnnotated, file_written}
+use Rattle.reuse_session.specs.Annotated.{IsSameAround, KeepsOthers, block_replaced, part_replaced, Pair, pair_at, IsStyleOf, HasKind, TakesComment, TakesNeighbour, IsCommented, IsAccompanied, IsSkipped, IsAnnotated, file_written}
 use Rattle.reuse_session.specs.Annotations.{Due}
 use Rattle.reuse_session.specs.Clash.{is_clash}
 use Rattle.reuse_session.specs.Covered.{is_covered}
@@ -37,6 +37,7 @@ use Rattle.reuse_session.specs.declared.plan_target.Target.{Target}
 use Rattle.reuse_session.specs.declared.plan_target.Target.TheVariants.{Inside, Beside, Nowhere}
 use Rattle.reuse_session.specs.declared.reply.Refusal.{Refusal}
 use Rattle.reuse_session.specs.declared.reply.Refusal.TheVariants as refusals
+use Rattle.reuse_session.proofs.AnnotationPlaces.{no_call, some_is_none, comment_not_skipped, beside_not_skipped}
 
 -- ---- tests
 
@@ -83,6 +84,9 @@ no_style (Some style) e = absurd (false≢true e)
 no_file : (file : Option (List ℕ)) → is_some file ≡ false → file ≡ None
 no_file None e = refl
 no_file (Some bytes) e = absurd (false≢true (sym e))
+
+same_bytes : (bytes other : List ℕ) → Some bytes ≡ Some other → bytes ≡ other
+same_bytes bytes other e = cc
 
 uncommentable : (of_name : Kind) → is_uncommentable of_name ≡ true → of_name ≡ kind.Uncommentable
 uncommentable (kind.Style style) e = absurd (false≢true e)
@@ -198,7 +202,7 @@ module _ (replaces : ReplacesBlock) (inserts : InsertsBlock) (replaces_beside : 
     abbrev Takes : Target → Type 0
     Takes (Inside style) = TakesComment scope own path bytes old style
     Takes Beside = TakesNeighbour scope own path bytes old
-    Takes Nowhere = HasKind scope own path kind.Unknown × (scope.unknown ≡ unknown.Skip)
+    Takes Nowhere = HasKind scope own path kind.Unknown × (scope.unknown ≡ unknown.Skip) × ¬ (TakesNeighbour scope own path bytes old)
 
     beside_takes : goes_beside scope own tree path ≡ true → Takes Beside
     beside_takes e = elim (either (is_some (get tree (neighbour_of path))) (goes_beside_unread scope own path) e) [
@@ -223,10 +227,15 @@ module _ (replaces : ReplacesBlock) (inserts : InsertsBlock) (replaces_beside : 
         of_style = of_style;
       }
 
+      -- nothing calls for a neighbour
+      no_neighbour : ((style : Style) × IsStyleOf scope own path style) ⊎ ((kind_in own path ≡ kind.Unknown) × (scope.unknown ≡ unknown.Skip)) → TakesNeighbour scope own path bytes old → ⊥
+      no_neighbour named why = no_call scope own path bytes old (no_file (get tree (neighbour_of path)) parts.0)
+          (neither scope.force_dot_license (is_none scope.style && is_uncommentable (kind_in own path)) parts.1).0 text named why
+
       unknown_takes : (asked : Unknown) → scope.unknown ≡ asked → HasKind scope own path kind.Unknown → (target : Target) → target_of_unknown asked path ≡ Ok target → Takes target
       unknown_takes unknown.Refuse is named target h = absurd (cc)
       unknown_takes unknown.Neighbour is named target h = subst Takes (same_target Beside target h) (inr (inr (inr (inr (named, is)))))
-      unknown_takes unknown.Skip is named target h = subst Takes (same_target Nowhere target h) (named, is)
+      unknown_takes unknown.Skip is named target h = subst Takes (same_target Nowhere target h) (named, is, no_neighbour (inr (named.1, is)))
 
       name_takes : (of_name : Kind) → kind_in own path ≡ of_name → scope.style ≡ None → (target : Target) → target_by_name scope.unknown path of_name ≡ Ok target → Takes target
       name_takes (kind.Style style) is none target h = subst Takes (same_target (Inside style) target h) (comment_takes style (inr (none, is)))
@@ -248,58 +257,71 @@ module _ (replaces : ReplacesBlock) (inserts : InsertsBlock) (replaces_beside : 
         bytes_take e (is_text bytes) refl target short.1
 
     abbrev Becomes : Pair → Type 0
-    Becomes new = IsCommented additions how scope own path bytes old new ⊎ IsAccompanied additions how scope own path bytes old new ⊎ IsSkipped scope own path bytes old new
+    Becomes new = (IsSkipped scope own path bytes old × (new ≡ old))
+        ⊎ (¬ (IsSkipped scope own path bytes old) × (IsCommented additions how scope own path bytes old new ⊎ IsAccompanied additions how scope own path bytes old new))
+
+    skipped : (given : Option Edit) → None ≡ given → IsSkipped scope own path bytes old → Becomes (pair_then tree given path)
+    skipped given none is = subst (λ x. Becomes (pair_then tree x path)) none (inl (is, refl))
 
     -- it is commented, unless it is skipped
-    commented : (style : Style) → Takes (Inside style) → (given : Option Edit) → edit_by path path bytes (header.annotation_of style how additions bytes) ≡ Ok given → Becomes (pair_then tree given path)
-    commented style reason given h =
+    commented : (style : Style) → Takes (Inside style) → (scope.skip_existing && is_some (header_of style bytes)) ≡ false → (given : Option Edit)
+        → edit_by path path bytes (header.annotation_of style how additions bytes) ≡ Ok given → Becomes (pair_then tree given path)
+    commented style reason kept given h =
         let made = makes_by path path bytes (header.annotation_of style how additions bytes) given h in
-        inl (record {
-          style = style;
-          takes = reason;
-          made = header.edited bytes made.0;
-          by_rules = ap (header.made_by bytes) made.1;
-          holds = ap₂ pair (then_here tree path bytes (header.edited bytes made.0) given made.2 here)
-              (then_other tree path bytes (header.edited bytes made.0) given (neighbour_of path) made.2 (λ same. apart path (sym same)) ∙ reason.alone);
-          keeps = keeps_file style how additions bytes made.0 made.1;
-        })
+        inr (
+          comment_not_skipped scope own path bytes old style reason kept,
+          inl (record {
+            style = style;
+            takes = reason;
+            made = header.edited bytes made.0;
+            by_rules = ap (header.made_by bytes) made.1;
+            holds = ap₂ pair (then_here tree path bytes (header.edited bytes made.0) given made.2 here)
+                (then_other tree path bytes (header.edited bytes made.0) given (neighbour_of path) made.2 (λ same. apart path (sym same)) ∙ reason.alone);
+            keeps = keeps_file style how additions bytes made.0 made.1;
+          }),
+        )
 
     inside : (style : Style) → Takes (Inside style) → (b : Bool) → (scope.skip_existing && is_some (header_of style bytes)) ≡ b → (given : Option Edit)
         → cond b (done None) (edit_by path path bytes (header.annotation_of style how additions bytes)) ≡ Ok given → Becomes (pair_then tree given path)
     inside style reason true e given h =
-        let skipped = both scope.skip_existing (is_some (header_of style bytes)) e in
-        subst (λ x. Becomes (pair_then tree x path)) (same_given None given h) (inr (inr (record { asked = inr (skipped.0, inl (style, reason, skipped.1)); stays = refl })))
-    inside style reason false e given h = commented style reason given h
+        let tests = both scope.skip_existing (is_some (header_of style bytes)) e in
+        skipped given (same_given None given h) (inr (tests.0, inl (style, reason, tests.1)))
+    inside style reason false e given h = commented style reason e given h
 
     -- it is accompanied, unless it is skipped
     abbrev IsBeside : Option (List ℕ) → Pair → Type 0
     IsBeside file new = IsAccompanied additions how scope own path bytes (pair (get tree path) file) new
 
-    accompanied : (file : Option (List ℕ)) → get tree (neighbour_of path) ≡ file → Takes Beside → (given : Option Edit) (edit : header.Edit)
+    accompanied : (file : Option (List ℕ)) → get tree (neighbour_of path) ≡ file → Takes Beside → ¬ (IsSkipped scope own path bytes old) → (given : Option Edit) (edit : header.Edit)
         → neighbour_annotation_of how additions (unwrap_or file []) ≡ Ok edit → Makes (neighbour_of path) (unwrap_or file []) (header.edited (unwrap_or file []) edit) given
         → file_then tree given (neighbour_of path) ≡ file_written file (header.edited (unwrap_or file []) edit) → Becomes (pair_then tree given path)
-    accompanied file is reason given edit due makes written = inr (inl (subst (λ f. IsBeside f (pair_then tree given path)) (sym is) (record {
-      takes = subst (λ f. TakesNeighbour scope own path bytes (pair (get tree path) f)) is reason;
-      made = header.edited (unwrap_or file []) edit;
-      by_rules = ap (header.made_by (unwrap_or file [])) due;
-      holds = ap₂ pair (then_other tree (neighbour_of path) (unwrap_or file []) (header.edited (unwrap_or file []) edit) given path makes (apart path)) written;
-      keeps = keeps_neighbour how additions (unwrap_or file []) edit due;
-    })))
+    accompanied file is reason unskipped given edit due makes written = inr (
+      unskipped,
+      inr (subst (λ f. IsBeside f (pair_then tree given path)) (sym is) (record {
+        takes = subst (λ f. TakesNeighbour scope own path bytes (pair (get tree path) f)) is reason;
+        made = header.edited (unwrap_or file []) edit;
+        by_rules = ap (header.made_by (unwrap_or file [])) due;
+        holds = ap₂ pair (then_other tree (neighbour_of path) (unwrap_or file []) (header.edited (unwrap_or file []) edit) given path makes (apart path)) written;
+        keeps = keeps_neighbour how additions (unwrap_or file []) edit due;
+      })),
+    )
 
     beside_there : (beside : List ℕ) → get tree (neighbour_of path) ≡ Some beside → Takes Beside → (b : Bool) → (scope.skip_existing && neighbour_is_tagged beside) ≡ b → (given : Option Edit)
         → cond b (done None) (edit_by path (neighbour_of path) beside (neighbour_annotation_of how additions beside)) ≡ Ok given → Becomes (pair_then tree given path)
     beside_there beside is reason true e given h =
-        let skipped = both scope.skip_existing (neighbour_is_tagged beside) e in
-        subst (λ x. Becomes (pair_then tree x path)) (same_given None given h) (inr (inr (record { asked = inr (skipped.0, inr (beside, is, skipped.1)); stays = refl })))
+        let tests = both scope.skip_existing (neighbour_is_tagged beside) e in
+        skipped given (same_given None given h) (inr (tests.0, inr (beside, is, tests.1)))
     beside_there beside is reason false e given h =
         let made = makes_by path (neighbour_of path) beside (neighbour_annotation_of how additions beside) given h in
-        accompanied (Some beside) is reason given made.0 made.1 made.2 (then_here tree (neighbour_of path) beside (header.edited beside made.0) given made.2 is)
+        let kept = λ (other : List ℕ) (there : get tree (neighbour_of path) ≡ Some other). subst (λ f. (scope.skip_existing && neighbour_is_tagged f) ≡ false) (same_bytes beside other (sym is ∙ there)) e in
+        accompanied (Some beside) is reason (beside_not_skipped scope own path bytes old reason kept) given made.0 made.1 made.2 (then_here tree (neighbour_of path) beside (header.edited beside made.0) given made.2 is)
 
     beside : (file : Option (List ℕ)) → get tree (neighbour_of path) ≡ file → Takes Beside → (given : Option Edit) → edit_neighbour how scope additions tree path file ≡ Ok given → Becomes (pair_then tree given path)
     beside None is reason given h =
         let free = err_or (is_clash tree (neighbour_of path)) (refusals.Clash (neighbour_of path)) (edit_by path (neighbour_of path) [] (neighbour_annotation_of how additions [])) given h in
         let made = makes_by path (neighbour_of path) [] (neighbour_annotation_of how additions []) given free.1 in
-        accompanied None is reason given made.0 made.1 made.2 (then_made tree (neighbour_of path) (header.edited [] made.0) given made.2 is)
+        let kept = λ (other : List ℕ) (there : get tree (neighbour_of path) ≡ Some other). absurd (some_is_none other (sym is ∙ there)) in
+        accompanied None is reason (beside_not_skipped scope own path bytes old reason kept) given made.0 made.1 made.2 (then_made tree (neighbour_of path) (header.edited [] made.0) given made.2 is)
     beside (Some there) is reason given h =
         let short = err_or (nat_lt 16_777_216 (length there)) (refusals.TooLong path) (cond (scope.skip_existing && neighbour_is_tagged there) (done None) (edit_by path (neighbour_of path) there (neighbour_annotation_of how additions there))) given h in
         beside_there there is reason (scope.skip_existing && neighbour_is_tagged there) refl given short.1
@@ -309,7 +331,7 @@ module _ (replaces : ReplacesBlock) (inserts : InsertsBlock) (replaces_beside : 
     by_target Beside reason given h =
         let short = err_or (nat_lt 4096 (length (neighbour_of path))) (refusals.TooLong path) (edit_neighbour how scope additions tree path (get tree (neighbour_of path))) given h in
         beside (get tree (neighbour_of path)) refl reason given short.1
-    by_target Nowhere reason given h = subst (λ x. Becomes (pair_then tree x path)) (same_given None given h) (inr (inr (record { asked = inl reason; stays = refl })))
+    by_target Nowhere reason given h = skipped given (same_given None given h) (inl reason)
 
     becomes : (aim : Result Target Refusal) → ((target : Target) → aim ≡ Ok target → Takes target) → (given : Option Edit) → edit_target how scope additions tree path bytes aim ≡ Ok given → Becomes (pair_then tree given path)
     becomes (Err refusal) reason given h = absurd (cc)

@@ -68,8 +68,8 @@ pub record TakesComment (scope : Scope) (own : OwnNames) (path bytes : List ℕ)
   pub unforced : scope.force_dot_license ≡ false
   pub of_style : IsStyleOf scope own path style
 
--- its neighbour takes the information: it is there or asked for, or the file is none of text, or its name takes no comment, or has no
--- style and such files have neighbours
+-- its neighbour takes the information: it is there or asked for, or the file isn't text, or its name takes no comment, or has no style and
+-- such files have neighbours
 abbrev pub TakesNeighbour : Scope → OwnNames → List ℕ → List ℕ → Pair → Type 0
 TakesNeighbour scope own path bytes pair =
     IsSome pair.neighbour ⊎ (scope.force_dot_license ≡ true) ⊎ (is_text bytes ≡ false) ⊎ HasKind scope own path kind.Uncommentable
@@ -105,18 +105,20 @@ HasInformation scope own path bytes pair =
     ((style : Style) × TakesComment scope own path bytes pair style × IsSome (header_of style bytes))
     ⊎ ((beside : List ℕ) × (pair.neighbour ≡ Some beside) × (neighbour_is_tagged beside ≡ true))
 
--- both stay, since it is asked for that such files are skipped: the name has no style, or there is licensing information
-pub record IsSkipped (scope : Scope) (own : OwnNames) (path bytes : List ℕ) (old new : Pair) : Type 0 where
-  pub asked : (HasKind scope own path kind.Unknown × (scope.unknown ≡ unknown.Skip)) ⊎ ((scope.skip_existing ≡ true) × HasInformation scope own path bytes old)
-  pub stays : new ≡ old
+-- it is asked for that such a file is skipped: its name has no style, and nothing else calls for its neighbour; or there is licensing
+-- information
+abbrev pub IsSkipped : Scope → OwnNames → List ℕ → List ℕ → Pair → Type 0
+IsSkipped scope own path bytes pair =
+    (HasKind scope own path kind.Unknown × (scope.unknown ≡ unknown.Skip) × ¬ (TakesNeighbour scope own path bytes pair))
+    ⊎ ((scope.skip_existing ≡ true) × HasInformation scope own path bytes pair)
 
--- the path has a covered file, which is commented, accompanied or skipped
+-- the path has a covered file, which is skipped, and then both stay; or is commented; or accompanied
 pub record IsAnnotated (additions : Additions) (how : How) (scope : Scope) (own : OwnNames) (path : List ℕ) (old new : Pair) : Type 0 where
   pub bytes : List ℕ
   pub there : old.file ≡ Some bytes
   pub covered : is_covered path ≡ true
-  pub becomes : IsCommented additions how scope own path bytes old new ⊎ IsAccompanied additions how scope own path bytes old new
-      ⊎ IsSkipped scope own path bytes old new
+  pub becomes : (IsSkipped scope own path bytes old × (new ≡ old))
+      ⊎ (¬ (IsSkipped scope own path bytes old) × (IsCommented additions how scope own path bytes old new ⊎ IsAccompanied additions how scope own path bytes old new))
 
 -- ---- the tree
 

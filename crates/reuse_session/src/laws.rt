@@ -63,10 +63,13 @@ pub fn downloads_put_each_text()
 
 /// What annotate does on a tree, in other words. Where it isn't refused, each file that is gone through is commented: it holds what the
 /// header rules make of its own bytes in its style; or accompanied: its neighbour holds what they make of the neighbour's own bytes, or
-/// of none; or skipped, where that is asked for. Every byte outside the old header block stays, and so does every other path.
+/// of none; or skipped, where that is asked for. Every byte outside the old header block stays, and so does every other path. These words
+/// leave one tree.
 pub fn annotations_change_chosen_places_alone()
-    ensures { (places : List Place) (additions : Additions) (how : How) (scope : Scope) (tree after : Files) → outcome_of (Annotate places additions how scope) tree ≡ Ok after
+    ensures made { (places : List Place) (additions : Additions) (how : How) (scope : Scope) (tree after : Files) → outcome_of (Annotate places additions how scope) tree ≡ Ok after
         → Annotates places additions how scope tree after }
+    ensures one { (places : List Place) (additions : Additions) (how : How) (scope : Scope) (before after other : Files) → Annotates places additions how scope before after
+        → Annotates places additions how scope before other → after ≡ other }
 {
     annotating_keeps_other_bytes();
 }

@@ -1,7 +1,11 @@
 use Rattle.reuse_session.proofs.AnnotatedTrees.{annotates}
+use Rattle.reuse_session.proofs.OneAnnotation.{one_tree}
 use Rattle.reuse_session.proofs.laws.annotations_change_chosen_places_alone.Goals as goal
 
 pub returns : goal.returns
 returns c =
     let kept = c.annotating_keeps_other_bytes.ensures in
-    λ places additions how scope tree after h. annotates kept.replaced kept.inserted kept.neighbour_replaced kept.neighbour_inserted places additions how scope tree after h
+    record {
+      made = λ places additions how scope tree after h. annotates kept.replaced kept.inserted kept.neighbour_replaced kept.neighbour_inserted places additions how scope tree after h;
+      one = λ places additions how scope before after other this that. one_tree places additions how scope before after other this that;
+    }
