@@ -1,8 +1,8 @@
 -- Which paths are gone through where files are chosen.
-use Rattle.std.proofs.Common.{◌≡◌, ◌↔◌, ◌⊎◌, inl, inr, ℕ, Bool, true, false, not, ◌&&◌, ◌||◌, cond, List, [], ◌∷◌, ◌++◌, Option, Some, None, filter, refl, sym, ap, subst, ◌∙◌, arith, zero, suc}
+use Rattle.std.proofs.Common.{◌≡◌, ◌↔◌, ◌⊎◌, inl, inr, ℕ, Bool, true, false, not, ◌&&◌, ◌||◌, cond, List, [], ◌∷◌, ◌++◌, Option, Some, None, filter, refl, sym, ap, subst, ◌∙◌, arith, suc}
 use Rattle.std.specs.Prelude.{flat_map}
 use Rattle.std.specs.Str.{chars}
-use Rattle.std.specs.List.{All, Contains, list_any}
+use Rattle.std.specs.List.{Contains, list_any}
 use Rattle.std.specs.FinMap.{keys}
 use Rattle.std.specs.Cmp.Lexicographic.{nat_list_eq_equiv}
 use Rattle.std.proofs.lemmas.Bool.{false≢true}
@@ -21,7 +21,7 @@ use Rattle.reuse_session.specs.Choice.{is_listed, matches_one, is_chosen}
 use Rattle.reuse_session.specs.Chosen.{IsNamed, StandsBeneath, IsListed, MatchesNone, IsAskedFor}
 use Rattle.reuse_session.specs.Command.{has_root, paths_among}
 use Rattle.reuse_session.specs.Covered.{is_covered}
-use Rattle.reuse_session.specs.Listing.{is_among, is_folder}
+use Rattle.reuse_session.specs.Listing.{is_folder}
 use Rattle.reuse_session.specs.Worked.{expanded, worked_paths}
 use Rattle.reuse_session.specs.declared.command.Place.{Place}
 use Rattle.reuse_session.specs.declared.command.Place.TheVariants.{Root, Path}

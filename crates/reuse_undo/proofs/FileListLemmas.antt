@@ -1,13 +1,15 @@
 -- The words of a list of files, one after the other.
-use Rattle.std.proofs.Common.{◌≡◌, ℕ, Bool, true, false, cond, List, [], ◌∷◌, ◌++◌, Option, Some, None, map, Bor, refl, sym, ap, ◌∙◌}
+use Rattle.std.proofs.Common.{◌≡◌, ℕ, cond, List, [], ◌∷◌, ◌++◌, Option, Some, None, map, Bor, refl, sym, ap, ◌∙◌}
 use Rattle.std.specs.Prelude.{filter_map}
-use Rattle.std.specs.Str.{IsUtf8, is_utf8}
+use Rattle.std.specs.List.{cons_option}
+use Rattle.std.specs.Str.{IsUtf8}
 use Rattle.std.specs.Option.{option_to_list}
+use Rattle.std.proofs.lemmas.List.{map-append}
 use Rattle.std.proofs.lemmas.List.Elements.{filter_map-append}
 use Rattle.std.proofs.lemmas.Str.{is_utf8-from_IsUtf8}
 use Rattle.reuse_dep5.proofs.PieceLemmas.{not_utf8}
 use Rattle.reuse_session.specs.declared.command.Place.{Place}
-use Rattle.reuse_session.specs.declared.command.Place.TheVariants.{Root, Path}
+use Rattle.reuse_session.specs.declared.command.Place.TheVariants.{Path}
 use Rattle.reuse_undo.specs.FileLists.{path_at, path_of_word}
 use Rattle.reuse_undo.specs.Places.{place_of_word}
 
@@ -18,3 +20,15 @@ named word text place path utf8 same e is =
 
 pub unnamed : (word : List ℕ) → ¬ IsUtf8 word → None ≡ path_of_word word
 unnamed word h = sym (ap (λ b. cond b (path_at (place_of_word word)) None) (not_utf8 word h))
+
+-- the paths of one word more
+pub one_word_more : (words : List (Bor (List ℕ))) (word : Bor (List ℕ)) (old new : List (List ℕ)) → old ≡ filter_map path_of_word (map (λ (w : Bor (List ℕ)). w.now) words)
+    → new ≡ old ++ option_to_list (path_of_word word.now) → new ≡ filter_map path_of_word (map (λ (w : Bor (List ℕ)). w.now) (words ++ word ∷ []))
+one_word_more words word old new so is =
+    let front = map (λ (w : Bor (List ℕ)). w.now) words in
+    is ∙ ap (λ ys. ys ++ option_to_list (path_of_word word.now)) so ∙ ap (λ ys. filter_map path_of_word front ++ ys) (of_one (path_of_word word.now))
+    ∙ sym (filter_map-append path_of_word front (word.now ∷ [])) ∙ ap (filter_map path_of_word) (sym (map-append (λ (w : Bor (List ℕ)). w.now) words (word ∷ [])))
+  where
+    of_one : (o : Option (List ℕ)) → option_to_list o ≡ cons_option o []
+    of_one None = refl
+    of_one (Some x) = refl

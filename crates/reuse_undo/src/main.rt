@@ -152,11 +152,16 @@ fn run<R: Runtime + Files<File = File> + AllocGlobal>(
         Ok(words) => with_list(rt, alloc, words_to_command(alloc, words.as_slice(), moment)),
         Err(fault) => Said::fault(fault),
     };
+    let Said {
+        verbose,
+        files_from: _,
+        line,
+    } = said;
     let extras = Extras {
-        notes: at_terminal || said.verbose,
+        notes: at_terminal || verbose,
         progress: at_terminal,
     };
-    match said.line {
+    match line {
         Ok(line) => run_noted(rt, alloc, line, extras),
         Err(fault) => {
             let told = tell(rt, &fault);
