@@ -9,10 +9,10 @@ tree=$room/tree
 export GIT_CONFIG_GLOBAL=/dev/null GIT_CONFIG_NOSYSTEM=1
 git() { command git -c user.name=Jane -c user.email=jane@example.org -c protocol.file.allow=always -c init.defaultBranch=main "$@"; }
 
-# Each file outside of git's and the journal's, with its bytes
+# Each file outside of git's and the journal's, with its bytes, and each link with its target
 files_of() {
   find "$tree" -name .git -prune -o -path "$tree/.reuse" -prune -o \( -type f -o -type l \) -print0 | sort -z | while IFS= read -r -d '' file; do
-    printf '%q %s\n' "${file#"$tree/"}" "$(sha256sum < "$file" | cut -c1-64)"
+    if [[ -L $file ]]; then readlink "$file"; else cat "$file"; fi | sha256sum | (read -r sum _ && printf '%q %s\n' "${file#"$tree/"}" "$sum")
   done
 }
 # The paths of the files that differ from those of before, a neighbour as its file
@@ -50,7 +50,7 @@ git -C "$room/library" add -A
 git -C "$room/library" commit -qm First
 
 files .gitignore 'build/\n*.log\n' a.py 'x\n' empty.py '' run 'x\n' src/b.py 'x\n' src/deep/c.c 'int x;\n' src/p.png '\0211\0' src/data.json '{}\n' gone.py 'x\n' \
-  LICENSES/MIT.txt 'text\n' LICENSE 'text\n' REUSE.toml 'version = 1\n' 'odd "é.py' 'x\n' 'two words.py' 'x\n' 'a*.py' 'x\n' 'back\\slash.py' 'x\n' build/gen.py 'x\n' \
+  LICENSES/MIT.txt 'text\n' LICENSE 'text\n' REUSE.toml 'version = 1\n' 'odd "é.py' 'x\n' 'two words.py' 'x\n' 'a*.py' 'x\n' 'back\slash.py' 'x\n' build/gen.py 'x\n' \
   src/build/gen.py 'x\n' src/trace.log 'x\n' new.py 'x\n' src/new.c 'int x;\n'
 printf 'x\n' > "$tree/"$'line\nend.py'
 chmod +x "$tree/run"
