@@ -38,7 +38,7 @@ as_run (Err refusal) = Err refusal
 pub record TakesBack (number : ℕ) (skip_moved : Bool) (when : ℕ) (old : State) (result : Result Reverted Refusal) (new : State) : Type 0 where
   pub step : Recorded
   pub is_done : Contains old.journal.done step
-  pub number : number_of step ≡ number
+  pub numbered : number_of step ≡ number
   pub runs : Runs (Revert step.changes skip_moved) when old (as_run result) new
   pub skipped : IfOk result (λ (reverted : Reverted). reverted.skipped ≡ map path_of (stuck_on old.tree step.changes))
 

@@ -29,7 +29,7 @@ IsUnused number steps = All (λ (step : Recorded). number_of step ≢ number) st
 pub record Shows (journal : Journal) (number : ℕ) (shown : Shown) : Type 0 where
   pub step : Recorded
   pub is_in : Contains (steps_in shown.row.done journal) step
-  pub number : number_of step ≡ number
+  pub numbered : number_of step ≡ number
   pub row : shown.row ≡ row_of step.label (length step.changes) shown.row.done
   pub changes : shown.changes ≡ step.changes
 
@@ -53,7 +53,7 @@ LedOn number changes tree (kept ∷ future) = ((kept.label.number ≡ number) ×
 -- what is shown is a row of the machine's log, and how its tree before the step differs from that after it
 pub record ShowsAt (state : Snapshots) (number : ℕ) (shown : Shown) : Type 0 where
   pub row : Contains (rows_of state) shown.row
-  pub number : shown.row.number ≡ number
+  pub numbered : shown.row.number ≡ number
   pub changes : LedTo number shown.changes state.tree state.past ⊎ LedOn number shown.changes state.tree state.future
 
 -- ---- what is remembered
@@ -71,5 +71,5 @@ entries_in false memory = memory.undone
 pub record IsRowOf (memory : Memory) (number : ℕ) (row : Row) : Type 0 where
   pub entry : ListedEntry
   pub is_in : Contains (entries_in row.done memory) entry
-  pub number : entry.number ≡ number
+  pub numbered : entry.number ≡ number
   pub row : row ≡ row_listing row.done entry

@@ -10,6 +10,7 @@ ghost use Rattle.reuse_tree.specs.declared.change.Change.TheVariants.{Make, Spli
 ghost use Rattle.reuse_tree.specs.declared.digest.Seal.{Seal};
 ghost use Rattle.reuse_session.specs.Answer.{IsOfPlan, RefusedAsRead};
 ghost use Rattle.reuse_session.specs.Entry.{makes, IsEntry, IsSmall};
+ghost use Rattle.reuse_session.specs.EntryText.{HavePaths};
 ghost use Rattle.reuse_session.specs.Plan.{AnswersEdits, MakesEdit};
 ghost use Rattle.reuse_session.specs.Reverting.{revert_edits, stands_at, taken_back, taken_back_on};
 ghost use Rattle.reuse_session.specs.Tree.{is_of_tree};
@@ -35,7 +36,7 @@ pub(crate) fn plan_revert<S: Store>(
     skip_moved: bool,
 ) -> Result<Vec<Change>, Refusal>
     ensures edits { S.honest store.new → AnswersEdits (tree_of (S.files store.old)) (revert_edits changes.now skip_moved (tree_of (S.files store.old))) result }
-    ensures entry { IsEntry changes.now }
+    ensures entry { IsEntry changes.now × HavePaths changes.now }
     ensures fails { RefusedAsRead S.Store store.old store.new result }
     ensures reads { OnlyReads S.Store store.old store.new }
     ensures planned { IfErr result IsOfPlan }
