@@ -1,6 +1,6 @@
 -- The planner of a revert: what takes a change back does what its edit says.
-use Rattle.std.proofs.Common.{◌≡◌, ◌≢◌, ◌⊎◌, inl, inr, ℕ, ◌+◌, ◌-◌, ◌≤◌, Bool, true, false, cond, not, ◌&&◌, nat_eq, nat_le, List, [], ◌∷◌, ◌++◌, length, take, drop, Option, Some, None, is_some, Result, Ok, Err, refl, sym, ap, ap₂, subst, ◌∙◌, arith, length-append, append_assoc, append-nil, le-leb, leb-true}
-use Rattle.std.specs.Option.{option_map}
+use Rattle.std.proofs.Common.{◌≡◌, ◌≢◌, ◌⊎◌, inl, inr, ℕ, ◌+◌, ◌-◌, ◌≤◌, Bool, true, false, cond, not, ◌&&◌, nat_eq, nat_le, List, [], ◌∷◌, ◌++◌, length, take, drop, Option, Some, None, IsSome, is_some, Result, Ok, Err, refl, sym, ap, ap₂, subst, ◌∙◌, arith, length-append, append_assoc, append-nil, le-leb, leb-true}
+use Rattle.std.specs.Option.{option_map, option_to_list}
 use Rattle.std.specs.Prelude.{filter_map}
 use Rattle.std.specs.List.{starts_with, cons_option}
 use Rattle.std.specs.Str.{bytes_eq}
@@ -16,16 +16,17 @@ use Rattle.reuse_tree.specs.Change.{path_of, sealed_make, sealed_drop, sealed_sp
 use Rattle.reuse_tree.specs.declared.change.Change.{Change}
 use Rattle.reuse_tree.specs.declared.change.Change.TheVariants.{Make, Drop, Splice}
 use Rattle.reuse_tree.specs.declared.digest.Seal.{Seal}
+use Rattle.reuse_session.specs.Answer.{IsFailure, IsOfPlan, IsTestRefusal}
 use Rattle.reuse_session.specs.Clash.{is_clash}
 use Rattle.reuse_session.specs.Edit.{Edit, made, dropped}
 use Rattle.reuse_session.specs.Entry.{makes}
-use Rattle.reuse_session.specs.Plan.{Makes, MakesEach, MakesEdit, MakesEdits}
+use Rattle.reuse_session.specs.Plan.{IsRefusalOf, Makes, MakesEach, MakesEdit, MakesEdits}
 use Rattle.reuse_session.specs.Reverting.{stands_at, is_short, put_back, taken_back, taken_back_on, stuck_on, unless_stuck, revert_edits}
 use Rattle.reuse_session.specs.declared.entry.Way.TheVariants.{Undo}
 use Rattle.reuse_session.specs.declared.reply.Refusal.{Refusal}
-use Rattle.reuse_session.specs.declared.reply.Refusal.TheVariants.{Moved}
+use Rattle.reuse_session.specs.declared.reply.Refusal.TheVariants.{Fault, Interrupted, Memory, Moved}
 
-abbrev found : Option Edit → Result (Option Edit) Refusal
+abbrev pub found : Option Edit → Result (Option Edit) Refusal
 found edit = Ok edit
 
 and_first : (a b : Bool) → (a && b) ≡ true → a ≡ true
@@ -231,3 +232,29 @@ module _ (tree : Files) (skip : Bool) (all : List Change) where
       none : (skip ≡ true) ⊎ (stuck_on tree all ≡ stuck_on tree []) → cond skip [] (stuck_on tree all) ≡ []
       none (inl e) = ap (λ b. cond b [] (stuck_on tree all)) e
       none (inr e) = ap (λ cs. cond skip [] cs) e ∙ skips_none skip
+
+  -- what takes the next change back is added, or it is skipped
+  pub after_back : (c : Change) (left taken : List Change) (back : Option Change) → SoFar tree skip all (c ∷ left) taken → MakesEdit tree (found (taken_back_on tree c)) back → (skip ≡ false → IsSome back) → SoFar tree skip all left (taken ++ option_to_list back)
+  after_back c left taken (Some back) so makes some = after_taken c left taken back so makes
+  after_back c left taken None so makes some = subst (SoFar tree skip all left) (sym (append-nil taken)) (after_skipped c left taken (skips skip refl) so makes)
+    where
+      skips : (b : Bool) → skip ≡ b → skip ≡ true
+      skips true e = e
+      skips false e = absurd (false≢true (some e))
+
+  -- a refusal of the next change is that of the revert
+  pub back_refused : (c : Change) (left taken : List Change) (back : Option Change) (refusal : Refusal) → SoFar tree skip all (c ∷ left) taken → MakesEdit tree (found (taken_back_on tree c)) back → IsTestRefusal refusal
+      → ((path : List ℕ) → refusal ≡ Moved path → (path ≡ path_of c) × (back ≡ None) × (skip ≡ false)) → IsRefusalOf (revert_edits all skip tree) refusal
+  back_refused c left taken back Memory so makes is moved = tt
+  back_refused c left taken back (Fault fault) so makes is moved = tt
+  back_refused c left taken back (Moved path) so makes is moved =
+      let m = moved path refl in
+      at_refusal c left taken m.2 so (subst (MakesEdit tree (found (taken_back_on tree c))) m.1 makes) ∙ ap (λ p. Err (Moved p)) (sym m.0)
+  back_refused c left taken back refusal so makes is moved = absurd is
+
+-- a failure of a reading is a refusal of any plan
+pub failure_refused : {A : Type 0} (given : Result A Refusal) (refusal : Refusal) → IsFailure refusal → IsOfPlan refusal → IsRefusalOf given refusal
+failure_refused given Memory is of = tt
+failure_refused given (Fault fault) is of = tt
+failure_refused given (Interrupted cause) is of = absurd of
+failure_refused given refusal is of = absurd is

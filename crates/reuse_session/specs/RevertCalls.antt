@@ -1,5 +1,5 @@
 -- What a revert of a step answers and leaves: what a run of the command does that takes the changes of the step back.
-use Rattle.std.specs.Prelude.{◌≡◌, ◌⊎◌, ℕ, Bool, List, [], ◌∷◌, map, Result, Ok, Err, IfOk}
+use Rattle.std.specs.Prelude.{◌≡◌, ◌⊎◌, ℕ, Bool, not, List, [], ◌∷◌, map, filter, Result, Ok, Err, IfOk}
 use Rattle.std.specs.List.{All, Contains}
 use Rattle.std.specs.FinMap.{get}
 use Rattle.reuse_tree.specs.Asked.{OnlyReads}
@@ -9,9 +9,9 @@ use Rattle.reuse_tree.specs.declared.change.Change.{Change}
 use Rattle.reuse_tree.specs.declared.store.Store.{Ghosts}
 use Rattle.reuse_session.specs.Answer.{IsEarly}
 use Rattle.reuse_session.specs.Calls.{folder_of, LeavesRun}
-use Rattle.reuse_session.specs.Entry.{paths_of}
 use Rattle.reuse_session.specs.Journal.{Recorded, State}
 use Rattle.reuse_session.specs.JournalFiles.{entry_path, number_of, EntrySays}
+use Rattle.reuse_session.specs.Listing.{is_among}
 use Rattle.reuse_session.specs.Machine.{Kept, Snapshots, ran_by}
 use Rattle.reuse_session.specs.Reverting.{stuck_on}
 use Rattle.reuse_session.specs.Session.{store_of, StandsAt, Follows, Runs}
@@ -33,6 +33,10 @@ changed_or_none (path ∷ paths) = Changed (path ∷ paths)
 abbrev pub as_run : Result Reverted Refusal → Result Reply Refusal
 as_run (Ok reverted) = Ok (changed_or_none reverted.changed)
 as_run (Err refusal) = Err refusal
+
+-- the paths that are none of those that changed
+abbrev pub left_of : List (List ℕ) → List (List ℕ) → List (List ℕ)
+left_of paths changed = filter (λ path. not (is_among changed path)) paths
 
 -- a step of the number is done, its changes are taken back as by a run, and the paths are told at which they can't be
 pub record TakesBack (number : ℕ) (skip_moved : Bool) (when : ℕ) (old : State) (result : Result Reverted Refusal) (new : State) : Type 0 where

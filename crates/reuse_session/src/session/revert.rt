@@ -1,5 +1,8 @@
 // A session takes a step back that need not be the last.
-ghost use Rattle.std.specs.Prelude.{◌≡◌, ◌↔◌, ◌⊎◌, true, false};
+ghost use Rattle.std.specs.Prelude.{◌≡◌, ◌↔◌, ◌⊎◌, IfOk, true, false};
+ghost use Rattle.reuse_session.specs.Answer.{IsRunAnswer};
+ghost use Rattle.reuse_session.specs.Listing.{ArePaths};
+ghost use Rattle.reuse_session.specs.RevertCalls.{as_run, left_of};
 
 use crate::command::Command;
 use crate::entry_changes::EntryChanges;
@@ -61,27 +64,44 @@ impl<S: Store + Drop> Session<S> {
         }
         let entry = read_entry(alloc, &mut self.store, number)?;
         let paths = paths_of(alloc, entry.changes.as_slice())?;
-        let changes = EntryChanges::new(entry.changes);
-        let none = Paths {
-            paths: Vec::new(alloc),
-        };
         let command = Command::Revert {
-            changes,
+            changes: EntryChanges::new(entry.changes),
             skip_moved,
         };
-        match self.run(alloc, &command, when)? {
-            Reply::Changed(changed) => Ok(reverted(paths, changed)),
-            _ => Ok(reverted(paths, none)),
-        }
+        told(alloc, self.run(alloc, &command, when), paths)
     }
 }
 
-// What a revert did that changed these paths of a step.
-fn reverted(paths: Paths, changed: Paths) -> Reverted {
-    let mut paths = paths.paths;
-    paths.retain(|path| !is_among(changed.as_slice(), path.as_bytes()));
+// The answer of the run that takes back a step of these paths.
+fn told(
+    alloc: Global,
+    answer: Result<Reply, Refusal>,
+    paths: Paths,
+) -> Result<Reverted, Refusal>
+    ensures same { IsRunAnswer answer → as_run result ≡ answer }
+    ensures skipped { IfOk result (λ reverted. ArePaths reverted.changed → reverted.skipped ≡ left_of paths reverted.changed) }
+{
+    match answer {
+        Ok(Reply::Changed(changed)) => Ok(reverted(paths, changed)),
+        Ok(_) => Ok(reverted(
+            paths,
+            Paths {
+                paths: Vec::new(alloc),
+            },
+        )),
+        Err(refusal) => Err(refusal),
+    }
+}
+
+// What was done with a step of these paths where it changed those.
+fn reverted(paths: Paths, changed: Paths) -> Reverted
+    ensures changed { result.changed ≡ changed }
+    ensures skipped { ArePaths changed → result.skipped ≡ left_of paths changed }
+{
+    let mut left = paths.paths;
+    left.retain(|path| !is_among(changed.paths.as_slice(), path.as_bytes()));
     Reverted {
         changed,
-        skipped: Paths { paths },
+        skipped: Paths { paths: left },
     }
 }
