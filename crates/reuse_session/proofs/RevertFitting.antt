@@ -91,7 +91,7 @@ module _ (tree : Files) where
       by_back None is rest = rest
       by_back (Some edit) is rest = (subst P (sym (path_back c edit is)) each.0, rest)
 
-  still_ascend : (changes : List Change) → ArePaths (paths_of changes) → ArePaths (paths_at (backs changes))
+  pub still_ascend : (changes : List Change) → ArePaths (paths_of changes) → ArePaths (paths_at (backs changes))
   unfolding IsStrictlySortedBy
   still_ascend [] h = tt
   still_ascend (c ∷ cs) h = by_back (taken_back_on tree c) refl (still_ascend cs h.1)
@@ -106,7 +106,7 @@ module _ (tree : Files) where
   or_true true = refl
   or_true false = refl
 
-  still_among : (changes : List Change) (q : List ℕ) → is_among (paths_at (backs changes)) q ≡ true → touches changes q ≡ true
+  pub still_among : (changes : List Change) (q : List ℕ) → is_among (paths_at (backs changes)) q ≡ true → touches changes q ≡ true
   still_among [] q h = h
   still_among (c ∷ cs) q h = by_back (taken_back_on tree c) refl h (still_among cs q)
     where
