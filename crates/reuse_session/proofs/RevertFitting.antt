@@ -97,7 +97,6 @@ module _ (tree : Files) where
   still_ascend (c ∷ cs) h = by_back (taken_back_on tree c) refl (still_ascend cs h.1)
     where
       by_back : (o : Option Edit) → taken_back_on tree c ≡ o → ArePaths (paths_at (backs cs)) → ArePaths (paths_at (cons_option o (backs cs)))
-      unfolding IsStrictlySortedBy
       by_back None is rest = rest
       by_back (Some edit) is rest =
           (subst (λ p. AllByRecursion (λ q. slice_cmp nat_cmp p q ≡ Less) (paths_at (backs cs))) (sym (path_back c edit is)) (still_each (λ q. slice_cmp nat_cmp (path_of c) q ≡ Less) cs h.0), rest)

@@ -94,10 +94,10 @@ make_makes tree path old before clone bytes cloned same here short = (
 -- ---- a file that was edited
 
 module _ (tree : Files) (path file old new : List ℕ) (at rest : ℕ) (seal : Option Seal) where
-  abbrev back : Option Edit
-  back = taken_back (Splice path at old new rest seal) (Some file)
+  abbrev given_back : Option Edit
+  given_back = taken_back (Splice path at old new rest seal) (Some file)
 
-  pub splice_kept : stands_at file new at ≡ false → MakesEdit tree (found back) None
+  pub splice_kept : stands_at file new at ≡ false → MakesEdit tree (found given_back) None
   splice_kept e = ap (λ b. found (cond (b && is_short file && is_short (spliced file at (length new) old)) (Some (put_back path file at old new)) None)) e
 
   module _ (stands : stands_at file new at ≡ true) where
@@ -125,14 +125,14 @@ module _ (tree : Files) (path file old new : List ℕ) (at rest : ℕ) (seal : O
     pub spliced_len : length (spliced file at (length new) old) ≡ length file - length new + length old
     spliced_len = omega (arith, within, front_len, rest_len, length-append (take at file ++ old) (drop (at + length new) file), length-append (take at file) old)
 
-    pub splice_long : length file ≤ 16_777_216 → (length file - length new + length old ≤ 16_777_216 → ⊥) → MakesEdit tree (found back) None
+    pub splice_long : length file ≤ 16_777_216 → (length file - length new + length old ≤ 16_777_216 → ⊥) → MakesEdit tree (found given_back) None
     splice_long short long =
         ap (λ b. found (cond b (Some (put_back path file at old new)) None))
         (all_true (stands_at file new at) (is_short file) (is_short (spliced file at (length new) old)) stands (short_test (length file) short)
         ∙ long_test (length (spliced file at (length new) old)) (λ h. long (omega (arith, h, spliced_len))))
 
     pub splice_makes : (clone removed written : List ℕ) → clone ≡ path → removed ≡ new → written ≡ old → old ≢ new → get tree path ≡ Some file → length file ≤ 16_777_216
-        → length file - length new + length old ≤ 16_777_216 → MakesEdit tree (found back) (Some (sealed_splice clone file at removed written))
+        → length file - length new + length old ≤ 16_777_216 → MakesEdit tree (found given_back) (Some (sealed_splice clone file at removed written))
     splice_makes clone removed written cloned is_new is_old differ here short fits = (
       put_back path file at old new,
       ap (λ b. found (cond b (Some (put_back path file at old new)) None))
@@ -245,12 +245,12 @@ module _ (tree : Files) (skip : Bool) (all : List Change) where
   -- a refusal of the next change is that of the revert
   pub back_refused : (c : Change) (left taken : List Change) (back : Option Change) (refusal : Refusal) → SoFar tree skip all (c ∷ left) taken → MakesEdit tree (found (taken_back_on tree c)) back → IsTestRefusal refusal
       → ((path : List ℕ) → refusal ≡ Moved path → (path ≡ path_of c) × (back ≡ None) × (skip ≡ false)) → IsRefusalOf (revert_edits all skip tree) refusal
-  back_refused c left taken back Memory so makes is moved = tt
-  back_refused c left taken back (Fault fault) so makes is moved = tt
-  back_refused c left taken back (Moved path) so makes is moved =
+  back_refused c left taken given Memory so makes is moved = tt
+  back_refused c left taken given (Fault fault) so makes is moved = tt
+  back_refused c left taken given (Moved path) so makes is moved =
       let m = moved path refl in
       at_refusal c left taken m.2 so (subst (MakesEdit tree (found (taken_back_on tree c))) m.1 makes) ∙ ap (λ p. Err (Moved p)) (sym m.0)
-  back_refused c left taken back refusal so makes is moved = absurd is
+  back_refused c left taken given refusal so makes is moved = absurd is
 
 -- a failure of a reading is a refusal of any plan
 pub failure_refused : {A : Type 0} (given : Result A Refusal) (refusal : Refusal) → IsFailure refusal → IsOfPlan refusal → IsRefusalOf given refusal

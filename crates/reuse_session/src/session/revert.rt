@@ -1,7 +1,7 @@
 // A session takes a step back that need not be the last.
-ghost use Rattle.std.specs.Prelude.{◌≡◌, ◌↔◌, ◌⊎◌, IfOk, true, false};
+ghost use Rattle.std.specs.Prelude.{◌≡◌, ◌↔◌, ◌⊎◌, not, IfOk, true, false};
 ghost use Rattle.reuse_session.specs.Answer.{IsRunAnswer};
-ghost use Rattle.reuse_session.specs.Listing.{ArePaths};
+ghost use Rattle.reuse_session.specs.Listing.{ArePaths, is_among};
 ghost use Rattle.reuse_session.specs.RevertCalls.{as_run, left_of};
 
 use crate::command::Command;
@@ -12,7 +12,7 @@ use crate::moment::Moment;
 use crate::perform::paths_of;
 use crate::reply::{Paths, Refusal, Reply, Reverted};
 use crate::session::Session;
-use reuse_tree::Store;
+use reuse_tree::{PathText, Store};
 use std::alloc::Global;
 
 impl<S: Store + Drop> Session<S> {
@@ -98,10 +98,24 @@ fn reverted(paths: Paths, changed: Paths) -> Reverted
     ensures changed { result.changed ≡ changed }
     ensures skipped { ArePaths changed → result.skipped ≡ left_of paths changed }
 {
-    let mut left = paths.paths;
-    left.retain(|path| !is_among(changed.paths.as_slice(), path.as_bytes()));
+    let left = left_of(paths.paths, changed.as_slice());
     Reverted {
         changed,
         skipped: Paths { paths: left },
     }
+}
+
+// The paths that are none of these, which are in byte order.
+fn left_of(paths: Vec<PathText>, changed: &[PathText]) -> Vec<PathText>
+    ensures { ArePaths changed.now → result.items ≡ left_of paths.items changed.now }
+{
+    let mut left = paths;
+    left.retain(|path| is_left(path, changed));
+    left
+}
+
+fn is_left(path: &PathText, changed: &[PathText]) -> bool
+    ensures { ArePaths changed.now → result ≡ not (is_among changed.now path.now) }
+{
+    !is_among(changed, path.as_bytes())
 }
