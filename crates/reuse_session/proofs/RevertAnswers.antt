@@ -162,36 +162,24 @@ pub unrun_leaves : {S : Type 0} (store : Ghosts S) (number : ℕ) (skip : Bool) 
     → RefusedAsRead {A = Reverted} store (store_of old) (store_of new) (Err refusal) → LeavesRevert store number skip when (Err refusal) old new
 unrun_leaves store number skip when refusal old new early reads fails = inl (refusal, refl, early, reads, fails)
 
+same_refusal : (A : Type 0) (one other : Refusal) → ◌≡◌ {A = Result A Refusal} (Err one) (Err other) → one ≡ other
+same_refusal A one other e = cc
+
 -- a refusal that tells no fault of the store
 pub no_fault : {A S : Type 0} (store : Ghosts S) (old new : S) (refusal : Refusal) → IsNoFaultOfStore refusal → RefusedAsRead {A = A} store old new (Err refusal)
 no_fault {A} store old new refusal is = record {
-  device = λ e. absurd (told faults.Device e);
-  clash = λ honest e. told faults.Clash e;
-  memory = λ e. told faults.Memory e;
+  device = λ e. absurd (subst IsNoFaultOfStore (same_refusal A refusal (Fault faults.Device) e) is);
+  clash = λ honest e. subst IsNoFaultOfStore (same_refusal A refusal (Fault faults.Clash) e) is;
+  memory = λ e. subst IsNoFaultOfStore (same_refusal A refusal (Fault faults.Memory) e) is;
 }
-  where
-    abbrev refused : Refusal → Result A Refusal
-    refused r = Err r
-
-    told : (fault : StoreFault) → refused refusal ≡ refused (Fault fault) → ⊥
-    told fault e = let same : refusal ≡ Fault fault = cc in subst IsNoFaultOfStore same is
 
 -- a reading's refusal, told as a revert's
 pub fails_too : {A B S : Type 0} (store : Ghosts S) (old new : S) (refusal : Refusal) → RefusedAsRead {A = A} store old new (Err refusal) → RefusedAsRead {A = B} store old new (Err refusal)
 fails_too {A} {B} store old new refusal fails = record {
-  device = λ e. fails.device (same faults.Device e);
-  clash = λ honest e. fails.clash honest (same faults.Clash e);
-  memory = λ e. fails.memory (same faults.Memory e);
+  device = λ e. fails.device (ap (λ r. Err r) (same_refusal B refusal (Fault faults.Device) e));
+  clash = λ honest e. fails.clash honest (ap (λ r. Err r) (same_refusal B refusal (Fault faults.Clash) e));
+  memory = λ e. fails.memory (ap (λ r. Err r) (same_refusal B refusal (Fault faults.Memory) e));
 }
-  where
-    abbrev refused : Refusal → Result A Refusal
-    refused r = Err r
-
-    abbrev told : Refusal → Result B Refusal
-    told r = Err r
-
-    same : (fault : StoreFault) → told refusal ≡ told (Fault fault) → refused refusal ≡ refused (Fault fault)
-    same fault e = let s : refusal ≡ Fault fault = cc in ap refused s
 
 -- what the run leaves
 pub run_leaves : {S : Type 0} (store : Ghosts S) (number : ℕ) (skip : Bool) (when : ℕ) (result : Result Reverted Refusal) (answer : Result Reply Refusal) (old new : Session S) (entry : Entry) (changes : List Change)
