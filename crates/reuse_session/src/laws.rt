@@ -1,5 +1,5 @@
 //! Laws of the definitions that the contracts of a session cite.
-ghost use Rattle.std.specs.Prelude.{◌≡◌, ◌≢◌, ◌↔◌, ◌⊎◌, [], List, map, ℕ, true, Ok, None};
+ghost use Rattle.std.specs.Prelude.{◌≡◌, ◌≢◌, ◌↔◌, ◌⊎◌, [], List, map, ℕ, true, Ok, None, ◌≤◌, ◌++◌, length, Bool, Option, Some};
 ghost use Rattle.std.specs.Ordering.{nat_cmp};
 ghost use Rattle.std.specs.Cmp.Lexicographic.{slice_cmp};
 ghost use Rattle.std.specs.List.{All, Contains};
@@ -7,20 +7,23 @@ ghost use Rattle.std.specs.List.Sorted.{IsPermutation, IsStrictlySortedBy};
 ghost use Rattle.std.specs.FinMap.{get};
 ghost use Rattle.reuse_header.specs.declared.annotation.How.{How};
 ghost use Rattle.reuse_notice.specs.declared.adding.Additions.{Additions};
-ghost use Rattle.reuse_tree.specs.Files.{Files};
+ghost use Rattle.reuse_tree.specs.Files.{Files, AreFiles};
 ghost use Rattle.reuse_tree.specs.Change.{inverse_of};
 ghost use Rattle.reuse_tree.specs.declared.change.Change.{Change};
 ghost use Rattle.reuse_session.specs.Annotated.{Annotates};
 ghost use Rattle.reuse_session.specs.Choice.{is_chosen};
 ghost use Rattle.reuse_session.specs.Chosen.{IsNamed, StandsBeneath, IsAskedFor};
 ghost use Rattle.reuse_session.specs.Covered.{is_covered};
-ghost use Rattle.reuse_session.specs.Entry.{CanBeMade, IsEntry, LeadsAll, LeadsBy};
+ghost use Rattle.reuse_session.specs.Entry.{CanBeMade, IsEntry, LeadsAll, LeadsBy, AreAllSealed};
 ghost use Rattle.reuse_session.specs.Fresh.{IsFresh, first_state};
+ghost use Rattle.reuse_tree.specs.declared.change.Change.TheVariants.{Splice};
+ghost use Rattle.reuse_tree.specs.declared.digest.Seal.{Seal};
 ghost use Rattle.reuse_session.specs.InTurn.{LeadsInTurn};
 ghost use Rattle.reuse_session.specs.Journal.{State};
 ghost use Rattle.reuse_session.specs.JournalFiles.{IsFree};
 ghost use Rattle.reuse_session.specs.Opening.{IsFirstBad, IsStuckAt, CanOpenOn};
 ghost use Rattle.reuse_session.specs.Outcome.{outcome_of};
+ghost use Rattle.reuse_session.specs.Reverting.{taken_back};
 ghost use Rattle.reuse_session.specs.Seals.{tree_for, IsAsLeft, IsToldApart, IsUntouched};
 ghost use Rattle.reuse_session.specs.Session.{IsRun};
 ghost use Rattle.reuse_session.specs.Stops.{HoldState};
@@ -29,7 +32,7 @@ ghost use Rattle.reuse_session.specs.TextsPut.{PutsTexts};
 ghost use Rattle.reuse_session.specs.Tree.{changed_paths, undo_folder_of};
 ghost use Rattle.reuse_session.specs.Worked.{worked_paths};
 ghost use Rattle.reuse_session.specs.declared.command.Command.{Command};
-ghost use Rattle.reuse_session.specs.declared.command.Command.TheVariants.{Annotate, ConvertDep5, Download};
+ghost use Rattle.reuse_session.specs.declared.command.Command.TheVariants.{Annotate, ConvertDep5, Download, Revert};
 ghost use Rattle.reuse_session.specs.declared.command.Place.{Place};
 ghost use Rattle.reuse_session.specs.declared.command.Scope.{Scope};
 ghost use Rattle.reuse_session.specs.declared.entry.Way.{Way};
@@ -109,4 +112,13 @@ pub fn worked_paths_are_asked_for()
     ensures asked { (scope : Scope) (places : List Place) (tree : Files) (path : List ℕ) → scope.recursive ≡ true
         → Contains (worked_paths scope places tree) path ↔ (IsNamed places tree path ⊎ (StandsBeneath places tree path × IsAskedFor scope path)) }
     ensures all { (scope : Scope) (path : List ℕ) → scope.listed ≡ None → scope.excluded ≡ [] → is_chosen scope path ≡ is_covered path }
+{}
+
+/// A revert of a sealed step that is the last leads back to the tree before it, as its undo does. And of a file that was edited below what a
+/// step wrote, that gives way to what was there before, whatever is below it.
+pub fn reverts_take_steps_back()
+    ensures undo { (changes : List Change) (skip_moved : Bool) (before after : Files) → IsEntry changes → AreAllSealed true changes → AreFiles before → LeadsAll changes before after
+        → outcome_of (Revert changes skip_moved) after ≡ Ok before }
+    ensures below { (path front old new behind : List ℕ) (rest : ℕ) (seal : Option Seal) → length (front ++ new ++ behind) ≤ 16_777_216 → length (front ++ old ++ behind) ≤ 16_777_216
+        → taken_back (Splice path (length front) old new rest seal) (Some (front ++ new ++ behind)) ≡ Some (record { path = path; removed = new; written = old; file = Some (front ++ old ++ behind) }) }
 {}

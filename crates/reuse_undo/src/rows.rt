@@ -59,6 +59,7 @@ fn command_word(command: CommandName) -> &'static str
         CommandName::Annotate => "annotate",
         CommandName::ConvertDep5 => "convert-dep5",
         CommandName::Download => "download",
+        CommandName::Revert => "revert",
     }
 }
 
