@@ -1,0 +1,34 @@
+// What a call would do, path by path.
+ghost use Rattle.std.specs.Prelude.{◌≡◌, ◌++◌, ◌∷◌, [], IfOk, IfErr, Ok, None, true, map};
+ghost use Rattle.std.specs.FinMap.{keys};
+ghost use Rattle.reuse_header.specs.Names.{lookup};
+ghost use Rattle.reuse_tree.specs.Asked.{OnlyReads};
+ghost use Rattle.reuse_tree.specs.Files.{tree_of};
+ghost use Rattle.reuse_session.specs.Annotate.{annotated_at};
+ghost use Rattle.reuse_session.specs.Answer.{RefusedAsRead};
+ghost use Rattle.reuse_session.specs.Conversion.{conversion_edits};
+ghost use Rattle.reuse_session.specs.Downloads.{download_edits};
+ghost use Rattle.reuse_session.specs.Entry.{IsEntry};
+ghost use Rattle.reuse_session.specs.Fates.{is_skipped, fate_at, annotation_fates, path_fates, edit_fates, download_fates, fates_of, AreFatesOf};
+ghost use Rattle.reuse_session.specs.Outcome.{edits_at, edits_of, annotation_edits};
+ghost use Rattle.reuse_session.specs.Previews.{IsLookRefusal, MakesUnlessRefused};
+ghost use Rattle.reuse_session.specs.TreeStyles.{styles_in};
+
+use crate::command::{Command, Place, Scope, Unknown};
+use crate::entry::Way;
+use crate::fate::{Fate, Fates};
+use crate::listing::tree_paths;
+use crate::perform::{can_be_made, paths_to_heed};
+use crate::places::{has_root, worked_paths};
+use crate::plan::plan_path;
+use crate::plan_conversion::plan_conversion;
+use crate::plan_download::{made_files, made_path, sorted_ids, sorted_paths};
+use crate::plan_size::is_too_many;
+use crate::plan_styles::read_styles;
+use crate::reply::Refusal;
+use crate::skipped::is_skipped;
+use reuse_header::{How, StyleTable};
+use reuse_notice::Additions;
+use reuse_text::Bytes;
+use reuse_tree::{Change, PathText, Store};
+use std::alloc::{AllocError, Global};
