@@ -1,15 +1,11 @@
 -- What a preview of a call answers and leaves.
-use Rattle.std.specs.Prelude.{◌≡◌, List, [], ◌∷◌, Option, Some, None, Result, Ok, Err}
-use Rattle.std.specs.declared.vec.Vec.{Vec}
+use Rattle.std.specs.Prelude.{◌≡◌, List, [], ◌∷◌, Result, Ok, Err}
 use Rattle.reuse_tree.specs.Asked.{OnlyReads}
 use Rattle.reuse_tree.specs.Files.{Files}
-use Rattle.reuse_tree.specs.declared.change.Change.{Change}
 use Rattle.reuse_tree.specs.declared.store.Store.{Ghosts}
 use Rattle.reuse_session.specs.Answer.{RefusedAsRead}
-use Rattle.reuse_session.specs.Edit.{Edit}
 use Rattle.reuse_session.specs.Fates.{AreFatesOf}
 use Rattle.reuse_session.specs.Journal.{Recorded, end_of}
-use Rattle.reuse_session.specs.Plan.{MakesEdits}
 use Rattle.reuse_session.specs.Session.{store_of, IsKept}
 use Rattle.reuse_session.specs.declared.entry.Way.{Way}
 use Rattle.reuse_session.specs.declared.fate.Fate.{Fate}
@@ -47,10 +43,3 @@ IsPreviewRefusal JournalFull = Unit {0}
 IsPreviewRefusal NothingToUndo = Unit {0}
 IsPreviewRefusal NothingToRedo = Unit {0}
 IsPreviewRefusal refusal = IsListedPreviewRefusal refusal
-
--- ---- for private clauses
-
--- beside the fates of a plan there are the changes of all edits, or none where an edit is refused
-abbrev pub MakesUnlessRefused : {A : Type 0} → Files → Result (List Edit) Refusal → Option (Vec Change A) → Type 0
-MakesUnlessRefused tree given None = (refusal : Refusal) × (given ≡ Err refusal)
-MakesUnlessRefused tree given (Some changes) = MakesEdits tree given changes.items

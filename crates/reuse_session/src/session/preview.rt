@@ -21,9 +21,10 @@ use crate::history::ListedEntry;
 use crate::journal::Changes;
 use crate::journal_files::read_entry;
 use crate::plan::plan;
-use crate::plan_fates::{plan_fates, travel_fates};
+use crate::plan_fates::plan_fates;
 use crate::reply::Refusal;
 use crate::session::{Session, end_of};
+use crate::travel_fates::travel_fates;
 use reuse_tree::Store;
 use std::alloc::Global;
 
