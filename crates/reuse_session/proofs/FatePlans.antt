@@ -1,6 +1,7 @@
 -- Plans of fates: the fates so far, and the changes beside them.
-use Rattle.std.proofs.Common.{Global, ◌≡◌, ◌⊎◌, inl, inr, ℕ, Bool, true, false, cond, ◌||◌, nat_lt, List, [], ◌∷◌, ◌++◌, length, map, Option, Some, None, Result, Ok, Err, IfOk, refl, sym, ap, subst, ◌∙◌, append_assoc}
-use Rattle.std.specs.Option.{option_to_list}
+use Rattle.std.proofs.Common.{Global, ◌≡◌, ◌⊎◌, inl, inr, ℕ, Bool, true, false, cond, ◌||◌, nat_lt, List, [], ◌∷◌, ◌++◌, length, map, Option, Some, None, Result, Ok, Err, IfOk, OnOk, ◌<◌, arith, refl, sym, ap, subst, ◌∙◌, append_assoc}
+use Rattle.std.specs.List.{cons_option}
+use Rattle.std.specs.Option.{option_to_list, option_or, option_map}
 use Rattle.std.specs.declared.vec.Vec.{Vec}
 use Rattle.std.proofs.lemmas.List.{append-nil}
 use Rattle.reuse_tree.specs.Files.{Files}
@@ -8,16 +9,20 @@ use Rattle.reuse_tree.specs.declared.fault.StoreFault.TheVariants as faults
 use Rattle.reuse_tree.specs.declared.store.Store.{Ghosts}
 use Rattle.reuse_tree.specs.Change.{path_of}
 use Rattle.reuse_tree.specs.declared.change.Change.{Change}
+use Rattle.reuse_notice.specs.Sets.{set_of}
+use Rattle.reuse_session.specs.Downloads.{id_refusal, ids_refusal, licence_edit, unless_refused, download_edits}
 use Rattle.reuse_session.specs.Edit.{Edit}
 use Rattle.reuse_session.specs.Entry.{entry_size}
 use Rattle.reuse_session.specs.FatePlan.{MakesUnlessRefused, Plans, AddsChange, Adds}
 use Rattle.reuse_session.specs.Previews.{IsTold}
-use Rattle.reuse_session.specs.Fates.{edit_fates, limit_fates}
+use Rattle.reuse_session.specs.Fates.{edit_fates, id_refusals, or_else, limit_fates, first_refusal}
 use Rattle.reuse_session.specs.Answer.{RefusedAsRead}
 use Rattle.reuse_session.specs.Outcome.{or_first, edits_at}
+use Rattle.reuse_session.specs.Licence.{licence_path}
 use Rattle.reuse_session.specs.Plan.{MakesEdits, MakesEach, IsRefusalOf}
 use Rattle.reuse_session.specs.declared.fate.Fate.{Fate}
 use Rattle.reuse_session.specs.declared.fate.Fate.TheVariants as fate
+use Rattle.reuse_session.specs.declared.licence.LicenceText.{LicenceText}
 use Rattle.reuse_session.specs.declared.plan_fates.Planned.{Planned}
 use Rattle.reuse_session.specs.declared.reply.Refusal.{Refusal}
 use Rattle.reuse_session.specs.declared.reply.Refusal.TheVariants as refusals
@@ -105,3 +110,54 @@ refused_plan tree edits refusal (Err fault) alone is = alone
 refused_plan tree edits refusal (Ok planned) alone is =
     let e = told_is edits refusal alone.0 is in
     record { fates = alone.1 ∙ sym (ap edit_fates e); changes = subst (MakesUnlessRefused tree edits) (sym alone.2) (refusal, e) }
+
+-- a refusal alone, which tells of another result
+pub refused_as : {A : Type 0} (tree : Files) (told : List Fate) (edits : Result (List Edit) Refusal) (given : Result A Refusal) (refusal : Refusal) (planned : Result Planned Refusal)
+    → IfOk planned (λ planned. IsTold refusal × (planned.fates.items ≡ fate.Refused refusal ∷ []) × (planned.changes ≡ None)) → IsRefusalOf given refusal
+    → (given ≡ Err refusal → told ≡ fate.Refused refusal ∷ []) → (given ≡ Err refusal → edits ≡ Err refusal) → IfOk planned (Plans tree told edits)
+refused_as tree told edits given refusal (Err fault) alone is fates plan = alone
+refused_as tree told edits given refusal (Ok planned) alone is fates plan =
+    let e = told_is given refusal alone.0 is in
+    record { fates = alone.1 ∙ sym (fates e); changes = subst (MakesUnlessRefused tree edits) (sym alone.2) (refusal, plan e) }
+
+pub both_ok : {E A B C : Type 0} (answer : Result (Unit {0}) E) → OnOk answer A → OnOk answer B → (A → B → C) → OnOk answer C
+both_ok (Err e) a b k = a
+both_ok (Ok x) a b k = k a b
+
+-- ---- refusals of ids
+
+pub first_of_ids : (tree : Files) (texts : List LicenceText) (ids : List (List ℕ)) → first_refusal (id_refusals tree texts ids) ≡ ids_refusal tree texts ids
+first_of_ids tree texts [] = refl
+first_of_ids tree texts (id ∷ ids) = by_refusal (id_refusal tree texts id)
+  where
+    by_refusal : (o : Option Refusal) → first_refusal (cons_option (option_map fate.Refused o) (id_refusals tree texts ids)) ≡ option_or o (ids_refusal tree texts ids)
+    by_refusal None = first_of_ids tree texts ids
+    by_refusal (Some refusal) = refl
+
+pub none_refused : (tree : Files) (texts : List LicenceText) (ids : List (List ℕ)) → ids_refusal tree texts ids ≡ None → id_refusals tree texts ids ≡ []
+none_refused tree texts [] e = refl
+none_refused tree texts (id ∷ ids) e = by_refusal (id_refusal tree texts id) e
+  where
+    by_refusal : (o : Option Refusal) → option_or o (ids_refusal tree texts ids) ≡ None → cons_option (option_map fate.Refused o) (id_refusals tree texts ids) ≡ []
+    by_refusal None e = none_refused tree texts ids e
+    by_refusal (Some refusal) e = absurd (cc)
+
+-- where an id is refused, so are the edits
+pub some_refused : (tree : Files) (texts : List LicenceText) (ids : List (List ℕ)) → 0 < length (id_refusals tree texts (set_of ids)) → (refusal : Refusal) × (download_edits ids texts tree ≡ Err refusal)
+some_refused tree texts ids some = by_refusal (ids_refusal tree texts (set_of ids)) refl
+  where
+    by_refusal : (o : Option Refusal) → ids_refusal tree texts (set_of ids) ≡ o → (refusal : Refusal) × (unless_refused o (map (licence_edit texts) (set_of (map licence_path (set_of ids)))) ≡ Err refusal)
+    by_refusal None e = absurd (omega (arith, some, ap length (none_refused tree texts (set_of ids) e)))
+    by_refusal (Some refusal) e = (refusal, refl)
+
+pub or_some : (fates others : List Fate) → 0 < length fates → or_else fates others ≡ fates
+or_some [] others some = absurd (omega arith)
+or_some (f ∷ fates) others some = refl
+
+pub or_none : (fates others : List Fate) → length fates ≡ 0 → or_else fates others ≡ others
+or_none [] others none = refl
+or_none (f ∷ fates) others none = absurd (omega arith)
+
+pub none_is : {A : Type 0} (o : Option A) → ((x : A) → o ≡ Some x → ⊥) → o ≡ None
+none_is None not = refl
+none_is (Some x) not = absurd (not x refl)

@@ -76,6 +76,7 @@ impl Planned {
     // Adds a refusal, unless it tells a fault of the store or want of memory.
     fn push_refusal(&mut self, refusal: Refusal) -> Result<(), Refusal>
         ensures adds { (tree : Files) (given : Result (Option Edit) Refusal) → IsRefusalOf given refusal → OnOk result (Adds tree given (fate.Refused refusal) self.old self.new) }
+        ensures told { OnOk result (IsTold refusal) }
         ensures fault { IfErr result (IsPassedOn refusal) }
         ensures refusal { IfErr result IsLookRefusal }
     {
@@ -209,17 +210,36 @@ fn plan_annotation<S: Store>(
     ensures reads { OnlyReads S.Store store.old store.new }
     ensures refusal { IfErr result IsLookRefusal }
 {
-    let styles = match read_styles(alloc, store) {
-        Ok(styles) => styles,
-        Err(refusal) => return refused(alloc, refusal),
-    };
+    match read_styles(alloc, store) {
+        Ok(styles) => plan_places(alloc, store, places, additions, how, scope, &styles),
+        Err(refusal) => refused(alloc, refusal),
+    }
+}
+
+// What is found of an annotation by this table of styles.
+fn plan_places<S: Store>(
+    alloc: Global,
+    store: &mut S,
+    places: &[Place],
+    additions: &Additions,
+    how: &How,
+    scope: &Scope,
+    styles: &StyleTable,
+) -> Result<Planned, Refusal>
+    ensures planned { S.honest store.new → IfOk result (Plans (tree_of (S.files store.old))
+        (annotation_fates places.now additions.now how.now scope.now (tree_of (S.files store.old)) (Ok (lookup styles.now)))
+        (edits_by_names places.now additions.now how.now scope.now (tree_of (S.files store.old)) (Ok (lookup styles.now)))) }
+    ensures fails { RefusedAsRead S.Store store.old store.new result }
+    ensures reads { OnlyReads S.Store store.old store.new }
+    ensures refusal { IfErr result IsLookRefusal }
+{
     if !scope.recursive && has_root(places) {
         return refused(alloc, Refusal::IsFolder(Place::Root));
     }
     let paths = tree_paths(alloc, store)?;
     let worked = worked_paths(alloc, &paths, places, scope.recursive)?;
     plan_paths(
-        alloc, store, &paths, &worked, additions, how, scope, &styles,
+        alloc, store, &paths, &worked, additions, how, scope, styles,
     )
 }
 
