@@ -99,6 +99,11 @@ run_foretold command tree state false (Ok fates) same full is told =
     ap (λ fs. Ok fs) (is.0 ∙ ap (fates_of command) same) ∙ sym (ap (λ b. cond b (Err refusals.JournalFull) (Ok (fates_of command state.tree))) full)
 run_foretold command tree state false (Err refusal) same full is told = absurd (look_told {A = List Fate} refusal is.1 told)
 
+pub travel_foretold : (way : Way) (step : Recorded) (steps : List Recorded) (made : List Change) (tree now : Files) (answer : Result (List Fate) Refusal) → step.changes ≡ made → now ≡ tree
+    → IfOk answer (AreFatesOf way now made) → IfErr answer IsLookRefusal → TellsNoFault answer → Foresees way (step ∷ steps) tree answer
+travel_foretold way step steps made tree now (Ok fates) changes same are kind told = subst (λ t. AreFatesOf way t step.changes fates) same (subst (λ cs. AreFatesOf way now cs fates) (sym changes) are)
+travel_foretold way step steps made tree now (Err refusal) changes same are kind told = absurd (look_told {A = List Fate} refusal kind told)
+
 -- ---- what they leave
 
 pub looks_still : {S : Type 0} (store : Ghosts S) {A : Type 0} (answer : Result A Refusal) (old new : Session S) (state : Snapshots) → OnlyLooks store answer old new → store.honest (store_of new) → StandsAt store.files old state → StandsAt store.files new state

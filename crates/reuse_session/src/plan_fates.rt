@@ -1,5 +1,5 @@
 // What a run of a command would do, path by path.
-ghost use Rattle.std.specs.Prelude.{◌≡◌, ◌++◌, ◌∷◌, ◌⊎◌, [], Result, Ok, Err, Option, Some, None, List, IfOk, IfErr, OnOk, map, if◌then◌else◌};
+ghost use Rattle.std.specs.Prelude.{◌≡◌, ◌++◌, ◌∷◌, ◌⊎◌, [], Result, Ok, Err, Option, Some, None, List, IfOk, IfErr, OnOk, map, not, ◌&&◌, if◌then◌else◌};
 ghost use Rattle.std.specs.FinMap.{keys};
 ghost use Rattle.std.specs.Option.{option_map};
 ghost use Rattle.reuse_header.specs.Names.{lookup};
@@ -9,6 +9,7 @@ ghost use Rattle.reuse_tree.specs.Change.{path_of};
 ghost use Rattle.reuse_tree.specs.Files.{Files, tree_of};
 ghost use Rattle.reuse_session.specs.Annotate.{annotated_at};
 ghost use Rattle.reuse_session.specs.Answer.{RefusedAsRead};
+ghost use Rattle.reuse_session.specs.Command.{has_root};
 ghost use Rattle.reuse_session.specs.Downloads.{id_refusal, download_edits};
 ghost use Rattle.reuse_session.specs.Edit.{Edit};
 ghost use Rattle.reuse_session.specs.FatePlan.{MakesUnlessRefused, Plans, Adds, IsPassedOn};
@@ -17,6 +18,7 @@ ghost use Rattle.reuse_session.specs.Outcome.{edits_at, edits_by_names, edits_of
 ghost use Rattle.reuse_session.specs.Plan.{AnswersEdits, MakesEdit, IsRefusalOf};
 ghost use Rattle.reuse_session.specs.Previews.{IsLookRefusal, IsTold};
 ghost use Rattle.reuse_session.specs.TreeStyles.{styles_in};
+ghost use Rattle.reuse_session.specs.Worked.{worked_paths};
 ghost use Rattle.reuse_session.specs.declared.fate.Fate.{Fate};
 ghost use Rattle.reuse_session.specs.declared.fate.Fate.TheVariants as fate;
 ghost use Rattle.reuse_session.specs.declared.reply.Refusal.{Refusal};
@@ -233,14 +235,39 @@ fn plan_places<S: Store>(
     ensures reads { OnlyReads S.Store store.old store.new }
     ensures refusal { IfErr result IsLookRefusal }
 {
-    if !scope.recursive && has_root(places) {
+    if gives_root(places, scope) {
         return refused(alloc, Refusal::IsFolder(Place::Root));
     }
+    plan_listed(alloc, store, places, additions, how, scope, styles)
+}
+
+// Whether the root is given where folders aren't gone through.
+fn gives_root(places: &[Place], scope: &Scope) -> bool
+    ensures { result ≡ (not scope.now.recursive && has_root places.now) }
+{
+    !scope.recursive && has_root(places)
+}
+
+// What is found at the paths that are gone through.
+fn plan_listed<S: Store>(
+    alloc: Global,
+    store: &mut S,
+    places: &[Place],
+    additions: &Additions,
+    how: &How,
+    scope: &Scope,
+    styles: &StyleTable,
+) -> Result<Planned, Refusal>
+    ensures planned { S.honest store.new → IfOk result (Plans (tree_of (S.files store.old))
+        (map (fate_at how.now scope.now additions.now (lookup styles.now) (tree_of (S.files store.old))) (worked_paths scope.now.recursive places.now (tree_of (S.files store.old))))
+        (edits_at (annotated_at how.now scope.now additions.now (lookup styles.now) (tree_of (S.files store.old))) (worked_paths scope.now.recursive places.now (tree_of (S.files store.old))))) }
+    ensures fails { RefusedAsRead S.Store store.old store.new result }
+    ensures reads { OnlyReads S.Store store.old store.new }
+    ensures refusal { IfErr result IsLookRefusal }
+{
     let paths = tree_paths(alloc, store)?;
     let worked = worked_paths(alloc, &paths, places, scope.recursive)?;
-    plan_paths(
-        alloc, store, &paths, &worked, additions, how, scope, styles,
-    )
+    plan_paths(alloc, store, &paths, &worked, additions, how, scope, styles)
 }
 
 // What is found at the worked paths. `paths` are those of the tree.
