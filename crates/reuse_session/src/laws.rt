@@ -1,5 +1,5 @@
 //! Laws of the definitions that the contracts of a session cite.
-ghost use Rattle.std.specs.Prelude.{◌≡◌, ◌≢◌, ◌↔◌, ◌⊎◌, [], List, map, ℕ, true, Ok, None, ◌≤◌, ◌++◌, length, Bool, Option, Some};
+ghost use Rattle.std.specs.Prelude.{◌≡◌, ◌≢◌, ◌↔◌, ◌⊎◌, [], List, map, ℕ, true, Ok, None, ◌≤◌, ◌++◌, length, Bool, Option, Some, Err};
 ghost use Rattle.std.specs.Ordering.{nat_cmp};
 ghost use Rattle.std.specs.Cmp.Lexicographic.{slice_cmp};
 ghost use Rattle.std.specs.List.{All, Contains};
@@ -18,6 +18,7 @@ ghost use Rattle.reuse_session.specs.Entry.{CanBeMade, IsEntry, LeadsAll, LeadsB
 ghost use Rattle.reuse_session.specs.Fresh.{IsFresh, first_state};
 ghost use Rattle.reuse_tree.specs.declared.change.Change.TheVariants.{Splice};
 ghost use Rattle.reuse_tree.specs.declared.digest.Seal.{Seal};
+ghost use Rattle.reuse_session.specs.Fates.{first_refusal, fates_of};
 ghost use Rattle.reuse_session.specs.InTurn.{LeadsInTurn};
 ghost use Rattle.reuse_session.specs.Journal.{State};
 ghost use Rattle.reuse_session.specs.JournalFiles.{IsFree};
@@ -37,7 +38,9 @@ ghost use Rattle.reuse_session.specs.declared.command.Place.{Place};
 ghost use Rattle.reuse_session.specs.declared.command.Scope.{Scope};
 ghost use Rattle.reuse_session.specs.declared.entry.Way.{Way};
 ghost use Rattle.reuse_session.specs.declared.entry.Way.TheVariants.{Undo};
+ghost use Rattle.reuse_session.specs.declared.fate.Fate.TheVariants.{Changes};
 ghost use Rattle.reuse_session.specs.declared.licence.LicenceText.{LicenceText};
+ghost use Rattle.reuse_session.specs.declared.reply.Refusal.{Refusal};
 
 use reuse_header::annotating_keeps_other_bytes;
 
@@ -121,4 +124,12 @@ pub fn reverts_take_steps_back()
         → outcome_of (Revert changes skip_moved) after ≡ Ok before }
     ensures below { (path front old new behind : List ℕ) (rest : ℕ) (seal : Option Seal) → length (front ++ new ++ behind) ≤ 16_777_216 → length (front ++ old ++ behind) ≤ 16_777_216
         → taken_back (Splice path (length front) old new rest seal) (Some (front ++ new ++ behind)) ≡ Some (record { path = path; removed = new; written = old; file = Some (front ++ old ++ behind) }) }
+{}
+
+/// The outcome of a command follows the fates of its paths: it is refused exactly by the first refusal among them, and where there is
+/// none it is a tree, which differs from the tree that was there exactly at the paths that change.
+pub fn outcome_follows_fates()
+    ensures refused { (command : Command) (tree : Files) (refusal : Refusal) → (outcome_of command tree ≡ Err refusal) ↔ (first_refusal (fates_of command tree) ≡ Some refusal) }
+    ensures accepted { (command : Command) (tree : Files) → (first_refusal (fates_of command tree) ≡ None) ↔ ((after : Files) × (outcome_of command tree ≡ Ok after)) }
+    ensures changed { (command : Command) (tree after : Files) (path : List ℕ) → outcome_of command tree ≡ Ok after → Contains (fates_of command tree) (Changes path) ↔ (get tree path ≢ get after path) }
 {}
