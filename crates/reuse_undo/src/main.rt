@@ -4,6 +4,7 @@
 mod above;
 mod arguments;
 mod date;
+mod diff;
 mod disk;
 mod fault;
 mod findings;
@@ -27,7 +28,7 @@ mod words;
 use disk::DiskStore;
 use fault::Fault;
 use findings::Findings;
-use line::{Action, Line, LineFault};
+use line::{Deed, Line, LineFault};
 use lock::lock_root;
 use notes::{note_call, note_words};
 use progress::{ClearedOutput, Progress, WatchedStore};
@@ -65,8 +66,8 @@ fn read_words<R: Runtime + AllocGlobal>(rt: &R, alloc: Global) -> Result<Vec<Str
 
 /// The texts that the line needs.
 fn texts_for<R: Runtime>(rt: &R, alloc: Global, line: &Line) -> Result<LicenceTexts, AllocError> {
-    match &line.action {
-        Action::Download { folder, ids } => find_texts(rt, alloc, folder.as_str(), ids),
+    match line.action.deed() {
+        Some(Deed::Download { folder, ids }) => find_texts(rt, alloc, folder.as_str(), ids),
         _ => Ok(LicenceTexts::new(Vec::new(alloc))),
     }
 }
