@@ -1,0 +1,54 @@
+// What a call would do, path by path.
+ghost use Rattle.std.specs.Prelude.{◌≡◌, List};
+
+use crate::command::Command;
+use crate::reply::Refusal;
+use reuse_tree::PathText;
+use std::marker::Model;
+
+/// What a call would do at a path.
+#[derive(Debug, Drop)]
+pub enum Fate {
+    /// The path changes.
+    Changes(PathText),
+    /// The file is gone through and stays as it is.
+    Unchanged(PathText),
+    /// The file is skipped, as that was asked for.
+    Skipped(PathText),
+    /// The call is refused so.
+    Refused(Refusal),
+}
+
+/// The fates of the paths that a call goes through, in their order.
+#[derive(Debug, Drop)]
+pub struct Fates {
+    pub(crate) fates: Vec<Fate>,
+}
+
+impl Model for Fates {
+    ghost use Rattle.reuse_session.specs.declared.fate.Fate.{Fate};
+
+    ghost Value = { List Fate };
+
+    ghost view = { λ f. f.fates.items };
+}
+
+impl Fates {
+    /// Lends the fates.
+    pub fn as_slice(&self) -> &[Fate]
+        ensures { result.now ≡ self.now }
+    {
+        self.fates.as_slice()
+    }
+}
+
+/// A call that can be looked at before it is made.
+#[derive(Debug, Drop)]
+pub enum Call {
+    /// A run of a command.
+    Run(Command),
+    /// An undo.
+    Undo,
+    /// A redo.
+    Redo,
+}
