@@ -54,7 +54,7 @@ impl Action {
 
 /// How what is told is written.
 #[derive(Clone, Copy, Debug, PartialEq, Eq)]
-pub enum Form {
+pub enum Telling {
     /// A line for each path or row.
     Lines,
     /// These lines, and what changes as a diff.
@@ -69,7 +69,7 @@ pub struct Line {
     /// The folder of the tree, relative to the working folder.
     pub root: String,
     pub action: Action,
-    pub form: Form,
+    pub telling: Telling,
     /// When the line was read.
     pub moment: Moment,
 }

@@ -12,9 +12,11 @@ mod line;
 mod lines;
 mod lock;
 mod notes;
+mod objects;
 mod place_word;
 mod prefix_name;
 mod progress;
+mod request;
 mod rows;
 mod run_line;
 #[cfg(test)]
@@ -32,7 +34,7 @@ use line::{Deed, Line, LineFault};
 use lock::lock_root;
 use notes::{note_call, note_words};
 use progress::{ClearedOutput, Progress, WatchedStore};
-use reuse_session::{LicenceTexts, Moment};
+use reuse_session::{Fate, LicenceTexts, Moment};
 use run_line::run_line;
 use status::{exit_status, line_status};
 use std::alloc::{AllocError, Global};
@@ -79,7 +81,7 @@ struct Extras {
     progress: bool,
 }
 
-/// Carries a line out on the folder that it names, and prints its reply; how many paths that tells. Until that is done no other run works
+/// Carries a line out on the folder that it names, and prints its answer; how many paths that tells. Until that is done no other run works
 /// on the folder. Where notes are asked for, what they tell is found too.
 fn carry_out<R: Runtime + Files<File = File> + AllocGlobal>(
     rt: &R,
@@ -103,8 +105,9 @@ fn carry_out<R: Runtime + Files<File = File> + AllocGlobal>(
     if let Some(findings) = findings {
         findings.look_after(alloc, watched.into_inner());
     }
+    let flushed = out.flush();
     let count = outcome?;
-    out.flush()?;
+    flushed?;
     Ok(count)
 }
 
@@ -114,6 +117,19 @@ fn tell(rt: &(impl Print + Eprint), fault: &LineFault) -> io::Result<()> {
         LineFault::Help(text) => print!(rt; "{text}"),
         LineFault::Usage(text) => eprint!(rt; "{text}"),
         _ => eprintln!(rt; "reuse-undo: {fault}"),
+    }
+}
+
+/// Tells why a line was not carried out. Where standard error can't be written either, the status tells.
+fn tell_fault(rt: &impl Eprint, fault: &Fault) {
+    let Fault::WouldRefuse(fates) = fault else {
+        let _ = eprintln!(rt; "reuse-undo: {fault}");
+        return;
+    };
+    for fate in fates.as_slice() {
+        if let Fate::Refused(refusal) = fate {
+            let _ = eprintln!(rt; "reuse-undo: {refusal}");
+        }
     }
 }
 
@@ -127,8 +143,7 @@ fn run_noted<R: Runtime + Files<File = File> + AllocGlobal>(
     let mut findings = None;
     let outcome = carry_out(rt, alloc, line, extras, &mut findings);
     if let Err(fault) = &outcome {
-        // Where standard error can't be written either, the status tells.
-        let _ = eprintln!(rt; "reuse-undo: {fault}");
+        tell_fault(rt, fault);
     }
     if let Some(findings) = &findings {
         note_call(rt, findings, &outcome);

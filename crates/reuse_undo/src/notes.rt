@@ -4,7 +4,7 @@ use crate::findings::{Findings, Task};
 use crate::line::LineFault;
 use reuse_dep5::{Dep5Cause, Dep5Refusal};
 use reuse_notice::NoticeRefusal;
-use reuse_session::Refusal;
+use reuse_session::{Fate, Refusal};
 use std::fmt::Display;
 
 /// Tells a note. Where standard error can't be written, there is nobody to tell.
@@ -36,6 +36,7 @@ fn advice(refusal: &Refusal, is_begun: bool) -> Option<&'static str> {
         Refusal::Moved(_) => Some(
             "this file was changed since: take that change back and call again, or keep it and leave the step as it is",
         ),
+        Refusal::NoSuchStep(_) => Some("reuse-undo log tells the numbers of the steps"),
         Refusal::Interrupted(_) => {
             Some("the next call on this tree, log too, takes back what was begun")
         }
@@ -73,6 +74,20 @@ fn note_refusal(rt: &impl Eprint, findings: &Findings, refusal: &Refusal) {
     }
 }
 
+/// Tells what the refusals among fates are about, each advice once.
+fn note_fates(rt: &impl Eprint, findings: &Findings, fates: &[Fate]) {
+    let mut last = None;
+    for fate in fates {
+        if let Fate::Refused(refusal) = fate {
+            let told = advice(refusal, false);
+            if told.is_none() || told != last {
+                note_refusal(rt, findings, refusal);
+            }
+            last = told;
+        }
+    }
+}
+
 /// Tells how many files a call changed, and how that is taken back.
 fn note_change(rt: &impl Eprint, task: Task, count: usize) {
     let files = if count == 1 { "file" } else { "files" };
@@ -100,7 +115,10 @@ pub fn note_call(rt: &impl Eprint, findings: &Findings, outcome: &Result<usize, 
     }
     match outcome {
         Ok(count) => note_change(rt, findings.task, *count),
-        Err(Fault::Refused(refusal)) => note_refusal(rt, findings, refusal),
+        Err(Fault::Refused(refusal) | Fault::NoDiff(refusal)) => {
+            note_refusal(rt, findings, refusal)
+        }
+        Err(Fault::WouldRefuse(fates)) => note_fates(rt, findings, fates.as_slice()),
         Err(_) => {}
     }
     if findings.is_table_empty && outcome.is_ok() {

@@ -1,7 +1,7 @@
 //! From the words of a command line to what they ask for.
 use crate::arguments::whole;
 use crate::date::year_of;
-use crate::line::{Action, Deed, Form, Line, LineFault};
+use crate::line::{Action, Deed, Line, LineFault, Telling};
 use crate::place_word::place_of_word;
 use crate::prefix_name::prefix_of_name;
 use clap::error::ErrorKind;
@@ -63,7 +63,7 @@ fn read_line(alloc: Global, matches: &ArgMatches<'_>, moment: Moment) -> Result<
         Some((name, inner)) => Ok(Line {
             root,
             action: read_action(alloc, name, inner, moment)?,
-            form: read_form(name, inner),
+            telling: read_telling(name, inner),
             moment,
         }),
         None => Err(LineFault::Usage(String::from_str(alloc, "no subcommand")?)),
@@ -117,14 +117,14 @@ fn read_number(matches: &ArgMatches<'_>) -> u32 {
     matches.get_one("NUMBER").unwrap_or(0)
 }
 
-fn read_form(name: &str, matches: &ArgMatches<'_>) -> Form {
+fn read_telling(name: &str, matches: &ArgMatches<'_>) -> Telling {
     let has_json = name == "log" || name == "show";
     if has_json && matches.get_flag("json") {
-        Form::Json
+        Telling::Json
     } else if name != "log" && matches.get_flag("diff") {
-        Form::Diff
+        Telling::Diff
     } else {
-        Form::Lines
+        Telling::Lines
     }
 }
 
