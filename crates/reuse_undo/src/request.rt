@@ -1,6 +1,6 @@
 //! What a line asks a session for, and what it is answered.
 ghost use Rattle.std.specs.Prelude.{◌≡◌};
-ghost use Rattle.reuse_undo.specs.RunLine.{asked, foretold};
+ghost use Rattle.reuse_undo.specs.Requests.{asked, done, foretold};
 
 use crate::line::{Action, Deed, Line};
 use reuse_session::{Call, Command, Event, LicenceTexts, Moment, Reply, Reverted, Shown};
@@ -51,7 +51,9 @@ pub fn request_of(line: Line, texts: LicenceTexts) -> Request
     }
 }
 
-fn done(deed: Deed, moment: Moment, texts: LicenceTexts) -> Request {
+fn done(deed: Deed, moment: Moment, texts: LicenceTexts) -> Request
+    ensures { result ≡ done deed moment texts }
+{
     match deed {
         Deed::Annotate(command) => Request::Call(Event::Run(command, moment)),
         Deed::ConvertDep5 => Request::Call(Event::Run(Command::ConvertDep5, moment)),
@@ -68,7 +70,9 @@ fn done(deed: Deed, moment: Moment, texts: LicenceTexts) -> Request {
     }
 }
 
-fn foretold(deed: Deed, texts: LicenceTexts) -> Request {
+fn foretold(deed: Deed, texts: LicenceTexts) -> Request
+    ensures { result ≡ foretold deed texts }
+{
     match deed {
         Deed::Annotate(command) => Request::Call(Event::Preview(Call::Run(command))),
         Deed::ConvertDep5 => Request::Call(Event::Preview(Call::Run(Command::ConvertDep5))),

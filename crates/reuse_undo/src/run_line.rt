@@ -1,17 +1,15 @@
 //! Carries a line out on a store.
-ghost use Rattle.std.specs.Prelude.{◌≡◌, ◌≤◌, ◌<◌, IfErr, IfOk, OnOk};
+ghost use Rattle.std.specs.Prelude.{◌≡◌, ◌≤◌, ◌<◌, IfErr};
 ghost use Rattle.reuse_tree.specs.Asked.{OnlyReads};
 ghost use Rattle.reuse_session.specs.Answer.{HasCause};
 ghost use Rattle.reuse_session.specs.Journal.{State};
 ghost use Rattle.reuse_session.specs.Machine.{Snapshots};
-ghost use Rattle.reuse_session.specs.Session.{store_of, StandsOn};
+ghost use Rattle.reuse_session.specs.Session.{store_of};
 ghost use Rattle.reuse_session.specs.Standing.{IsStanding};
 ghost use Rattle.reuse_session.specs.Stops.{HoldState};
-ghost use Rattle.reuse_undo.specs.RowLines.{AppendsSome};
-ghost use Rattle.reuse_undo.specs.WriterFaults.{IsOfDiff, IsOfWriter};
+ghost use Rattle.reuse_undo.specs.WriterFaults.{IsOfDiff};
 ghost use Rattle.reuse_undo.specs.Requests.{asked, IsLook};
-ghost use Rattle.reuse_undo.specs.Told.{IsToldText, told_count, IsTold};
-ghost use Rattle.reuse_undo.specs.RunLine.{Meets, HasCallClash, Carries, Steps, Tells, IfRefused};
+ghost use Rattle.reuse_undo.specs.RunLine.{HasCallClash, Carries, Steps, Tells, IfRefused};
 
 mod ask;
 mod drawn;

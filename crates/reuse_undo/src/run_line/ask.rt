@@ -1,10 +1,11 @@
 //! The call of a session that a line asks for.
 ghost use Rattle.std.specs.Prelude.{◌≡◌, ◌≤◌, ◌<◌, IfErr};
-ghost use Rattle.reuse_session.specs.Answer.{HasCause};
+ghost use Rattle.reuse_session.specs.Answer.{HasCause, TellsNoFault};
 ghost use Rattle.reuse_session.specs.Journal.{State};
+ghost use Rattle.reuse_session.specs.Previews.{OnlyLooks, IsPreviewRefusal};
 ghost use Rattle.reuse_session.specs.Session.{store_of, StandsOn};
 ghost use Rattle.reuse_undo.specs.Requests.{IsLook};
-ghost use Rattle.reuse_undo.specs.RunLine.{Calls, Meets, HasCallClash};
+ghost use Rattle.reuse_undo.specs.RunLine.{Calls, Meets, Previews, PreviewsRevert, HasCallClash, TakesBackStep, IsShowRefusal};
 
 use crate::request::{Request, Told};
 use reuse_session::{Answer, Call, Command, Event, Fates, Refusal, Reply, Session};
@@ -26,37 +27,67 @@ pub fn ask<S: Store + Drop>(
     ensures was_honest { S.honest (store_of session.new) → S.honest (store_of session.old) }
 {
     match request {
-        Request::Call(event) => Ok(Told::Reply(ask_event(alloc, session, event)?)),
-        Request::Show(number) => Ok(Told::Shown(session.show(alloc, *number)?)),
+        Request::Call(event) => match ask_event(alloc, session, event) {
+            Ok(reply) => Ok(Told::Reply(reply)),
+            Err(refusal) => Err(refusal),
+        },
+        Request::Show(number) => match session.show(alloc, *number) {
+            Ok(shown) => Ok(Told::Shown(shown)),
+            Err(refusal) => Err(refusal),
+        },
         Request::Revert {
             number,
             skip_moved,
             when,
-        } => Ok(Told::Reverted(session.revert(alloc, *number, *skip_moved, *when)?)),
+        } => match session.revert(alloc, *number, *skip_moved, *when) {
+            Ok(reverted) => Ok(Told::Reverted(reverted)),
+            Err(refusal) => Err(refusal),
+        },
         Request::PreviewRevert { number, skip_moved } => {
-            let fates = preview_revert(alloc, session, *number, *skip_moved)?;
-            Ok(Told::Reply(Reply::Preview(fates)))
+            match preview_revert(alloc, session, *number, *skip_moved) {
+                Ok(fates) => Ok(Told::Reply(Reply::Preview(fates))),
+                Err(refusal) => Err(refusal),
+            }
         }
     }
 }
 
 // Makes a call of an event. A session that is asked to be opened is open.
-fn ask_event<S: Store + Drop>(alloc: Global, session: &mut Session<S>, event: &Event) -> Answer {
+fn ask_event<S: Store + Drop>(alloc: Global, session: &mut Session<S>, event: &Event) -> Answer
+    ensures calls { S.honest (store_of session.new) → (held : State) → StandsOn S.files session.old held → Calls event.now held result (S.files (store_of session.new)) }
+    ensures looks { S.honest (store_of session.new) → IsLook (Request.Call event.now) → S.files (store_of session.new) ≡ S.files (store_of session.old) }
+    ensures fault { IfErr result (HasCause (S.failures (store_of session.old) < S.failures (store_of session.new))) }
+    ensures clash { S.honest (store_of session.new) → (held : State) → StandsOn S.files session.old held
+        → IfErr result (HasCallClash (Request.Call event.now) held (S.files (store_of session.old))) }
+    ensures failures { S.failures (store_of session.old) ≤ S.failures (store_of session.new) }
+    ensures was_honest { S.honest (store_of session.new) → S.honest (store_of session.old) }
+{
     match event {
         Event::Run(command, when) => session.run(alloc, command, *when),
         Event::Undo => session.undo(alloc),
         Event::Redo => session.redo(alloc),
-        Event::Log => Ok(Reply::Log(session.log(alloc)?)),
-        Event::Preview(call) => Ok(Reply::Preview(preview(alloc, session, call)?)),
+        Event::Log => match session.log(alloc) {
+            Ok(rows) => Ok(Reply::Log(rows)),
+            Err(refusal) => Err(refusal),
+        },
+        Event::Preview(call) => match preview(alloc, session, call) {
+            Ok(fates) => Ok(Reply::Preview(fates)),
+            Err(refusal) => Err(refusal),
+        },
         Event::Reopen => Ok(Reply::Opened),
     }
 }
 
+// What a call would do.
 fn preview<S: Store + Drop>(
     alloc: Global,
     session: &mut Session<S>,
     call: &Call,
-) -> Result<Fates, Refusal> {
+) -> Result<Fates, Refusal>
+    ensures right { S.honest (store_of session.new) → (held : State) → StandsOn S.files session.old held → TellsNoFault result → Previews call.now held result }
+    ensures looks { OnlyLooks S.Store result session.old session.new }
+    ensures refusal { IfErr result IsPreviewRefusal }
+{
     match call {
         Call::Run(command) => session.preview(alloc, command),
         Call::Undo => session.preview_undo(alloc),
@@ -70,7 +101,11 @@ fn preview_revert<S: Store + Drop>(
     session: &mut Session<S>,
     number: u32,
     skip_moved: bool,
-) -> Result<Fates, Refusal> {
+) -> Result<Fates, Refusal>
+    ensures right { S.honest (store_of session.new) → (held : State) → StandsOn S.files session.old held → TellsNoFault result → PreviewsRevert number skip_moved held result }
+    ensures looks { OnlyLooks S.Store result session.old session.new }
+    ensures refusal { IfErr result IsShowRefusal }
+{
     let command = revert_command(alloc, session, number, skip_moved)?;
     session.preview(alloc, &command)
 }
@@ -81,7 +116,11 @@ pub fn revert_command<S: Store + Drop>(
     session: &mut Session<S>,
     number: u32,
     skip_moved: bool,
-) -> Result<Command, Refusal> {
+) -> Result<Command, Refusal>
+    ensures right { S.honest (store_of session.new) → (held : State) → StandsOn S.files session.old held → TellsNoFault result → TakesBackStep number skip_moved held result }
+    ensures looks { OnlyLooks S.Store result session.old session.new }
+    ensures refusal { IfErr result IsShowRefusal }
+{
     let shown = session.show(alloc, number)?;
     if !shown.row.done {
         return Err(Refusal::NoSuchStep(number));
