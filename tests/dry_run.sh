@@ -41,6 +41,7 @@ compare() {
   cp -a "$tree" "$room/made"
   "$program" --root "$room/made" "${call[@]}" > "$room/out" 2> "$room/error" || status=$?
   [[ $looked == "$status" ]] || fail "${call[*]}: status $status, and of a dry run $looked"
+  ((status < 2)) || fail "${call[*]}: $(< "$room/error")"
   compared=$((compared + 1))
   if ((status)); then
     [[ $(head -n 1 "$room/looked_error") == "$(< "$room/error")" ]] || fail "${call[*]}: refused otherwise: $(< "$room/error")"
@@ -180,7 +181,7 @@ for number in range(rounds):
             pass
 PYTHON
 options=('-c|Jane Doe|-y|2024' '-l|MIT' '-c|Jane Doe|-l|ISC' '--contributor|B' '-c|A --> B|--exclude-year' '-l|GPL-2.0+|--multi-line' '-c|C|-y|2001|--merge-copyrights'
-  '-l|MIT|--no-replace' '-c|D|--single-line' '-l|MIT|--force-dot-license' '-c|E|--copyright-prefix|symbol' '-l|0BSD|--skip-existing' '-c|F|-s|c')
+  '-l|MIT|--no-replace' '-c|D|--single-line' '-l|MIT|--force-dot-license' '-c|E|--copyright-prefix|symbol' '-l|0BSD' '-c|F|-s|c')
 fallbacks=(--fallback-dot-license --fallback-dot-license --skip-unrecognised --skip-existing)
 for ((round = 0; round < rounds; round++)); do
   tree=$room/rounds/$round
