@@ -5,6 +5,7 @@ pub mod Within
 pub mod KeptOut
 pub mod Lines
 pub mod Objects
+pub mod Peeks
 pub mod Places
 pub mod PrefixNames
 pub mod Requests

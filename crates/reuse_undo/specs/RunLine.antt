@@ -9,7 +9,7 @@ use Rattle.reuse_session.specs.Journal.{State, Recorded, Undoes, Redoes, rows_in
 use Rattle.reuse_session.specs.JournalFiles.{head_path, entry_path, number_of}
 use Rattle.reuse_session.specs.Machine.{Snapshots, step, is_full, run_fates, as_reply}
 use Rattle.reuse_session.specs.Opening.{IsFirstBad, IsStuckAt, OpensOn, StopsOpening}
-use Rattle.reuse_session.specs.Previews.{Foresees, IsPreviewRefusal}
+use Rattle.reuse_session.specs.Previews.{Foresees}
 use Rattle.reuse_session.specs.RevertCalls.{Reverts, as_run}
 use Rattle.reuse_session.specs.Session.{Runs, StopsAfterRun, StopsAfter}
 use Rattle.reuse_session.specs.Showing.{IsUnused, ShowsIn, ShowsAt, LedTo}
@@ -214,8 +214,3 @@ IfRefused result Claim = Unit {0}
 abbrev pub TakesBackStep : ℕ → Bool → State → Result Command Refusal → Type 0
 TakesBackStep number skip_moved old (Ok command) = (step : Recorded) × Contains old.journal.done step × (number_of step ≡ number) × (command ≡ Revert step.changes skip_moved)
 TakesBackStep number skip_moved old (Err refusal) = (refusal ≡ refusals.NoSuchStep number) × IsNotDone number old
-
--- the refusals of a step that is shown, and of a dry run of a revert
-abbrev pub IsShowRefusal : Refusal → Type 0
-IsShowRefusal (refusals.NoSuchStep number) = Unit {0}
-IsShowRefusal refusal = IsPreviewRefusal refusal

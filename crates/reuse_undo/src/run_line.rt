@@ -11,16 +11,16 @@ ghost use Rattle.reuse_undo.specs.WriterFaults.{IsOfDiff};
 ghost use Rattle.reuse_undo.specs.Requests.{asked, IsLook};
 ghost use Rattle.reuse_undo.specs.RunLine.{HasCallClash, Carries, Steps, Tells, IfRefused};
 
-mod ask;
+mod calls;
 mod drawn;
-mod finish;
+mod printed;
 
 use crate::fault::Fault;
 use crate::line::{Line, Telling};
 use crate::request::{Request, Told, request_of};
-use ask::ask;
+use calls::ask;
 use drawn::{draw, foresee};
-use finish::{finish, has_refusal};
+use printed::{finish, has_refusal};
 use reuse_session::{LicenceTexts, Refusal, Reply, Session};
 use reuse_tree::Store;
 use std::alloc::Global;

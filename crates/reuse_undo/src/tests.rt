@@ -179,6 +179,11 @@ fn refuses_words(rt: HostRuntime) -> Result<(), Fail> {
         "annotate|-l|MIT|-s|none|a.py",
         "annotate|-l|MIT|--copyright-prefix|none|a.py",
         "download|MIT",
+        "undo|--diff",
+        "show",
+        "show|x",
+        "show|1|--diff|--json",
+        "revert|-1",
     ] {
         refuse(&rt, alloc, words, 2, "error: ")?;
     }

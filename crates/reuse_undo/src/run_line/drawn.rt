@@ -7,7 +7,7 @@ ghost use Rattle.reuse_undo.specs.WriterFaults.{IsOfDiff};
 use crate::diff::{Turn, print_diff};
 use crate::fault::Fault;
 use crate::request::Request;
-use crate::run_line::ask::revert_command;
+use crate::run_line::calls::revert_command;
 use reuse_session::{Call, Changes, EntryChanges, Event, Refusal, Row, Session};
 use reuse_text::splice;
 use reuse_tree::{Change, PathText, Reading, Store};

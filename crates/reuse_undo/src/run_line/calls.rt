@@ -1,14 +1,16 @@
 //! The call of a session that a line asks for.
-ghost use Rattle.std.specs.Prelude.{◌≡◌, ◌≤◌, ◌<◌, IfErr};
+ghost use Rattle.std.specs.Prelude.{◌≡◌, ◌≤◌, ◌<◌, IfErr, true, false};
 ghost use Rattle.reuse_session.specs.Answer.{HasCause, TellsNoFault};
 ghost use Rattle.reuse_session.specs.Journal.{State};
-ghost use Rattle.reuse_session.specs.Previews.{OnlyLooks, IsPreviewRefusal};
 ghost use Rattle.reuse_session.specs.Session.{store_of, StandsOn};
+ghost use Rattle.reuse_undo.specs.Peeks.{Peeks};
 ghost use Rattle.reuse_undo.specs.Requests.{IsLook};
-ghost use Rattle.reuse_undo.specs.RunLine.{Calls, Meets, Previews, PreviewsRevert, HasCallClash, TakesBackStep, IsShowRefusal};
+ghost use Rattle.reuse_undo.specs.RunLine.{as_told, Calls, Meets, Previews, PreviewsRevert, HasCallClash, TakesBackStep};
 
 use crate::request::{Request, Told};
-use reuse_session::{Answer, Call, Command, Event, Fates, Refusal, Reply, Session};
+use reuse_session::{
+    Answer, Call, Command, Event, Fates, Refusal, Reply, Reverted, Session, Shown,
+};
 use reuse_tree::Store;
 use std::alloc::Global;
 
@@ -27,28 +29,52 @@ pub fn ask<S: Store + Drop>(
     ensures was_honest { S.honest (store_of session.new) → S.honest (store_of session.old) }
 {
     match request {
-        Request::Call(event) => match ask_event(alloc, session, event) {
-            Ok(reply) => Ok(Told::Reply(reply)),
-            Err(refusal) => Err(refusal),
-        },
-        Request::Show(number) => match session.show(alloc, *number) {
-            Ok(shown) => Ok(Told::Shown(shown)),
-            Err(refusal) => Err(refusal),
-        },
+        Request::Call(event) => reply_told(ask_event(alloc, session, event)),
+        Request::Show(number) => shown_told(session.show(alloc, *number)),
         Request::Revert {
             number,
             skip_moved,
             when,
-        } => match session.revert(alloc, *number, *skip_moved, *when) {
-            Ok(reverted) => Ok(Told::Reverted(reverted)),
-            Err(refusal) => Err(refusal),
-        },
+        } => reverted_told(session.revert(alloc, *number, *skip_moved, *when)),
         Request::PreviewRevert { number, skip_moved } => {
-            match preview_revert(alloc, session, *number, *skip_moved) {
-                Ok(fates) => Ok(Told::Reply(Reply::Preview(fates))),
-                Err(refusal) => Err(refusal),
-            }
+            fates_told(preview_revert(alloc, session, *number, *skip_moved))
         }
+    }
+}
+
+fn reply_told(answer: Answer) -> Result<Told, Refusal>
+    ensures { result ≡ as_told Told.Reply answer }
+{
+    match answer {
+        Ok(reply) => Ok(Told::Reply(reply)),
+        Err(refusal) => Err(refusal),
+    }
+}
+
+fn shown_told(answer: Result<Shown, Refusal>) -> Result<Told, Refusal>
+    ensures { result ≡ as_told Told.Shown answer }
+{
+    match answer {
+        Ok(shown) => Ok(Told::Shown(shown)),
+        Err(refusal) => Err(refusal),
+    }
+}
+
+fn reverted_told(answer: Result<Reverted, Refusal>) -> Result<Told, Refusal>
+    ensures { result ≡ as_told Told.Reverted answer }
+{
+    match answer {
+        Ok(reverted) => Ok(Told::Reverted(reverted)),
+        Err(refusal) => Err(refusal),
+    }
+}
+
+fn fates_told(answer: Result<Fates, Refusal>) -> Result<Told, Refusal>
+    ensures { result ≡ as_told (λ fates. Told.Reply (Reply.Preview fates)) answer }
+{
+    match answer {
+        Ok(fates) => Ok(Told::Reply(Reply::Preview(fates))),
+        Err(refusal) => Err(refusal),
     }
 }
 
@@ -70,11 +96,20 @@ fn ask_event<S: Store + Drop>(alloc: Global, session: &mut Session<S>, event: &E
             Ok(rows) => Ok(Reply::Log(rows)),
             Err(refusal) => Err(refusal),
         },
-        Event::Preview(call) => match preview(alloc, session, call) {
-            Ok(fates) => Ok(Reply::Preview(fates)),
-            Err(refusal) => Err(refusal),
-        },
+        Event::Preview(call) => foretell(alloc, session, call),
         Event::Reopen => Ok(Reply::Opened),
+    }
+}
+
+// What a call would do, as a reply.
+fn foretell<S: Store + Drop>(alloc: Global, session: &mut Session<S>, call: &Call) -> Answer
+    ensures calls { S.honest (store_of session.new) → (held : State) → StandsOn S.files session.old held
+        → Calls (Event.Preview call.now) held result (S.files (store_of session.new)) }
+    ensures peeks { Peeks S.Store result session.old session.new }
+{
+    match preview(alloc, session, call) {
+        Ok(fates) => Ok(Reply::Preview(fates)),
+        Err(refusal) => Err(refusal),
     }
 }
 
@@ -85,8 +120,7 @@ fn preview<S: Store + Drop>(
     call: &Call,
 ) -> Result<Fates, Refusal>
     ensures right { S.honest (store_of session.new) → (held : State) → StandsOn S.files session.old held → TellsNoFault result → Previews call.now held result }
-    ensures looks { OnlyLooks S.Store result session.old session.new }
-    ensures refusal { IfErr result IsPreviewRefusal }
+    ensures peeks { Peeks S.Store result session.old session.new }
 {
     match call {
         Call::Run(command) => session.preview(alloc, command),
@@ -103,14 +137,15 @@ fn preview_revert<S: Store + Drop>(
     skip_moved: bool,
 ) -> Result<Fates, Refusal>
     ensures right { S.honest (store_of session.new) → (held : State) → StandsOn S.files session.old held → TellsNoFault result → PreviewsRevert number skip_moved held result }
-    ensures looks { OnlyLooks S.Store result session.old session.new }
-    ensures refusal { IfErr result IsShowRefusal }
+    ensures peeks { Peeks S.Store result session.old session.new }
 {
-    let command = revert_command(alloc, session, number, skip_moved)?;
-    session.preview(alloc, &command)
+    match revert_command(alloc, session, number, skip_moved) {
+        Ok(command) => session.preview(alloc, &command),
+        Err(refusal) => Err(refusal),
+    }
 }
 
-/// The command that takes a step back that is done.
+/// The command that takes a step back that is done; it only looks.
 pub fn revert_command<S: Store + Drop>(
     alloc: Global,
     session: &mut Session<S>,
@@ -118,15 +153,25 @@ pub fn revert_command<S: Store + Drop>(
     skip_moved: bool,
 ) -> Result<Command, Refusal>
     ensures right { S.honest (store_of session.new) → (held : State) → StandsOn S.files session.old held → TellsNoFault result → TakesBackStep number skip_moved held result }
-    ensures looks { OnlyLooks S.Store result session.old session.new }
-    ensures refusal { IfErr result IsShowRefusal }
+    ensures peeks { Peeks S.Store result session.old session.new }
 {
-    let shown = session.show(alloc, number)?;
-    if !shown.row.done {
-        return Err(Refusal::NoSuchStep(number));
+    match session.show(alloc, number) {
+        Ok(shown) => command_back(shown, number, skip_moved),
+        Err(refusal) => Err(refusal),
     }
-    Ok(Command::Revert {
-        changes: shown.changes,
-        skip_moved,
-    })
+}
+
+// The command that takes back what is shown of a step of the number, if it is done.
+fn command_back(shown: Shown, number: u32, skip_moved: bool) -> Result<Command, Refusal>
+    ensures done { shown.row.done ≡ true → result ≡ Ok (Command.Revert shown.changes skip_moved) }
+    ensures undone { shown.row.done ≡ false → result ≡ Err (Refusal.NoSuchStep number) }
+{
+    if shown.row.done {
+        Ok(Command::Revert {
+            changes: shown.changes,
+            skip_moved,
+        })
+    } else {
+        Err(Refusal::NoSuchStep(number))
+    }
 }
