@@ -1,8 +1,14 @@
--- The text of one row more.
+-- The text of one row more, and what stands behind it.
 use Rattle.std.proofs.Common.{◌<◌, ◌+◌, ℕ, List, [], ◌∷◌, ◌++◌, Option, length, take, refl, sym, ◌∙◌, ap, append_assoc, append-nil, get_or, subst}
 use Rattle.std.proofs.lemmas.List.{take_more}
 use Rattle.std.proofs.KnownBytes.{Appends-trans}
-use Rattle.reuse_undo.specs.RowLines.{AreJoined, AppendsSome}
+use Rattle.std.specs.Io.KnownBytes.{Appends}
+use Rattle.reuse_session.specs.declared.reply.Shown.{Shown}
+use Rattle.reuse_undo.specs.declared.line.Telling.TheVariants.{Diff}
+use Rattle.reuse_undo.specs.declared.request.Told.{Told}
+use Rattle.reuse_undo.specs.Lines.{change_lines, IsShownText}
+use Rattle.reuse_undo.specs.RowLines.{AreJoined, AppendsSome, IsRowLine}
+use Rattle.reuse_undo.specs.Told.{IsLinesText, IsToldText}
 
 AreJoined-push : {A : Type 0} (IsText : A → List ℕ → Type 0) (xs : List A) (x : A) (text line : List ℕ) → AreJoined IsText xs text → IsText x line
     → AreJoined IsText (xs ++ x ∷ []) (text ++ line)
@@ -27,3 +33,12 @@ pub AppendsSome-row : {A : Type 0} (IsText : A → List ℕ → Type 0) (old mid
 AppendsSome-row IsText old mid new xs i d h all one =
     subst (λ l. AppendsSome old new (AreJoined IsText l)) (sym (take_more xs i d h))
     (all.0 ++ one.0, (AreJoined-push IsText (take i xs) (get_or xs i d) all.0 one.0 all.1.0 one.1.0, Appends-trans old mid new all.0 one.0 all.1.1 one.1.1))
+
+-- the line of a row, and those of changes behind it
+pub AppendsSome-shown : (shown : Shown) (old mid new : Option (List ℕ)) → AppendsSome old mid (IsRowLine shown.row) → Appends mid new (change_lines shown.changes) → AppendsSome old new (IsShownText shown)
+AppendsSome-shown shown old mid new row rest =
+    (row.0 ++ change_lines shown.changes, ((row.0, row.1.0, refl), Appends-trans old mid new row.0 (change_lines shown.changes) row.1.1 rest))
+
+-- the lines of an answer, and a diff behind them
+pub AppendsSome-diff : (told : Told) (diff : List ℕ) (old mid new : Option (List ℕ)) → AppendsSome old mid (IsLinesText told) → Appends mid new diff → AppendsSome old new (IsToldText Diff told)
+AppendsSome-diff told diff old mid new lines rest = (lines.0 ++ diff, ((lines.0, diff, lines.1.0, refl), Appends-trans old mid new lines.0 diff lines.1.1 rest))

@@ -1,5 +1,5 @@
 -- What comes of a session's one call: from any files, from a state of the machine, and what is told of it.
-use Rattle.std.proofs.Common.{◌≡◌, ◌≢◌, ◌⊎◌, inl, inr, ⊎_elim, ◌∙◌, ◌+◌, ◌<◌, ◌≤◌, ℕ, Bool, true, false, List, [], Option, Some, Result, Ok, Err, IfErr, IfOk, refl, sym, ap, subst, arith, length, is_some}
+use Rattle.std.proofs.Common.{◌≡◌, ◌≢◌, ◌⊎◌, inl, inr, ⊎_elim, ◌∙◌, ◌+◌, ◌<◌, ◌≤◌, ℕ, Bool, true, false, List, [], Option, Some, Result, Ok, Err, IfErr, IfOk, refl, sym, ap, subst, arith, length}
 use Rattle.std.specs.FinMap.{get}
 use Rattle.std.specs.List.{Contains}
 use Rattle.std.specs.Result.{OnOk}
@@ -12,12 +12,11 @@ use Rattle.reuse_tree.specs.declared.fault.StoreFault.{StoreFault}
 use Rattle.reuse_tree.specs.declared.fault.StoreFault.TheVariants as stores
 use Rattle.reuse_tree.specs.declared.store.Store.{Ghosts}
 use Rattle.reuse_session.specs.Answer.{TellsNoFault, IsEarly, IsStop, IsFailure, HasCause, HasClash, IsNoClash, IsBrokenOrMemory, RefusedAsRead}
-use Rattle.reuse_session.specs.Fates.{first_refusal}
 use Rattle.reuse_session.specs.Journal.{State, Recorded, rows_in}
 use Rattle.reuse_session.specs.JournalFiles.{head_path, entry_path, number_of, EntrySays}
 use Rattle.reuse_session.specs.Machine.{Snapshots, step, as_reply, fates_in}
 use Rattle.reuse_session.specs.Calls.{IsCall, LeavesRun, folder_of}
-use Rattle.reuse_session.specs.Opening.{OpensOn}
+use Rattle.reuse_session.specs.Opening.{OpensOn, StopsOpening}
 use Rattle.reuse_session.specs.Previews.{OnlyLooks, IsPreviewRefusal}
 use Rattle.reuse_session.specs.RevertCalls.{Reverts, TakesBack, LeavesRevert, as_run}
 use Rattle.reuse_session.specs.Session.{store_of, is_broken, memory_of, Holds, StandsOn, IsKept}
@@ -32,6 +31,7 @@ use Rattle.reuse_session.specs.declared.fate.Call.{Call}
 use Rattle.reuse_session.specs.declared.fate.Call.TheVariants as calls
 use Rattle.reuse_session.specs.declared.fate.Fate.{Fate}
 use Rattle.reuse_session.specs.declared.journal.entry.Entry.{Entry}
+use Rattle.reuse_session.specs.declared.reply.Cause.{Cause}
 use Rattle.reuse_session.specs.declared.reply.Cause.TheVariants as causes
 use Rattle.reuse_session.specs.declared.reply.Reply.{Reply}
 use Rattle.reuse_session.specs.declared.reply.Reply.TheVariants as replies
@@ -41,7 +41,7 @@ use Rattle.reuse_session.specs.declared.reply.Shown.{Shown}
 use Rattle.reuse_session.specs.declared.reply.Refusal.{Refusal}
 use Rattle.reuse_session.specs.declared.reply.Refusal.TheVariants.{Broken, Fault as StoreFailed, Memory, Interrupted, NoSuchStep}
 use Rattle.reuse_session.specs.declared.session.Session.{Session}
-use Rattle.reuse_session.proofs.Driving.{run_left, undo_left, redo_left, stays_closed, stays_open, stands_still}
+use Rattle.reuse_session.proofs.Driving.{run_left, undo_left, redo_left, stays_closed, stays_open, stands_still, none_under_way}
 use Rattle.reuse_session.proofs.Following.{undo_follows, redo_follows, log_follows}
 use Rattle.reuse_session.proofs.RunFollowing.{runs_as_machine}
 use Rattle.reuse_session.proofs.Foretelling.{run_foreseen, undo_foreseen, redo_foreseen}
@@ -56,8 +56,15 @@ use Rattle.reuse_undo.specs.declared.request.Told.TheVariants as tells
 use Rattle.reuse_undo.specs.Peeks.{Peeks}
 use Rattle.reuse_undo.specs.RowLines.{AppendsSome}
 use Rattle.reuse_undo.specs.RunLine.{run_fates_on, Looks, Previews, IsNotDone, Does, IsStopped, Makes, Calls, as_told, RevertsOn, PreviewsRevert, Meets, TakesBackStep, HasCallClash, IsUnopened, IsMade, Carries, StepsBy, StepsBack, ForetellsBack, Steps, Tells, IfRefused}
-use Rattle.reuse_undo.specs.Told.{IsToldText, told_count, WouldBeMade, Accepts, Finishes}
-use Rattle.reuse_undo.specs.WriterFaults.{IsOfDiff}
+use Rattle.reuse_undo.specs.Told.{IsToldText, Finishes}
+
+-- a fault that has one cause has the other that follows
+pub caused : {A : Type 0} (Rose Higher : Type 0) → (Rose → Higher) → (answer : Result A Refusal) → IfErr answer (HasCause Rose) → IfErr answer (HasCause Higher)
+caused Rose Higher on (Ok reply) h = tt
+caused Rose Higher on (Err (StoreFailed stores.Device)) h = on h
+caused Rose Higher on (Err (StoreFailed stores.Memory)) h = h
+caused Rose Higher on (Err (Interrupted causes.Device)) h = on h
+caused Rose Higher on (Err refusal) h = tt
 
 -- ---- answers as they are told
 
@@ -156,6 +163,20 @@ peeks_absent {S} {A} {B} store first number old new peeks =
 where
   is_no_fault : (fault : StoreFault) → Err {A = B} (NoSuchStep number) ≡ Err (StoreFailed fault) → ⊥
   is_no_fault fault is = cc
+
+-- what is made of a step that is shown only looks too
+pub peeks_back : {S A : Type 0} (store : Ghosts S) (first : Result A Refusal) (number : ℕ) (skip_moved : Bool) (shown : Shown) (result : Result Command Refusal) (old new : Session S)
+    → Peeks store first old new → (shown.row.done ≡ true → result ≡ Ok (Revert shown.changes skip_moved)) → (shown.row.done ≡ false → result ≡ Err (NoSuchStep number)) → Peeks store result old new
+peeks_back store first number skip_moved shown result old new peeks done undone = by_done shown.row.done refl
+where
+  by_done : (flag : Bool) → shown.row.done ≡ flag → Peeks store result old new
+  by_done true is = subst (λ r. Peeks store r old new) (sym (done is)) (peeks_ok store first (Revert shown.changes skip_moved) old new peeks)
+  by_done false is = subst (λ r. Peeks store r old new) (sym (undone is)) (peeks_absent store first number old new peeks)
+
+-- the session still stands
+pub still_stands : {S A : Type 0} (store : Ghosts S) (answer : Result A Refusal) (old new : Session S) (held : State) → Peeks store answer old new → store.honest (store_of new)
+    → StandsOn store.files old held → StandsOn store.files new held
+still_stands store answer old new held peeks honest stands = stands_still store.files old new held stands peeks.kept (peeks.reads.files honest)
 
 -- a preview looks
 pub preview_peeks : {S A : Type 0} (store : Ghosts S) (answer : Result A Refusal) (old new : Session S) → OnlyLooks store answer old new → IfErr answer IsPreviewRefusal → Peeks store answer old new
@@ -319,13 +340,11 @@ found_again files before session held standing opened settles = (
   stays_open before (files (store_of session)) held opened.0 standing opened.2,
 )
 
--- a fault that has one cause has the other that follows
-pub caused : {A : Type 0} (Rose Higher : Type 0) → (Rose → Higher) → (answer : Result A Refusal) → IfErr answer (HasCause Rose) → IfErr answer (HasCause Higher)
-caused Rose Higher on (Ok reply) h = tt
-caused Rose Higher on (Err (StoreFailed stores.Device)) h = on h
-caused Rose Higher on (Err (StoreFailed stores.Memory)) h = h
-caused Rose Higher on (Err (Interrupted causes.Device)) h = on h
-caused Rose Higher on (Err refusal) h = tt
+-- a refused opening of a standing leaves the files
+pub unchanged_opening : (before after : Files) (held : State) (refusal : Refusal) → IsStanding before held → (IsEarly refusal → after ≡ before)
+    → ((cause : Cause) → refusal ≡ Interrupted cause → StopsOpening before after) → after ≡ before
+unchanged_opening before after held (Interrupted cause) standing same stopped = let under = stopped cause refl in absurd (none_under_way before held under.1 under.2 under.0 standing under.3)
+unchanged_opening before after held refusal standing same stopped = same tt
 
 -- ---- from a state of the machine
 

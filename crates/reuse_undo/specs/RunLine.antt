@@ -1,10 +1,10 @@
 -- What a line asks a session for, and what comes of it.
-use Rattle.std.specs.Prelude.{◌≡◌, ◌⊎◌, ◌+◌, Bool, List, Option, Some, ℕ, Result, Ok, Err, IfOk, IfErr, length, is_some, true, if◌then◌else◌}
+use Rattle.std.specs.Prelude.{◌≡◌, ◌⊎◌, ◌+◌, Bool, List, Option, Some, ℕ, Result, Ok, Err, IfOk, IfErr, length, true, if◌then◌else◌}
 use Rattle.std.specs.List.{Contains}
 use Rattle.reuse_tree.specs.Files.{Files, Clashes}
 use Rattle.reuse_tree.specs.declared.change.Change.{Change}
 use Rattle.reuse_session.specs.Answer.{IsEarly, IsFailure, HasClash, IsNoClash, IsOpenRefusal, TellsNoFault}
-use Rattle.reuse_session.specs.Fates.{fates_of, first_refusal}
+use Rattle.reuse_session.specs.Fates.{fates_of}
 use Rattle.reuse_session.specs.Journal.{State, Recorded, Undoes, Redoes, rows_in}
 use Rattle.reuse_session.specs.JournalFiles.{head_path, entry_path, number_of}
 use Rattle.reuse_session.specs.Machine.{Snapshots, step, is_full, run_fates, as_reply}
@@ -39,7 +39,7 @@ use Rattle.reuse_undo.specs.declared.request.Request.TheVariants as requests
 use Rattle.reuse_undo.specs.declared.request.Told.{Told}
 use Rattle.reuse_undo.specs.declared.request.Told.TheVariants as tells
 use Rattle.reuse_undo.specs.RowLines.{AppendsSome}
-use Rattle.reuse_undo.specs.Told.{IsToldText, told_count, WouldBeMade}
+use Rattle.reuse_undo.specs.Told.{IsToldText, told_count, is_refused, WouldBeMade}
 
 -- ---- the session's answer to an event, from any files
 
@@ -197,7 +197,7 @@ abbrev pub Tells : Telling → (Result Told Refusal → Type 0) → Option (List
 Tells telling IsAnswer old new (Ok count) = (told : Told) × IsAnswer (Ok told) × WouldBeMade told × AppendsSome old new (IsToldText telling told) × (count ≡ told_count told)
 Tells telling IsAnswer old new (Err (faults.Refused refusal)) = IsAnswer (Err refusal) × (new ≡ old)
 Tells telling IsAnswer old new (Err (faults.WouldRefuse fates)) =
-    IsAnswer (Ok (tells.Reply (replies.Preview fates))) × (is_some (first_refusal fates) ≡ true) × AppendsSome old new (IsToldText telling (tells.Reply (replies.Preview fates)))
+    IsAnswer (Ok (tells.Reply (replies.Preview fates))) × (is_refused fates ≡ true) × AppendsSome old new (IsToldText telling (tells.Reply (replies.Preview fates)))
 Tells telling IsAnswer old new (Err (faults.NoDiff refusal)) = ((told : Told) × IsAnswer (Ok told)) × (new ≡ old)
 Tells telling IsAnswer old new (Err faults.InUse) = ⊥
 Tells telling IsAnswer old new (Err faults.Write) = (told : Told) × IsAnswer (Ok told)

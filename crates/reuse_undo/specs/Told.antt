@@ -1,6 +1,8 @@
 -- What is told of an answer.
-use Rattle.std.specs.Prelude.{◌≡◌, ℕ, List, ◌++◌, Option, Result, Ok, Err, length, is_some, true, false}
-use Rattle.reuse_session.specs.Fates.{first_refusal}
+use Rattle.std.specs.Prelude.{◌≡◌, ℕ, Bool, List, ◌++◌, Option, Result, Ok, Err, length, true, false}
+use Rattle.std.specs.List.{list_any}
+use Rattle.reuse_session.specs.declared.fate.Fate.{Fate}
+use Rattle.reuse_session.specs.declared.fate.Fate.TheVariants.{Refused}
 use Rattle.reuse_session.specs.declared.reply.Reply.TheVariants.{Log, Preview}
 use Rattle.reuse_undo.specs.declared.fault.Fault.{Fault}
 use Rattle.reuse_undo.specs.declared.fault.Fault.TheVariants.{WouldRefuse, NoDiff, Write, Memory}
@@ -31,9 +33,18 @@ told_count (Reply reply) = path_count reply
 told_count (Shown shown) = 0
 told_count (Reverted reverted) = length reverted.changed
 
+-- whether the call would be refused so
+abbrev pub is_refusal : Fate → Bool
+is_refusal (Refused refusal) = true
+is_refusal fate = false
+
+-- whether one of the fates is a refusal
+abbrev pub is_refused : List Fate → Bool
+is_refused fates = list_any is_refusal fates
+
 -- a call that was only looked at would be made
 abbrev pub WouldBeMade : Told → Type 0
-WouldBeMade (Reply (Preview fates)) = is_some (first_refusal fates) ≡ false
+WouldBeMade (Reply (Preview fates)) = is_refused fates ≡ false
 WouldBeMade told = Unit {0}
 
 -- ---- for private clauses
@@ -41,7 +52,7 @@ WouldBeMade told = Unit {0}
 -- a preview with a refusal is a fault; of every other answer the paths that changed are counted
 abbrev pub Accepts : Told → Result ℕ Fault → Type 0
 Accepts told (Ok count) = (count ≡ told_count told) × WouldBeMade told
-Accepts told (Err (WouldRefuse fates)) = (told ≡ Reply (Preview fates)) × (is_some (first_refusal fates) ≡ true)
+Accepts told (Err (WouldRefuse fates)) = (told ≡ Reply (Preview fates)) × (is_refused fates ≡ true)
 Accepts told (Err fault) = ⊥
 
 -- the answer is printed, if the writer tells its bytes, and accepted; or printing failed, or nothing was printed for want of a diff

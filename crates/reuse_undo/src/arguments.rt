@@ -324,7 +324,11 @@ fn json<'a>(alloc: Global) -> Arg<'a> {
 }
 
 fn show<'a>(alloc: Global) -> Result<Command<'a>, AllocError> {
-    let diff = flag(alloc, "diff", "Tell the lines that the step took away and wrote");
+    let diff = flag(
+        alloc,
+        "diff",
+        "Tell the lines that the step took away and wrote",
+    );
     plain(alloc, "show", "Tells what a step changed", AFTER_SHOW)
         .arg(diff.conflicts_with("json")?)?
         .arg(json(alloc))?

@@ -60,7 +60,11 @@ pub fn print_record<W: Write>(out: &mut W, alloc: Global, change: &Change) -> io
             },
         ),
         Change::Splice {
-            path, at, old, new, ..
+            path,
+            at,
+            old,
+            new,
+            ..
         } => {
             let turn = Turn {
                 path,
@@ -72,12 +76,7 @@ pub fn print_record<W: Write>(out: &mut W, alloc: Global, change: &Change) -> io
     }
 }
 
-fn print_range<W: Write>(
-    out: &mut W,
-    alloc: Global,
-    turn: Turn<'_>,
-    at: usize,
-) -> io::Result<()> {
+fn print_range<W: Write>(out: &mut W, alloc: Global, turn: Turn<'_>, at: usize) -> io::Result<()> {
     let before = turn.before.unwrap_or(b"");
     let after = turn.after.unwrap_or(b"");
     print_head(out, turn)?;
@@ -155,8 +154,14 @@ fn print_side<W: Write>(
 
 fn print_hunk<W: Write>(out: &mut W, hunk: &Hunk<'_>) -> io::Result<()> {
     let pieces = hunk.pieces.as_slice();
-    let old = pieces.iter().filter(|piece| piece.sign != Sign::Added).count();
-    let new = pieces.iter().filter(|piece| piece.sign != Sign::Removed).count();
+    let old = pieces
+        .iter()
+        .filter(|piece| piece.sign != Sign::Added)
+        .count();
+    let new = pieces
+        .iter()
+        .filter(|piece| piece.sign != Sign::Removed)
+        .count();
     let old_first = first_line(hunk.lines_above, old);
     let new_first = first_line(hunk.lines_above, new);
     writeln!(out, "@@ -{old_first},{old} +{new_first},{new} @@")?;

@@ -19,8 +19,8 @@ use crate::fault::Fault;
 use crate::line::{Line, Telling};
 use crate::request::{Request, Told, request_of};
 use calls::ask;
-use drawn::{draw, foresee};
-use printed::{finish, has_refusal};
+use drawn::{Foreseen, draw, foresee};
+use printed::{finish, is_refused};
 use reuse_session::{LicenceTexts, Refusal, Reply, Session};
 use reuse_tree::Store;
 use std::alloc::Global;
@@ -81,12 +81,9 @@ fn call<S: Store + Drop>(
         Ok(opened) => {
             let mut session = opened;
             let answer = ask(alloc, &mut session, request);
-            if telling == Telling::Diff && would_be_made(&answer) {
-                let (store, diff) = look(alloc, session, request);
-                (store, answer, diff)
-            } else {
-                (session.into_store(), answer, Ok(Vec::new(alloc)))
-            }
+            let wants_diff = telling == Telling::Diff && would_be_made(&answer);
+            let (store, diff) = close(alloc, session, request, wants_diff);
+            (store, answer, diff)
         }
         Err((refusal, store)) => (store, Err(refusal), Ok(Vec::new(alloc))),
     }
@@ -95,12 +92,28 @@ fn call<S: Store + Drop>(
 // Whether the answer is a preview without a refusal.
 fn would_be_made(answer: &Result<Told, Refusal>) -> bool {
     match answer {
-        Ok(Told::Reply(Reply::Preview(fates))) => !has_refusal(fates.as_slice()),
+        Ok(Told::Reply(Reply::Preview(fates))) => !is_refused(fates.as_slice()),
         _ => false,
     }
 }
 
-// The diff of what a previewed call would change; it only reads.
+// Gives the store back, and the diff of what a previewed call would change, where one is wanted. It only reads.
+fn close<S: Store + Drop>(
+    alloc: Global,
+    session: Session<S>,
+    request: &Request,
+    wants_diff: bool,
+) -> (S, Result<Vec<u8>, Fault>)
+    ensures reads { OnlyReads S.Store (store_of session) result.0 }
+    ensures diff { IfErr result.1 IsOfDiff }
+{
+    if wants_diff {
+        look(alloc, session, request)
+    } else {
+        (session.into_store(), Ok(Vec::new(alloc)))
+    }
+}
+
 fn look<S: Store + Drop>(
     alloc: Global,
     session: Session<S>,
@@ -111,11 +124,20 @@ fn look<S: Store + Drop>(
 {
     let mut session = session;
     match foresee(alloc, &mut session, request) {
-        Ok(foreseen) => {
-            let mut store = session.into_store();
-            let diff = draw(alloc, &mut store, &foreseen);
-            (store, diff)
-        }
+        Ok(foreseen) => draw_from(alloc, session.into_store(), &foreseen),
         Err(refusal) => (session.into_store(), Err(Fault::NoDiff(refusal))),
     }
+}
+
+fn draw_from<S: Store + Drop>(
+    alloc: Global,
+    store: S,
+    foreseen: &Foreseen,
+) -> (S, Result<Vec<u8>, Fault>)
+    ensures reads { OnlyReads S.Store store result.0 }
+    ensures diff { IfErr result.1 IsOfDiff }
+{
+    let mut store = store;
+    let diff = draw(alloc, &mut store, foreseen);
+    (store, diff)
 }

@@ -114,7 +114,9 @@ fn push_compared<'a>(
             pieces.push(kept(first))?;
             old = old.split_at(1).1;
             new = new.split_at(1).1;
-        } else if count_of(&counts, old.len() - 1, new.len()) >= count_of(&counts, old.len(), new.len() - 1) {
+        } else if count_of(&counts, old.len() - 1, new.len())
+            >= count_of(&counts, old.len(), new.len() - 1)
+        {
             pieces.push(removed(first))?;
             old = old.split_at(1).1;
         } else {
@@ -132,11 +134,7 @@ fn push_compared<'a>(
 }
 
 /// How many lines the last lines of both, so many of each, have in common in order; none where there are too many lines.
-fn common_counts(
-    alloc: Global,
-    old: &[&[u8]],
-    new: &[&[u8]],
-) -> Result<Vec<Vec<u32>>, AllocError> {
+fn common_counts(alloc: Global, old: &[&[u8]], new: &[&[u8]]) -> Result<Vec<Vec<u32>>, AllocError> {
     let mut rows = Vec::new(alloc);
     if old.len().saturating_mul(new.len()) > MOST_PAIRS {
         return Ok(rows);
@@ -151,7 +149,12 @@ fn common_counts(
     Ok(rows)
 }
 
-fn next_row(alloc: Global, row: &[u32], line: &[u8], new: &[&[u8]]) -> Result<Vec<u32>, AllocError> {
+fn next_row(
+    alloc: Global,
+    row: &[u32],
+    line: &[u8],
+    new: &[&[u8]],
+) -> Result<Vec<u32>, AllocError> {
     let mut next = Vec::new(alloc);
     next.push(0)?;
     let mut left = 0u32;
@@ -182,17 +185,30 @@ fn lines_of<'a>(alloc: Global, text: &'a [u8]) -> Result<Vec<&'a [u8]>, AllocErr
 
 /// How many lines are the same at the end of both.
 fn common_lines_below(old: &[&[u8]], new: &[&[u8]]) -> usize {
-    old.iter().rev().zip(new.iter().rev()).take_while(|(line, other)| line == other).count()
+    old.iter()
+        .rev()
+        .zip(new.iter().rev())
+        .take_while(|(line, other)| line == other)
+        .count()
 }
 
 /// How many bytes are the same at the start of both.
 fn common_front(before: &[u8], after: &[u8]) -> usize {
-    before.iter().zip(after).take_while(|(byte, other)| byte == other).count()
+    before
+        .iter()
+        .zip(after)
+        .take_while(|(byte, other)| byte == other)
+        .count()
 }
 
 /// How many bytes are the same at the end of both.
 fn common_back(before: &[u8], after: &[u8]) -> usize {
-    before.iter().rev().zip(after.iter().rev()).take_while(|(byte, other)| byte == other).count()
+    before
+        .iter()
+        .rev()
+        .zip(after.iter().rev())
+        .take_while(|(byte, other)| byte == other)
+        .count()
 }
 
 /// Where the line begins in which this byte stands.

@@ -82,11 +82,7 @@ fn next_step(rows: &[Row], back: bool) -> Option<u32> {
 }
 
 /// The diff of what would change. It only reads.
-pub fn draw<S: Store>(
-    alloc: Global,
-    store: &mut S,
-    foreseen: &Foreseen,
-) -> Result<Vec<u8>, Fault>
+pub fn draw<S: Store>(alloc: Global, store: &mut S, foreseen: &Foreseen) -> Result<Vec<u8>, Fault>
     ensures reads { OnlyReads S.Store store.old store.new }
     ensures fault { IfErr result IsOfDiff }
 {
@@ -128,12 +124,24 @@ fn draw_one<S: Store>(
         Change::Make { path, new, .. } => draw_whole(text, alloc, path, new.as_slice(), !back),
         Change::Drop { path, old, .. } => draw_whole(text, alloc, path, old.as_slice(), back),
         Change::Splice {
-            path, at, old, new, ..
+            path,
+            at,
+            old,
+            new,
+            ..
         } => {
             let (old, new) = if back { (new, old) } else { (old, new) };
             match store.read(alloc, path, LONGEST) {
                 Ok(Reading::Found(file)) => {
-                    draw_range(text, alloc, path, file.as_slice(), *at, old.len(), new.as_slice())
+                    draw_range(
+                        text,
+                        alloc,
+                        path,
+                        file.as_slice(),
+                        *at,
+                        old.len(),
+                        new.as_slice(),
+                    )
                 }
                 Ok(_) => Ok(()),
                 Err(fault) => Err(Fault::NoDiff(Refusal::from(fault))),

@@ -1,8 +1,7 @@
 //! What is told of an answer.
-ghost use Rattle.std.specs.Prelude.{◌≡◌, IfErr, OnOk, is_some};
-ghost use Rattle.reuse_session.specs.Fates.{first_refusal};
+ghost use Rattle.std.specs.Prelude.{◌≡◌, IfErr, OnOk};
 ghost use Rattle.reuse_undo.specs.RowLines.{AppendsSome};
-ghost use Rattle.reuse_undo.specs.Told.{Accepts, Finishes, IsLinesText, IsToldText, told_count};
+ghost use Rattle.reuse_undo.specs.Told.{Accepts, Finishes, is_refusal, is_refused, IsLinesText, IsToldText};
 ghost use Rattle.reuse_undo.specs.WriterFaults.{IsOfDiff};
 
 use crate::diff::print_record;
@@ -114,7 +113,7 @@ fn accept(told: Told) -> Result<usize, Fault>
 fn accept_fates(fates: Fates) -> Result<usize, Fault>
     ensures { Accepts (Told.Reply (Reply.Preview fates)) result }
 {
-    if has_refusal(fates.as_slice()) {
+    if is_refused(fates.as_slice()) {
         Err(Fault::WouldRefuse(fates))
     } else {
         Ok(0)
@@ -122,13 +121,14 @@ fn accept_fates(fates: Fates) -> Result<usize, Fault>
 }
 
 /// Whether one of the fates is a refusal.
-pub fn has_refusal(fates: &[Fate]) -> bool
-    ensures { result ≡ is_some (first_refusal fates.now) }
+pub fn is_refused(fates: &[Fate]) -> bool
+    ensures { result ≡ is_refused fates.now }
 {
-    for fate in fates {
-        if let Fate::Refused(_) = fate {
-            return true;
-        }
-    }
-    false
+    fates.iter().any(|fate| is_refusal(fate))
+}
+
+fn is_refusal(fate: &Fate) -> bool
+    ensures { result ≡ is_refusal fate.now }
+{
+    matches!(fate, Fate::Refused(_))
 }

@@ -39,8 +39,7 @@ returns-in-Call-clause-clash g c honest held stands =
 pub returns-in-Show-clause-meets : goal.returns-in-Show-clause-meets
 returns-in-Show-clause-meets g c honest held stands =
     let peeks = show_peeks g.S.Store c.show.result c.args.session.now c.show.new.self c.show.ensures.reads c.show.ensures.kept c.show.ensures.fails c.show.ensures.call in
-    subst (λ (r : Request). Meets r held c.shown_told.result (g.S.Store.files (store_of c.show.new.self))) (sym c.in-Show.is)
-    (
+    subst (λ (r : Request). Meets r held c.shown_told.result (g.S.Store.files (store_of c.show.new.self))) (sym c.in-Show.is) (
       c.show.result,
       c.shown_told.ensures,
       peek_looks g.S.Store (ShowsIn held.journal c.in-Show.number.now) c.show.result c.args.session.now c.show.new.self held peeks honest stands (c.show.ensures.exact honest held stands),
@@ -65,8 +64,7 @@ returns-in-Show-clause-clash g c honest held stands =
 
 pub returns-in-Revert-clause-meets : goal.returns-in-Revert-clause-meets
 returns-in-Revert-clause-meets g c honest held stands =
-    subst (λ (r : Request). Meets r held c.reverted_told.result (g.S.Store.files (store_of c.revert.new.self))) (sym c.in-Revert.is)
-    (
+    subst (λ (r : Request). Meets r held c.reverted_told.result (g.S.Store.files (store_of c.revert.new.self))) (sym c.in-Revert.is) (
       c.revert.result,
       c.reverted_told.ensures,
       reverts_by g.S.Store c.in-Revert.number.now c.in-Revert.skip_moved.now c.in-Revert.when.now held c.args.session.now c.revert.new.self c.revert.result honest stands
@@ -94,8 +92,7 @@ returns-in-Revert-clause-clash g c honest held stands =
 pub returns-in-PreviewRevert-clause-meets : goal.returns-in-PreviewRevert-clause-meets
 returns-in-PreviewRevert-clause-meets g c honest held stands =
     let back = c.preview_revert in
-    subst (λ (r : Request). Meets r held c.fates_told.result (g.S.Store.files (store_of back.new.session))) (sym c.in-PreviewRevert.is)
-    (
+    subst (λ (r : Request). Meets r held c.fates_told.result (g.S.Store.files (store_of back.new.session))) (sym c.in-PreviewRevert.is) (
       back.result,
       c.fates_told.ensures,
       peek_looks g.S.Store (PreviewsRevert c.in-PreviewRevert.number.now c.in-PreviewRevert.skip_moved.now held) back.result c.args.session.now back.new.session held back.ensures.peeks honest stands
