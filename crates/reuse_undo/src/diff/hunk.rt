@@ -104,33 +104,43 @@ fn push_compared<'a>(
     new: &[&'a [u8]],
 ) -> Result<(), AllocError> {
     let counts = common_counts(alloc, old, new)?;
-    let mut old = old;
-    let mut new = new;
-    while let Some(first) = old.first() {
-        let Some(other) = new.first() else {
+    let mut old_at = 0usize;
+    let mut new_at = 0usize;
+    for _ in 0..old.len().saturating_add(new.len()) {
+        let (Some(line), Some(other)) = (old.get(old_at), new.get(new_at)) else {
             break;
         };
-        if first == other {
-            pieces.push(kept(first))?;
-            old = old.split_at(1).1;
-            new = new.split_at(1).1;
-        } else if count_of(&counts, old.len() - 1, new.len())
-            >= count_of(&counts, old.len(), new.len() - 1)
-        {
-            pieces.push(removed(first))?;
-            old = old.split_at(1).1;
-        } else {
-            pieces.push(added(other))?;
-            new = new.split_at(1).1;
-        }
+        let old_left = old.len().saturating_sub(old_at);
+        let new_left = new.len().saturating_sub(new_at);
+        let sign = next_sign(&counts, line == other, old_left, new_left);
+        pieces.push(Piece {
+            sign,
+            line: if sign == Sign::Added { other } else { line },
+        })?;
+        old_at = old_at.saturating_add(if sign == Sign::Added { 0 } else { 1 });
+        new_at = new_at.saturating_add(if sign == Sign::Removed { 0 } else { 1 });
     }
-    for line in old {
+    for line in old.iter().skip(old_at) {
         pieces.push(removed(line))?;
     }
-    for line in new {
+    for line in new.iter().skip(new_at) {
         pieces.push(added(line))?;
     }
     Ok(())
+}
+
+/// What becomes of the next lines, where so many are left of both: the next old one goes, or a new one comes, whichever leaves more
+/// lines in common.
+fn next_sign(counts: &[Vec<u32>], are_same: bool, old_left: usize, new_left: usize) -> Sign {
+    if are_same {
+        Sign::Kept
+    } else if count_of(counts, old_left.saturating_sub(1), new_left)
+        >= count_of(counts, old_left, new_left.saturating_sub(1))
+    {
+        Sign::Removed
+    } else {
+        Sign::Added
+    }
 }
 
 /// How many lines the last lines of both, so many of each, have in common in order; none where there are too many lines.
@@ -172,7 +182,7 @@ fn next_row(
     Ok(next)
 }
 
-fn count_of(counts: &Vec<Vec<u32>>, old: usize, new: usize) -> u32 {
+fn count_of(counts: &[Vec<u32>], old: usize, new: usize) -> u32 {
     match counts.get(old) {
         Some(row) => row.get(new).copied().unwrap_or(0),
         None => 0,
