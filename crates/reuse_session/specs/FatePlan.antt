@@ -1,5 +1,5 @@
 -- What a plan of fates is, for private clauses.
-use Rattle.std.specs.Prelude.{◌≡◌, List, [], ◌∷◌, ◌++◌, Option, Some, None, Result, Ok, Err}
+use Rattle.std.specs.Prelude.{◌≡◌, ◌⊎◌, List, [], ◌∷◌, ◌++◌, Option, Some, None, Result, Ok, Err}
 use Rattle.std.specs.Option.{option_to_list}
 use Rattle.std.specs.declared.vec.Vec.{Vec}
 use Rattle.reuse_tree.specs.Files.{Files}
@@ -9,7 +9,7 @@ use Rattle.reuse_session.specs.Plan.{MakesEdit, MakesEdits}
 use Rattle.reuse_session.specs.declared.fate.Fate.{Fate}
 use Rattle.reuse_session.specs.declared.plan_fates.Planned.{Planned}
 use Rattle.reuse_session.specs.declared.reply.Refusal.{Refusal}
-use Rattle.reuse_session.specs.declared.reply.Refusal.TheVariants.{Fault, Memory}
+use Rattle.reuse_session.specs.declared.reply.Refusal.TheVariants.{Memory}
 
 -- the changes of all edits, or none where one is refused
 abbrev pub MakesUnlessRefused : {A : Type 0} → Files → Result (List Edit) Refusal → Option (Vec Change A) → Type 0
@@ -33,8 +33,6 @@ pub record Adds (tree : Files) (given : Result (Option Edit) Refusal) (told : Fa
   pub fates : new.fates.items ≡ old.fates.items ++ told ∷ []
   pub changes : AddsChange tree given old.changes new.changes
 
--- the refusal tells neither a fault of the store nor want of memory
-abbrev pub IsTold : Refusal → Type 0
-IsTold Memory = ⊥
-IsTold (Fault fault) = ⊥
-IsTold refusal = Unit {0}
+-- a fault or want of memory that is passed on, or memory ran out meanwhile
+abbrev pub IsPassedOn : Refusal → Refusal → Type 0
+IsPassedOn refusal fault = (fault ≡ Memory) ⊎ (fault ≡ refusal)

@@ -31,6 +31,12 @@ IsLookRefusal Memory = Unit {0}
 IsLookRefusal (Fault fault) = Unit {0}
 IsLookRefusal refusal = ⊥
 
+-- the refusal tells neither a fault of the store nor want of memory
+abbrev pub IsTold : Refusal → Type 0
+IsTold Memory = ⊥
+IsTold (Fault fault) = ⊥
+IsTold refusal = Unit {0}
+
 -- the refusals of a preview of an entry that is listed
 abbrev pub IsListedPreviewRefusal : Refusal → Type 0
 IsListedPreviewRefusal (BadJournal path) = Unit {0}

@@ -1,5 +1,6 @@
 // What a call would do, path by path.
-ghost use Rattle.std.specs.Prelude.{◌≡◌, List};
+ghost use Rattle.std.specs.Prelude.{◌≡◌, IfOk, IfErr};
+ghost use Rattle.reuse_session.specs.Previews.{IsLookRefusal, IsTold};
 
 use crate::command::Command;
 use crate::reply::Refusal;
@@ -26,6 +27,7 @@ pub struct Fates {
 }
 
 impl Model for Fates {
+    ghost use Rattle.std.specs.Prelude.{List};
     ghost use Rattle.reuse_session.specs.declared.fate.Fate.{Fate};
 
     ghost Value = { List Fate };
@@ -51,4 +53,16 @@ pub enum Call {
     Undo,
     /// A redo.
     Redo,
+}
+
+/// The refusal, unless it tells a fault of the store or want of memory.
+pub(crate) fn told(refusal: Refusal) -> Result<Refusal, Refusal>
+    ensures told { IfOk result (λ told. (told ≡ refusal) × IsTold told) }
+    ensures fault { IfErr result (λ fault. (fault ≡ refusal) × IsLookRefusal fault) }
+{
+    match refusal {
+        Refusal::Memory => Err(Refusal::Memory),
+        Refusal::Fault(fault) => Err(Refusal::Fault(fault)),
+        refusal => Ok(refusal),
+    }
 }

@@ -1,5 +1,5 @@
 //! Laws of the definitions that the contracts of a session cite.
-ghost use Rattle.std.specs.Prelude.{◌≡◌, ◌≢◌, ◌↔◌, List, map, ℕ, Ok};
+ghost use Rattle.std.specs.Prelude.{◌≡◌, ◌≢◌, ◌↔◌, List, map, ℕ, Ok, Err, Some, None};
 ghost use Rattle.std.specs.Ordering.{nat_cmp};
 ghost use Rattle.std.specs.Cmp.Lexicographic.{slice_cmp};
 ghost use Rattle.std.specs.List.{All, Contains};
@@ -9,6 +9,7 @@ ghost use Rattle.reuse_tree.specs.Files.{Files};
 ghost use Rattle.reuse_tree.specs.Change.{inverse_of};
 ghost use Rattle.reuse_tree.specs.declared.change.Change.{Change};
 ghost use Rattle.reuse_session.specs.Entry.{CanBeMade, IsEntry, LeadsAll, LeadsBy};
+ghost use Rattle.reuse_session.specs.Fates.{first_refusal, fates_of};
 ghost use Rattle.reuse_session.specs.InTurn.{LeadsInTurn};
 ghost use Rattle.reuse_session.specs.Journal.{State};
 ghost use Rattle.reuse_session.specs.Opening.{IsFirstBad, IsStuckAt, CanOpenOn};
@@ -21,7 +22,9 @@ ghost use Rattle.reuse_session.specs.declared.command.Command.{Command};
 ghost use Rattle.reuse_session.specs.declared.command.Command.TheVariants.{Download};
 ghost use Rattle.reuse_session.specs.declared.entry.Way.{Way};
 ghost use Rattle.reuse_session.specs.declared.entry.Way.TheVariants.{Undo};
+ghost use Rattle.reuse_session.specs.declared.fate.Fate.TheVariants.{Changes};
 ghost use Rattle.reuse_session.specs.declared.licence.LicenceText.{LicenceText};
+ghost use Rattle.reuse_session.specs.declared.reply.Refusal.{Refusal};
 
 /// Any files open in one way: at most one path is the first at fault, at most one is where the pending step is stuck, at most one
 /// standing can be opened on, and no two of these three are there.
@@ -60,4 +63,12 @@ pub fn seals_tell_of_whole_files()
         → All (IsAsLeft way (tree_for way first second) now) run.step.changes }
     ensures exact { (command : Command) (when : ℕ) (first second : State) (run : IsRun command when first second) (way : Way) (now : Files) → All (IsToldApart (tree_for way first second) now) run.step.changes
         → All (CanBeMade way now) run.step.changes ↔ All (IsUntouched way (tree_for way first second) now) run.step.changes }
+{}
+
+/// The outcome of a command follows the fates of its paths: it is refused exactly by the first refusal among them, and where there is
+/// none it is a tree, which differs from the tree that was there exactly at the paths that change.
+pub fn outcome_follows_fates()
+    ensures refused { (command : Command) (tree : Files) (refusal : Refusal) → (outcome_of command tree ≡ Err refusal) ↔ (first_refusal (fates_of command tree) ≡ Some refusal) }
+    ensures accepted { (command : Command) (tree : Files) → (first_refusal (fates_of command tree) ≡ None) ↔ ((after : Files) × (outcome_of command tree ≡ Ok after)) }
+    ensures changed { (command : Command) (tree after : Files) (path : List ℕ) → outcome_of command tree ≡ Ok after → Contains (fates_of command tree) (Changes path) ↔ (get tree path ≢ get after path) }
 {}

@@ -1,5 +1,5 @@
 // What a run of a command would do, path by path.
-ghost use Rattle.std.specs.Prelude.{◌≡◌, ◌++◌, ◌∷◌, ◌⊎◌, [], Result, Ok, Option, Some, None, List, IfOk, IfErr, OnOk, map};
+ghost use Rattle.std.specs.Prelude.{◌≡◌, ◌++◌, ◌∷◌, ◌⊎◌, [], Result, Ok, Err, Option, Some, None, List, IfOk, IfErr, OnOk, map, not, ◌&&◌, if◌then◌else◌};
 ghost use Rattle.std.specs.FinMap.{keys};
 ghost use Rattle.std.specs.Option.{option_map};
 ghost use Rattle.reuse_header.specs.Names.{lookup};
@@ -9,22 +9,25 @@ ghost use Rattle.reuse_tree.specs.Change.{path_of};
 ghost use Rattle.reuse_tree.specs.Files.{Files, tree_of};
 ghost use Rattle.reuse_session.specs.Annotate.{annotated_at};
 ghost use Rattle.reuse_session.specs.Answer.{RefusedAsRead};
+ghost use Rattle.reuse_session.specs.Command.{has_root};
 ghost use Rattle.reuse_session.specs.Downloads.{id_refusal, download_edits};
 ghost use Rattle.reuse_session.specs.Edit.{Edit};
-ghost use Rattle.reuse_session.specs.FatePlan.{Plans, Adds, IsTold};
 ghost use Rattle.reuse_session.specs.Entry.{IsEntry};
-ghost use Rattle.reuse_session.specs.Reverting.{revert_edits};
+ghost use Rattle.reuse_session.specs.FatePlan.{MakesUnlessRefused, Plans, Adds, IsPassedOn};
 ghost use Rattle.reuse_session.specs.Fates.{fate_by, fate_at, annotation_fates, edit_fates, id_refusals, download_fates, path_fates, revert_fate, limit_fates, fates_of};
+ghost use Rattle.reuse_session.specs.Reverting.{revert_edits};
 ghost use Rattle.reuse_session.specs.Outcome.{edits_at, edits_by_names, edits_of};
 ghost use Rattle.reuse_session.specs.Plan.{AnswersEdits, MakesEdit, IsRefusalOf};
-ghost use Rattle.reuse_session.specs.Previews.{IsLookRefusal};
+ghost use Rattle.reuse_session.specs.Previews.{IsLookRefusal, IsTold};
 ghost use Rattle.reuse_session.specs.TreeStyles.{styles_in};
+ghost use Rattle.reuse_session.specs.Worked.{worked_paths};
 ghost use Rattle.reuse_session.specs.declared.fate.Fate.{Fate};
 ghost use Rattle.reuse_session.specs.declared.fate.Fate.TheVariants as fate;
 ghost use Rattle.reuse_session.specs.declared.reply.Refusal.{Refusal};
+ghost use Rattle.reuse_session.specs.declared.reply.Refusal.TheVariants.{TooMany};
 
 use crate::command::{Command, Place, Scope};
-use crate::fate::{Fate, Fates};
+use crate::fate::{Fate, Fates, told};
 use crate::licence::LicenceText;
 use crate::listing::tree_paths;
 use crate::places::{has_root, worked_paths};
@@ -78,7 +81,8 @@ impl Planned {
     // Adds a refusal, unless it tells a fault of the store or want of memory.
     fn push_refusal(&mut self, refusal: Refusal) -> Result<(), Refusal>
         ensures adds { (tree : Files) (given : Result (Option Edit) Refusal) → IsRefusalOf given refusal → OnOk result (Adds tree given (fate.Refused refusal) self.old self.new) }
-        ensures fault { IfErr result (λ fault. (fault ≡ refusal) ⊎ (fault ≡ Refusal.Memory)) }
+        ensures told { OnOk result (IsTold refusal) }
+        ensures fault { IfErr result (IsPassedOn refusal) }
         ensures refusal { IfErr result IsLookRefusal }
     {
         self.fates.push(as_fate(refusal)?)?;
@@ -98,7 +102,22 @@ pub(crate) fn plan_fates<S: Store>(
     ensures reads { OnlyReads S.Store store.old store.new }
     ensures refusal { IfErr result IsLookRefusal }
 {
-    let planned = match command {
+    let planned = plan_command(alloc, store, command)?;
+    Ok(with_limit(planned)?)
+}
+
+// What is found of a command, however many its changes are.
+fn plan_command<S: Store>(
+    alloc: Global,
+    store: &mut S,
+    command: &Command,
+) -> Result<Planned, Refusal>
+    ensures planned { S.honest store.new → IfOk result (Plans (tree_of (S.files store.old)) (path_fates command.now (tree_of (S.files store.old))) (edits_of command.now (tree_of (S.files store.old)))) }
+    ensures fails { RefusedAsRead S.Store store.old store.new result }
+    ensures reads { OnlyReads S.Store store.old store.new }
+    ensures refusal { IfErr result IsLookRefusal }
+{
+    match command {
         Command::Annotate {
             places,
             additions,
@@ -113,10 +132,6 @@ pub(crate) fn plan_fates<S: Store>(
             changes,
             skip_moved,
         } => plan_revert(alloc, store, changes.as_slice(), *skip_moved),
-    };
-    match planned {
-        Ok(planned) => Ok(with_limit(planned)?),
-        Err(refusal) => Err(refusal),
     }
 }
 
@@ -133,7 +148,9 @@ fn with_limit(planned: Planned) -> Result<Fates, AllocError>
 }
 
 // Whether there are changes, and they are more than an entry holds.
-fn is_over(changes: &Option<Vec<Change>>) -> bool {
+fn is_over(changes: &Option<Vec<Change>>) -> bool
+    ensures { (tree : Files) (edits : Result (List Edit) Refusal) → MakesUnlessRefused tree edits changes.now → limit_fates edits ≡ (if result then fate.Refused TooMany ∷ [] else []) }
+{
     match changes {
         Some(changes) => is_too_many(changes),
         None => false,
@@ -145,16 +162,14 @@ fn as_fate(refusal: Refusal) -> Result<Fate, Refusal>
     ensures told { IfOk result (λ told. (told ≡ fate.Refused refusal) × IsTold refusal) }
     ensures fault { IfErr result (λ fault. (fault ≡ refusal) × IsLookRefusal fault) }
 {
-    match refusal {
-        Refusal::Memory => Err(Refusal::Memory),
-        Refusal::Fault(fault) => Err(Refusal::Fault(fault)),
-        refusal => Ok(Fate::Refused(refusal)),
-    }
+    Ok(Fate::Refused(told(refusal)?))
 }
 
 // A refusal alone.
 fn refused(alloc: Global, refusal: Refusal) -> Result<Planned, Refusal>
-    ensures planned { (tree : Files) (edits : Result (List Edit) Refusal) → IsRefusalOf edits refusal → IfOk result (Plans tree (fate.Refused refusal ∷ []) edits) }
+    ensures alone { IfOk result (λ planned. IsTold refusal × (planned.fates.items ≡ fate.Refused refusal ∷ []) × (planned.changes ≡ None)) }
+    ensures fault { IfErr result (IsPassedOn refusal) }
+    ensures refusal { IfErr result IsLookRefusal }
 {
     let fate = as_fate(refusal)?;
     let mut fates = Vec::new(alloc);
@@ -168,6 +183,8 @@ fn refused(alloc: Global, refusal: Refusal) -> Result<Planned, Refusal>
 // What is found of changes that are all made or refused together.
 fn of_changes(alloc: Global, planned: Result<Vec<Change>, Refusal>) -> Result<Planned, Refusal>
     ensures planned { (tree : Files) (edits : Result (List Edit) Refusal) → AnswersEdits tree edits planned → IfOk result (Plans tree (edit_fates edits) edits) }
+    ensures fault { IfErr result (λ fault. (fault ≡ Refusal.Memory) ⊎ (planned ≡ Err fault)) }
+    ensures refusal { IfErr result IsLookRefusal }
 {
     match planned {
         Ok(changes) => {
@@ -202,18 +219,62 @@ fn plan_annotation<S: Store>(
     ensures reads { OnlyReads S.Store store.old store.new }
     ensures refusal { IfErr result IsLookRefusal }
 {
-    let styles = match read_styles(alloc, store) {
-        Ok(styles) => styles,
-        Err(refusal) => return refused(alloc, refusal),
-    };
-    if !scope.recursive && has_root(places) {
+    match read_styles(alloc, store) {
+        Ok(styles) => plan_places(alloc, store, places, additions, how, scope, &styles),
+        Err(refusal) => refused(alloc, refusal),
+    }
+}
+
+// What is found of an annotation by this table of styles.
+fn plan_places<S: Store>(
+    alloc: Global,
+    store: &mut S,
+    places: &[Place],
+    additions: &Additions,
+    how: &How,
+    scope: &Scope,
+    styles: &StyleTable,
+) -> Result<Planned, Refusal>
+    ensures planned { S.honest store.new → IfOk result (Plans (tree_of (S.files store.old))
+        (annotation_fates places.now additions.now how.now scope.now (tree_of (S.files store.old)) (Ok (lookup styles.now)))
+        (edits_by_names places.now additions.now how.now scope.now (tree_of (S.files store.old)) (Ok (lookup styles.now)))) }
+    ensures fails { RefusedAsRead S.Store store.old store.new result }
+    ensures reads { OnlyReads S.Store store.old store.new }
+    ensures refusal { IfErr result IsLookRefusal }
+{
+    if gives_root(places, scope) {
         return refused(alloc, Refusal::IsFolder(Place::Root));
     }
+    plan_listed(alloc, store, places, additions, how, scope, styles)
+}
+
+// Whether the root is given where folders aren't gone through.
+fn gives_root(places: &[Place], scope: &Scope) -> bool
+    ensures { result ≡ (not scope.now.recursive && has_root places.now) }
+{
+    !scope.recursive && has_root(places)
+}
+
+// What is found at the paths that are gone through.
+fn plan_listed<S: Store>(
+    alloc: Global,
+    store: &mut S,
+    places: &[Place],
+    additions: &Additions,
+    how: &How,
+    scope: &Scope,
+    styles: &StyleTable,
+) -> Result<Planned, Refusal>
+    ensures planned { S.honest store.new → IfOk result (Plans (tree_of (S.files store.old))
+        (map (fate_at how.now scope.now additions.now (lookup styles.now) (tree_of (S.files store.old))) (worked_paths scope.now.recursive places.now (tree_of (S.files store.old))))
+        (edits_at (annotated_at how.now scope.now additions.now (lookup styles.now) (tree_of (S.files store.old))) (worked_paths scope.now.recursive places.now (tree_of (S.files store.old))))) }
+    ensures fails { RefusedAsRead S.Store store.old store.new result }
+    ensures reads { OnlyReads S.Store store.old store.new }
+    ensures refusal { IfErr result IsLookRefusal }
+{
     let paths = tree_paths(alloc, store)?;
     let worked = worked_paths(alloc, &paths, places, scope.recursive)?;
-    plan_paths(
-        alloc, store, &paths, &worked, additions, how, scope, &styles,
-    )
+    plan_paths(alloc, store, &paths, &worked, additions, how, scope, styles)
 }
 
 // What is found at the worked paths. `paths` are those of the tree.
