@@ -131,12 +131,16 @@ pub record IsChangeInMemory (change : Change) : Type 0 where
   pub before : AreDigestBytes (digest_before change)
   pub after : AreDigestBytes (digest_after change)
 
--- an entry whose text is good
-pub record IsSoundEntry (entry : Entry) : Type 0 where
+-- an entry in memory, of good changes
+pub record IsEntryInMemory (entry : Entry) : Type 0 where
   pub changes : IsEntry entry.changes
   pub in_memory : All IsChangeInMemory entry.changes
-  pub known : knows (is_any_sealed entry.changes) entry.command ≡ true
   pub when : entry.when ≤ 250_000_000_000
+
+-- an entry whose text is good: its format knows its command
+pub record IsSoundEntry (entry : Entry) : Type 0 where
+  pub held : IsEntryInMemory entry
+  pub known : knows (is_any_sealed entry.changes) entry.command ≡ true
 
 -- ---- for private clauses
 

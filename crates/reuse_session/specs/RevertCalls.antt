@@ -1,9 +1,8 @@
 -- What a revert of a step answers and leaves: what a run of the command does that takes the changes of the step back.
-use Rattle.std.specs.Prelude.{◌≡◌, ◌⊎◌, ℕ, Bool, List, [], ◌∷◌, map, Result, Ok, Err, IfOk}
+use Rattle.std.specs.Prelude.{◌≡◌, ◌⊎◌, ℕ, Bool, not, List, [], ◌∷◌, filter, Result, Ok, Err, IfOk}
 use Rattle.std.specs.List.{All, Contains}
 use Rattle.std.specs.FinMap.{get}
 use Rattle.reuse_tree.specs.Asked.{OnlyReads}
-use Rattle.reuse_tree.specs.Change.{path_of}
 use Rattle.reuse_tree.specs.Files.{Files}
 use Rattle.reuse_tree.specs.declared.change.Change.{Change}
 use Rattle.reuse_tree.specs.declared.store.Store.{Ghosts}
@@ -12,8 +11,8 @@ use Rattle.reuse_session.specs.Calls.{folder_of, LeavesRun}
 use Rattle.reuse_session.specs.Entry.{paths_of}
 use Rattle.reuse_session.specs.Journal.{Recorded, State}
 use Rattle.reuse_session.specs.JournalFiles.{entry_path, number_of, EntrySays}
+use Rattle.reuse_session.specs.Listing.{is_among}
 use Rattle.reuse_session.specs.Machine.{Kept, Snapshots, ran_by}
-use Rattle.reuse_session.specs.Reverting.{stuck_on}
 use Rattle.reuse_session.specs.Session.{store_of, StandsAt, Follows, Runs}
 use Rattle.reuse_session.specs.Showing.{IsUnused, LedTo}
 use Rattle.reuse_session.specs.declared.command.Command.TheVariants.{Revert}
@@ -34,13 +33,17 @@ abbrev pub as_run : Result Reverted Refusal → Result Reply Refusal
 as_run (Ok reverted) = Ok (changed_or_none reverted.changed)
 as_run (Err refusal) = Err refusal
 
--- a step of the number is done, its changes are taken back as by a run, and the paths are told at which they can't be
+-- the paths that are none of those that changed
+abbrev pub left_of : List (List ℕ) → List (List ℕ) → List (List ℕ)
+left_of paths changed = filter (λ path. not (is_among changed path)) paths
+
+-- a step of the number is done, its changes are taken back as by a run, and the step's other paths are told
 pub record TakesBack (number : ℕ) (skip_moved : Bool) (when : ℕ) (old : State) (result : Result Reverted Refusal) (new : State) : Type 0 where
   pub step : Recorded
   pub is_done : Contains old.journal.done step
-  pub number : number_of step ≡ number
+  pub numbered : number_of step ≡ number
   pub runs : Runs (Revert step.changes skip_moved) when old (as_run result) new
-  pub skipped : IfOk result (λ (reverted : Reverted). reverted.skipped ≡ map path_of (stuck_on old.tree step.changes))
+  pub skipped : IfOk result (λ (reverted : Reverted). reverted.skipped ≡ left_of (paths_of step.changes) reverted.changed)
 
 -- what a revert answers and leaves: where no step that is done has the number it is refused
 abbrev pub Reverts : ℕ → Bool → ℕ → State → Result Reverted Refusal → State → Type 0

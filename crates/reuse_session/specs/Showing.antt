@@ -1,5 +1,5 @@
 -- Steps by their numbers, and what a session shows of one.
-use Rattle.std.specs.Prelude.{◌≡◌, ◌≢◌, ◌⊎◌, ℕ, Bool, true, false, ◌==◌, List, [], ◌∷◌, length, Result, Ok, Err}
+use Rattle.std.specs.Prelude.{◌≡◌, ◌≢◌, ◌⊎◌, ℕ, Bool, true, false, ◌==◌, List, [], ◌∷◌, length, find, Option, Some, None, Result, Ok, Err}
 use Rattle.std.specs.List.{All, Contains, list_any}
 use Rattle.reuse_tree.specs.Files.{Files}
 use Rattle.reuse_tree.specs.declared.change.Change.{Change}
@@ -29,7 +29,7 @@ IsUnused number steps = All (λ (step : Recorded). number_of step ≢ number) st
 pub record Shows (journal : Journal) (number : ℕ) (shown : Shown) : Type 0 where
   pub step : Recorded
   pub is_in : Contains (steps_in shown.row.done journal) step
-  pub number : number_of step ≡ number
+  pub numbered : number_of step ≡ number
   pub row : shown.row ≡ row_of step.label (length step.changes) shown.row.done
   pub changes : shown.changes ≡ step.changes
 
@@ -53,7 +53,7 @@ LedOn number changes tree (kept ∷ future) = ((kept.label.number ≡ number) ×
 -- what is shown is a row of the machine's log, and how its tree before the step differs from that after it
 pub record ShowsAt (state : Snapshots) (number : ℕ) (shown : Shown) : Type 0 where
   pub row : Contains (rows_of state) shown.row
-  pub number : shown.row.number ≡ number
+  pub numbered : shown.row.number ≡ number
   pub changes : LedTo number shown.changes state.tree state.past ⊎ LedOn number shown.changes state.tree state.future
 
 -- ---- what is remembered
@@ -62,14 +62,17 @@ pub record ShowsAt (state : Snapshots) (number : ℕ) (shown : Shown) : Type 0 w
 abbrev pub lists : List ListedEntry → ℕ → Bool
 lists entries number = list_any (λ (entry : ListedEntry). entry.number == number) entries
 
--- the entries that are done, or those that are undone
-abbrev pub entries_in : Bool → Memory → List ListedEntry
-entries_in true memory = memory.done
-entries_in false memory = memory.undone
+-- ---- for private clauses
 
--- the row is that of an entry of the number
-pub record IsRowOf (memory : Memory) (number : ℕ) (row : Row) : Type 0 where
-  pub entry : ListedEntry
-  pub is_in : Contains (entries_in row.done memory) entry
-  pub number : entry.number ≡ number
-  pub row : row ≡ row_listing row.done entry
+-- the first entry of the number
+abbrev pub entry_of : List ListedEntry → ℕ → Option ListedEntry
+entry_of entries number = find (λ (entry : ListedEntry). entry.number == number) entries
+
+-- its row, of the entries done and then of those undone
+abbrev pub row_among : Option ListedEntry → Option ListedEntry → Option Row
+row_among (Some entry) other = Some (row_listing true entry)
+row_among None (Some entry) = Some (row_listing false entry)
+row_among None None = None
+
+abbrev pub row_in : Memory → ℕ → Option Row
+row_in memory number = row_among (entry_of memory.done number) (entry_of memory.undone number)

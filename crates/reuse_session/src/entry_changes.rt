@@ -1,5 +1,6 @@
 // The changes of an entry, as a command holds them.
-ghost use Rattle.std.specs.Prelude.{◌≡◌, List};
+ghost use Rattle.std.specs.Prelude.{◌≡◌};
+ghost use Rattle.reuse_session.specs.EntryText.{HavePaths};
 ghost use Rattle.reuse_session.specs.Entry.{IsEntry};
 
 use crate::journal::Changes;
@@ -13,19 +14,23 @@ pub struct EntryChanges {
 }
 
 impl Model for EntryChanges {
+    ghost use Rattle.std.specs.Prelude.{List};
     ghost use Rattle.reuse_tree.specs.declared.change.Change.{Change};
+    ghost use Rattle.reuse_session.specs.Entry.{IsEntry};
+    ghost use Rattle.reuse_session.specs.EntryText.{HavePaths};
 
     ghost Value = { List Change };
 
     ghost view = { λ c. c.changes };
 
-    ghost invariant = { λ c. IsEntry c.changes };
+    ghost invariant = { λ c. IsEntry c.changes × HavePaths c.changes };
 }
 
 impl EntryChanges {
     /// Those of an entry that was read.
     pub(crate) fn new(changes: Changes) -> EntryChanges
-        requires { IsEntry changes }
+        requires entry { IsEntry changes }
+        requires paths { HavePaths changes }
         ensures { result ≡ changes }
     {
         EntryChanges { changes }
@@ -35,6 +40,7 @@ impl EntryChanges {
     pub fn as_slice(&self) -> &[Change]
         ensures changes { result.now ≡ self.now }
         ensures entry { IsEntry self.now }
+        ensures paths { HavePaths self.now }
     {
         self.changes.as_slice()
     }

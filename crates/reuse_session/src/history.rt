@@ -1,10 +1,10 @@
 // What a session remembers of the journal: its entries' labels, and not their changes.
-ghost use Rattle.std.specs.Prelude.{◌≡◌, ◌↔◌, ◌<◌, ◌≤◌, ◌+◌, ◌*◌, ◌++◌, ◌∷◌, ◌||◌, [], Option, None, Some, List, IfOk, IfSome, length, map, true, false};
-ghost use Rattle.std.specs.List.{Contains};
+ghost use Rattle.std.specs.Prelude.{◌≡◌, ◌<◌, ◌≤◌, ◌+◌, ◌*◌, ◌++◌, ◌∷◌, [], Option, None, Some, List, IfOk, length, map, true, false};
+ghost use Rattle.std.specs.Option.{option_copied};
 ghost use Rattle.reuse_session.specs.Head.{head_text, IsGoodHead, IsSoundHead};
 ghost use Rattle.reuse_session.specs.History.{Memory, head_listing, row_listing, rows_listing, remember_run, entries_ahead, remember_moved};
 ghost use Rattle.reuse_session.specs.Machine.{is_full};
-ghost use Rattle.reuse_session.specs.Showing.{lists, IsRowOf};
+ghost use Rattle.reuse_session.specs.Showing.{lists, entry_of, row_in};
 ghost use Rattle.reuse_session.specs.declared.history.ListedEntry.{ListedEntry};
 
 use crate::command::CommandName;
@@ -146,12 +146,14 @@ impl History {
 
     /// The row of the entry of this number, done or undone.
     pub fn row(&self, number: u32) -> Option<Row>
-        ensures none { (result ≡ None) ↔ ((lists self.now.done number || lists self.now.undone number) ≡ false) }
-        ensures some { IfSome result (IsRowOf self.now number) }
+        ensures { result ≡ row_in self.now number }
     {
-        match entry_of(&self.done, number) {
+        match entry_of(self.done.as_slice(), number) {
             Some(entry) => Some(row_of(entry, true)),
-            None => Some(row_of(entry_of(&self.undone, number)?, false)),
+            None => match entry_of(self.undone.as_slice(), number) {
+                Some(entry) => Some(row_of(entry, false)),
+                None => None,
+            },
         }
     }
 
@@ -172,8 +174,7 @@ impl History {
 
 // The first entry of this number.
 fn entry_of(entries: &[ListedEntry], number: u32) -> Option<&ListedEntry>
-    ensures none { (result ≡ None) ↔ (lists entries.now number ≡ false) }
-    ensures some { IfSome result (λ entry. Contains entries.now entry.now × (entry.now.number ≡ number)) }
+    ensures { option_copied result ≡ entry_of entries.now number }
 {
     entries.iter().find(|entry| entry.number == number)
 }

@@ -7,7 +7,7 @@ ghost use Rattle.reuse_tree.specs.declared.fault.StoreFault.{StoreFault};
 ghost use Rattle.reuse_tree.specs.declared.fault.StoreFault.TheVariants as faults;
 ghost use Rattle.reuse_session.specs.Answer.{IsReadRefusal, IsPutRefusal, bad_text, RefusedAsRead};
 ghost use Rattle.reuse_session.specs.Entry.{IsEntry, entry_size};
-ghost use Rattle.reuse_session.specs.EntryText.{entry_text, is_any_sealed};
+ghost use Rattle.reuse_session.specs.EntryText.{entry_text, is_any_sealed, HavePaths};
 ghost use Rattle.reuse_session.specs.Format.{knows};
 ghost use Rattle.reuse_session.specs.Head.{IsSoundHead};
 ghost use Rattle.reuse_session.specs.Session.{HasEntryText, IsSameBut};
@@ -137,6 +137,7 @@ fn head_in(alloc: Global, path: PathText, reading: Reading) -> Result<Head, Refu
 pub fn read_entry<S: Store>(alloc: Global, store: &mut S, number: u32) -> Result<Entry, Refusal>
     ensures ok { S.honest store.new → IfOk result (EntrySays (map.get (undo_folder_of (S.files store.old)) (entry_path number))) }
     ensures good { IfOk result (λ entry. IsEntry entry.changes) }
+    ensures paths { IfOk result (λ entry. HavePaths entry.changes) }
     ensures bad { S.honest store.new → (path : List ℕ) → result ≡ Err (Refusal.BadJournal path)
         → (path ≡ entry_path number) × ((entry : Entry) → ¬ (EntrySays (map.get (undo_folder_of (S.files store.old)) (entry_path number)) entry)) }
     ensures refusal { IfErr result IsReadRefusal }
@@ -152,6 +153,7 @@ pub fn read_entry<S: Store>(alloc: Global, store: &mut S, number: u32) -> Result
 fn entry_in(alloc: Global, path: PathText, reading: Reading) -> Result<Entry, Refusal>
     ensures ok { (file : Option (List ℕ)) → reading ≡ reading_of file 268_435_456 → IfOk result (EntrySays file) }
     ensures good { IfOk result (λ entry. IsEntry entry.changes) }
+    ensures paths { IfOk result (λ entry. HavePaths entry.changes) }
     ensures bad { (file : Option (List ℕ)) → reading ≡ reading_of file 268_435_456 → (place : List ℕ) → result ≡ Err (Refusal.BadJournal place)
         → (place ≡ path) × ((entry : Entry) → ¬ (EntrySays file entry)) }
     ensures refusal { IfErr result IsReadRefusal }

@@ -1,25 +1,28 @@
 //! Laws of the definitions that the contracts of a session cite.
-ghost use Rattle.std.specs.Prelude.{◌≡◌, ◌≢◌, ◌↔◌, List, map, ℕ, Ok, Err, Some, None};
+ghost use Rattle.std.specs.Prelude.{◌≡◌, ◌≢◌, ◌↔◌, ◌≤◌, ◌++◌, List, length, map, ℕ, Bool, Option, Ok, Err, Some, None, true};
 ghost use Rattle.std.specs.Ordering.{nat_cmp};
 ghost use Rattle.std.specs.Cmp.Lexicographic.{slice_cmp};
 ghost use Rattle.std.specs.List.{All, Contains};
 ghost use Rattle.std.specs.List.Sorted.{IsPermutation, IsStrictlySortedBy};
 ghost use Rattle.std.specs.FinMap.{get};
-ghost use Rattle.reuse_tree.specs.Files.{Files};
+ghost use Rattle.reuse_tree.specs.Files.{Files, AreFiles};
 ghost use Rattle.reuse_tree.specs.Change.{inverse_of};
 ghost use Rattle.reuse_tree.specs.declared.change.Change.{Change};
-ghost use Rattle.reuse_session.specs.Entry.{CanBeMade, IsEntry, LeadsAll, LeadsBy};
+ghost use Rattle.reuse_tree.specs.declared.change.Change.TheVariants.{Splice};
+ghost use Rattle.reuse_tree.specs.declared.digest.Seal.{Seal};
+ghost use Rattle.reuse_session.specs.Entry.{AreAllSealed, CanBeMade, IsEntry, LeadsAll, LeadsBy};
 ghost use Rattle.reuse_session.specs.Fates.{first_refusal, fates_of};
 ghost use Rattle.reuse_session.specs.InTurn.{LeadsInTurn};
 ghost use Rattle.reuse_session.specs.Journal.{State};
 ghost use Rattle.reuse_session.specs.Opening.{IsFirstBad, IsStuckAt, CanOpenOn};
 ghost use Rattle.reuse_session.specs.Outcome.{outcome_of};
+ghost use Rattle.reuse_session.specs.Reverting.{taken_back};
 ghost use Rattle.reuse_session.specs.Seals.{tree_for, IsAsLeft, IsToldApart, IsUntouched};
 ghost use Rattle.reuse_session.specs.Session.{IsRun};
 ghost use Rattle.reuse_session.specs.TextsPut.{PutsTexts};
 ghost use Rattle.reuse_session.specs.Tree.{changed_paths};
 ghost use Rattle.reuse_session.specs.declared.command.Command.{Command};
-ghost use Rattle.reuse_session.specs.declared.command.Command.TheVariants.{Download};
+ghost use Rattle.reuse_session.specs.declared.command.Command.TheVariants.{Download, Revert};
 ghost use Rattle.reuse_session.specs.declared.entry.Way.{Way};
 ghost use Rattle.reuse_session.specs.declared.entry.Way.TheVariants.{Undo};
 ghost use Rattle.reuse_session.specs.declared.fate.Fate.TheVariants.{Changes};
@@ -71,4 +74,13 @@ pub fn outcome_follows_fates()
     ensures refused { (command : Command) (tree : Files) (refusal : Refusal) → (outcome_of command tree ≡ Err refusal) ↔ (first_refusal (fates_of command tree) ≡ Some refusal) }
     ensures accepted { (command : Command) (tree : Files) → (first_refusal (fates_of command tree) ≡ None) ↔ ((after : Files) × (outcome_of command tree ≡ Ok after)) }
     ensures changed { (command : Command) (tree after : Files) (path : List ℕ) → outcome_of command tree ≡ Ok after → Contains (fates_of command tree) (Changes path) ↔ (get tree path ≢ get after path) }
+{}
+
+/// A revert of a sealed step that is the last leads back to the tree before it, as its undo does. And of a file that was edited below what a
+/// step wrote, that gives way to what was there before, whatever is below it.
+pub fn reverts_take_steps_back()
+    ensures undo { (changes : List Change) (skip_moved : Bool) (before after : Files) → IsEntry changes → AreAllSealed true changes → AreFiles before → LeadsAll changes before after
+        → outcome_of (Revert changes skip_moved) after ≡ Ok before }
+    ensures below { (path front old new behind : List ℕ) (rest : ℕ) (seal : Option Seal) → length (front ++ new ++ behind) ≤ 16_777_216 → length (front ++ old ++ behind) ≤ 16_777_216
+        → taken_back (Splice path (length front) old new rest seal) (Some (front ++ new ++ behind)) ≡ Some (record { path = path; removed = new; written = old; file = Some (front ++ old ++ behind) }) }
 {}

@@ -1,15 +1,19 @@
 // Plans a revert: takes the changes of a step back on whatever the tree is now.
-ghost use Rattle.std.specs.Prelude.{◌≡◌, ◌≢◌, ◌↔◌, ◌+◌, ◌≤◌, ℕ, IfOk, IfErr, IsTrue, List, Ok, Option, Some, true, length};
+ghost use Rattle.std.specs.Prelude.{◌≡◌, ◌≢◌, ◌↔◌, ◌+◌, ◌++◌, ◌≤◌, ℕ, IfOk, IfErr, OnOk, IsSome, IsTrue, List, Ok, Option, Some, None, false, true, length};
+ghost use Rattle.std.specs.Option.{option_to_list};
 ghost use Rattle.std.specs.FinMap.{get, keys};
 ghost use Rattle.std.specs.List.{list_any};
+ghost use Rattle.std.specs.Str.{bytes_eq};
 ghost use Rattle.reuse_tree.specs.Asked.{OnlyReads};
 ghost use Rattle.reuse_tree.specs.Change.{path_of, IsProper};
 ghost use Rattle.reuse_tree.specs.Files.{Files, tree_of};
 ghost use Rattle.reuse_tree.specs.Store.{reading_of};
 ghost use Rattle.reuse_tree.specs.declared.change.Change.TheVariants.{Make, Splice};
 ghost use Rattle.reuse_tree.specs.declared.digest.Seal.{Seal};
-ghost use Rattle.reuse_session.specs.Answer.{IsOfPlan, RefusedAsRead};
+ghost use Rattle.reuse_tree.specs.declared.fault.StoreFault.{StoreFault};
+ghost use Rattle.reuse_session.specs.Answer.{IsFailure, IsOfPlan, IsTestRefusal, RefusedAsRead};
 ghost use Rattle.reuse_session.specs.Entry.{makes, IsEntry, IsSmall};
+ghost use Rattle.reuse_session.specs.EntryText.{HavePaths};
 ghost use Rattle.reuse_session.specs.Plan.{AnswersEdits, MakesEdit};
 ghost use Rattle.reuse_session.specs.Reverting.{revert_edits, stands_at, taken_back, taken_back_on};
 ghost use Rattle.reuse_session.specs.Tree.{is_of_tree};
@@ -19,6 +23,7 @@ use crate::clash::is_clash;
 use crate::entry::Way;
 use crate::entry_changes::EntryChanges;
 use crate::listing::tree_paths;
+use crate::perform::makes_any;
 use crate::reply::Refusal;
 use crate::turn::makes;
 use reuse_text::Bytes;
@@ -35,22 +40,16 @@ pub(crate) fn plan_revert<S: Store>(
     skip_moved: bool,
 ) -> Result<Vec<Change>, Refusal>
     ensures edits { S.honest store.new → AnswersEdits (tree_of (S.files store.old)) (revert_edits changes.now skip_moved (tree_of (S.files store.old))) result }
-    ensures entry { IsEntry changes.now }
+    ensures entry { IsEntry changes.now × HavePaths changes.now }
     ensures fails { RefusedAsRead S.Store store.old store.new result }
     ensures reads { OnlyReads S.Store store.old store.new }
     ensures planned { IfErr result IsOfPlan }
 {
     let changes = changes.as_slice();
-    let paths = paths_to_heed(alloc, store, changes)?;
-    let mut taken = Vec::new(alloc);
-    for change in changes {
-        match take_back(alloc, store, &paths, change)? {
-            Some(back) => taken.push(back)?,
-            None if skip_moved => {}
-            None => return Err(Refusal::Moved(change.path().try_clone(alloc)?)),
-        }
+    match paths_to_heed(alloc, store, changes) {
+        Ok(paths) => take_all_back(alloc, store, &paths, changes, skip_moved),
+        Err(refusal) => Err(refusal),
     }
-    Ok(taken)
 }
 
 // The paths of the tree where one of the changes makes a file as it is taken back, and else none.
@@ -63,11 +62,61 @@ pub(crate) fn paths_to_heed<S: Store>(
     ensures fails { RefusedAsRead S.Store store.old store.new result }
     ensures reads { OnlyReads S.Store store.old store.new }
     ensures planned { IfErr result IsOfPlan }
+    ensures kinds { IfErr result IsFailure }
 {
-    if changes.iter().any(|change| makes(change, Way::Undo)) {
+    if makes_any(changes, Way::Undo) {
         Ok(tree_paths(alloc, store)?)
     } else {
         Ok(Vec::new(alloc))
+    }
+}
+
+// The changes that take these of an entry back, or the first refusal. `paths` are those of the tree, where one of them makes a file.
+fn take_all_back<S: Store>(
+    alloc: Global,
+    store: &mut S,
+    paths: &[PathText],
+    changes: &[Change],
+    skip_moved: bool,
+) -> Result<Vec<Change>, Refusal>
+    ensures edits { S.honest store.new → IsEntry changes.now → (list_any (makes Undo) changes.now ≡ true → paths.now ≡ keys (tree_of (S.files store.old)))
+        → AnswersEdits (tree_of (S.files store.old)) (revert_edits changes.now skip_moved (tree_of (S.files store.old))) result }
+    ensures fails { RefusedAsRead S.Store store.old store.new result }
+    ensures reads { OnlyReads S.Store store.old store.new }
+    ensures planned { IfErr result IsOfPlan }
+{
+    let mut taken = Vec::new(alloc);
+    for change in changes {
+        let back = match take_back(alloc, store, paths, change) {
+            Ok(back) => back,
+            Err(refusal) => return Err(refusal),
+        };
+        match add_back(alloc, &mut taken, change, back, skip_moved) {
+            Ok(()) => {}
+            Err(refusal) => return Err(refusal),
+        }
+    }
+    Ok(taken)
+}
+
+// Adds what takes a change back. Where nothing does, the change is refused, unless such are skipped.
+fn add_back(
+    alloc: Global,
+    taken: &mut Vec<Change>,
+    change: &Change,
+    back: Option<Change>,
+    skip_moved: bool,
+) -> Result<(), Refusal>
+    ensures added { OnOk result (taken.new.items ≡ taken.old.items ++ option_to_list back) }
+    ensures some { skip_moved ≡ false → OnOk result (IsSome back) }
+    ensures moved { (path : List ℕ) → result ≡ Err (Refusal.Moved path) → (path ≡ path_of change.now) × (back ≡ None) × (skip_moved ≡ false) }
+    ensures kinds { IfErr result IsTestRefusal }
+    ensures fault { (fault : StoreFault) → result ≡ Err (Refusal.Fault fault) → ⊥ }
+{
+    match back {
+        Some(back) => Ok(taken.push(back)?),
+        None if skip_moved => Ok(()),
+        None => Err(Refusal::Moved(change.path().try_clone(alloc)?)),
     }
 }
 
@@ -84,6 +133,7 @@ pub(crate) fn take_back<S: Store>(
     ensures fails { RefusedAsRead S.Store store.old store.new result }
     ensures reads { OnlyReads S.Store store.old store.new }
     ensures planned { IfErr result IsOfPlan }
+    ensures kinds { IfErr result IsFailure }
 {
     if makes(change, Way::Undo) && is_clash(alloc, paths, change.path())? {
         return Ok(None);
@@ -127,7 +177,7 @@ fn drop_made(
     ensures { (tree : Files) (after : Option (List ℕ)) → get tree path.now ≡ Some file → length new.now ≤ 16_777_216
         → IfOk result (MakesEdit tree (Ok (taken_back (Make path.now new.now after) (Some file)))) }
 {
-    if file.as_slice() != new.as_slice() {
+    if !is_same(file.as_slice(), new.as_slice()) {
         return Ok(None);
     }
     Ok(Some(Change::sealed_drop(path.try_clone(alloc)?, file)))
@@ -158,6 +208,12 @@ fn put_back(
         new.try_clone(alloc)?,
         old.try_clone(alloc)?,
     )))
+}
+
+fn is_same(file: &[u8], other: &[u8]) -> bool
+    ensures { result ≡ bytes_eq file.now other.now }
+{
+    file == other
 }
 
 // Whether the part stands in the file at the place.

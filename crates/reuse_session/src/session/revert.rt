@@ -1,5 +1,8 @@
 // A session takes a step back that need not be the last.
-ghost use Rattle.std.specs.Prelude.{◌≡◌, ◌↔◌, ◌⊎◌, true, false};
+ghost use Rattle.std.specs.Prelude.{◌≡◌, ◌↔◌, ◌⊎◌, not, IfOk, true, false};
+ghost use Rattle.reuse_session.specs.Answer.{IsRunAnswer};
+ghost use Rattle.reuse_session.specs.Listing.{ArePaths, is_among};
+ghost use Rattle.reuse_session.specs.RevertCalls.{as_run, left_of};
 
 use crate::command::Command;
 use crate::entry_changes::EntryChanges;
@@ -9,7 +12,7 @@ use crate::moment::Moment;
 use crate::perform::paths_of;
 use crate::reply::{Paths, Refusal, Reply, Reverted};
 use crate::session::Session;
-use reuse_tree::Store;
+use reuse_tree::{PathText, Store};
 use std::alloc::Global;
 
 impl<S: Store + Drop> Session<S> {
@@ -61,27 +64,58 @@ impl<S: Store + Drop> Session<S> {
         }
         let entry = read_entry(alloc, &mut self.store, number)?;
         let paths = paths_of(alloc, entry.changes.as_slice())?;
-        let changes = EntryChanges::new(entry.changes);
-        let none = Paths {
-            paths: Vec::new(alloc),
-        };
         let command = Command::Revert {
-            changes,
+            changes: EntryChanges::new(entry.changes),
             skip_moved,
         };
-        match self.run(alloc, &command, when)? {
-            Reply::Changed(changed) => Ok(reverted(paths, changed)),
-            _ => Ok(reverted(paths, none)),
-        }
+        told(alloc, self.run(alloc, &command, when), paths)
     }
 }
 
-// What a revert did that changed these paths of a step.
-fn reverted(paths: Paths, changed: Paths) -> Reverted {
-    let mut paths = paths.paths;
-    paths.retain(|path| !is_among(changed.as_slice(), path.as_bytes()));
+// The answer of the run that takes back a step of these paths.
+fn told(
+    alloc: Global,
+    answer: Result<Reply, Refusal>,
+    paths: Paths,
+) -> Result<Reverted, Refusal>
+    ensures same { IsRunAnswer answer → as_run result ≡ answer }
+    ensures skipped { IfOk result (λ reverted. ArePaths reverted.changed → reverted.skipped ≡ left_of paths reverted.changed) }
+{
+    match answer {
+        Ok(Reply::Changed(changed)) => Ok(reverted(paths, changed)),
+        Ok(_) => Ok(reverted(
+            paths,
+            Paths {
+                paths: Vec::new(alloc),
+            },
+        )),
+        Err(refusal) => Err(refusal),
+    }
+}
+
+// What was done with a step of these paths where it changed those.
+fn reverted(paths: Paths, changed: Paths) -> Reverted
+    ensures changed { result.changed ≡ changed }
+    ensures skipped { ArePaths changed → result.skipped ≡ left_of paths changed }
+{
+    let left = left_of(paths.paths, changed.as_slice());
     Reverted {
         changed,
-        skipped: Paths { paths },
+        skipped: Paths { paths: left },
     }
+}
+
+// The paths that are none of these, which are in byte order.
+fn left_of(paths: Vec<PathText>, changed: &[PathText]) -> Vec<PathText>
+    ensures { ArePaths changed.now → result.items ≡ left_of paths.items changed.now }
+{
+    let mut left = paths;
+    left.retain(|path| is_left(path, changed));
+    left
+}
+
+fn is_left(path: &PathText, changed: &[PathText]) -> bool
+    ensures { ArePaths changed.now → result ≡ not (is_among changed.now path.now) }
+{
+    !is_among(changed, path.as_bytes())
 }
