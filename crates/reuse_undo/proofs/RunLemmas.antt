@@ -1,5 +1,5 @@
 -- What comes of a session's one call: from any files, from a state of the machine, and what is told of it.
-use Rattle.std.proofs.Common.{◌≡◌, ◌≢◌, ◌⊎◌, inl, inr, ⊎_elim, ◌∙◌, ◌+◌, ◌<◌, ◌≤◌, ℕ, Bool, true, false, List, [], Option, Some, Result, Ok, Err, IfErr, IfOk, refl, sym, ap, subst, arith, length}
+use Rattle.std.proofs.Common.{◌≡◌, ◌≢◌, ◌⊎◌, inl, inr, ⊎_elim, ◌∙◌, ◌+◌, ◌<◌, ◌≤◌, ℕ, Bool, true, false, cond, List, [], Option, Some, Result, Ok, Err, IfErr, IfOk, refl, sym, ap, subst, arith, length}
 use Rattle.std.specs.FinMap.{get}
 use Rattle.std.specs.List.{Contains}
 use Rattle.std.specs.Result.{OnOk}
@@ -12,12 +12,13 @@ use Rattle.reuse_tree.specs.declared.fault.StoreFault.{StoreFault}
 use Rattle.reuse_tree.specs.declared.fault.StoreFault.TheVariants as stores
 use Rattle.reuse_tree.specs.declared.store.Store.{Ghosts}
 use Rattle.reuse_session.specs.Answer.{TellsNoFault, IsEarly, IsStop, IsFailure, HasCause, HasClash, IsNoClash, IsBrokenOrMemory, RefusedAsRead}
+use Rattle.reuse_session.specs.Fates.{fates_of}
 use Rattle.reuse_session.specs.Journal.{State, Recorded, rows_in}
 use Rattle.reuse_session.specs.JournalFiles.{head_path, entry_path, number_of, EntrySays}
-use Rattle.reuse_session.specs.Machine.{Snapshots, step, as_reply, fates_in}
+use Rattle.reuse_session.specs.Machine.{Snapshots, step, as_reply, fates_in, is_full, run_fates}
 use Rattle.reuse_session.specs.Calls.{IsCall, LeavesRun, folder_of}
 use Rattle.reuse_session.specs.Opening.{OpensOn, StopsOpening}
-use Rattle.reuse_session.specs.Previews.{OnlyLooks, IsPreviewRefusal}
+use Rattle.reuse_session.specs.Previews.{run_fates_on, OnlyLooks, IsPreviewRefusal}
 use Rattle.reuse_session.specs.RevertCalls.{Reverts, TakesBack, LeavesRevert, as_run}
 use Rattle.reuse_session.specs.Session.{store_of, is_broken, memory_of, Holds, StandsOn, IsKept}
 use Rattle.reuse_session.specs.Showing.{Shows, ShowsIn, ShowsAt, steps_in}
@@ -39,12 +40,13 @@ use Rattle.reuse_session.specs.declared.reply.Reverted.{Reverted}
 use Rattle.reuse_session.specs.declared.reply.Row.{Row}
 use Rattle.reuse_session.specs.declared.reply.Shown.{Shown}
 use Rattle.reuse_session.specs.declared.reply.Refusal.{Refusal}
-use Rattle.reuse_session.specs.declared.reply.Refusal.TheVariants.{Broken, Fault as StoreFailed, Memory, Interrupted, NoSuchStep}
+use Rattle.reuse_session.specs.declared.reply.Refusal.TheVariants.{Broken, JournalFull, Fault as StoreFailed, Memory, Interrupted, NoSuchStep}
 use Rattle.reuse_session.specs.declared.session.Session.{Session}
 use Rattle.reuse_session.proofs.Driving.{run_left, undo_left, redo_left, stays_closed, stays_open, stands_still, none_under_way}
 use Rattle.reuse_session.proofs.Following.{undo_follows, redo_follows, log_follows}
 use Rattle.reuse_session.proofs.RunFollowing.{runs_as_machine}
-use Rattle.reuse_session.proofs.Foretelling.{run_foreseen, undo_foreseen, redo_foreseen}
+use Rattle.reuse_session.proofs.Following.{is_full_alike}
+use Rattle.reuse_session.proofs.Previewing.{undo_foretold, redo_foretold}
 use Rattle.reuse_session.proofs.StepsByNumber.{led_to_tree, shows_at}
 use Rattle.reuse_undo.specs.declared.fault.Fault.{Fault}
 use Rattle.reuse_undo.specs.declared.fault.Fault.TheVariants as faults
@@ -55,7 +57,7 @@ use Rattle.reuse_undo.specs.declared.request.Told.{Told}
 use Rattle.reuse_undo.specs.declared.request.Told.TheVariants as tells
 use Rattle.reuse_undo.specs.Peeks.{Peeks}
 use Rattle.reuse_undo.specs.RowLines.{AppendsSome}
-use Rattle.reuse_undo.specs.RunLine.{run_fates_on, Looks, Previews, IsNotDone, Does, IsStopped, Makes, Calls, as_told, RevertsOn, PreviewsRevert, Meets, TakesBackStep, HasCallClash, IsUnopened, IsMade, Carries, StepsBy, StepsBack, ForetellsBack, Steps, Tells, IfRefused}
+use Rattle.reuse_undo.specs.RunLine.{Looks, Previews, IsNotDone, Does, IsStopped, Makes, Calls, as_told, RevertsOn, PreviewsRevert, Meets, TakesBackStep, HasCallClash, IsUnopened, IsMade, Carries, StepsBy, StepsBack, ForetellsBack, Steps, Tells, IfRefused}
 use Rattle.reuse_undo.specs.Told.{IsToldText, Finishes}
 
 -- a fault that has one cause has the other that follows
@@ -378,19 +380,25 @@ shown_at : (held : State) (state : Snapshots) → Holds held state → (number :
 shown_at held state holds number (Ok shown) after looks = shows_at held state holds number shown (looks.right tt)
 shown_at held state holds number (Err refusal) after looks = tt
 
+-- what a run would do on a standing is what the machine says
+run_alike : (held : State) (state : Snapshots) → Holds held state → (command : Command) → run_fates_on held command ≡ run_fates state command
+run_alike held state holds command =
+    sym (ap (λ b. cond b (Err JournalFull) (Ok (fates_of command held.tree))) (is_full_alike held state holds))
+    ∙ ap (λ t. cond (is_full (length state.past) state.used) (Err JournalFull) (Ok (fates_of command t))) holds.tree
+
 -- and a dry run of a revert
 foretold_back : (held : State) (state : Snapshots) → Holds held state → (number : ℕ) (skip_moved : Bool) (answer : Result (List Fate) Refusal) → PreviewsRevert number skip_moved held answer
     → ForetellsBack state number skip_moved answer
 foretold_back held state holds number skip_moved answer previews =
     ⊎_elim (λ (none : (answer ≡ Err (NoSuchStep number)) × IsNotDone number held). inl none.0)
     (λ (back : (step : Recorded) × Contains held.journal.done step × (number_of step ≡ number) × (answer ≡ run_fates_on held (Revert step.changes skip_moved))).
-    inr (back.0.changes, led_to_tree held state holds back.0 number back.1 back.2, back.3 ∙ run_foreseen held state holds (Revert back.0.changes skip_moved))) previews
+    inr (back.0.changes, led_to_tree held state holds back.0 number back.1 back.2, back.3 ∙ run_alike held state holds (Revert back.0.changes skip_moved))) previews
 
 -- a preview answers what the machine says
 previews_as_machine : (held : State) (state : Snapshots) → Holds held state → (call : Call) (fates : Result (List Fate) Refusal) → Previews call held fates → fates ≡ fates_in state call
-previews_as_machine held state holds (calls.Run command) fates previews = previews ∙ run_foreseen held state holds command
-previews_as_machine held state holds calls.Undo fates previews = undo_foreseen held state holds fates previews
-previews_as_machine held state holds calls.Redo fates previews = redo_foreseen held state holds fates previews
+previews_as_machine held state holds (calls.Run command) fates previews = previews ∙ run_alike held state holds command
+previews_as_machine held state holds calls.Undo fates previews = undo_foretold held state holds fates previews
+previews_as_machine held state holds calls.Redo fates previews = redo_foretold held state holds fates previews
 
 -- a refusal is no reply
 no_row : (refusal : Refusal) (rows : List Row) → Err refusal ≡ Ok (replies.Log rows) → ⊥
@@ -461,7 +469,7 @@ module _ (held : State) (state : Snapshots) (holds : Holds held state) (before a
       let event = events.Run (Revert back.step.changes skip_moved) when in
       inr (
         back.step.changes,
-        λ is_told. led_to_tree held state holds back.step number back.is_done back.number,
+        λ is_told. led_to_tree held state holds back.step number back.is_done back.numbered,
         steps_told state event (as_run answer) after (told_as_run answer told) (did event (as_run answer) (reverts.0, back.runs, reverts.2)),
       )) (reverts_one number skip_moved when held answer reverts.0 reverts.1)
 

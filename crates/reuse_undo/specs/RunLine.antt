@@ -1,15 +1,14 @@
 -- What a line asks a session for, and what comes of it.
-use Rattle.std.specs.Prelude.{◌≡◌, ◌⊎◌, ◌+◌, Bool, List, Option, Some, ℕ, Result, Ok, Err, IfOk, IfErr, length, true, if◌then◌else◌}
+use Rattle.std.specs.Prelude.{◌≡◌, ◌⊎◌, ◌+◌, Bool, List, Option, Some, ℕ, Result, Ok, Err, IfOk, IfErr, true}
 use Rattle.std.specs.List.{Contains}
 use Rattle.reuse_tree.specs.Files.{Files, Clashes}
 use Rattle.reuse_tree.specs.declared.change.Change.{Change}
 use Rattle.reuse_session.specs.Answer.{IsEarly, IsFailure, HasClash, IsNoClash, IsOpenRefusal, TellsNoFault}
-use Rattle.reuse_session.specs.Fates.{fates_of}
 use Rattle.reuse_session.specs.Journal.{State, Recorded, Undoes, Redoes, rows_in}
 use Rattle.reuse_session.specs.JournalFiles.{head_path, entry_path, number_of}
-use Rattle.reuse_session.specs.Machine.{Snapshots, step, is_full, run_fates, as_reply}
+use Rattle.reuse_session.specs.Machine.{Snapshots, step, run_fates, as_reply}
 use Rattle.reuse_session.specs.Opening.{IsFirstBad, IsStuckAt, OpensOn, StopsOpening}
-use Rattle.reuse_session.specs.Previews.{Foresees}
+use Rattle.reuse_session.specs.Previews.{run_fates_on, Foresees}
 use Rattle.reuse_session.specs.RevertCalls.{Reverts, as_run}
 use Rattle.reuse_session.specs.Session.{Runs, StopsAfterRun, StopsAfter}
 use Rattle.reuse_session.specs.Showing.{IsUnused, ShowsIn, ShowsAt, LedTo}
@@ -42,10 +41,6 @@ use Rattle.reuse_undo.specs.RowLines.{AppendsSome}
 use Rattle.reuse_undo.specs.Told.{IsToldText, told_count, is_refused, WouldBeMade}
 
 -- ---- the session's answer to an event, from any files
-
--- what a run of the command would do on a standing, path by path, or that the journal is full
-abbrev pub run_fates_on : State → Command → Result (List Fate) Refusal
-run_fates_on old command = if is_full (length old.journal.done) old.journal.used then Err refusals.JournalFull else Ok (fates_of command old.tree)
 
 -- what a preview answers
 abbrev pub Previews : Call → State → Result (List Fate) Refusal → Type 0

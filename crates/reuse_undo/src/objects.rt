@@ -1,7 +1,9 @@
 //! The JSON objects that rows and steps are printed as.
-ghost use Rattle.std.specs.Prelude.{◌≡◌, IfOk, OnOk};
+ghost use Rattle.std.specs.Prelude.{◌≡◌, false, IfOk, OnOk};
+ghost use Rattle.std.specs.Io.KnownBytes.{Appends};
 ghost use Rattle.serde_json.specs.View.{view};
-ghost use Rattle.reuse_undo.specs.Objects.{row_value, shown_value, change_value, changes_value, kind_word, AreRowObjects, IsRowObject, IsShownObject};
+ghost use Rattle.serde_json.specs.Written.{has_float};
+ghost use Rattle.reuse_undo.specs.Objects.{row_value, shown_value, change_value, changes_value, kind_word, object_line, AreRowObjects, IsRowObject, IsShownObject};
 ghost use Rattle.reuse_undo.specs.RowLines.{AppendsSome};
 
 use crate::date::date_of;
@@ -38,7 +40,11 @@ pub fn print_shown_object<W: Write>(out: &mut W, alloc: Global, shown: &Shown) -
     print_value(out, alloc, &value)
 }
 
-fn print_value<W: Write>(out: &mut W, alloc: Global, value: &Value) -> io::Result<()> {
+// Prints a value without floats on a line.
+fn print_value<W: Write>(out: &mut W, alloc: Global, value: &Value) -> io::Result<()>
+    requires { has_float (view value.now) ≡ false }
+    ensures { OnOk result (Appends (W.contents out.old) (W.contents out.new) (object_line (view value.now))) }
+{
     let text = value.to_string(alloc)?;
     writeln!(out, "{text}")
 }

@@ -6,7 +6,7 @@ use Rattle.reuse_undo.proofs.run_line.calls.preview.Goals as goal
 
 pub returns-in-Run-clause-right : goal.returns-in-Run-clause-right
 returns-in-Run-clause-right g c honest held stands told =
-    subst (λ (call : Call). Previews call held c.preview.result) (sym c.in-Run.is) (c.preview.ensures.exact honest held stands told)
+    subst (λ (call : Call). Previews call held c.preview.result) (sym c.in-Run.is) (c.preview.ensures.answers honest held stands told)
 
 pub returns-in-Run-clause-peeks : goal.returns-in-Run-clause-peeks
 returns-in-Run-clause-peeks g c = preview_peeks g.S.Store c.preview.result c.args.session.now c.preview.new.self c.preview.ensures.looks c.preview.ensures.refusal

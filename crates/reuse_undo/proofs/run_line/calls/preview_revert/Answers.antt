@@ -1,7 +1,8 @@
 use Rattle.std.proofs.Common.{◌≡◌, Ok, Err, inl, inr, ap, sym, subst, ◌∙◌}
 use Rattle.reuse_session.specs.Answer.{TellsNoFault}
 use Rattle.reuse_undo.specs.Peeks.{Peeks}
-use Rattle.reuse_undo.specs.RunLine.{run_fates_on, TakesBackStep}
+use Rattle.reuse_session.specs.Previews.{run_fates_on}
+use Rattle.reuse_undo.specs.RunLine.{TakesBackStep}
 use Rattle.reuse_undo.proofs.RunLemmas.{peeks_on, peeks_err, preview_peeks, still_stands, told_again}
 use Rattle.reuse_undo.proofs.run_line.calls.preview_revert.Goals as goal
 
@@ -11,7 +12,7 @@ returns-in-Ok-clause-right g c honest held stands told =
     let mid = c.revert_command.new.session in
     let back = subst (TakesBackStep c.args.number c.args.skip_moved held) c.in-Ok.is (c.revert_command.ensures.right was_honest held stands (subst TellsNoFault (sym c.in-Ok.is) tt)) in
     let still = still_stands g.S.Store c.revert_command.result c.args.session.now mid held c.revert_command.ensures.peeks was_honest stands in
-    inr (back.0, back.1, back.2, c.preview.ensures.exact honest held still told ∙ ap (run_fates_on held) back.3)
+    inr (back.0, back.1, back.2, c.preview.ensures.answers honest held still told ∙ ap (run_fates_on held) back.3)
 
 pub returns-in-Ok-clause-peeks : goal.returns-in-Ok-clause-peeks
 returns-in-Ok-clause-peeks g c =
