@@ -9,7 +9,7 @@ use Rattle.reuse_tree.specs.Files.{Files}
 use Rattle.reuse_tree.specs.declared.change.Change.{Change}
 use Rattle.reuse_tree.specs.declared.store.Store.{Ghosts}
 use Rattle.reuse_tree.proofs.AskedLemmas.{later_more, later_reads}
-use Rattle.reuse_session.specs.Answer.{IsEarly, IsRunAnswer, TellsNoFault}
+use Rattle.reuse_session.specs.Answer.{IsEarly, IsRunAnswer, TellsNoFault, RefusedAsRead}
 use Rattle.reuse_session.specs.Calls.{folder_of, IsCall, LeavesRun}
 use Rattle.reuse_session.specs.Entry.{paths_of}
 use Rattle.reuse_session.specs.Journal.{Recorded, State}
@@ -147,8 +147,8 @@ absent_follows files session state stands_at number skip when none =
 
 -- a refusal before the run
 pub unrun_leaves : {S : Type 0} (store : Ghosts S) (number : ℕ) (skip : Bool) (when : ℕ) (refusal : Refusal) (old new : Session S) → IsEarly refusal → OnlyReads store (store_of old) (store_of new)
-    → LeavesRevert store number skip when (Err refusal) old new
-unrun_leaves store number skip when refusal old new early reads = inl (refusal, refl, early, reads)
+    → RefusedAsRead {A = Reverted} store (store_of old) (store_of new) (Err refusal) → LeavesRevert store number skip when (Err refusal) old new
+unrun_leaves store number skip when refusal old new early reads fails = inl (refusal, refl, early, reads, fails)
 
 -- what the run leaves
 pub run_leaves : {S : Type 0} (store : Ghosts S) (number : ℕ) (skip : Bool) (when : ℕ) (result : Result Reverted Refusal) (answer : Result Reply Refusal) (old new : Session S) (entry : Entry) (changes : List Change)

@@ -6,7 +6,7 @@ use Rattle.reuse_tree.specs.Asked.{OnlyReads}
 use Rattle.reuse_tree.specs.Files.{Files}
 use Rattle.reuse_tree.specs.declared.change.Change.{Change}
 use Rattle.reuse_tree.specs.declared.store.Store.{Ghosts}
-use Rattle.reuse_session.specs.Answer.{IsEarly}
+use Rattle.reuse_session.specs.Answer.{IsEarly, RefusedAsRead}
 use Rattle.reuse_session.specs.Calls.{folder_of, LeavesRun}
 use Rattle.reuse_session.specs.Entry.{paths_of}
 use Rattle.reuse_session.specs.Journal.{Recorded, State}
@@ -56,9 +56,10 @@ RevertFollows files number skip_moved when state result new =
     ((result ≡ Err (NoSuchStep number)) × All (λ (kept : Kept). ¬ (kept.label.number ≡ number)) state.past × StandsAt files new state)
     ⊎ ((changes : List Change) × LedTo number changes state.tree state.past × Follows files (as_run result) new (ran_by state (Revert changes skip_moved) when))
 
--- what a revert leaves: a refusal that has only read, or what a run of the command leaves that takes back what the entry of the number says
+-- what a revert leaves: a refusal that has only read, for a fault of the store as reading fails, or what a run of the command leaves that takes back what the entry of the number says
 abbrev pub LeavesRevert : {S : Type 0} → Ghosts S → ℕ → Bool → ℕ → Result Reverted Refusal → Session S → Session S → Type 0
 LeavesRevert store number skip_moved when result old new =
-    ((refusal : Refusal) × (result ≡ Err refusal) × IsEarly refusal × OnlyReads store (store_of old) (store_of new))
+    ((refusal : Refusal) × (result ≡ Err refusal) × IsEarly refusal × OnlyReads store (store_of old) (store_of new)
+    × RefusedAsRead store (store_of old) (store_of new) result)
     ⊎ ((entry : Entry) × (store.honest (store_of new) → EntrySays (get (folder_of store old) (entry_path number)) entry)
     × LeavesRun store (Revert entry.changes skip_moved) when (as_run result) old new)
