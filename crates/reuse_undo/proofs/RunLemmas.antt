@@ -114,12 +114,12 @@ show_peeks store answer old new reads kept fails call =
       unstopped = λ whole. never_stops answer old new whole kept call.interrupted;
       caused = call.fault;
     }
-where
-  never_stops : {S A : Type 0} (answer : Result A Refusal) (old new : Session S) → is_broken old ≡ false → IsKept old new → IfErr answer (λ refusal. IsStop refusal → is_broken new ≡ true)
-      → IfErr answer IsEarly
-  never_stops (Ok value) old new whole kept stops = tt
-  never_stops (Err (Interrupted cause)) old new whole kept stops = absurd (false≢true (sym whole ∙ sym kept.1 ∙ stops tt))
-  never_stops (Err refusal) old new whole kept stops = tt
+  where
+    never_stops : {S A : Type 0} (answer : Result A Refusal) (old new : Session S) → is_broken old ≡ false → IsKept old new → IfErr answer (λ refusal. IsStop refusal → is_broken new ≡ true)
+        → IfErr answer IsEarly
+    never_stops (Ok value) old new whole kept stops = tt
+    never_stops (Err (Interrupted cause)) old new whole kept stops = absurd (false≢true (sym whole ∙ sym kept.1 ∙ stops tt))
+    never_stops (Err refusal) old new whole kept stops = tt
 
 -- the same of an answer that tells no fault, and of a refusal that is handed on
 pub peeks_ok : {S A B : Type 0} (store : Ghosts S) (first : Result A Refusal) (value : B) (old new : Session S) → Peeks store first old new → Peeks {A = B} store (Ok value) old new
@@ -131,9 +131,9 @@ peeks_ok store first value old new peeks =
       unstopped = λ whole. tt;
       caused = tt;
     }
-where
-  ok_is_no_err : {B : Type 0} (value : B) (refusal : Refusal) → Ok value ≡ Err refusal → ⊥
-  ok_is_no_err value refusal is = cc
+  where
+    ok_is_no_err : {B : Type 0} (value : B) (refusal : Refusal) → Ok value ≡ Err refusal → ⊥
+    ok_is_no_err value refusal is = cc
 
 pub peeks_err : {S A B : Type 0} (store : Ghosts S) (refusal : Refusal) (old new : Session S) → Peeks {A = A} store (Err refusal) old new → Peeks {A = B} store (Err refusal) old new
 peeks_err {S} {A} {B} store refusal old new peeks =
@@ -149,9 +149,9 @@ peeks_err {S} {A} {B} store refusal old new peeks =
       unstopped = peeks.unstopped;
       caused = peeks.caused;
     }
-where
-  err_of : {B : Type 0} (one other : Refusal) → Err {A = B} one ≡ Err other → one ≡ other
-  err_of one other is = cc
+  where
+    err_of : {B : Type 0} (one other : Refusal) → Err {A = B} one ≡ Err other → one ≡ other
+    err_of one other is = cc
 
 pub peeks_absent : {S A B : Type 0} (store : Ghosts S) (first : Result A Refusal) (number : ℕ) (old new : Session S) → Peeks store first old new → Peeks {A = B} store (Err (NoSuchStep number)) old new
 peeks_absent {S} {A} {B} store first number old new peeks =
@@ -162,18 +162,18 @@ peeks_absent {S} {A} {B} store first number old new peeks =
       unstopped = λ whole. tt;
       caused = tt;
     }
-where
-  is_no_fault : (fault : StoreFault) → Err {A = B} (NoSuchStep number) ≡ Err (StoreFailed fault) → ⊥
-  is_no_fault fault is = cc
+  where
+    is_no_fault : (fault : StoreFault) → Err {A = B} (NoSuchStep number) ≡ Err (StoreFailed fault) → ⊥
+    is_no_fault fault is = cc
 
 -- what is made of a step that is shown only looks too
 pub peeks_back : {S A : Type 0} (store : Ghosts S) (first : Result A Refusal) (number : ℕ) (skip_moved : Bool) (shown : Shown) (result : Result Command Refusal) (old new : Session S)
     → Peeks store first old new → (shown.row.done ≡ true → result ≡ Ok (Revert shown.changes skip_moved)) → (shown.row.done ≡ false → result ≡ Err (NoSuchStep number)) → Peeks store result old new
 peeks_back store first number skip_moved shown result old new peeks done undone = by_done shown.row.done refl
-where
-  by_done : (flag : Bool) → shown.row.done ≡ flag → Peeks store result old new
-  by_done true is = subst (λ r. Peeks store r old new) (sym (done is)) (peeks_ok store first (Revert shown.changes skip_moved) old new peeks)
-  by_done false is = subst (λ r. Peeks store r old new) (sym (undone is)) (peeks_absent store first number old new peeks)
+  where
+    by_done : (flag : Bool) → shown.row.done ≡ flag → Peeks store result old new
+    by_done true is = subst (λ r. Peeks store r old new) (sym (done is)) (peeks_ok store first (Revert shown.changes skip_moved) old new peeks)
+    by_done false is = subst (λ r. Peeks store r old new) (sym (undone is)) (peeks_absent store first number old new peeks)
 
 -- the session still stands
 pub still_stands : {S A : Type 0} (store : Ghosts S) (answer : Result A Refusal) (old new : Session S) (held : State) → Peeks store answer old new → store.honest (store_of new)
@@ -190,19 +190,19 @@ preview_peeks store answer old new looks is =
       unstopped = λ whole. unstopped answer is;
       caused = cause answer looks.fails is;
     }
-where
-  unstopped : {A : Type 0} (answer : Result A Refusal) → IfErr answer IsPreviewRefusal → IfErr answer IsEarly
-  unstopped (Ok value) is = tt
-  unstopped (Err (Interrupted cause)) is = absurd is
-  unstopped (Err refusal) is = tt
+  where
+    unstopped : {A : Type 0} (answer : Result A Refusal) → IfErr answer IsPreviewRefusal → IfErr answer IsEarly
+    unstopped (Ok value) is = tt
+    unstopped (Err (Interrupted cause)) is = absurd is
+    unstopped (Err refusal) is = tt
 
-  cause : {A S : Type 0} {store : Ghosts S} {old new : S} (answer : Result A Refusal) → RefusedAsRead store old new answer → IfErr answer IsPreviewRefusal
-      → IfErr answer (HasCause (store.failures old < store.failures new))
-  cause (Ok value) fails is = tt
-  cause (Err (StoreFailed stores.Device)) fails is = fails.device refl
-  cause (Err (StoreFailed stores.Memory)) fails is = absurd (fails.memory refl)
-  cause (Err (Interrupted cause)) fails is = absurd is
-  cause (Err refusal) fails is = tt
+    cause : {A S : Type 0} {store : Ghosts S} {old new : S} (answer : Result A Refusal) → RefusedAsRead store old new answer → IfErr answer IsPreviewRefusal
+        → IfErr answer (HasCause (store.failures old < store.failures new))
+    cause (Ok value) fails is = tt
+    cause (Err (StoreFailed stores.Device)) fails is = fails.device refl
+    cause (Err (StoreFailed stores.Memory)) fails is = absurd (fails.memory refl)
+    cause (Err (Interrupted cause)) fails is = absurd is
+    cause (Err refusal) fails is = tt
 
 -- a refusal that tells no fault as one answer tells none as another
 pub told_again : {A B : Type 0} (refusal : Refusal) → TellsNoFault {A = A} (Err refusal) → TellsNoFault {A = B} (Err refusal)
@@ -215,10 +215,10 @@ told_again refusal told = tt
 pub back_of_shown : (held : State) (number : ℕ) (skip_moved : Bool) (shown : Shown) (result : Result Command Refusal) → Shows held.journal number shown
     → (shown.row.done ≡ true → result ≡ Ok (Revert shown.changes skip_moved)) → (shown.row.done ≡ false → result ≡ Err (NoSuchStep number)) → TakesBackStep number skip_moved held result
 back_of_shown held number skip_moved shown result shows done undone = by_done shown.row.done refl shows.is_in
-where
-  by_done : (flag : Bool) → shown.row.done ≡ flag → Contains (steps_in flag held.journal) shows.step → TakesBackStep number skip_moved held result
-  by_done true is is_in = subst (TakesBackStep number skip_moved held) (sym (done is)) (shows.step, is_in, shows.numbered, ap (λ changes. Revert changes skip_moved) shows.changes)
-  by_done false is is_in = subst (TakesBackStep number skip_moved held) (sym (undone is)) (refl, inr (shows.step, is_in, shows.numbered))
+  where
+    by_done : (flag : Bool) → shown.row.done ≡ flag → Contains (steps_in flag held.journal) shows.step → TakesBackStep number skip_moved held result
+    by_done true is is_in = subst (TakesBackStep number skip_moved held) (sym (done is)) (shows.step, is_in, shows.numbered, ap (λ changes. Revert changes skip_moved) shows.changes)
+    by_done false is is_in = subst (TakesBackStep number skip_moved held) (sym (undone is)) (refl, inr (shows.step, is_in, shows.numbered))
 
 -- what a look at an earlier one makes of it: one look, and then another
 pub peeks_on : {S A B : Type 0} (store : Ghosts S) (first : Result A Refusal) (second : Result B Refusal) (old mid new : Session S) → Peeks store first old mid → Peeks store second mid new
@@ -292,6 +292,12 @@ revert_stands store number skip_moved when held old new refusal early honest sta
     ⊎_elim (λ (read : ReadAlone store (Err refusal) old new). subst (λ f. IsStanding f held) (sym (read.3.files honest)) stands.standing)
     (λ (run : RunBack store number skip_moved when (Err refusal) old new). (run.2.stands honest held stands early).standing) leaves
 
+refused_so : {A : Type 0} (one other : Refusal) → Err {A = A} one ≡ Err other → other ≡ one
+refused_so one other is = cc
+
+no_early_stop : (cause : Cause) (refusal : Refusal) → Err {A = Reverted} (Interrupted cause) ≡ Err refusal → IsEarly refusal → ⊥
+no_early_stop cause refusal is early = subst IsEarly (refused_so (Interrupted cause) refusal is) early
+
 -- what a revert answers and leaves, by the clauses of that call
 pub reverts_by : {S : Type 0} (store : Ghosts S) (number : ℕ) (skip_moved : Bool) (when : ℕ) (held : State) (old new : Session S) (answer : Result Reverted Refusal)
     → store.honest (store_of new) → StandsOn store.files old held → (TellsNoFault answer → (left : State) × StandsOn store.files new left × Reverts number skip_moved when held answer left)
@@ -300,11 +306,8 @@ reverts_by store number skip_moved when held old new (Ok reverted) honest stands
 reverts_by store number skip_moved when held old new (Err (StoreFailed fault)) honest stands exact leaves = revert_stands store number skip_moved when held old new (StoreFailed fault) tt honest stands leaves
 reverts_by store number skip_moved when held old new (Err Memory) honest stands exact leaves = revert_stands store number skip_moved when held old new Memory tt honest stands leaves
 reverts_by store number skip_moved when held old new (Err (Interrupted cause)) honest stands exact leaves =
-    ⊎_elim (λ (read : ReadAlone store (Err (Interrupted cause)) old new). absurd (at_end read.0 read.1 read.2))
+    ⊎_elim (λ (read : ReadAlone store (Err (Interrupted cause)) old new). absurd (no_early_stop cause read.0 read.1 read.2))
     (λ (run : RunBack store number skip_moved when (Err (Interrupted cause)) old new). (run.0.changes, run.2.doubt honest held stands tt)) leaves
-where
-  at_end : (refusal : Refusal) → Err {A = Reverted} (Interrupted cause) ≡ Err refusal → IsEarly refusal → ⊥
-  at_end refusal is early = let same : refusal ≡ Interrupted cause = cc in subst IsEarly same early
 reverts_by store number skip_moved when held old new (Err refusal) honest stands exact leaves = let left = exact tt in (left.0, left.2, left.1.standing)
 
 -- a clash that a revert tells is that of the path that is put
@@ -316,9 +319,6 @@ revert_clash store number skip_moved when old new (Err refusal) honest leaves =
     ⊎_elim (λ (read : ReadAlone store (Err refusal) old new).
     no_clash_of _ _ refusal (unclashed_read refusal (λ is. read.4.clash honest (ap (λ r. Err r) is)) (let same : read.0 ≡ refusal = refused_so refusal read.0 read.1 in subst IsEarly same read.2)))
     (λ (run : RunBack store number skip_moved when (Err refusal) old new). run.2.clash honest) leaves
-where
-  refused_so : (one other : Refusal) → Err {A = Reverted} one ≡ Err other → other ≡ one
-  refused_so one other is = cc
 
 -- ---- the opening and the call
 
