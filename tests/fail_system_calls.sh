@@ -88,7 +88,7 @@ cp -a "$room/done" "$room/edited"
 echo 'y = 2' >> "$room/edited/a.py"
 cp -a "$room/edited" "$room/stuck"
 echo '# SPDX-License-Identifier: ISC' > "$room/stuck/c.json.license"
-make_killed killed_revert edited 6 revert 1
+make_killed killed_revert edited 5 revert 1
 
 try_all plain "${annotate[@]}"
 try_all plain convert-dep5

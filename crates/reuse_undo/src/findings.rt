@@ -29,6 +29,8 @@ pub enum Task {
     Undo,
     /// To make a step again.
     Redo,
+    /// To take a step back by a new one, or to tell what that would do.
+    Revert,
     /// To change nothing.
     Look,
 }
@@ -41,6 +43,7 @@ impl Task {
             Action::Do(Deed::ConvertDep5) => Task::Conversion,
             Action::Do(Deed::Undo) => Task::Undo,
             Action::Do(Deed::Redo) => Task::Redo,
+            Action::Do(Deed::Revert { .. }) | Action::Foretell(Deed::Revert { .. }) => Task::Revert,
             Action::Foretell(_) | Action::Log | Action::Show(_) => Task::Look,
         }
     }
