@@ -41,7 +41,7 @@ pub fn hunk_between<'a>(
         return Ok(None);
     }
     let start = start_above(before, line_start(before, same));
-    let (above, before) = before.split_at(start);
+    let (above, before) = before.split_at(start.min(before.len()));
     let (_, after) = after.split_at(start.min(after.len()));
     let below = common_back(before, after);
     let before = up_to_below(before, below);
