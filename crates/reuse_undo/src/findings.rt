@@ -38,8 +38,7 @@ pub enum Task {
 impl Task {
     fn of(action: &Action) -> Task {
         match action {
-            Action::Do(Deed::Annotate(_) | Deed::Download { .. } | Deed::Revert { .. }) =>
-                Task::Step,
+            Action::Do(Deed::Annotate(_) | Deed::Download { .. }) => Task::Step,
             Action::Do(Deed::ConvertDep5) => Task::Conversion,
             Action::Do(Deed::Undo) => Task::Undo,
             Action::Do(Deed::Redo) => Task::Redo,
