@@ -7,9 +7,11 @@ use Rattle.std.proofs.lemmas.Bool.{false≢true}
 use Rattle.reuse_tree.specs.Asked.{OnlyReads}
 use Rattle.reuse_tree.specs.Files.{Files}
 use Rattle.reuse_tree.specs.declared.change.Change.{Change}
+use Rattle.reuse_tree.specs.declared.fault.StoreFault.{StoreFault}
+use Rattle.reuse_tree.specs.declared.fault.StoreFault.TheVariants as faults
 use Rattle.reuse_tree.specs.declared.store.Store.{Ghosts}
 use Rattle.reuse_tree.proofs.AskedLemmas.{later_more, later_reads}
-use Rattle.reuse_session.specs.Answer.{IsEarly, IsRunAnswer, TellsNoFault, RefusedAsRead}
+use Rattle.reuse_session.specs.Answer.{IsEarly, IsReadRefusal, IsRunAnswer, RefusedAsRead, TellsNoFault}
 use Rattle.reuse_session.specs.Calls.{folder_of, IsCall, LeavesRun}
 use Rattle.reuse_session.specs.Entry.{paths_of}
 use Rattle.reuse_session.specs.Journal.{Recorded, State}
@@ -24,7 +26,7 @@ use Rattle.reuse_session.specs.declared.command.Command.{Command}
 use Rattle.reuse_session.specs.declared.command.Command.TheVariants.{Revert}
 use Rattle.reuse_session.specs.declared.journal.entry.Entry.{Entry}
 use Rattle.reuse_session.specs.declared.reply.Refusal.{Refusal}
-use Rattle.reuse_session.specs.declared.reply.Refusal.TheVariants.{NoSuchStep}
+use Rattle.reuse_session.specs.declared.reply.Refusal.TheVariants.{Fault, Interrupted, NoSuchStep}
 use Rattle.reuse_session.specs.declared.reply.Reply.{Reply}
 use Rattle.reuse_session.specs.declared.reply.Reply.TheVariants.{Changed, NothingChanged}
 use Rattle.reuse_session.specs.declared.reply.Reverted.{Reverted}
@@ -145,10 +147,39 @@ pub absent_follows : {S : Type 0} (files : S → Files) (session : Session S) (s
 absent_follows files session state stands_at number skip when none =
     inl (refl, unkept number state.tree stands_at.held.journal.done state.past stands_at.holds.past (absent_step files session stands_at.held stands_at.stands number none), stands_at)
 
+-- the refusal tells no fault of the store
+abbrev pub IsNoFaultOfStore : Refusal → Type 0
+IsNoFaultOfStore (Fault fault) = ⊥
+IsNoFaultOfStore refusal = Unit {0}
+
+-- a reading's refusal comes early
+pub read_early : (refusal : Refusal) → IsReadRefusal refusal → IsEarly refusal
+read_early (Interrupted cause) is = is
+read_early refusal is = tt
+
 -- a refusal before the run
 pub unrun_leaves : {S : Type 0} (store : Ghosts S) (number : ℕ) (skip : Bool) (when : ℕ) (refusal : Refusal) (old new : Session S) → IsEarly refusal → OnlyReads store (store_of old) (store_of new)
     → RefusedAsRead {A = Reverted} store (store_of old) (store_of new) (Err refusal) → LeavesRevert store number skip when (Err refusal) old new
 unrun_leaves store number skip when refusal old new early reads fails = inl (refusal, refl, early, reads, fails)
+
+same_refusal : (A : Type 0) (one other : Refusal) → ◌≡◌ {A = Result A Refusal} (Err one) (Err other) → one ≡ other
+same_refusal A one other e = cc
+
+-- a refusal that tells no fault of the store
+pub no_fault : {A S : Type 0} (store : Ghosts S) (old new : S) (refusal : Refusal) → IsNoFaultOfStore refusal → RefusedAsRead {A = A} store old new (Err refusal)
+no_fault {A} store old new refusal is = record {
+  device = λ e. absurd (subst IsNoFaultOfStore (same_refusal A refusal (Fault faults.Device) e) is);
+  clash = λ honest e. subst IsNoFaultOfStore (same_refusal A refusal (Fault faults.Clash) e) is;
+  memory = λ e. subst IsNoFaultOfStore (same_refusal A refusal (Fault faults.Memory) e) is;
+}
+
+-- a reading's refusal, told as a revert's
+pub fails_too : {A B S : Type 0} (store : Ghosts S) (old new : S) (refusal : Refusal) → RefusedAsRead {A = A} store old new (Err refusal) → RefusedAsRead {A = B} store old new (Err refusal)
+fails_too {A} {B} store old new refusal fails = record {
+  device = λ e. fails.device (ap (λ r. Err r) (same_refusal B refusal (Fault faults.Device) e));
+  clash = λ honest e. fails.clash honest (ap (λ r. Err r) (same_refusal B refusal (Fault faults.Clash) e));
+  memory = λ e. fails.memory (ap (λ r. Err r) (same_refusal B refusal (Fault faults.Memory) e));
+}
 
 -- what the run leaves
 pub run_leaves : {S : Type 0} (store : Ghosts S) (number : ℕ) (skip : Bool) (when : ℕ) (result : Result Reverted Refusal) (answer : Result Reply Refusal) (old new : Session S) (entry : Entry) (changes : List Change)

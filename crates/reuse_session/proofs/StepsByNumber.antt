@@ -31,7 +31,7 @@ use Rattle.reuse_session.proofs.JournalLemmas.{same_entry}
 -- ---- lists
 
 in_map : {X Y : Type 0} (f : X → Y) (xs : List X) (y : Y) → Contains (map f xs) y → (x : X) × Contains xs x × (y ≡ f x)
-in_map f [] y h = absurd (omega (arith, h.1))
+in_map {X} {Y} f [] y h = absurd (omega (arith, h.1))
 in_map {X} {Y} f (x ∷ xs) y h = at h.0 h.1 h.2 (in_map f xs y)
   where
     at : (k : ℕ) → k < length (map f (x ∷ xs)) → get_or (map f (x ∷ xs)) k y ≡ y → (Contains (map f xs) y → (z : X) × Contains xs z × (y ≡ f z)) → (z : X) × Contains (x ∷ xs) z × (y ≡ f z)
@@ -39,7 +39,7 @@ in_map {X} {Y} f (x ∷ xs) y h = at h.0 h.1 h.2 (in_map f xs y)
     at (suc k) low is rest = let r = rest (k, omega (arith, low), is) in (r.0, (suc r.1.0, omega (arith, r.1.1), r.1.2), r.2)
 
 to_map : {X Y : Type 0} (f : X → Y) (xs : List X) (x : X) → Contains xs x → Contains (map f xs) (f x)
-to_map f [] x h = absurd (omega (arith, h.1))
+to_map {X} {Y} f [] x h = absurd (omega (arith, h.1))
 to_map {X} {Y} f (y ∷ xs) x h = at h.0 h.1 h.2 (to_map f xs x)
   where
     at : (k : ℕ) → k < length (y ∷ xs) → get_or (y ∷ xs) k x ≡ x → (Contains xs x → Contains (map f xs) (f x)) → Contains (map f (y ∷ xs)) (f x)
@@ -47,7 +47,7 @@ to_map {X} {Y} f (y ∷ xs) x h = at h.0 h.1 h.2 (to_map f xs x)
     at (suc k) low is rest = let r = rest (k, omega (arith, low), is) in (suc r.0, omega (arith, r.1), r.2)
 
 in_reverse : {X : Type 0} (xs : List X) (x : X) → Contains (reverse xs) x → Contains xs x
-in_reverse [] x h = absurd (omega (arith, h.1))
+in_reverse {X} [] x h = absurd (omega (arith, h.1))
 in_reverse {X} (y ∷ xs) x h = at (Contains-push_cases (reverse xs) y x (subst (λ l. Contains l x) (reverse-append (y ∷ []) xs) h)) (in_reverse xs x)
   where
     at : Contains (reverse xs) x ⊎ (y ≡ x) → (Contains (reverse xs) x → Contains xs x) → Contains (y ∷ xs) x
@@ -183,6 +183,13 @@ module _ {S : Type 0} (files : S → Files) (session : Session S) (held : State)
       let numbered = ap (λ (x : ListedEntry). x.number) (sym at.2) ∙ of.numbered in
       (entry_in at.0, says_step folder held.journal stands.standing.journal row.done at.0 number at.1 numbered)
 
+-- the file of the number says a step that is done
+pub done_says : {S : Type 0} (files : S → Files) (session : Session S) (held : State) → StandsOn files session held → (number : ℕ) → lists (memory_of session).done number ≡ true
+    → (entry : Entry) × EntrySays (get (undo_folder_of (files (store_of session))) (entry_path number)) entry
+done_says files session held stands number listed =
+    let at = done_step (memory_of session) held.journal number stands.remembers listed in
+    (entry_in at.0, says_step (undo_folder_of (files (store_of session))) held.journal stands.standing.journal true at.0 number at.1 at.2)
+
 or_none : (a b : Bool) → (a || b) ≡ false → (a ≡ false) × (b ≡ false)
 or_none true b e = absurd (false≢true (sym e))
 or_none false b e = (refl, e)
@@ -249,16 +256,16 @@ led_to_tree held state holds step number h e = led_to number step state.tree hel
 
 -- what is shown is of the machine
 pub shows_at : (held : State) (state : Snapshots) → Holds held state → (number : ℕ) (shown : Shown) → Shows held.journal number shown → ShowsAt state number shown
-shows_at held state holds number shown shows = record {
-  row = subst (λ rows. Contains rows shown.row) (log_follows held state holds) (subst (Contains (rows_in held.journal)) (sym shows.row) (by_end shown.row.done shows.is_in));
-  numbered = ap (λ (r : Row). r.number) shows.row ∙ shows.numbered;
-  changes = subst (λ cs. LedTo number cs state.tree state.past ⊎ LedOn number cs state.tree state.future) (sym shows.changes) (led shown.row.done shows.is_in);
+shows_at held state holds number shown found = record {
+  row = subst (λ rows. Contains rows shown.row) (log_follows held state holds) (subst (Contains (rows_in held.journal)) (sym found.row) (by_end shown.row.done found.is_in));
+  numbered = ap (λ (r : Row). r.number) found.row ∙ found.numbered;
+  changes = subst (λ cs. LedTo number cs state.tree state.past ⊎ LedOn number cs state.tree state.future) (sym found.changes) (led shown.row.done found.is_in);
 }
   where
-    by_end : (done : Bool) → Contains (steps_in done held.journal) shows.step → Contains (rows_in held.journal) (row_of shows.step.label (length shows.step.changes) done)
-    by_end true h = Contains-append_left _ _ _ (to_map (λ (step : Recorded). row_of step.label (length step.changes) true) (reverse held.journal.done) shows.step (to_reverse held.journal.done shows.step h))
-    by_end false h = Contains-append_right _ _ _ (to_map (λ (step : Recorded). row_of step.label (length step.changes) false) held.journal.undone shows.step h)
+    by_end : (done : Bool) → Contains (steps_in done held.journal) found.step → Contains (rows_in held.journal) (row_of found.step.label (length found.step.changes) done)
+    by_end true h = Contains-append_left _ _ _ (to_map (λ (step : Recorded). row_of step.label (length step.changes) true) (reverse held.journal.done) found.step (to_reverse held.journal.done found.step h))
+    by_end false h = Contains-append_right _ _ _ (to_map (λ (step : Recorded). row_of step.label (length step.changes) false) held.journal.undone found.step h)
 
-    led : (done : Bool) → Contains (steps_in done held.journal) shows.step → LedTo number shows.step.changes state.tree state.past ⊎ LedOn number shows.step.changes state.tree state.future
-    led true h = inl (led_to number shows.step state.tree held.journal.done state.past holds.past h shows.numbered)
-    led false h = inr (led_on number shows.step state.tree held.journal.undone state.future holds.future h shows.numbered)
+    led : (done : Bool) → Contains (steps_in done held.journal) found.step → LedTo number found.step.changes state.tree state.past ⊎ LedOn number found.step.changes state.tree state.future
+    led true h = inl (led_to number found.step state.tree held.journal.done state.past holds.past h found.numbered)
+    led false h = inr (led_on number found.step state.tree held.journal.undone state.future holds.future h found.numbered)

@@ -56,10 +56,9 @@ RevertFollows files number skip_moved when state result new =
     ((result ≡ Err (NoSuchStep number)) × All (λ (kept : Kept). ¬ (kept.label.number ≡ number)) state.past × StandsAt files new state)
     ⊎ ((changes : List Change) × LedTo number changes state.tree state.past × Follows files (as_run result) new (ran_by state (Revert changes skip_moved) when))
 
--- what a revert leaves: a refusal that has only read, for a fault of the store as reading fails, or what a run of the command leaves that takes back what the entry of the number says
+-- what a revert leaves: a refusal that has only read, or what a run of the command leaves that takes back what the entry of the number says
 abbrev pub LeavesRevert : {S : Type 0} → Ghosts S → ℕ → Bool → ℕ → Result Reverted Refusal → Session S → Session S → Type 0
 LeavesRevert store number skip_moved when result old new =
-    ((refusal : Refusal) × (result ≡ Err refusal) × IsEarly refusal × OnlyReads store (store_of old) (store_of new)
-    × RefusedAsRead store (store_of old) (store_of new) result)
+    ((refusal : Refusal) × (result ≡ Err refusal) × IsEarly refusal × OnlyReads store (store_of old) (store_of new) × RefusedAsRead store (store_of old) (store_of new) result)
     ⊎ ((entry : Entry) × (store.honest (store_of new) → EntrySays (get (folder_of store old) (entry_path number)) entry)
     × LeavesRun store (Revert entry.changes skip_moved) when (as_run result) old new)

@@ -1,4 +1,4 @@
-use Rattle.reuse_session.proofs.Reverted.{put_back_below, reverts_as_undo}
+use Rattle.reuse_session.proofs.RevertLaws.{put_back_below, reverts_as_undo}
 use Rattle.reuse_session.proofs.laws.reverts_take_steps_back.Goals as goal
 
 pub returns : goal.returns
