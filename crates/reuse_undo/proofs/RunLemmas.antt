@@ -1,12 +1,10 @@
 -- What comes of a session's one call: from any files, from a state of the machine, and what is told of it.
-use Rattle.std.proofs.Common.{◌≡◌, ◌≢◌, ◌⊎◌, inl, inr, ⊎_elim, ◌∙◌, ◌+◌, ◌<◌, ◌≤◌, ℕ, Bool, true, false, cond, List, [], Option, Some, Result, Ok, Err, IfErr, IfOk, refl, sym, ap, subst, arith, length}
+use Rattle.std.proofs.Common.{◌≡◌, ◌≢◌, ◌⊎◌, inl, inr, ⊎_elim, ◌∙◌, ◌+◌, ◌<◌, ℕ, Bool, true, false, cond, List, [], Option, Some, Result, Ok, Err, IfErr, IfOk, refl, sym, ap, subst, arith, length}
 use Rattle.std.specs.FinMap.{get}
 use Rattle.std.specs.List.{Contains}
-use Rattle.std.specs.Result.{OnOk}
 use Rattle.std.proofs.lemmas.Bool.{false≢true}
 use Rattle.reuse_tree.specs.Asked.{OnlyReads}
 use Rattle.reuse_tree.specs.Files.{Files, Clashes}
-use Rattle.reuse_tree.specs.declared.change.Change.{Change}
 use Rattle.reuse_tree.proofs.AskedLemmas.{reads_more}
 use Rattle.reuse_tree.specs.declared.fault.StoreFault.{StoreFault}
 use Rattle.reuse_tree.specs.declared.fault.StoreFault.TheVariants as stores
@@ -54,7 +52,6 @@ use Rattle.reuse_undo.specs.declared.line.Telling.{Telling}
 use Rattle.reuse_undo.specs.declared.request.Request.{Request}
 use Rattle.reuse_undo.specs.declared.request.Request.TheVariants as requests
 use Rattle.reuse_undo.specs.declared.request.Told.{Told}
-use Rattle.reuse_undo.specs.declared.request.Told.TheVariants as tells
 use Rattle.reuse_undo.specs.Peeks.{Peeks}
 use Rattle.reuse_undo.specs.RowLines.{AppendsSome}
 use Rattle.reuse_undo.specs.RunLine.{Looks, Previews, IsNotDone, Does, IsStopped, Makes, Calls, as_told, RevertsOn, PreviewsRevert, Meets, TakesBackStep, HasCallClash, IsUnopened, IsMade, Carries, StepsBy, StepsBack, ForetellsBack, Steps, Tells, IfRefused}

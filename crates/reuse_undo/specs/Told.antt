@@ -7,7 +7,7 @@ use Rattle.reuse_session.specs.declared.reply.Reply.TheVariants.{Log, Preview}
 use Rattle.reuse_undo.specs.declared.fault.Fault.{Fault}
 use Rattle.reuse_undo.specs.declared.fault.Fault.TheVariants.{WouldRefuse, NoDiff, Write, Memory}
 use Rattle.reuse_undo.specs.declared.line.Telling.{Telling}
-use Rattle.reuse_undo.specs.declared.line.Telling.TheVariants.{Lines, Diff, Json}
+use Rattle.reuse_undo.specs.declared.line.Telling.TheVariants.{Diff, Json}
 use Rattle.reuse_undo.specs.declared.request.Told.{Told}
 use Rattle.reuse_undo.specs.declared.request.Told.TheVariants.{Reply, Shown, Reverted}
 use Rattle.reuse_undo.specs.Lines.{IsReplyText, IsShownText, reverted_text, path_count}

@@ -1,5 +1,4 @@
-use Rattle.std.proofs.Common.{◌≡◌, ◌<◌, inl, IfErr, refl, sym, subst, arith, ◌∙◌}
-use Rattle.reuse_session.specs.Answer.{HasCause}
+use Rattle.std.proofs.Common.{◌<◌, inl, IfErr, refl, sym, subst, arith, ◌∙◌}
 use Rattle.reuse_session.specs.Session.{store_of}
 use Rattle.reuse_undo.specs.RunLine.{Carries, HasCallClash}
 use Rattle.reuse_undo.proofs.RunLemmas.{carried, found_again, caused, unclashed, unchanged_opening}

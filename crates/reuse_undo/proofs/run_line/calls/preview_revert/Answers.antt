@@ -1,4 +1,4 @@
-use Rattle.std.proofs.Common.{◌≡◌, Ok, Err, inl, inr, ap, sym, subst, ◌∙◌}
+use Rattle.std.proofs.Common.{Err, inl, inr, ap, sym, subst, ◌∙◌}
 use Rattle.reuse_session.specs.Answer.{TellsNoFault}
 use Rattle.reuse_undo.specs.Peeks.{Peeks}
 use Rattle.reuse_session.specs.Previews.{run_fates_on}

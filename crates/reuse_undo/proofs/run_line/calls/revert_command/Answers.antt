@@ -1,4 +1,4 @@
-use Rattle.std.proofs.Common.{◌≡◌, Ok, Err, Bool, true, false, inl, sym, ap, subst}
+use Rattle.std.proofs.Common.{inl, sym, subst}
 use Rattle.reuse_session.specs.Answer.{TellsNoFault}
 use Rattle.reuse_session.specs.Showing.{ShowsIn}
 use Rattle.reuse_undo.specs.Peeks.{Peeks}
