@@ -86,6 +86,7 @@ refusals() {
   notes revert 7 : 'reuse-undo log tells the numbers of the steps'
   notes show 7 : 'reuse-undo log tells the numbers of the steps'
   notes revert 1 : '1 file changed; reuse-undo undo takes that back'
+  "$program" --root "$tree" revert 1 > /dev/null
   notes revert 1 : "what the step wrote doesn't stand in this file as it did: .*--skip-moved"
   notes annotate -n -l MIT b.xyz c.xyz a.py : 'no comment style is known .*'
   notes annotate -l MIT zz :
