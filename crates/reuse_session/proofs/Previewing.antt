@@ -12,7 +12,7 @@ use Rattle.reuse_session.specs.Entry.{paths_of, LeadsBy, CanBeMade}
 use Rattle.reuse_session.specs.Fates.{fates_of, IsFateOf, AreFatesOf}
 use Rattle.reuse_session.specs.Journal.{Recorded, State}
 use Rattle.reuse_session.specs.Machine.{Kept, Snapshots, is_full, run_fates, undo_fates, redo_fates}
-use Rattle.reuse_session.specs.Previews.{Foresees, OnlyLooks, IsLookRefusal, IsPreviewRefusal}
+use Rattle.reuse_session.specs.Previews.{Foresees, OnlyLooks, IsLookRefusal, IsPreviewRefusal, run_fates_on}
 use Rattle.reuse_session.specs.Session.{store_of, LeadUpTo, LeadOn, Holds, StandsOn, StandsAt}
 use Rattle.reuse_session.specs.declared.command.Command.{Command}
 use Rattle.reuse_session.specs.declared.entry.Way.{Way}
@@ -132,3 +132,10 @@ looks_no_clash store old new (Err refusal) fails honest kind = tt
 
 pub looks_no_stop : {A : Type 0} (answer : Result A Refusal) (cause : Cause) → IfErr answer IsPreviewRefusal → answer ≡ Err (refusals.Interrupted cause) → ⊥
 looks_no_stop answer cause kind is = subst (λ a. IfErr a IsPreviewRefusal) is kind
+
+-- the same on a standing
+pub run_foretold_on : (command : Command) (held : State) (full : Bool) (answer : Result (List Fate) Refusal) → is_full (length held.journal.done) held.journal.used ≡ full
+    → cond full (answer ≡ Err refusals.JournalFull) (IfOk answer (λ fates. fates ≡ fates_of command held.tree) × IfErr answer IsLookRefusal) → TellsNoFault answer → answer ≡ run_fates_on held command
+run_foretold_on command held true answer full is told = is ∙ sym (ap (λ b. cond b (Err refusals.JournalFull) (Ok (fates_of command held.tree))) full)
+run_foretold_on command held false (Ok fates) full is told = ap (λ fs. Ok fs) is.0 ∙ sym (ap (λ b. cond b (Err refusals.JournalFull) (Ok (fates_of command held.tree))) full)
+run_foretold_on command held false (Err refusal) full is told = absurd (look_told {A = List Fate} refusal is.1 told)

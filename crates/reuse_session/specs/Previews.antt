@@ -1,12 +1,14 @@
 -- What a preview of a call answers and leaves.
-use Rattle.std.specs.Prelude.{◌≡◌, List, [], ◌∷◌, Result, Ok, Err}
+use Rattle.std.specs.Prelude.{◌≡◌, List, [], ◌∷◌, Result, Ok, Err, length, if◌then◌else◌}
 use Rattle.reuse_tree.specs.Asked.{OnlyReads}
 use Rattle.reuse_tree.specs.Files.{Files}
 use Rattle.reuse_tree.specs.declared.store.Store.{Ghosts}
 use Rattle.reuse_session.specs.Answer.{RefusedAsRead}
-use Rattle.reuse_session.specs.Fates.{AreFatesOf}
-use Rattle.reuse_session.specs.Journal.{Recorded, end_of}
+use Rattle.reuse_session.specs.Fates.{AreFatesOf, fates_of}
+use Rattle.reuse_session.specs.Journal.{Recorded, State, end_of}
+use Rattle.reuse_session.specs.Machine.{is_full}
 use Rattle.reuse_session.specs.Session.{store_of, IsKept}
+use Rattle.reuse_session.specs.declared.command.Command.{Command}
 use Rattle.reuse_session.specs.declared.entry.Way.{Way}
 use Rattle.reuse_session.specs.declared.fate.Fate.{Fate}
 use Rattle.reuse_session.specs.declared.reply.Refusal.{Refusal}
@@ -49,3 +51,7 @@ IsPreviewRefusal JournalFull = Unit {0}
 IsPreviewRefusal NothingToUndo = Unit {0}
 IsPreviewRefusal NothingToRedo = Unit {0}
 IsPreviewRefusal refusal = IsListedPreviewRefusal refusal
+
+-- what a run of the command would do on a standing, path by path, or that the journal is full
+abbrev pub run_fates_on : State → Command → Result (List Fate) Refusal
+run_fates_on old command = if is_full (length old.journal.done) old.journal.used then Err JournalFull else Ok (fates_of command old.tree)

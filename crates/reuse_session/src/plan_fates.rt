@@ -12,8 +12,10 @@ ghost use Rattle.reuse_session.specs.Answer.{RefusedAsRead};
 ghost use Rattle.reuse_session.specs.Command.{has_root};
 ghost use Rattle.reuse_session.specs.Downloads.{id_refusal, download_edits};
 ghost use Rattle.reuse_session.specs.Edit.{Edit};
+ghost use Rattle.reuse_session.specs.Entry.{IsEntry};
 ghost use Rattle.reuse_session.specs.FatePlan.{MakesUnlessRefused, Plans, Adds, IsPassedOn};
-ghost use Rattle.reuse_session.specs.Fates.{fate_by, fate_at, annotation_fates, edit_fates, id_refusals, download_fates, path_fates, limit_fates, fates_of};
+ghost use Rattle.reuse_session.specs.Fates.{fate_by, fate_at, annotation_fates, edit_fates, id_refusals, download_fates, path_fates, revert_fate, limit_fates, fates_of};
+ghost use Rattle.reuse_session.specs.Reverting.{revert_edits};
 ghost use Rattle.reuse_session.specs.Outcome.{edits_at, edits_by_names, edits_of};
 ghost use Rattle.reuse_session.specs.Plan.{AnswersEdits, MakesEdit, IsRefusalOf};
 ghost use Rattle.reuse_session.specs.Previews.{IsLookRefusal, IsTold};
@@ -32,6 +34,7 @@ use crate::places::{has_root, worked_paths};
 use crate::plan::plan_path;
 use crate::plan_conversion::plan_conversion;
 use crate::plan_download::{download_changes, made_path, sorted_ids};
+use crate::plan_revert::{paths_to_heed, take_back};
 use crate::plan_size::is_too_many;
 use crate::plan_styles::read_styles;
 use crate::reply::Refusal;
@@ -125,6 +128,10 @@ fn plan_command<S: Store>(
         Command::Download { ids, texts } => {
             plan_download(alloc, store, ids.as_slice(), texts.as_slice())
         }
+        Command::Revert {
+            changes,
+            skip_moved,
+        } => plan_revert(alloc, store, changes.as_slice(), *skip_moved),
     }
 }
 
@@ -410,4 +417,34 @@ fn id_fate(
         Ok(_) => Ok(None),
         Err(refusal) => Ok(Some(as_fate(refusal)?)),
     }
+}
+
+// ---- reverts
+
+// What is found of a revert of these changes.
+fn plan_revert<S: Store>(
+    alloc: Global,
+    store: &mut S,
+    changes: &[Change],
+    skip_moved: bool,
+) -> Result<Planned, Refusal>
+    ensures planned { S.honest store.new → IsEntry changes.now → IfOk result (Plans (tree_of (S.files store.old))
+        (map (revert_fate skip_moved (tree_of (S.files store.old))) changes.now) (revert_edits changes.now skip_moved (tree_of (S.files store.old)))) }
+    ensures fails { RefusedAsRead S.Store store.old store.new result }
+    ensures reads { OnlyReads S.Store store.old store.new }
+    ensures refusal { IfErr result IsLookRefusal }
+{
+    let paths = paths_to_heed(alloc, store, changes)?;
+    let mut planned = Planned {
+        fates: Vec::new(alloc),
+        changes: Some(Vec::new(alloc)),
+    };
+    for change in changes {
+        match take_back(alloc, store, &paths, change)? {
+            Some(back) => planned.push_change(alloc, back)?,
+            None if skip_moved => planned.push_idle(alloc, change.path(), true)?,
+            None => planned.push_refusal(Refusal::Moved(change.path().try_clone(alloc)?))?,
+        }
+    }
+    Ok(planned)
 }

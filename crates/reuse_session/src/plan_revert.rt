@@ -53,7 +53,7 @@ pub(crate) fn plan_revert<S: Store>(
 }
 
 // The paths of the tree where one of the changes makes a file as it is taken back, and else none.
-fn paths_to_heed<S: Store>(
+pub(crate) fn paths_to_heed<S: Store>(
     alloc: Global,
     store: &mut S,
     changes: &[Change],
@@ -121,7 +121,7 @@ fn add_back(
 }
 
 // The change that takes a change back, if it can be taken back. `paths` are those of the tree, where it makes a file.
-fn take_back<S: Store>(
+pub(crate) fn take_back<S: Store>(
     alloc: Global,
     store: &mut S,
     paths: &[PathText],

@@ -28,10 +28,14 @@ row_line row date =
 abbrev pub IsRowLine : Row → List ℕ → Type 0
 IsRowLine row line = (date : Date) × (IsDateOf row.when date × (line ≡ row_line row date))
 
+-- such texts of all, one after the other
+abbrev pub AreJoined : {A : Type 0} → (A → List ℕ → Type 0) → List A → List ℕ → Type 0
+AreJoined IsText [] text = text ≡ []
+AreJoined IsText (one ∷ others) text = (line : List ℕ) × ((rest : List ℕ) × (IsText one line × (AreJoined IsText others rest × (text ≡ line ++ rest))))
+
 -- the lines of rows, one after the other
 abbrev pub AreRowLines : List Row → List ℕ → Type 0
-AreRowLines [] text = text ≡ []
-AreRowLines (row ∷ rows) text = (line : List ℕ) × ((rest : List ℕ) × (IsRowLine row line × (AreRowLines rows rest × (text ≡ line ++ rest))))
+AreRowLines rows text = AreJoined IsRowLine rows text
 
 -- the writer, if it tells its bytes, was given such a text
 abbrev pub AppendsSome : Option (List ℕ) → Option (List ℕ) → (List ℕ → Type 0) → Type 0

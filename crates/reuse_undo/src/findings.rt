@@ -1,7 +1,7 @@
 //! What is found out about a call beside its outcome, for notes.
 use crate::above::journal_above;
 use crate::disk::{DiskStore, Failure};
-use crate::line::{Action, Line};
+use crate::line::{Action, Deed, Line};
 use reuse_session::{Head, decode_head};
 use reuse_text::Bytes;
 use reuse_tree::{PathText, Reading, Store};
@@ -29,18 +29,21 @@ pub enum Task {
     Undo,
     /// To make a step again.
     Redo,
+    /// To take a step back by a new one, or to tell what that would do.
+    Revert,
     /// To change nothing.
-    Log,
+    Look,
 }
 
 impl Task {
     fn of(action: &Action) -> Task {
         match action {
-            Action::Annotate(_) | Action::Download { .. } => Task::Step,
-            Action::ConvertDep5 => Task::Conversion,
-            Action::Undo => Task::Undo,
-            Action::Redo => Task::Redo,
-            Action::Log => Task::Log,
+            Action::Do(Deed::Annotate(_) | Deed::Download { .. }) => Task::Step,
+            Action::Do(Deed::ConvertDep5) => Task::Conversion,
+            Action::Do(Deed::Undo) => Task::Undo,
+            Action::Do(Deed::Redo) => Task::Redo,
+            Action::Do(Deed::Revert { .. }) | Action::Foretell(Deed::Revert { .. }) => Task::Revert,
+            Action::Foretell(_) | Action::Log | Action::Show(_) => Task::Look,
         }
     }
 }
@@ -71,8 +74,8 @@ impl Findings {
         line: &Line,
         store: &mut impl Store,
     ) -> Findings {
-        let texts = match &line.action {
-            Action::Download { folder, .. } => String::from_str(alloc, folder.as_str()).ok(),
+        let texts = match line.action.deed() {
+            Some(Deed::Download { folder, .. }) => String::from_str(alloc, folder.as_str()).ok(),
             _ => None,
         };
         Findings {

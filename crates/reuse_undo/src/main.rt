@@ -6,6 +6,7 @@ mod arguments;
 #[cfg(test)]
 mod call_tests;
 mod date;
+mod diff;
 mod disk;
 mod fault;
 mod file_list;
@@ -14,9 +15,11 @@ mod line;
 mod lines;
 mod lock;
 mod notes;
+mod objects;
 mod place_word;
 mod prefix_name;
 mod progress;
+mod request;
 mod rows;
 mod run_line;
 #[cfg(test)]
@@ -31,11 +34,11 @@ use disk::DiskStore;
 use fault::Fault;
 use file_list::with_list;
 use findings::Findings;
-use line::{Action, Line, LineFault};
+use line::{Deed, Line, LineFault};
 use lock::lock_root;
 use notes::{note_call, note_words};
 use progress::{ClearedOutput, Progress, WatchedStore};
-use reuse_session::{LicenceTexts, Moment};
+use reuse_session::{Fate, LicenceTexts, Moment};
 use run_line::run_line;
 use status::{exit_status, line_status};
 use std::alloc::{AllocError, Global};
@@ -69,8 +72,8 @@ fn read_words<R: Runtime + AllocGlobal>(rt: &R, alloc: Global) -> Result<Vec<Str
 
 /// The texts that the line needs.
 fn texts_for<R: Runtime>(rt: &R, alloc: Global, line: &Line) -> Result<LicenceTexts, AllocError> {
-    match &line.action {
-        Action::Download { folder, ids } => find_texts(rt, alloc, folder.as_str(), ids),
+    match line.action.deed() {
+        Some(Deed::Download { folder, ids }) => find_texts(rt, alloc, folder.as_str(), ids),
         _ => Ok(LicenceTexts::new(Vec::new(alloc))),
     }
 }
@@ -82,7 +85,7 @@ struct Extras {
     progress: bool,
 }
 
-/// Carries a line out on the folder that it names, and prints its reply; how many paths that tells. Until that is done no other run works
+/// Carries a line out on the folder that it names, and prints its answer; how many paths that tells. Until that is done no other run works
 /// on the folder. Where notes are asked for, what they tell is found too.
 fn carry_out<R: Runtime + Files<File = File> + AllocGlobal>(
     rt: &R,
@@ -106,8 +109,9 @@ fn carry_out<R: Runtime + Files<File = File> + AllocGlobal>(
     if let Some(findings) = findings {
         findings.look_after(alloc, watched.into_inner());
     }
+    let flushed = out.flush();
     let count = outcome?;
-    out.flush()?;
+    flushed?;
     Ok(count)
 }
 
@@ -117,6 +121,19 @@ fn tell(rt: &(impl Print + Eprint), fault: &LineFault) -> io::Result<()> {
         LineFault::Help(text) => print!(rt; "{text}"),
         LineFault::Usage(text) => eprint!(rt; "{text}"),
         _ => eprintln!(rt; "reuse-undo: {fault}"),
+    }
+}
+
+/// Tells why a line was not carried out. Where standard error can't be written either, the status tells.
+fn tell_fault(rt: &impl Eprint, fault: &Fault) {
+    let Fault::WouldRefuse(fates) = fault else {
+        let _ = eprintln!(rt; "reuse-undo: {fault}");
+        return;
+    };
+    for fate in fates.as_slice() {
+        if let Fate::Refused(refusal) = fate {
+            let _ = eprintln!(rt; "reuse-undo: {refusal}");
+        }
     }
 }
 
@@ -130,8 +147,7 @@ fn run_noted<R: Runtime + Files<File = File> + AllocGlobal>(
     let mut findings = None;
     let outcome = carry_out(rt, alloc, line, extras, &mut findings);
     if let Err(fault) = &outcome {
-        // Where standard error can't be written either, the status tells.
-        let _ = eprintln!(rt; "reuse-undo: {fault}");
+        tell_fault(rt, fault);
     }
     if let Some(findings) = &findings {
         note_call(rt, findings, &outcome);

@@ -9,7 +9,7 @@ ghost use Rattle.reuse_session.specs.Journal.{State, ahead, end_of};
 ghost use Rattle.reuse_session.specs.Machine.{Snapshots, is_full, run_fates, undo_fates, redo_fates};
 ghost use Rattle.reuse_session.specs.Outcome.{outcome_of, edits_of};
 ghost use Rattle.reuse_session.specs.Plan.{IsPlan, IsRefusalOf, Records};
-ghost use Rattle.reuse_session.specs.Previews.{Foresees, OnlyLooks, IsPreviewRefusal, IsListedPreviewRefusal};
+ghost use Rattle.reuse_session.specs.Previews.{run_fates_on, Foresees, OnlyLooks, IsPreviewRefusal, IsListedPreviewRefusal};
 ghost use Rattle.reuse_session.specs.Session.{store_of, is_broken, memory_of, StandsOn, StandsAt};
 ghost use Rattle.reuse_session.specs.declared.entry.Way.TheVariants as go;
 ghost use Rattle.reuse_session.specs.declared.history.ListedEntry.{ListedEntry};
@@ -39,6 +39,7 @@ impl<S: Store + Drop> Session<S> {
             ↔ ((is_broken self.old ≡ false) × (is_full (length (memory_of self.old).done) (memory_of self.old).used ≡ true)) }
         // The fates are those of the command on the tree that is there, and so those of the machine.
         ensures exact { S.honest (store_of self.new) → (held : State) → StandsOn S.files self.old held → IfOk result (λ fates. fates ≡ fates_of command.now held.tree) }
+        ensures answers { S.honest (store_of self.new) → (held : State) → StandsOn S.files self.old held → TellsNoFault result → result ≡ run_fates_on held command.now }
         ensures machine { S.honest (store_of self.new) → (state : Snapshots) → StandsAt S.files self.old state → TellsNoFault result → result ≡ run_fates state command.now }
         ensures looks { OnlyLooks S.Store result self.old self.new }
         ensures refusal { IfErr result IsPreviewRefusal }
