@@ -1,6 +1,5 @@
 -- What a run records is sealed, and so of a format that knows its command.
-use Rattle.std.proofs.Common.{◌≡◌, ◌<◌, Bool, true, ◌||◌, List, [], ◌∷◌, length, refl, sym, ap, subst, ◌∙◌, arith, Result}
-use Rattle.std.proofs.lemmas.List.Elements.{All-head}
+use Rattle.std.proofs.Common.{◌≡◌, ◌<◌, true, ◌||◌, List, [], ◌∷◌, length, ap, arith, Result}
 use Rattle.std.proofs.lemmas.List.Sorted.{All-permutation}
 use Rattle.reuse_tree.specs.Files.{Files}
 use Rattle.reuse_tree.specs.Change.{is_sealed}

@@ -1,13 +1,11 @@
 -- What a revert answers and leaves, from the run that it makes.
-use Rattle.std.proofs.Common.{◌≡◌, ◌⊎◌, inl, inr, ℕ, ◌<◌, Bool, true, false, List, [], ◌∷◌, Result, Ok, Err, IfOk, IfErr, refl, sym, ap, subst, ◌∙◌, arith}
-use Rattle.std.specs.List.{All, Contains}
+use Rattle.std.proofs.Common.{◌≡◌, inl, inr, ℕ, ◌<◌, Bool, true, false, List, [], ◌∷◌, Result, Ok, Err, IfOk, refl, sym, ap, subst, ◌∙◌, arith}
+use Rattle.std.specs.List.{Contains}
 use Rattle.std.specs.List.Sorted.{IsStrictlySortedBy}
 use Rattle.std.specs.FinMap.{get}
-use Rattle.std.proofs.lemmas.Bool.{false≢true}
 use Rattle.reuse_tree.specs.Asked.{OnlyReads}
 use Rattle.reuse_tree.specs.Files.{Files}
 use Rattle.reuse_tree.specs.declared.change.Change.{Change}
-use Rattle.reuse_tree.specs.declared.fault.StoreFault.{StoreFault}
 use Rattle.reuse_tree.specs.declared.fault.StoreFault.TheVariants as faults
 use Rattle.reuse_tree.specs.declared.store.Store.{Ghosts}
 use Rattle.reuse_tree.proofs.AskedLemmas.{later_more, later_reads}
@@ -17,7 +15,7 @@ use Rattle.reuse_session.specs.Entry.{paths_of}
 use Rattle.reuse_session.specs.Journal.{Recorded, State}
 use Rattle.reuse_session.specs.JournalFiles.{entry_path, entry_in, number_of, EntrySays}
 use Rattle.reuse_session.specs.Listing.{ArePaths}
-use Rattle.reuse_session.specs.Machine.{Kept, Snapshots}
+use Rattle.reuse_session.specs.Machine.{Snapshots}
 use Rattle.reuse_session.specs.RevertCalls.{changed_or_none, as_run, left_of, LeavesRevert, Reverts, RevertFollows, TakesBack}
 use Rattle.reuse_session.specs.Session.{store_of, memory_of, StandsOn, StandsAt, Runs}
 use Rattle.reuse_session.specs.Showing.{lists, IsUnused}

@@ -1,5 +1,5 @@
 -- A step by its number: what is remembered of it, and what its entry says.
-use Rattle.std.proofs.Common.{◌≡◌, ◌≢◌, ◌⊎◌, inl, inr, ℕ, zero, suc, ◌+◌, ◌<◌, Bool, true, false, cond, ◌==◌, ◌||◌, eqb-true, eq-eqb, List, [], ◌∷◌, ◌++◌, length, map, reverse, get_or, Option, Some, None, is_some, Result, Ok, Err, refl, sym, ap, subst, ◌∙◌, arith}
+use Rattle.std.proofs.Common.{◌≡◌, ◌⊎◌, inl, inr, ℕ, zero, suc, ◌<◌, Bool, true, false, cond, ◌==◌, ◌||◌, eqb-true, eq-eqb, List, [], ◌∷◌, length, map, reverse, get_or, Option, Some, None, is_some, refl, sym, ap, subst, ◌∙◌, arith}
 use Rattle.std.specs.List.{All, Contains}
 use Rattle.std.specs.FinMap.{get}
 use Rattle.std.proofs.lemmas.Bool.{false≢true}
@@ -8,14 +8,13 @@ use Rattle.std.proofs.lemmas.List.{reverse-append, reverse-reverse}
 use Rattle.std.proofs.lemmas.List.Elements.{Contains-append_left, Contains-append_right, Contains-get_or, Contains-push_cases}
 use Rattle.std.proofs.lemmas.List.Folds.{list_any_at, Any-from_list_any}
 use Rattle.reuse_tree.specs.Files.{Files}
-use Rattle.reuse_tree.specs.declared.change.Change.{Change}
 use Rattle.reuse_session.specs.Answer.{IsReadRefusal}
 use Rattle.reuse_session.specs.Entry.{IsEntry, LeadsAll}
 use Rattle.reuse_session.specs.History.{Memory, row_listing}
 use Rattle.reuse_session.specs.Journal.{Recorded, Journal, State, rows_in}
 use Rattle.reuse_session.specs.JournalFiles.{entry_path, entry_in, number_of, EntrySays, IsKeptIn, KeepsJournal}
-use Rattle.reuse_session.specs.Machine.{Kept, Snapshots, row_of, rows_of}
-use Rattle.reuse_session.specs.Session.{store_of, memory_of, listed_as, Remembers, StandsOn, StandsAt, Holds, LeadUpTo, LeadOn}
+use Rattle.reuse_session.specs.Machine.{Kept, Snapshots, row_of}
+use Rattle.reuse_session.specs.Session.{store_of, memory_of, listed_as, Remembers, StandsOn, Holds, LeadUpTo, LeadOn}
 use Rattle.reuse_session.specs.Showing.{entry_of, row_among, row_in, lists, steps_in, IsUnused, Shows, ShowsAt, LedTo, LedOn}
 use Rattle.reuse_session.specs.Tree.{undo_folder_of}
 use Rattle.reuse_session.specs.declared.history.ListedEntry.{ListedEntry}

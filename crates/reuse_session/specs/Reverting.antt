@@ -1,5 +1,5 @@
 -- Reverting: the changes of a step are taken back on whatever the tree is now.
-use Rattle.std.specs.Prelude.{ℕ, nat_le, nat_eq, Bool, true, false, not, ◌&&◌, List, [], ◌∷◌, length, drop, filter, filter_map, Option, Some, None, is_some, Result, Ok, Err, if◌then◌else◌}
+use Rattle.std.specs.Prelude.{ℕ, nat_le, nat_eq, Bool, not, ◌&&◌, List, [], ◌∷◌, length, drop, filter, filter_map, Option, Some, None, is_some, Result, Ok, Err, if◌then◌else◌}
 use Rattle.std.specs.List.{starts_with}
 use Rattle.std.specs.Str.{bytes_eq}
 use Rattle.std.specs.FinMap.{get}

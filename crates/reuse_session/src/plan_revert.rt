@@ -159,7 +159,11 @@ fn change_back(
         ))),
         (
             Change::Splice {
-                path, at, old, new, ..
+                path,
+                at,
+                old,
+                new,
+                ..
             },
             Reading::Found(file),
         ) => put_back(alloc, path, file, *at, old, new),

@@ -73,11 +73,7 @@ impl<S: Store + Drop> Session<S> {
 }
 
 // The answer of the run that takes back a step of these paths.
-fn told(
-    alloc: Global,
-    answer: Result<Reply, Refusal>,
-    paths: Paths,
-) -> Result<Reverted, Refusal>
+fn told(alloc: Global, answer: Result<Reply, Refusal>, paths: Paths) -> Result<Reverted, Refusal>
     ensures same { IsRunAnswer answer → as_run result ≡ answer }
     ensures skipped { IfOk result (λ reverted. ArePaths reverted.changed → reverted.skipped ≡ left_of paths reverted.changed) }
 {

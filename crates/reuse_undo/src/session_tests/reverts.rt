@@ -61,8 +61,7 @@ fn edited(alloc: Global, bytes: &[u8]) -> Result<MemoryStore, Fail> {
 #[test]
 fn a_header_comes_out_of_a_file_that_was_edited_below(rt: HostRuntime) -> Result<(), Fail> {
     let alloc = rt.alloc();
-    let (store, _) = play(alloc, edited(alloc, LONGER)?, &events_of(alloc, &["c.py"])?)?;
-    let (mut store, line) = reverted(alloc, store, 1, false)?;
+    let (mut store, line) = reverted(alloc, edited(alloc, LONGER)?, 1, false)?;
     assert!(rt; line.as_str() == "changed a.py b.py, skipped", "{line}");
     let plain = [("a.py", b"print(1)\nprint(2)\n".as_slice()), ("b.py", PLAIN)];
     assert!(rt; has_just(alloc, &mut store, &plain)?);

@@ -1,8 +1,8 @@
-use Rattle.std.proofs.Common.{◌≡◌, ◌≢◌, ◌∙◌, ◌≤◌, length, IfOk, Some, None, sym, ap, subst}
+use Rattle.std.proofs.Common.{◌∙◌, IfOk, Some, None, sym, ap, subst}
 use Rattle.std.specs.FinMap.{get}
 use Rattle.reuse_tree.specs.Change.{path_of, IsProper}
 use Rattle.reuse_tree.specs.declared.change.Change.{Change}
-use Rattle.reuse_tree.specs.declared.change.Change.TheVariants.{Make, Drop, Splice}
+use Rattle.reuse_tree.specs.declared.change.Change.TheVariants.{Drop}
 use Rattle.reuse_session.specs.Entry.{IsSmall}
 use Rattle.reuse_session.specs.Plan.{MakesEdit}
 use Rattle.reuse_session.specs.Reverting.{taken_back}

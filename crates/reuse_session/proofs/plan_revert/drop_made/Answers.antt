@@ -1,4 +1,4 @@
-use Rattle.std.proofs.Common.{◌∙◌, List, ℕ, true, Some, sym, ap₂, subst}
+use Rattle.std.proofs.Common.{◌∙◌, Some, sym, ap₂, subst}
 use Rattle.std.specs.Str.{bytes_eq}
 use Rattle.reuse_tree.specs.declared.change.Change.{Change}
 use Rattle.reuse_tree.specs.declared.change.Change.TheVariants.{Make}
