@@ -292,7 +292,10 @@ is_absent : (file : Option (List ℕ)) → is_some file ≡ false → file ≡ N
 is_absent None e = refl
 is_absent (Some bytes) e = absurd (false≢true (sym e))
 
-ok_is : (one other : List Edit) → Ok {E = Refusal} one ≡ Ok other → one ≡ other
+abbrev ok_edits : List Edit → Result (List Edit) Refusal
+ok_edits edits = Ok edits
+
+ok_is : (one other : List Edit) → ok_edits one ≡ ok_edits other → one ≡ other
 ok_is one other e = cc
 
 conversion_differs : (tree : Files) (edits : List Edit) → conversion_edits tree ≡ Ok edits → AllByRecursion (Differs tree) edits
@@ -339,14 +342,14 @@ each_differs (Download ids texts) tree edits h = download_differs ids texts tree
 
 edited_differs : (tree : Files) (edits : List Edit) → AllByRecursion (Differs tree) edits → (path : List ℕ) → is_among (paths_at edits) path ≡ true → get tree path ≢ get (edited tree edits) path
 edited_differs tree [] each path h = absurd (false≢true h)
-edited_differs tree (e ∷ edits) each path h = of_test (bytes_eq path e.path) refl h
+edited_differs tree (e ∷ edits) each path h = of_test (bytes_eq path e.path) refl h (edited_differs tree edits each.1 path)
   where
-    of_test : (b : Bool) → bytes_eq path e.path ≡ b → (b || is_among (paths_at edits) path) ≡ true → get tree path ≢ get (edited tree (e ∷ edits)) path
-    of_test true t k =
+    of_test : (b : Bool) → bytes_eq path e.path ≡ b → (b || is_among (paths_at edits) path) ≡ true → (is_among (paths_at edits) path ≡ true → get tree path ≢ get (edited tree edits) path) → get tree path ≢ get (edited tree (e ∷ edits)) path
+    of_test true t k rest =
         let same = (bytes_eq-Decides path e.path).0 t in
         λ is. each.0 (ap (get tree) (sym same) ∙ is ∙ ap (get (with_file (edited tree edits) e.path e.file)) same ∙ with_same (edited tree edits) e.path e.file)
-    of_test false t k =
-        λ is. edited_differs tree edits each.1 path k (is ∙ with_other (edited tree edits) e.path e.file path (λ same. false≢true (sym t ∙ (bytes_eq-Decides path e.path).1 same)))
+    of_test false t k rest =
+        λ is. rest k (is ∙ with_other (edited tree edits) e.path e.file path (λ same. false≢true (sym t ∙ (bytes_eq-Decides path e.path).1 same)))
 
 differs_where : (tree : Files) (edits : List Edit) → AllByRecursion (Differs tree) edits → (path : List ℕ) → (is_among (paths_at edits) path ≡ true) ↔ (get tree path ≢ get (edited tree edits) path)
 differs_where tree edits each path = (edited_differs tree edits each path, λ other. of_test (is_among (paths_at edits) path) refl other)
@@ -359,7 +362,7 @@ few_edits : (tree after : Files) (given : Result (List Edit) Refusal) → tree_a
 few_edits tree after (Err refusal) e = absurd (cc)
 few_edits tree after (Ok edits) e = by_size (is_too_many edits) refl e
   where
-    by_size : (b : Bool) → is_too_many edits ≡ b → cond b (Err refusals.TooMany) (Ok (edited tree edits)) ≡ Ok after → (es : List Edit) × (Ok {E = Refusal} edits ≡ Ok es) × (is_too_many es ≡ false) × (edited tree es ≡ after)
+    by_size : (b : Bool) → is_too_many edits ≡ b → cond b (Err refusals.TooMany) (Ok (edited tree edits)) ≡ Ok after → (es : List Edit) × (ok_edits edits ≡ ok_edits es) × (is_too_many es ≡ false) × (edited tree es ≡ after)
     by_size true t h = absurd (cc)
     by_size false t h = (edits, refl, t, cc)
 
