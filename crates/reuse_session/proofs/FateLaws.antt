@@ -373,8 +373,7 @@ of_all command tree after path h =
     let limit : limit_fates (edits_of command tree) ≡ [] = ap limit_fates few.1 ∙ ap (λ b. cond b (fate.Refused refusals.TooMany ∷ []) []) few.2 in
     let same : list_any (is_change path) (path_fates command tree ++ limit_fates (edits_of command tree)) ≡ is_among (paths_at few.0) path =
     ap (λ fs. list_any (is_change path) (path_fates command tree ++ fs)) limit ∙ ap (list_any (is_change path)) (append-nil (path_fates command tree)) ∙ of_command command tree path few.0 few.1 in
-    let where_differs = differs_where tree few.0 (each_differs command tree few.0 few.1) path in
-    (
+    let where_differs = differs_where tree few.0 (each_differs command tree few.0 few.1) path in (
       λ e. subst (λ t. get tree path ≢ get t path) few.3 (where_differs.0 (sym same ∙ e)),
       λ other. same ∙ where_differs.1 (subst (λ t. get tree path ≢ get t path) (sym few.3) other),
     )
