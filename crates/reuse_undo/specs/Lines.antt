@@ -2,7 +2,7 @@
 use Rattle.std.specs.Prelude.{◌≡◌, ℕ, List, [], ◌∷◌, ◌++◌, codes, length}
 use Rattle.reuse_undo.specs.RowLines.{AreRowLines}
 use Rattle.reuse_session.specs.declared.reply.Reply.{Reply}
-use Rattle.reuse_session.specs.declared.reply.Reply.TheVariants.{Opened, Changed, NothingChanged, Undone, Redone, Log}
+use Rattle.reuse_session.specs.declared.reply.Reply.TheVariants.{Opened, Changed, NothingChanged, Undone, Redone, Log, Preview}
 
 -- a word, a space, a path and a line end
 abbrev pub line_of : List ℕ → List ℕ → List ℕ
@@ -21,6 +21,7 @@ IsReplyText NothingChanged text = text ≡ codes "nothing changed" ++ 10 ∷ []
 IsReplyText (Undone paths) text = text ≡ lines_of (codes "undone") paths
 IsReplyText (Redone paths) text = text ≡ lines_of (codes "redone") paths
 IsReplyText (Log rows) text = AreRowLines rows text
+IsReplyText (Preview fates) text = text ≡ []
 
 -- how many paths a reply tells
 abbrev pub path_count : Reply → ℕ
@@ -30,3 +31,4 @@ path_count NothingChanged = 0
 path_count (Undone paths) = length paths
 path_count (Redone paths) = length paths
 path_count (Log rows) = 0
+path_count (Preview fates) = 0

@@ -1,17 +1,23 @@
 -- What a line asks a session for, and what comes of it.
-use Rattle.std.specs.Prelude.{◌≡◌, ◌⊎◌, ◌+◌, List, Option, Some, ℕ, Result, Ok, Err}
+use Rattle.std.specs.Prelude.{◌≡◌, ◌⊎◌, ◌+◌, length, if◌then◌else◌, List, Option, Some, ℕ, Result, Ok, Err}
 use Rattle.reuse_tree.specs.Files.{Files, Clashes}
 use Rattle.reuse_session.specs.Answer.{IsEarly, IsFailure, HasClash, IsNoClash, IsOpenRefusal}
 use Rattle.reuse_session.specs.Journal.{State, Undoes, Redoes, rows_in}
 use Rattle.reuse_session.specs.JournalFiles.{head_path, entry_path}
-use Rattle.reuse_session.specs.Machine.{Snapshots, step}
+use Rattle.reuse_session.specs.Fates.{fates_of}
+use Rattle.reuse_session.specs.Machine.{Snapshots, is_full, as_reply, step}
+use Rattle.reuse_session.specs.Previews.{Foresees}
 use Rattle.reuse_session.specs.Opening.{IsFirstBad, IsStuckAt, OpensOn, StopsOpening}
 use Rattle.reuse_session.specs.Session.{Runs, StopsAfterRun, StopsAfter}
 use Rattle.reuse_session.specs.Standing.{IsStanding, InDoubt}
 use Rattle.reuse_session.specs.Stops.{HoldState, AreLeft}
 use Rattle.reuse_session.specs.declared.command.Command.TheVariants.{ConvertDep5, Download}
+use Rattle.reuse_session.specs.declared.entry.Way.TheVariants as ways_of
 use Rattle.reuse_session.specs.declared.events.Event.{Event}
 use Rattle.reuse_session.specs.declared.events.Event.TheVariants as events
+use Rattle.reuse_session.specs.declared.fate.Call.{Call}
+use Rattle.reuse_session.specs.declared.fate.Call.TheVariants as calls
+use Rattle.reuse_session.specs.declared.fate.Fate.{Fate}
 use Rattle.reuse_session.specs.declared.journal.head.PendingWay.TheVariants as ways
 use Rattle.reuse_session.specs.declared.licence.LicenceText.{LicenceText}
 use Rattle.reuse_session.specs.declared.reply.Cause.{Cause}
@@ -42,12 +48,19 @@ asked line texts = event_of line.action line.moment texts
 
 -- ---- the session's answer, from any files
 
+-- what a preview of a call tells from a standing
+abbrev pub Foretells : Call → State → Result (List Fate) Refusal → Type 0
+Foretells (calls.Run command) old told = told ≡ (if is_full (length old.journal.done) old.journal.used then Err refusals.JournalFull else Ok (fates_of command old.tree))
+Foretells calls.Undo old told = Foresees ways_of.Undo old.journal.done old.tree told
+Foretells calls.Redo old told = Foresees ways_of.Do old.journal.undone old.tree told
+
 -- what a call answers and which standing it leaves, where it tells neither a fault of the store nor want of memory
 abbrev pub Does : Event → State → Result Reply Refusal → State → Type 0
 Does (events.Run command when) old answer new = Runs command when old answer new
 Does events.Undo old answer new = Undoes old.journal.done old answer new
 Does events.Redo old answer new = Redoes old.journal.undone old answer new
 Does events.Log old answer new = (answer ≡ Ok (replies.Log (rows_in old.journal))) × (new ≡ old)
+Does (events.Preview call) old answer new = (told : Result (List Fate) Refusal) × Foretells call old told × (answer ≡ as_reply told) × (new ≡ old)
 Does events.Reopen old answer new = (answer ≡ Ok replies.Opened) × (new ≡ old)
 
 -- a call that stopped leaves files in doubt between the standing before it and that after it; a log doesn't stop

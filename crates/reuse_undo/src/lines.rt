@@ -35,7 +35,7 @@ pub fn print_reply<W: Write>(out: &mut W, reply: &Reply) -> io::Result<()>
         Reply::Redone(paths) => print_paths(out, "redone", paths.as_slice()),
         Reply::NothingChanged => writeln!(out, "nothing changed"),
         Reply::Log(rows) => print_rows(out, rows.as_slice()),
-        Reply::Opened => Ok(()),
+        Reply::Opened | Reply::Preview(_) => Ok(()),
     }
 }
 
@@ -47,6 +47,6 @@ pub fn path_count(reply: &Reply) -> usize
         Reply::Changed(paths) | Reply::Undone(paths) | Reply::Redone(paths) => {
             paths.as_slice().len()
         }
-        Reply::NothingChanged | Reply::Log(_) | Reply::Opened => 0,
+        Reply::NothingChanged | Reply::Log(_) | Reply::Opened | Reply::Preview(_) => 0,
     }
 }

@@ -1,20 +1,23 @@
 //! Carries a line out on a store.
 ghost use Rattle.std.specs.Prelude.{◌≡◌, ◌≤◌, ◌<◌, IfErr, IfOk, OnOk};
-ghost use Rattle.reuse_session.specs.Answer.{HasCause};
+ghost use Rattle.reuse_session.specs.Answer.{HasCause, TellsNoFault};
 ghost use Rattle.reuse_session.specs.Journal.{State};
 ghost use Rattle.reuse_session.specs.Machine.{Snapshots};
+ghost use Rattle.reuse_session.specs.Previews.{OnlyLooks, IsPreviewRefusal};
 ghost use Rattle.reuse_session.specs.Session.{store_of, StandsOn};
 ghost use Rattle.reuse_session.specs.Standing.{IsStanding};
 ghost use Rattle.reuse_session.specs.Stops.{HoldState};
 ghost use Rattle.reuse_undo.specs.Lines.{IsReplyText, path_count};
 ghost use Rattle.reuse_undo.specs.RowLines.{AppendsSome};
 ghost use Rattle.reuse_undo.specs.WriterFaults.{IsOfWriter};
-ghost use Rattle.reuse_undo.specs.RunLine.{asked, Calls, HasCallClash, Carries, Steps, Tells, IfRefused};
+ghost use Rattle.reuse_undo.specs.RunLine.{asked, Foretells, Calls, HasCallClash, Carries, Steps, Tells, IfRefused};
 
 use crate::fault::Fault;
 use crate::line::{Action, Line};
 use crate::lines::{path_count, print_reply};
-use reuse_session::{Answer, Command, Event, LicenceTexts, Reply, Session};
+use reuse_session::{
+    Answer, Call, Command, Event, Fates, LicenceTexts, Refusal, Reply, Session,
+};
 use reuse_tree::Store;
 use std::alloc::Global;
 use std::io::Write;
@@ -86,7 +89,28 @@ fn ask<S: Store + Drop>(alloc: Global, session: &mut Session<S>, event: &Event) 
             Ok(rows) => Ok(Reply::Log(rows)),
             Err(refusal) => Err(refusal),
         },
+        Event::Preview(call) => match preview(alloc, session, call) {
+            Ok(fates) => Ok(Reply::Preview(fates)),
+            Err(refusal) => Err(refusal),
+        },
         Event::Reopen => Ok(Reply::Opened),
+    }
+}
+
+// Tells what a call would do.
+fn preview<S: Store + Drop>(
+    alloc: Global,
+    session: &mut Session<S>,
+    call: &Call,
+) -> Result<Fates, Refusal>
+    ensures tells { S.honest (store_of session.new) → (held : State) → StandsOn S.files session.old held → TellsNoFault result → Foretells call.now held result }
+    ensures looks { OnlyLooks S.Store result session.old session.new }
+    ensures refusal { IfErr result IsPreviewRefusal }
+{
+    match call {
+        Call::Run(command) => session.preview(alloc, command),
+        Call::Undo => session.preview_undo(alloc),
+        Call::Redo => session.preview_redo(alloc),
     }
 }
 
