@@ -1,5 +1,5 @@
 -- The outcome of a command follows the fates of its paths.
-use Rattle.std.proofs.Common.{◌≡◌, ◌≢◌, ◌↔◌, ◌⊎◌, inl, inr, ℕ, ◌<◌, Bool, true, false, cond, not, ◌||◌, ◌&&◌, nat_lt, List, [], ◌∷◌, ◌++◌, length, map, Option, Some, None, is_some, Result, Ok, Err, refl, sym, ap, subst, ◌∙◌}
+use Rattle.std.proofs.Common.{◌≡◌, ◌≢◌, ◌↔◌, ◌⊎◌, inl, inr, ℕ, ◌<◌, Bool, true, false, cond, not, ◌||◌, ◌&&◌, nat_lt, List, [], ◌∷◌, ◌++◌, length, map, Option, Some, None, is_some, unwrap_or, Result, Ok, Err, refl, sym, ap, subst, ◌∙◌}
 use Rattle.std.specs.List.{AllByRecursion, Contains, list_any}
 use Rattle.std.specs.Option.{option_or}
 use Rattle.std.specs.Str.{bytes_eq}
@@ -25,10 +25,10 @@ use Rattle.reuse_session.specs.Clash.{is_clash}
 use Rattle.reuse_session.specs.Command.{has_root}
 use Rattle.reuse_session.specs.Conversion.{dep5_path, toml_path, replaced_by, conversion_where, conversion_edits}
 use Rattle.reuse_session.specs.Covered.{is_covered}
-use Rattle.reuse_session.specs.Downloads.{ids_refusal, licence_edit, unless_refused, download_edits}
+use Rattle.reuse_session.specs.Downloads.{text_for, ids_refusal, licence_edit, unless_refused, download_edits}
 use Rattle.reuse_session.specs.Edit.{Edit, made, dropped}
 use Rattle.reuse_session.specs.Fates.{is_skipped, fate_by, fate_at, annotation_fates, edit_fates, id_refusals, or_else, download_fates, path_fates, limit_fates, fates_of, first_refusal}
-use Rattle.reuse_session.specs.Licence.{licence_path}
+use Rattle.reuse_session.specs.Licence.{licence_path, licence_id}
 use Rattle.reuse_session.specs.Listing.{is_among, is_folder}
 use Rattle.reuse_session.specs.Outcome.{with_file, edited, is_too_many, or_first, edits_at, edits_by_names, edits_of, tree_after, outcome_of}
 use Rattle.reuse_session.specs.TreeStyles.{OwnNames, styles_in}
@@ -292,7 +292,10 @@ is_absent : (file : Option (List ℕ)) → is_some file ≡ false → file ≡ N
 is_absent None e = refl
 is_absent (Some bytes) e = absurd (false≢true (sym e))
 
-ok_is : (one other : List Edit) → Ok {E = Refusal} one ≡ Ok other → one ≡ other
+abbrev accepted : {A : Type 0} → A → Result A Refusal
+accepted x = Ok x
+
+ok_is : (one other : List Edit) → accepted one ≡ accepted other → one ≡ other
 ok_is one other e = cc
 
 conversion_differs : (tree : Files) (edits : List Edit) → conversion_edits tree ≡ Ok edits → AllByRecursion (Differs tree) edits
@@ -313,12 +316,15 @@ conversion_differs tree edits h = of_file (get tree dep5_path) refl h
         let two = root_or (is_some (get tree toml_path)) (refusals.Exists toml_path) (replaced_by tree bytes (converted bytes)) edits one.1 in
         of_text bytes (converted bytes) here (is_absent (get tree toml_path) two.0) two.1
 
+absent_is_none : (bytes : List ℕ) → None ≡ Some bytes → ⊥
+absent_is_none bytes e = cc
+
 download_differs : (ids : List (List ℕ)) (texts : List LicenceText) (tree : Files) (edits : List Edit) → download_edits ids texts tree ≡ Ok edits → AllByRecursion (Differs tree) edits
 download_differs ids texts tree edits h = by_refusal (ids_refusal tree texts (set_of ids)) refl h
   where
     each : (paths : List (List ℕ)) → AllByRecursion (IsMade tree texts) paths → AllByRecursion (Differs tree) (map (licence_edit texts) paths)
     each [] all = tt
-    each (p ∷ paths) all = (λ same. let is = sym all.0.absent ∙ same in absurd (cc), each paths all.1)
+    each (p ∷ paths) all = (λ same. absent_is_none (unwrap_or (text_for texts (licence_id p)) []) (sym all.0.absent ∙ same), each paths all.1)
 
     by_refusal : (o : Option Refusal) → ids_refusal tree texts (set_of ids) ≡ o → unless_refused o (map (licence_edit texts) (set_of (map licence_path (set_of ids)))) ≡ Ok edits → AllByRecursion (Differs tree) edits
     by_refusal None none e = subst (AllByRecursion (Differs tree)) (ok_is (map (licence_edit texts) (set_of (map licence_path (set_of ids)))) edits e) (each (set_of (map licence_path (set_of ids))) (are_made tree texts (set_of ids) none))
@@ -339,14 +345,15 @@ each_differs (Download ids texts) tree edits h = download_differs ids texts tree
 
 edited_differs : (tree : Files) (edits : List Edit) → AllByRecursion (Differs tree) edits → (path : List ℕ) → is_among (paths_at edits) path ≡ true → get tree path ≢ get (edited tree edits) path
 edited_differs tree [] each path h = absurd (false≢true h)
-edited_differs tree (e ∷ edits) each path h = of_test (bytes_eq path e.path) refl h
+edited_differs tree (e ∷ edits) each path h = of_test (bytes_eq path e.path) refl h (edited_differs tree edits each.1 path)
   where
-    of_test : (b : Bool) → bytes_eq path e.path ≡ b → (b || is_among (paths_at edits) path) ≡ true → get tree path ≢ get (edited tree (e ∷ edits)) path
-    of_test true t k =
+    of_test : (b : Bool) → bytes_eq path e.path ≡ b → (b || is_among (paths_at edits) path) ≡ true
+        → (is_among (paths_at edits) path ≡ true → get tree path ≢ get (edited tree edits) path) → get tree path ≢ get (edited tree (e ∷ edits)) path
+    of_test true t k rest =
         let same = (bytes_eq-Decides path e.path).0 t in
         λ is. each.0 (ap (get tree) (sym same) ∙ is ∙ ap (get (with_file (edited tree edits) e.path e.file)) same ∙ with_same (edited tree edits) e.path e.file)
-    of_test false t k =
-        λ is. edited_differs tree edits each.1 path k (is ∙ with_other (edited tree edits) e.path e.file path (λ same. false≢true (sym t ∙ (bytes_eq-Decides path e.path).1 same)))
+    of_test false t k rest =
+        λ is. rest k (is ∙ with_other (edited tree edits) e.path e.file path (λ same. false≢true (sym t ∙ (bytes_eq-Decides path e.path).1 same)))
 
 differs_where : (tree : Files) (edits : List Edit) → AllByRecursion (Differs tree) edits → (path : List ℕ) → (is_among (paths_at edits) path ≡ true) ↔ (get tree path ≢ get (edited tree edits) path)
 differs_where tree edits each path = (edited_differs tree edits each path, λ other. of_test (is_among (paths_at edits) path) refl other)
@@ -359,7 +366,7 @@ few_edits : (tree after : Files) (given : Result (List Edit) Refusal) → tree_a
 few_edits tree after (Err refusal) e = absurd (cc)
 few_edits tree after (Ok edits) e = by_size (is_too_many edits) refl e
   where
-    by_size : (b : Bool) → is_too_many edits ≡ b → cond b (Err refusals.TooMany) (Ok (edited tree edits)) ≡ Ok after → (es : List Edit) × (Ok {E = Refusal} edits ≡ Ok es) × (is_too_many es ≡ false) × (edited tree es ≡ after)
+    by_size : (b : Bool) → is_too_many edits ≡ b → cond b (Err refusals.TooMany) (Ok (edited tree edits)) ≡ Ok after → (es : List Edit) × (accepted edits ≡ Ok es) × (is_too_many es ≡ false) × (edited tree es ≡ after)
     by_size true t h = absurd (cc)
     by_size false t h = (edits, refl, t, cc)
 
@@ -370,8 +377,7 @@ of_all command tree after path h =
     let limit : limit_fates (edits_of command tree) ≡ [] = ap limit_fates few.1 ∙ ap (λ b. cond b (fate.Refused refusals.TooMany ∷ []) []) few.2 in
     let same : list_any (is_change path) (path_fates command tree ++ limit_fates (edits_of command tree)) ≡ is_among (paths_at few.0) path =
     ap (λ fs. list_any (is_change path) (path_fates command tree ++ fs)) limit ∙ ap (list_any (is_change path)) (append-nil (path_fates command tree)) ∙ of_command command tree path few.0 few.1 in
-    let where_differs = differs_where tree few.0 (each_differs command tree few.0 few.1) path in
-    (
+    let where_differs = differs_where tree few.0 (each_differs command tree few.0 few.1) path in (
       λ e. subst (λ t. get tree path ≢ get t path) few.3 (where_differs.0 (sym same ∙ e)),
       λ other. same ∙ where_differs.1 (subst (λ t. get tree path ≢ get t path) (sym few.3) other),
     )

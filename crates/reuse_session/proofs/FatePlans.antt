@@ -128,19 +128,21 @@ both_ok (Ok x) a b k = k a b
 
 pub first_of_ids : (tree : Files) (texts : List LicenceText) (ids : List (List ℕ)) → first_refusal (id_refusals tree texts ids) ≡ ids_refusal tree texts ids
 first_of_ids tree texts [] = refl
-first_of_ids tree texts (id ∷ ids) = by_refusal (id_refusal tree texts id)
+first_of_ids tree texts (id ∷ ids) = by_refusal (id_refusal tree texts id) (first_of_ids tree texts ids)
   where
-    by_refusal : (o : Option Refusal) → first_refusal (cons_option (option_map fate.Refused o) (id_refusals tree texts ids)) ≡ option_or o (ids_refusal tree texts ids)
-    by_refusal None = first_of_ids tree texts ids
-    by_refusal (Some refusal) = refl
+    by_refusal : (o : Option Refusal) → first_refusal (id_refusals tree texts ids) ≡ ids_refusal tree texts ids
+        → first_refusal (cons_option (option_map fate.Refused o) (id_refusals tree texts ids)) ≡ option_or o (ids_refusal tree texts ids)
+    by_refusal None rest = rest
+    by_refusal (Some refusal) rest = refl
 
 pub none_refused : (tree : Files) (texts : List LicenceText) (ids : List (List ℕ)) → ids_refusal tree texts ids ≡ None → id_refusals tree texts ids ≡ []
 none_refused tree texts [] e = refl
-none_refused tree texts (id ∷ ids) e = by_refusal (id_refusal tree texts id) e
+none_refused tree texts (id ∷ ids) e = by_refusal (id_refusal tree texts id) e (none_refused tree texts ids)
   where
-    by_refusal : (o : Option Refusal) → option_or o (ids_refusal tree texts ids) ≡ None → cons_option (option_map fate.Refused o) (id_refusals tree texts ids) ≡ []
-    by_refusal None e = none_refused tree texts ids e
-    by_refusal (Some refusal) e = absurd (cc)
+    by_refusal : (o : Option Refusal) → option_or o (ids_refusal tree texts ids) ≡ None → (ids_refusal tree texts ids ≡ None → id_refusals tree texts ids ≡ [])
+        → cons_option (option_map fate.Refused o) (id_refusals tree texts ids) ≡ []
+    by_refusal None e rest = rest e
+    by_refusal (Some refusal) e rest = absurd (cc)
 
 -- where an id is refused, so are the edits
 pub some_refused : (tree : Files) (texts : List LicenceText) (ids : List (List ℕ)) → 0 < length (id_refusals tree texts (set_of ids)) → (refusal : Refusal) × (download_edits ids texts tree ≡ Err refusal)

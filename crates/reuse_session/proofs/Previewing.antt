@@ -81,28 +81,28 @@ module _ (held : State) (state : Snapshots) (holds : Holds held state) where
   redo_foretold answer told = redo_by_cases answer held.journal.undone state.future holds.future told
 
 -- a refusal that tells a fault isn't told
-pub look_told : {A : Type 0} (refusal : Refusal) → IsLookRefusal refusal → TellsNoFault {A = A} (Err refusal) → ⊥
-look_told refusals.Memory look told = told
-look_told (refusals.Fault fault) look told = told
-look_told refusal look told = look
+pub look_told : (A : Type 0) (refusal : Refusal) → IsLookRefusal refusal → TellsNoFault {A = A} (Err refusal) → ⊥
+look_told A refusals.Memory look told = told
+look_told A (refusals.Fault fault) look told = told
+look_told A refusal look told = look
 
-pub any_told : {A B : Type 0} (refusal : Refusal) → TellsNoFault {A = A} (Err refusal) → TellsNoFault {A = B} (Err refusal)
-any_told (refusals.Fault fault) told = told
-any_told (refusals.Interrupted cause) told = told
-any_told refusals.Memory told = told
-any_told refusal told = tt
+pub any_told : (A B : Type 0) (refusal : Refusal) → TellsNoFault {A = A} (Err refusal) → TellsNoFault {A = B} (Err refusal)
+any_told A B (refusals.Fault fault) told = told
+any_told A B (refusals.Interrupted cause) told = told
+any_told A B refusals.Memory told = told
+any_told A B refusal told = tt
 
 pub run_foretold : (command : Command) (tree : Files) (state : Snapshots) (full : Bool) (answer : Result (List Fate) Refusal) → tree ≡ state.tree → is_full (length state.past) state.used ≡ full
     → cond full (answer ≡ Err refusals.JournalFull) (IfOk answer (λ fates. fates ≡ fates_of command tree) × IfErr answer IsLookRefusal) → TellsNoFault answer → answer ≡ run_fates state command
 run_foretold command tree state true answer same full is told = is ∙ sym (ap (λ b. cond b (Err refusals.JournalFull) (Ok (fates_of command state.tree))) full)
 run_foretold command tree state false (Ok fates) same full is told =
     ap (λ fs. Ok fs) (is.0 ∙ ap (fates_of command) same) ∙ sym (ap (λ b. cond b (Err refusals.JournalFull) (Ok (fates_of command state.tree))) full)
-run_foretold command tree state false (Err refusal) same full is told = absurd (look_told {A = List Fate} refusal is.1 told)
+run_foretold command tree state false (Err refusal) same full is told = absurd (look_told (List Fate) refusal is.1 told)
 
 pub travel_foretold : (way : Way) (step : Recorded) (steps : List Recorded) (made : List Change) (tree now : Files) (answer : Result (List Fate) Refusal) → step.changes ≡ made → now ≡ tree
     → IfOk answer (AreFatesOf way now made) → IfErr answer IsLookRefusal → TellsNoFault answer → Foresees way (step ∷ steps) tree answer
 travel_foretold way step steps made tree now (Ok fates) changes same are kind told = subst (λ t. AreFatesOf way t step.changes fates) same (subst (λ cs. AreFatesOf way now cs fates) (sym changes) are)
-travel_foretold way step steps made tree now (Err refusal) changes same are kind told = absurd (look_told {A = List Fate} refusal kind told)
+travel_foretold way step steps made tree now (Err refusal) changes same are kind told = absurd (look_told (List Fate) refusal kind told)
 
 -- ---- what they leave
 

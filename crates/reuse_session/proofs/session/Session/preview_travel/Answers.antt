@@ -4,7 +4,7 @@ use Rattle.reuse_session.specs.Previews.{Foresees}
 use Rattle.reuse_session.specs.Session.{memory_of}
 use Rattle.reuse_session.proofs.MemoryLemmas.{none_ahead}
 use Rattle.reuse_session.proofs.Travelling.{is_none}
-use Rattle.reuse_session.proofs.session.preview.Session.preview_travel.Goals as goal
+use Rattle.reuse_session.proofs.session.Session.preview_travel.Goals as goal
 
 pub returns-in_default-clause-exact : goal.returns-in_default-clause-exact
 returns-in_default-clause-exact g c honest held stands told =

@@ -14,7 +14,7 @@ use Rattle.reuse_session.proofs.OnlyReading.{is_refused}
 use Rattle.reuse_session.proofs.Previewing.{any_told, travel_foretold}
 use Rattle.reuse_session.proofs.StepAnswers.{read_told}
 use Rattle.reuse_session.proofs.Travelling.{next_of, next_says, next_changes}
-use Rattle.reuse_session.proofs.session.preview.Session.preview_listed.Goals as goal
+use Rattle.reuse_session.proofs.session.Session.preview_listed.Goals as goal
 
 -- the entry can't be read
 pub returns-in_err-entry-clause-exact : goal.returns-in_err-entry-clause-exact
@@ -22,7 +22,7 @@ returns-in_err-entry-clause-exact g c honest held stands told =
     let way = c.args.way in
     let next = next_of way g.S.Store.files c.args.self.now held c.args.listed c.requires.0 (remember_moved way c.requires.0 c.args.listed (memory_of c.args.self.now)) stands c.requires.1 refl in
     let is = is_refused c.from_residual.result c.from_residual.ensures.1 in
-    absurd (read_told c.in_err-entry.field-0.0 c.in_err-entry.ensures.refusal (any_told {A = List Fate} {B = Reply} c.in_err-entry.field-0.0 (subst TellsNoFault is told))
+    absurd (read_told c.in_err-entry.field-0.0 c.in_err-entry.ensures.refusal (any_told (List Fate) Reply c.in_err-entry.field-0.0 (subst TellsNoFault is told))
     (λ path e. (c.read_entry.ensures.bad honest path (c.in_err-entry.was ∙ ap (λ x. Err x) e)).1 (entry_in next.step) (next_says next c.number.result c.number.ensures)))
 
 pub returns-clause-exact : goal.returns-clause-exact

@@ -4,7 +4,7 @@ use Rattle.reuse_session.specs.declared.reply.Refusal.TheVariants.{JournalFull}
 use Rattle.reuse_session.proofs.Following.{is_full_alike}
 use Rattle.reuse_session.proofs.Previewing.{run_foretold, run_foretold_on}
 use Rattle.reuse_session.proofs.Running.{full_alike}
-use Rattle.reuse_session.proofs.session.preview.Session.preview.Goals as goal
+use Rattle.reuse_session.proofs.session.Session.preview.Goals as goal
 
 pub returns-then-is_full-clause-machine : goal.returns-then-is_full-clause-machine
 returns-then-is_full-clause-machine g c honest state stands_at told =

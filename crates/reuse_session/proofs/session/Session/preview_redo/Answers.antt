@@ -1,5 +1,5 @@
 use Rattle.reuse_session.proofs.Previewing.{redo_foretold}
-use Rattle.reuse_session.proofs.session.preview.Session.preview_redo.Goals as goal
+use Rattle.reuse_session.proofs.session.Session.preview_redo.Goals as goal
 
 pub returns-clause-machine : goal.returns-clause-machine
 returns-clause-machine g c honest state stands_at told =

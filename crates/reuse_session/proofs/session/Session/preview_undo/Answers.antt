@@ -1,5 +1,5 @@
 use Rattle.reuse_session.proofs.Previewing.{undo_foretold}
-use Rattle.reuse_session.proofs.session.preview.Session.preview_undo.Goals as goal
+use Rattle.reuse_session.proofs.session.Session.preview_undo.Goals as goal
 
 pub returns-clause-machine : goal.returns-clause-machine
 returns-clause-machine g c honest state stands_at told =
