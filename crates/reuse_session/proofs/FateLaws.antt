@@ -108,10 +108,10 @@ first_of_command : (command : Command) (tree : Files) → first_refusal (path_fa
 first_of_command (Annotate places additions how scope) tree = by_styles (styles_in tree)
   where
     by_root : (own : OwnNames) (b : Bool)
-        → first_refusal (cond b (fate.Refused (refusals.IsFolder place.Root) ∷ []) (map (fate_at how scope additions own tree) (worked_paths scope.recursive places tree)))
-        ≡ refusal_in (cond b (Err (refusals.IsFolder place.Root)) (edits_at (annotated_at how scope additions own tree) (worked_paths scope.recursive places tree)))
+        → first_refusal (cond b (fate.Refused (refusals.IsFolder place.Root) ∷ []) (map (fate_at how scope additions own tree) (worked_paths scope places tree)))
+        ≡ refusal_in (cond b (Err (refusals.IsFolder place.Root)) (edits_at (annotated_at how scope additions own tree) (worked_paths scope places tree)))
     by_root own true = refl
-    by_root own false = first_of_paths (annotated_at how scope additions own tree) (is_skipped scope own tree) (worked_paths scope.recursive places tree)
+    by_root own false = first_of_paths (annotated_at how scope additions own tree) (is_skipped scope own tree) (worked_paths scope places tree)
 
     by_styles : (styles : Result OwnNames Refusal) → first_refusal (annotation_fates places additions how scope tree styles) ≡ refusal_in (edits_by_names places additions how scope tree styles)
     by_styles (Err refusal) = refl
@@ -216,9 +216,9 @@ of_command (Annotate places additions how scope) tree path edits h = by_styles (
         → list_any (is_change path) (annotation_fates places additions how scope tree styles) ≡ is_among (paths_at edits) path
     by_styles (Err refusal) e = absurd (cc)
     by_styles (Ok own) e =
-        let parts = root_or (not scope.recursive && has_root places) (refusals.IsFolder place.Root) (edits_at (annotated_at how scope additions own tree) (worked_paths scope.recursive places tree)) edits e in
-        ap (λ b. list_any (is_change path) (cond b (fate.Refused (refusals.IsFolder place.Root) ∷ []) (map (fate_at how scope additions own tree) (worked_paths scope.recursive places tree)))) parts.0
-        ∙ of_paths (annotated_at how scope additions own tree) (is_skipped scope own tree) path (worked_paths scope.recursive places tree) edits parts.1
+        let parts = root_or (not scope.recursive && has_root places) (refusals.IsFolder place.Root) (edits_at (annotated_at how scope additions own tree) (worked_paths scope places tree)) edits e in
+        ap (λ b. list_any (is_change path) (cond b (fate.Refused (refusals.IsFolder place.Root) ∷ []) (map (fate_at how scope additions own tree) (worked_paths scope places tree)))) parts.0
+        ∙ of_paths (annotated_at how scope additions own tree) (is_skipped scope own tree) path (worked_paths scope places tree) edits parts.1
 of_command ConvertDep5 tree path edits h = ap (λ r. list_any (is_change path) (edit_fates r)) h ∙ of_edits path edits
 of_command (Download ids texts) tree path edits h =
     let none = none_or (ids_refusal tree texts (set_of ids)) (map (licence_edit texts) (set_of (map licence_path (set_of ids)))) edits h in
@@ -336,8 +336,8 @@ each_differs (Annotate places additions how scope) tree edits h = by_styles (sty
     by_styles : (styles : Result OwnNames Refusal) → edits_by_names places additions how scope tree styles ≡ Ok edits → AllByRecursion (Differs tree) edits
     by_styles (Err refusal) e = absurd (cc)
     by_styles (Ok own) e =
-        let parts = root_or (not scope.recursive && has_root places) (refusals.IsFolder place.Root) (edits_at (annotated_at how scope additions own tree) (worked_paths scope.recursive places tree)) edits e in
-        all_edits (annotated_at how scope additions own tree) (Differs tree) (λ p e k. annotated_differs how scope additions tree p e own k) (worked_paths scope.recursive places tree) edits parts.1
+        let parts = root_or (not scope.recursive && has_root places) (refusals.IsFolder place.Root) (edits_at (annotated_at how scope additions own tree) (worked_paths scope places tree)) edits e in
+        all_edits (annotated_at how scope additions own tree) (Differs tree) (λ p e k. annotated_differs how scope additions tree p e own k) (worked_paths scope places tree) edits parts.1
 each_differs ConvertDep5 tree edits h = conversion_differs tree edits h
 each_differs (Download ids texts) tree edits h = download_differs ids texts tree edits h
 

@@ -71,7 +71,7 @@ abbrev pub annotation_fates : List Place → Additions → How → Scope → Fil
 annotation_fates places additions how scope tree (Err refusal) = Refused refusal ∷ []
 annotation_fates places additions how scope tree (Ok own) =
     if not scope.recursive && has_root places then Refused (IsFolder place.Root) ∷ []
-    else map (fate_at how scope additions own tree) (worked_paths scope.recursive places tree)
+    else map (fate_at how scope additions own tree) (worked_paths scope places tree)
 
 -- of edits that are all made or refused together
 abbrev pub edit_fates : Result (List Edit) Refusal → List Fate

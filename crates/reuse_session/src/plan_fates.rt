@@ -273,7 +273,7 @@ fn plan_listed<S: Store>(
     ensures refusal { IfErr result IsLookRefusal }
 {
     let paths = tree_paths(alloc, store)?;
-    let worked = worked_paths(alloc, &paths, places, scope.recursive)?;
+    let worked = worked_paths(alloc, &paths, places, scope)?;
     plan_paths(alloc, store, &paths, &worked, additions, how, scope, styles)
 }
 
