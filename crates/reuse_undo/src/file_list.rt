@@ -63,7 +63,9 @@ fn read_bytes<R: Runtime>(rt: &R, alloc: Global, file: &str) -> io::Result<Vec<u
     if file == "-" {
         rt.reader().take(LONGEST_LIST + 1).read_to_end(&mut bytes)?;
     } else {
-        fs::open(rt, file)?.take(LONGEST_LIST + 1).read_to_end(&mut bytes)?;
+        fs::open(rt, file)?
+            .take(LONGEST_LIST + 1)
+            .read_to_end(&mut bytes)?;
     }
     Ok(bytes)
 }

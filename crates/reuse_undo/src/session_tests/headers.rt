@@ -18,7 +18,14 @@ fn notices_of_one_holder_are_merged(rt: HostRuntime) -> Result<(), Fail> {
         merge: true,
         ..plain_how()
     };
-    let command = annotate(alloc, &["m.py"], &["Jane Doe"], &[], how, plain_scope(alloc))?;
+    let command = annotate(
+        alloc,
+        &["m.py"],
+        &["Jane Doe"],
+        &[],
+        how,
+        plain_scope(alloc),
+    )?;
     let merged = b"# SPDX-FileCopyrightText: 2019 - 2024 Jane Doe\nx\n".as_slice();
     gives(
         &rt,

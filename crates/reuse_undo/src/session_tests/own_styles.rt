@@ -128,7 +128,10 @@ fn standing_of(alloc: Global, files: &[(&str, &[u8])]) -> Result<Vec<u8>, Fail> 
 fn bad_styles_are_refused_in_scarce_memory(rt: HostRuntime) -> Result<(), Fail> {
     let alloc = rt.alloc();
     let memory = ScarceMemory::new(&rt, alloc)?;
-    let event = Event::Run(licence(alloc, &["a.py"], "MIT", plain_scope(alloc))?, moment()?);
+    let event = Event::Run(
+        licence(alloc, &["a.py"], "MIT", plain_scope(alloc))?,
+        moment()?,
+    );
     for (text, _) in BAD {
         let files = [(FILE, text), ("a.py", OLD)];
         let call = Call {

@@ -15,9 +15,9 @@ pub returns : goal.returns
 returns c =
     let separator = c.separator_of-separator.result in
     let words = YieldsList-end
-        (YieldsList-at c.into_iter-word-iterator.ensures.into_iter_gives
-          (YieldsList-from_slice_split _ (λ byte. nat_eq byte separator) c.args.list.now c.split-word-items.ensures.rest c.split-word-items.ensures.done c.split-word-items.ensures.closure
-            (λ x b q k. search (rules, tests))))
-        c.loop-word.yielded _ c.loop-word.yielded_by _ _ c.in-None.is c.next.ensures.steps in
+    (YieldsList-at c.into_iter-word-iterator.ensures.into_iter_gives
+    (YieldsList-from_slice_split _ (λ byte. nat_eq byte separator) c.args.list.now c.split-word-items.ensures.rest c.split-word-items.ensures.done c.split-word-items.ensures.closure
+    (λ x b q k. search (rules, tests))))
+    c.loop-word.yielded _ c.loop-word.yielded_by _ _ c.in-None.is c.next.ensures.steps in
     c.new.ensures ∙ ap set_of (c.loop-word.invariant ∙ ap (filter_map path_of_word) words.0)
     ∙ ap (λ s. set_of (filter_map path_of_word (slice_split (λ byte. nat_eq byte s) c.args.list.now))) c.separator_of-separator.ensures
