@@ -142,7 +142,7 @@ module _ (scope : Scope) (tree : Files) (t : List ℕ) where
       let under' : lies_under t path ≡ true = ap (lies_under t) (sym is) ∙ under in
       append-left (for_folder path (is_folder tree path)) (flat_map (expanded scope tree) places) t
       (subst (λ b. In t (for_folder path b)) (sym (any_has (λ other. lies_under other path) t (keys tree) there under'))
-        (filter-has (is_chosen scope) t (filter (λ other. lies_under other path) (keys tree)) (filter-has (λ other. lies_under other path) t (keys tree) there under') chosen))
+      (filter-has (is_chosen scope) t (filter (λ other. lies_under other path) (keys tree)) (filter-has (λ other. lies_under other path) t (keys tree) there under') chosen))
   beneath_expanded (Path path ∷ places) folder (inr h) under there chosen =
       append-right (for_folder path (is_folder tree path)) (flat_map (expanded scope tree) places) t (beneath_expanded places folder h under there chosen)
 
@@ -200,25 +200,37 @@ module _ (scope : Scope) (places : List Place) (tree : Files) (path : List ℕ) 
   found : Worked scope tree path places → IsNamed places tree path ⊎ (StandsBeneath places tree path × IsAskedFor scope path)
   found (inl named) = inl (Contains-from_in (paths_among places) path named.0, named.1)
   found (inr (there, chosen)) =
-      inr ((Contains-from_in (keys tree) path there.0, elim there.1 [
-        | inl root ↦ inl root
-        | inr under ↦ inr (under.0, Contains-from_in (paths_among places) under.0 under.1, under.2)
-      ]), asked_from_test scope path chosen)
+      inr (
+        (
+          Contains-from_in (keys tree) path there.0,
+          elim there.1 [
+            | inl root ↦ inl root
+            | inr under ↦ inr (under.0, Contains-from_in (paths_among places) under.0 under.1, under.2)
+          ],
+        ),
+        asked_from_test scope path chosen,
+      )
 
   given : IsNamed places tree path ⊎ (StandsBeneath places tree path × IsAskedFor scope path) → Worked scope tree path places
   given (inl named) = inl (In-from_contains (paths_among places) path named.0, named.1)
   given (inr (there, asked)) =
-      inr ((In-from_contains (keys tree) path there.0, elim there.1 [
-        | inl root ↦ inl root
-        | inr under ↦ inr (under.0, In-from_contains (paths_among places) under.0 under.1, under.2)
-      ]), test_from_asked scope path asked)
+      inr (
+        (
+          In-from_contains (keys tree) path there.0,
+          elim there.1 [
+            | inl root ↦ inl root
+            | inr under ↦ inr (under.0, In-from_contains (paths_among places) under.0 under.1, under.2)
+          ],
+        ),
+        test_from_asked scope path asked,
+      )
 
   pub worked_exactly : Contains (worked_paths scope places tree) path ↔ (IsNamed places tree path ⊎ (StandsBeneath places tree path × IsAskedFor scope path))
   worked_exactly = (
     λ h. found (from_expanded scope tree path places (In-set_of (flat_map (expanded scope tree) places) path
-      (In-from_contains (set_of (flat_map (expanded scope tree) places)) path (subst (λ ps. Contains ps path) worked_is h)))),
+        (In-from_contains (set_of (flat_map (expanded scope tree) places)) path (subst (λ ps. Contains ps path) worked_is h)))),
     λ h. subst (λ ps. Contains ps path) (sym worked_is) (Contains-from_in (set_of (flat_map (expanded scope tree) places)) path
-      (set_of-has (flat_map (expanded scope tree) places) path (to_expanded scope tree path places (given h)))),
+        (set_of-has (flat_map (expanded scope tree) places) path (to_expanded scope tree path places (given h)))),
   )
 
 and_true : (b : Bool) → (b && true) ≡ b

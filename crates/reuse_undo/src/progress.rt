@@ -63,7 +63,9 @@ impl<R: Runtime> Progress<R> {
         let (read, written) = (self.read.get(), self.written.get());
         let _ = match self.listed.get() {
             Some(listed) => {
-                eprint!(&self.rt; "\r{read} files read of {listed} in the tree, {written} written\x1b[K")
+                eprint!(&self.rt;
+                    "\r{read} files read of {listed} in the tree, {written} written\x1b[K"
+                )
             }
             None => eprint!(&self.rt; "\r{read} files read, {written} written\x1b[K"),
         };
