@@ -22,19 +22,19 @@ use Rattle.reuse_tree.specs.Files.{Files}
 use Rattle.reuse_session.specs.Annotate.{neighbour_of, neighbour_is_tagged, target_of, edit_by, edit_inside, edit_neighbour, edit_beside, edit_target, annotated_where, annotated_at}
 use Rattle.reuse_session.specs.Annotations.{Due}
 use Rattle.reuse_session.specs.Clash.{is_clash}
-use Rattle.reuse_session.specs.Command.{has_root}
+use Rattle.reuse_session.specs.Command.{has_root, HoldsEntry}
 use Rattle.reuse_session.specs.Conversion.{dep5_path, toml_path, replaced_by, conversion_where, conversion_edits}
 use Rattle.reuse_session.specs.Covered.{is_covered}
 use Rattle.reuse_session.specs.Downloads.{text_for, ids_refusal, licence_edit, unless_refused, download_edits}
 use Rattle.reuse_session.specs.Edit.{Edit, made, dropped}
-use Rattle.reuse_session.specs.Fates.{is_skipped, fate_by, fate_at, annotation_fates, edit_fates, id_refusals, or_else, download_fates, path_fates, limit_fates, fates_of, first_refusal}
+use Rattle.reuse_session.specs.Fates.{is_skipped, fate_by, fate_at, annotation_fates, edit_fates, id_refusals, or_else, download_fates, revert_fate, path_fates, limit_fates, fates_of, first_refusal}
 use Rattle.reuse_session.specs.Licence.{licence_path, licence_id}
 use Rattle.reuse_session.specs.Listing.{is_among, is_folder}
 use Rattle.reuse_session.specs.Outcome.{with_file, edited, is_too_many, or_first, edits_at, edits_by_names, edits_of, tree_after, outcome_of}
 use Rattle.reuse_session.specs.TreeStyles.{OwnNames, styles_in}
 use Rattle.reuse_session.specs.Worked.{worked_paths}
 use Rattle.reuse_session.specs.declared.command.Command.{Command}
-use Rattle.reuse_session.specs.declared.command.Command.TheVariants.{Annotate, ConvertDep5, Download}
+use Rattle.reuse_session.specs.declared.command.Command.TheVariants.{Annotate, ConvertDep5, Download, Revert}
 use Rattle.reuse_session.specs.declared.command.Place.{Place}
 use Rattle.reuse_session.specs.declared.command.Place.TheVariants as place
 use Rattle.reuse_session.specs.declared.command.Scope.{Scope}
@@ -49,6 +49,10 @@ use Rattle.reuse_session.proofs.Annotating.{both_err, if_not, first_is, no_edits
 use Rattle.reuse_session.proofs.Downloading.{IsMade, are_made}
 use Rattle.reuse_session.proofs.FatePlans.{first_of_ids, none_refused}
 use Rattle.reuse_session.proofs.Planning.{paths_at, with_same, with_other, edited_other}
+use Rattle.reuse_session.proofs.RevertFitting.{backs, path_back, edits_are}
+use Rattle.reuse_session.specs.Reverting.{taken_back_on, stuck_on, unless_stuck, revert_edits}
+use Rattle.reuse_tree.specs.Change.{path_of}
+use Rattle.reuse_tree.specs.declared.change.Change.{Change}
 
 -- ---- the first refusal
 
@@ -104,6 +108,31 @@ first_of_download ids texts tree = by_refusal (ids_refusal tree texts (set_of id
         first_kept (id_refusals tree texts (set_of ids)) (edit_fates (download_edits ids texts tree)) refusal (first_of_ids tree texts (set_of ids) ∙ e)
         ∙ sym (ap (λ o. refusal_in (unless_refused o (map (licence_edit texts) (set_of (map licence_path (set_of ids)))))) e)
 
+-- where such are skipped, no change of a revert is refused
+none_stuck : (tree : Files) (changes : List Change) → first_refusal (map (revert_fate true tree) changes) ≡ None
+none_stuck tree [] = refl
+none_stuck tree (c ∷ cs) = by_back (is_some (taken_back_on tree c)) (none_stuck tree cs)
+  where
+    by_back : (b : Bool) → first_refusal (map (revert_fate true tree) cs) ≡ None
+        → first_refusal (cond b (fate.Changes (path_of c)) (fate.Skipped (path_of c)) ∷ map (revert_fate true tree) cs) ≡ None
+    by_back true rest = rest
+    by_back false rest = rest
+
+-- else the first that can't be taken back is
+first_stuck : (tree : Files) (changes : List Change) (edits : List Edit) → first_refusal (map (revert_fate false tree) changes) ≡ refusal_in (unless_stuck (stuck_on tree changes) edits)
+first_stuck tree [] edits = refl
+first_stuck tree (c ∷ cs) edits = by_back (is_some (taken_back_on tree c)) (first_stuck tree cs edits)
+  where
+    by_back : (b : Bool) → first_refusal (map (revert_fate false tree) cs) ≡ refusal_in (unless_stuck (stuck_on tree cs) edits)
+        → first_refusal (cond b (fate.Changes (path_of c)) (fate.Refused (refusals.Moved (path_of c))) ∷ map (revert_fate false tree) cs)
+        ≡ refusal_in (unless_stuck (cond (not b) (c ∷ stuck_on tree cs) (stuck_on tree cs)) edits)
+    by_back true rest = rest
+    by_back false rest = refl
+
+first_of_revert : (tree : Files) (skip : Bool) (changes : List Change) → first_refusal (map (revert_fate skip tree) changes) ≡ refusal_in (revert_edits changes skip tree)
+first_of_revert tree true changes = none_stuck tree changes
+first_of_revert tree false changes = first_stuck tree changes (backs tree changes)
+
 first_of_command : (command : Command) (tree : Files) → first_refusal (path_fates command tree) ≡ refusal_in (edits_of command tree)
 first_of_command (Annotate places additions how scope) tree = by_styles (styles_in tree)
   where
@@ -118,6 +147,7 @@ first_of_command (Annotate places additions how scope) tree = by_styles (styles_
     by_styles (Ok own) = by_root own (not scope.recursive && has_root places)
 first_of_command ConvertDep5 tree = first_of_edits (conversion_edits tree)
 first_of_command (Download ids texts) tree = first_of_download ids texts tree
+first_of_command (Revert changes skip_moved) tree = first_of_revert tree skip_moved changes
 
 first_of_limit : (tree : Files) (given : Result (List Edit) Refusal) → option_or (refusal_in given) (first_refusal (limit_fates given)) ≡ refusal_in (tree_after tree given)
 first_of_limit tree (Err refusal) = refl
