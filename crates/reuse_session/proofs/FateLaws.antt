@@ -1,6 +1,6 @@
 -- The outcome of a command follows the fates of its paths.
 use Rattle.std.proofs.Common.{◌≡◌, ◌≢◌, ◌↔◌, ◌⊎◌, inl, inr, ℕ, ◌<◌, Bool, true, false, cond, not, ◌||◌, ◌&&◌, nat_lt, List, [], ◌∷◌, ◌++◌, length, map, Option, Some, None, is_some, unwrap_or, Result, Ok, Err, refl, sym, ap, subst, ◌∙◌}
-use Rattle.std.specs.List.{AllByRecursion, Contains, list_any}
+use Rattle.std.specs.List.{AllByRecursion, Contains, cons_option, list_any}
 use Rattle.std.specs.Option.{option_or}
 use Rattle.std.specs.Str.{bytes_eq}
 use Rattle.std.specs.FinMap.{get}
@@ -239,6 +239,25 @@ none_or : (o : Option Refusal) (others edits : List Edit) → unless_refused o o
 none_or None others edits e = refl
 none_or (Some refusal) others edits e = absurd (cc)
 
+-- a change that isn't taken back changes no path
+no_way_back : (skip : Bool) (path other : List ℕ) (fates : List Fate)
+    → list_any (is_change path) (cond skip (fate.Skipped other) (fate.Refused (refusals.Moved other)) ∷ fates) ≡ list_any (is_change path) fates
+unfolding is_change
+no_way_back true path other fates = refl
+no_way_back false path other fates = refl
+
+of_revert : (tree : Files) (skip : Bool) (path : List ℕ) (changes : List Change) → list_any (is_change path) (map (revert_fate skip tree) changes) ≡ is_among (paths_at (backs tree changes)) path
+unfolding is_change
+of_revert tree skip path [] = refl
+of_revert tree skip path (c ∷ cs) = by_back (taken_back_on tree c) refl (of_revert tree skip path cs)
+  where
+    by_back : (o : Option Edit) → taken_back_on tree c ≡ o → list_any (is_change path) (map (revert_fate skip tree) cs) ≡ is_among (paths_at (backs tree cs)) path
+        → list_any (is_change path) (cond (is_some o) (fate.Changes (path_of c)) (cond skip (fate.Skipped (path_of c)) (fate.Refused (refusals.Moved (path_of c)))) ∷ map (revert_fate skip tree) cs)
+        ≡ is_among (paths_at (cons_option o (backs tree cs))) path
+    by_back None is rest = no_way_back skip path (path_of c) (map (revert_fate skip tree) cs) ∙ rest
+    by_back (Some edit) is rest =
+        ap (λ b. bytes_eq path (path_of c) || b) rest ∙ ap (λ p. bytes_eq path p || is_among (paths_at (backs tree cs)) path) (sym (path_back tree c edit is))
+
 of_command : (command : Command) (tree : Files) (path : List ℕ) (edits : List Edit) → edits_of command tree ≡ Ok edits → list_any (is_change path) (path_fates command tree) ≡ is_among (paths_at edits) path
 of_command (Annotate places additions how scope) tree path edits h = by_styles (styles_in tree) h
   where
@@ -254,6 +273,9 @@ of_command (Download ids texts) tree path edits h =
     let none = none_or (ids_refusal tree texts (set_of ids)) (map (licence_edit texts) (set_of (map licence_path (set_of ids)))) edits h in
     ap (λ fs. list_any (is_change path) (or_else fs (edit_fates (download_edits ids texts tree)))) (none_refused tree texts (set_of ids) none)
     ∙ ap (λ r. list_any (is_change path) (edit_fates r)) h ∙ of_edits path edits
+of_command (Revert changes skip_moved) tree path edits h =
+    of_revert tree skip_moved path changes
+    ∙ ap (λ es. is_among (paths_at es) path) (edits_are tree (cond skip_moved [] (stuck_on tree changes)) (backs tree changes) edits h)
 
 -- ---- each edit changes its file
 

@@ -77,7 +77,7 @@ module _ (tree : Files) where
   abbrev pub backs : List Change → List Edit
   backs changes = filter_map (taken_back_on tree) changes
 
-  path_back : (change : Change) (edit : Edit) → taken_back_on tree change ≡ Some edit → edit.path ≡ path_of change
+  pub path_back : (change : Change) (edit : Edit) → taken_back_on tree change ≡ Some edit → edit.path ≡ path_of change
   path_back change edit e = back_path change (get tree (path_of change)) edit (back_on tree change edit e).0
 
   -- what is known of each path of the changes is known of those of the edits
