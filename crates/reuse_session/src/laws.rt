@@ -64,20 +64,23 @@ pub fn downloads_put_each_text()
 /// What annotate does on a tree, in other words. Where it isn't refused, each file that is gone through is commented: it holds what the
 /// header rules make of its own bytes in its style; or accompanied: its neighbour holds what they make of the neighbour's own bytes, or
 /// of none; or skipped, where that is asked for. Every byte outside the old header block stays, and so does every other path. These words
-/// leave one tree.
+/// leave one tree. A run leaves it.
 pub fn annotations_change_chosen_places_alone()
     ensures made { (places : List Place) (additions : Additions) (how : How) (scope : Scope) (tree after : Files) → outcome_of (Annotate places additions how scope) tree ≡ Ok after
         → Annotates places additions how scope tree after }
     ensures one { (places : List Place) (additions : Additions) (how : How) (scope : Scope) (before after other : Files) → Annotates places additions how scope before after
         → Annotates places additions how scope before other → after ≡ other }
+    ensures left { (places : List Place) (additions : Additions) (how : How) (scope : Scope) (when : ℕ) (first second : State) → IsRun (Annotate places additions how scope) when first second
+        → Annotates places additions how scope first.tree second.tree }
 {
     annotating_keeps_other_bytes();
 }
 
 /// Where a conversion isn't refused, `.reuse/dep5` was there and is gone, `REUSE.toml` wasn't and holds the text that the dep5 is
-/// converted to, and every other path holds what it held.
+/// converted to, and every other path holds what it held. A run leaves that.
 pub fn conversions_put_a_table()
-    ensures { (tree after : Files) → outcome_of ConvertDep5 tree ≡ Ok after → PutsTable tree after }
+    ensures made { (tree after : Files) → outcome_of ConvertDep5 tree ≡ Ok after → PutsTable tree after }
+    ensures left { (when : ℕ) (first second : State) → IsRun ConvertDep5 when first second → PutsTable first.tree second.tree }
 {}
 
 /// A tree with nothing under `.reuse/undo/` holds the state of the machine without earlier and later trees, of which no number is used;
