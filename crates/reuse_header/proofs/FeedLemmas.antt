@@ -45,17 +45,17 @@ module _ (p : ℕ → Bool) where
   pub none_append : (xs ys : List ℕ) → list_any p xs ≡ false → list_any p ys ≡ false → list_any p (xs ++ ys) ≡ false
   none_append xs ys e f = list_any-append p xs ys ∙ or_none (list_any p xs) (list_any p ys) e f
 
-  none_drop : (n : ℕ) (xs : List ℕ) → list_any p xs ≡ false → list_any p (drop n xs) ≡ false
+  pub none_drop : (n : ℕ) (xs : List ℕ) → list_any p xs ≡ false → list_any p (drop n xs) ≡ false
   none_drop zero xs e = e
   none_drop (suc n) [] e = refl
   none_drop (suc n) (x ∷ xs) e = none_drop n xs (or_parts (p x) (list_any p xs) e).1
 
-  none_take : (n : ℕ) (xs : List ℕ) → list_any p xs ≡ false → list_any p (take n xs) ≡ false
+  pub none_take : (n : ℕ) (xs : List ℕ) → list_any p xs ≡ false → list_any p (take n xs) ≡ false
   none_take zero xs e = refl
   none_take (suc n) [] e = refl
   none_take (suc n) (x ∷ xs) e = let q = or_parts (p x) (list_any p xs) e in or_none (p x) (list_any p (take n xs)) q.0 (none_take n xs q.1)
 
-  none_front : (test : ℕ → Bool) (xs : List ℕ) → list_any p xs ≡ false → list_any p (drop_front test xs) ≡ false
+  pub none_front : (test : ℕ → Bool) (xs : List ℕ) → list_any p xs ≡ false → list_any p (drop_front test xs) ≡ false
   unfolding drop_front
   none_front test [] e = refl
   none_front test (x ∷ xs) e = elim (truth (test x)) [
@@ -63,7 +63,7 @@ module _ (p : ℕ → Bool) where
     | inr f ↦ rw f e
   ]
 
-  none_end : (test : ℕ → Bool) (xs : List ℕ) → list_any p xs ≡ false → list_any p (drop_end test xs) ≡ false
+  pub none_end : (test : ℕ → Bool) (xs : List ℕ) → list_any p xs ≡ false → list_any p (drop_end test xs) ≡ false
   unfolding drop_end
   none_end test [] e = refl
   none_end test (x ∷ xs) e = elim (truth (list_all test (x ∷ xs))) [
@@ -71,10 +71,10 @@ module _ (p : ℕ → Bool) where
     | inr f ↦ (let q = or_parts (p x) (list_any p xs) e in rw f (or_none (p x) (list_any p (drop_end test xs)) q.0 (none_end test xs q.1)))
   ]
 
-  none_trimmed : (test : ℕ → Bool) (xs : List ℕ) → list_any p xs ≡ false → list_any p (trimmed test xs) ≡ false
+  pub none_trimmed : (test : ℕ → Bool) (xs : List ℕ) → list_any p xs ≡ false → list_any p (trimmed test xs) ≡ false
   none_trimmed test xs e = none_end test (drop_front test xs) (none_front test xs e)
 
-none_weaker : (p q : ℕ → Bool) → ((b : ℕ) → q b ≡ true → p b ≡ true) → (xs : List ℕ) → list_any p xs ≡ false → list_any q xs ≡ false
+pub none_weaker : (p q : ℕ → Bool) → ((b : ℕ) → q b ≡ true → p b ≡ true) → (xs : List ℕ) → list_any p xs ≡ false → list_any q xs ≡ false
 none_weaker p q w [] e = refl
 none_weaker p q w (x ∷ xs) e =
     let parts = or_parts (p x) (list_any p xs) e in

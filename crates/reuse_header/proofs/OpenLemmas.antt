@@ -25,7 +25,7 @@ use Rattle.reuse_header.specs.Annotation.{Edit, edited, text_start, text_end, si
 use Rattle.reuse_header.specs.Neighbour.{is_text, closed_lines, neighbour_end, replaced_contents, neighbour_edit, neighbour_stands, neighbour_written, neighbour_annotation_of}
 use Rattle.reuse_header.specs.Splices.{answer_of}
 use Rattle.reuse_header.specs.Reading.{IsSayable}
-use Rattle.reuse_header.specs.Laws.{AreContents, neighbour_info_written}
+use Rattle.reuse_header.specs.Laws.{AreContents, AreUtf8, neighbour_info_written}
 use Rattle.std.proofs.lemmas.Bool.{cases_Bool as truth}
 use Rattle.reuse_header.proofs.CutLemmas.{file_size, mark_within}
 use Rattle.reuse_header.proofs.SpanLemmas.{last-place, last-closed}
@@ -35,6 +35,7 @@ use Rattle.reuse_header.proofs.LawLemmas.{neighbour_ok, text_lines}
 use Rattle.reuse_header.proofs.ReadingLemmas.{neighbour_reader, reads_back}
 use Rattle.reuse_header.proofs.LinesLemmas.{Known, neighbour_sayable}
 use Rattle.reuse_header.proofs.FeedLemmas.{Feedless}
+use Rattle.reuse_header.proofs.MadeTextLemmas.{made_is_text}
 use Rattle.reuse_header.proofs.KindLemmas.{Begins, mark_plain, replacement_begins}
 use Rattle.reuse_header.proofs.RepeatLemmas.{Laws, same_info, same_text, text_stays, no_splice, settled_yes}
 
@@ -282,13 +283,16 @@ edit_again known laws how arguments file edit replace plain is_text_too e =
     let due = called_again how additions made info (Ok (replacement (mark_len_of made) (neighbour_end made) text)) replace is_text_too says (neighbour_again made info quiet.0 w.few stand) in
     ap (answer_of made) due ∙ quiet.1
 
-pub neighbour_file_again : Known → Laws → (how : How) (arguments : Arguments) (file made : List ℕ) → how.replace ≡ true → ArePlain (additions_of arguments) → is_text made ≡ true
-    → made_by file (neighbour_annotation_of how (additions_of arguments) file) ≡ Ok made → answer_of made (neighbour_annotation_of how (additions_of arguments) made) ≡ Ok None
-neighbour_file_again known laws how arguments file made replace plain text e = by (neighbour_annotation_of how (additions_of arguments) file) refl e
+pub neighbour_file_again : Known → Laws → (how : How) (arguments : Arguments) (file made : List ℕ) → how.replace ≡ true → ArePlain (additions_of arguments) → AreUtf8 (additions_of arguments)
+    → made_by file (neighbour_annotation_of how (additions_of arguments) file) ≡ Ok made
+    → (is_text made ≡ true) × (answer_of made (neighbour_annotation_of how (additions_of arguments) made) ≡ Ok None)
+neighbour_file_again known laws how arguments file made replace plain utf8 e = by (neighbour_annotation_of how (additions_of arguments) file) refl e
   where
-    by : (answer : Result Edit HeaderRefusal) → neighbour_annotation_of how (additions_of arguments) file ≡ answer → made_by file answer ≡ Ok made → answer_of made (neighbour_annotation_of how (additions_of arguments) made) ≡ Ok None
+    by : (answer : Result Edit HeaderRefusal) → neighbour_annotation_of how (additions_of arguments) file ≡ answer → made_by file answer ≡ Ok made
+        → (is_text made ≡ true) × (answer_of made (neighbour_annotation_of how (additions_of arguments) made) ≡ Ok None)
     by (Err refusal) is e = absurd (error_is_ok refusal made e)
     by (Ok edit) is e =
         let same : edited file edit ≡ made = cc e in
-        let read : is_text (edited file edit) ≡ true = ap is_text same ∙ text in
-        subst (λ (m : List ℕ). answer_of m (neighbour_annotation_of how (additions_of arguments) m) ≡ Ok None) same (edit_again known laws how arguments file edit replace plain read is)
+        let read = made_is_text laws.joined laws.well known.merges how (additions_of arguments) file edit replace plain utf8 is in
+        subst (λ (m : List ℕ). (is_text m ≡ true) × (answer_of m (neighbour_annotation_of how (additions_of arguments) m) ≡ Ok None)) same
+        (read, edit_again known laws how arguments file edit replace plain read is)

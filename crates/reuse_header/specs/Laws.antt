@@ -1,5 +1,5 @@
 -- Words of the laws (this project's own).
-use Rattle.std.specs.Prelude.{◌≡◌, ℕ, ◌+◌, ◌-◌, ◌<◌, Bool, true, false, List, [], ◌∷◌, ◌++◌, length, map, take, drop, Contains, All, ◌⊎◌, Option, None, Some}
+use Rattle.std.specs.Prelude.{◌≡◌, ℕ, ◌+◌, ◌-◌, ◌<◌, Bool, true, false, List, [], ◌∷◌, ◌++◌, length, map, take, drop, Contains, All, ◌⊎◌, Option, None, Some, IsUtf8}
 use Rattle.reuse_text.specs.declared.LineKind.{LineKind}
 use Rattle.reuse_notice.specs.declared.infos.Info.{Info}
 use Rattle.reuse_notice.specs.Keeping.{IsKeptBy}
@@ -125,3 +125,9 @@ neighbour_info_written how additions file = new_info [] (replaced_contents how.r
 abbrev pub EndsPlainly : Style → List ℕ → Type 0
 EndsPlainly style file =
     (line : ℕ × TextLine) → prefix_lines style (file_lines file) ≡ line ∷ [] → line.1.ending ≡ None → ends_in_return file ≡ false
+
+-- each text of the additions is UTF-8
+pub record AreUtf8 (additions : Additions) : Type 0 where
+  pub notices : All IsUtf8 additions.notices
+  pub contributors : All IsUtf8 additions.contributors
+  pub licences : All IsUtf8 additions.licences

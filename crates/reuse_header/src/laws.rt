@@ -23,7 +23,7 @@ ghost use Rattle.reuse_notice.specs.declared.infos.Info.{Info};
 ghost use Rattle.reuse_notice.specs.Infos.{info_of, union_of, merged_of};
 ghost use Rattle.reuse_text.specs.declared.LineKind.{LineKind};
 ghost use Rattle.reuse_text.specs.Text.{file_lines, mark_len_of};
-ghost use Rattle.reuse_header.specs.Laws.{part, IsFirstPlace, StandsNowhere, IsEndedBy, IsEnclosed, IsCutAtBarrier, IsInsertion, Keeps, IsBlockText, ReadsAs, AreContents, EndsPlainly, information_in, info_written, neighbour_info_written};
+ghost use Rattle.reuse_header.specs.Laws.{part, IsFirstPlace, StandsNowhere, IsEndedBy, IsEnclosed, IsCutAtBarrier, IsInsertion, Keeps, IsBlockText, ReadsAs, AreContents, AreUtf8, EndsPlainly, information_in, info_written, neighbour_info_written};
 ghost use Rattle.reuse_header.specs.Splices.{answer_of};
 ghost use Rattle.reuse_header.specs.Split.{AreCommentBlocks, comment_blocks, IsSplit, IsHeaderBlock, HasNoHeader};
 ghost use Rattle.std.specs.List.{after_last};
@@ -216,13 +216,13 @@ pub fn annotated_files_read_back()
 
 /// Where old blocks are replaced, the same call on the file that annotating made changes nothing. One file is
 /// left out: one of a single prefix line that is not ended and ends in CR, since the ending that is put behind it makes
-/// that CR a part of a CRLF, and the file one of another kind. Of a neighbour the law asks that what was made
-/// is text.
+/// that CR a part of a CRLF, and the file one of another kind. What is made of a neighbour is text, as the neighbour was,
+/// where the additions are UTF-8, as the texts of Rust are.
 pub fn annotating_again_changes_nothing()
     ensures files { (style : Style) (how : How) (arguments : Arguments) (file made : List ℕ) → how.replace ≡ true → ArePlain (additions_of arguments) → EndsPlainly style file
         → annotated style how (additions_of arguments) file ≡ Ok made → answer_of made (annotation_of style how (additions_of arguments) made) ≡ Ok None }
-    ensures neighbours { (how : How) (arguments : Arguments) (file made : List ℕ) → how.replace ≡ true → ArePlain (additions_of arguments) → is_text made ≡ true
-        → neighbour_annotated how (additions_of arguments) file ≡ Ok made → answer_of made (neighbour_annotation_of how (additions_of arguments) made) ≡ Ok None }
+    ensures neighbours { (how : How) (arguments : Arguments) (file made : List ℕ) → how.replace ≡ true → ArePlain (additions_of arguments) → AreUtf8 (additions_of arguments)
+        → neighbour_annotated how (additions_of arguments) file ≡ Ok made → (is_text made ≡ true) × (answer_of made (neighbour_annotation_of how (additions_of arguments) made) ≡ Ok None) }
 {
     lines_are_one();
     sets_are_one();

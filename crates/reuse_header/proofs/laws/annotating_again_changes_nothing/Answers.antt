@@ -18,5 +18,5 @@ returns c =
     } in
     record {
       files = λ style how arguments file made replace plain ends e. file_again known laws style how arguments file made replace plain ends e;
-      neighbours = λ how arguments file made replace plain text e. neighbour_file_again known laws how arguments file made replace plain text e;
+      neighbours = λ how arguments file made replace plain utf8 e. neighbour_file_again known laws how arguments file made replace plain utf8 e;
     }
