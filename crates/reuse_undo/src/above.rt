@@ -11,12 +11,21 @@ fn has_journal<R: Runtime>(rt: &R, alloc: Global, folder: &str) -> bool {
     }
 }
 
+/// Whether the folder that ends at this place of the path has a journal.
+fn has_journal_at<R: Runtime>(rt: &R, alloc: Global, path: &str, end: usize) -> bool {
+    has_journal(rt, alloc, path.get(..end).unwrap_or(""))
+}
+
+/// The folder that ends at this place of the path; the root of all is `/`.
+fn folder_to(alloc: Global, path: &str, end: usize) -> Option<String> {
+    String::from_str(alloc, path.get(..end.max(1)).unwrap_or("/")).ok()
+}
+
 /// The nearest folder above this absolute path that has a journal.
 fn nearest<R: Runtime>(rt: &R, alloc: Global, path: &str) -> Option<String> {
     for (end, _) in path.rmatch_indices('/') {
-        if has_journal(rt, alloc, path.get(..end).unwrap_or("")) {
-            let folder = path.get(..end.max(1)).unwrap_or("/");
-            return String::from_str(alloc, folder).ok();
+        if has_journal_at(rt, alloc, path, end) {
+            return folder_to(alloc, path, end);
         }
     }
     None

@@ -28,6 +28,20 @@ const PREFIXES: &[&str] = &[
     "symbol",
 ];
 
+/// The flags that set how a header is written, in the order of the help.
+const FORM_FLAGS: &[(&str, &str)] = &[
+    (
+        "merge-copyrights",
+        "Write the notices of one holder as one, with a range of years",
+    ),
+    ("single-line", "Write single-line comments"),
+    ("multi-line", "Write multi-line comments"),
+    (
+        "no-replace",
+        "Put a new header above the one that is there",
+    ),
+];
+
 /// The version, and the format of the journal that this version writes.
 const VERSION: &str = "1.1.0 (journal format 2)";
 
@@ -99,6 +113,19 @@ fn flag<'a>(alloc: Global, id: &'a str, help: &'a str) -> Arg<'a> {
         .help(help)
 }
 
+/// The command with flags of these names, each with its help.
+fn with_flags<'a>(
+    alloc: Global,
+    command: Command<'a>,
+    flags: &'a [(&'a str, &'a str)],
+) -> Result<Command<'a>, AllocError> {
+    let mut command = command;
+    for (id, help) in flags {
+        command = command.arg(flag(alloc, id, help))?;
+    }
+    Ok(command)
+}
+
 fn named<'a>(alloc: Global, id: &'a str, names: &'a [&'a str], help: &'a str) -> Arg<'a> {
     Arg::new(alloc, id)
         .long(id)
@@ -149,6 +176,13 @@ fn with_texts<'a>(alloc: Global, command: Command<'a>) -> Result<Command<'a>, Al
         .arg(flag(alloc, "exclude-year", "Write no year"))
 }
 
+/// Of the two forms of a comment, one at most.
+fn one_form<'a>(alloc: Global) -> Result<ArgGroup<'a>, AllocError> {
+    ArgGroup::new(alloc, "form")
+        .arg("single-line")?
+        .arg("multi-line")
+}
+
 fn with_form<'a>(alloc: Global, command: Command<'a>) -> Result<Command<'a>, AllocError> {
     let style = named(
         alloc,
@@ -163,25 +197,8 @@ fn with_form<'a>(alloc: Global, command: Command<'a>) -> Result<Command<'a>, All
         "What a copyright notice begins with, by default spdx",
     )
     .visible_alias("copyright-style")?;
-    let form = ArgGroup::new(alloc, "form")
-        .arg("single-line")?
-        .arg("multi-line")?;
-    command
-        .arg(style.short('s'))?
-        .arg(prefix)?
-        .arg(flag(
-            alloc,
-            "merge-copyrights",
-            "Write the notices of one holder as one, with a range of years",
-        ))?
-        .arg(flag(alloc, "single-line", "Write single-line comments"))?
-        .arg(flag(alloc, "multi-line", "Write multi-line comments"))?
-        .arg(flag(
-            alloc,
-            "no-replace",
-            "Put a new header above the one that is there",
-        ))?
-        .group(form)
+    let command = command.arg(style.short('s'))?.arg(prefix)?;
+    with_flags(alloc, command, FORM_FLAGS)?.group(one_form(alloc)?)
 }
 
 fn with_scope<'a>(alloc: Global, command: Command<'a>) -> Result<Command<'a>, AllocError> {

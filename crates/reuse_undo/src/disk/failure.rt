@@ -12,6 +12,18 @@ pub enum Asked {
     Remove,
 }
 
+impl Asked {
+    /// The word for it.
+    fn word(self) -> &'static str {
+        match self {
+            Asked::List => "list",
+            Asked::Read => "read",
+            Asked::Write => "write",
+            Asked::Remove => "remove",
+        }
+    }
+}
+
 /// A call that failed: what it asked for, at which path, and why it failed.
 #[derive(Debug, Drop)]
 pub struct Failure {
@@ -21,17 +33,18 @@ pub struct Failure {
     fault: FolderFault,
 }
 
+impl Failure {
+    /// The path as it is shown.
+    fn place(&self) -> &str {
+        let path = self.path.as_str();
+        if path.is_empty() { "." } else { path }
+    }
+}
+
 impl fmt::Display for Failure {
     fn fmt<W: fmt::Write>(&self, f: &mut fmt::Formatter<W>) -> fmt::Result {
-        let asked = match self.asked {
-            Asked::List => "list",
-            Asked::Read => "read",
-            Asked::Write => "write",
-            Asked::Remove => "remove",
-        };
-        let path = self.path.as_str();
-        let place = if path.is_empty() { "." } else { path };
-        write!(f, "can't {asked} {place}: {}", self.fault)
+        let (word, place) = (self.asked.word(), self.place());
+        write!(f, "can't {word} {place}: {}", self.fault)
     }
 }
 

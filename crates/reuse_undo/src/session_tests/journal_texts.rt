@@ -1,13 +1,13 @@
 // Texts of the journal, with worked values.
 // The tags below are data: REUSE-IgnoreStart
-use crate::session_tests::trees::{FIRST, FIRST_UNSEALED, PLAIN};
+use crate::session_tests::trees::{FIRST, FIRST_UNSEALED, PLAIN, moment};
 use reuse_session::journal::laws::{written_entries_are_good, written_heads_are_good};
 use reuse_session::laws::{
     changed_paths_are_where_trees_differ, downloads_put_each_text, entries_lead_in_turn,
     files_open_in_one_way, seals_tell_of_whole_files,
 };
 use reuse_session::{
-    Changes, CommandName, DecodeFault, Entry, EntryNumbers, Head, Moment, Pending, PendingWay,
+    Changes, CommandName, DecodeFault, Entry, EntryNumbers, Head, Pending, PendingWay,
     decode_entry, decode_head, encode_entry, encode_head,
 };
 use reuse_text::Bytes;
@@ -91,10 +91,12 @@ fn bad_heads_are_refused(rt: HostRuntime) {
 }
 
 fn entry_of(alloc: Global, change: Change) -> Result<Entry, Fail> {
+    let mut changes = Vec::new(alloc);
+    changes.push(change)?;
     Ok(Entry {
-        changes: Changes::new(vec![in alloc; change]?),
+        changes: Changes::new(changes),
         command: CommandName::Annotate,
-        when: Moment::new(1_704_067_200).ok_or("moment")?,
+        when: moment()?,
     })
 }
 
