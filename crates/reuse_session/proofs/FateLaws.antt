@@ -49,10 +49,16 @@ use Rattle.reuse_session.proofs.Annotating.{both_err, if_not, first_is, no_edits
 use Rattle.reuse_session.proofs.Downloading.{IsMade, are_made}
 use Rattle.reuse_session.proofs.FatePlans.{first_of_ids, none_refused}
 use Rattle.reuse_session.proofs.Planning.{paths_at, with_same, with_other, edited_other}
-use Rattle.reuse_session.proofs.RevertFitting.{backs, path_back, edits_are}
-use Rattle.reuse_session.specs.Reverting.{taken_back_on, stuck_on, unless_stuck, revert_edits}
-use Rattle.reuse_tree.specs.Change.{path_of}
+use Rattle.reuse_session.proofs.RevertFitting.{backs, back_on, path_back, edits_are}
+use Rattle.reuse_session.proofs.RevertPlanning.{and_first, splice_differs}
+use Rattle.reuse_session.specs.Reverting.{stands_at, is_short, put_back, taken_back, taken_back_on, stuck_on, unless_stuck, revert_edits}
+use Rattle.reuse_text.specs.Text.{spliced}
+use Rattle.reuse_tree.specs.Change.{path_of, IsProper}
 use Rattle.reuse_tree.specs.declared.change.Change.{Change}
+use Rattle.reuse_tree.specs.declared.change.Change.TheVariants.{Make, Drop, Splice}
+use Rattle.std.proofs.lemmas.List.Elements.{recursion_from_All}
+use Rattle.std.proofs.lemmas.Option.{none-some, same_Some, cond_some}
+use Rattle.std.specs.FinMap.{empty}
 
 -- ---- the first refusal
 
@@ -382,16 +388,46 @@ download_differs ids texts tree edits h = by_refusal (ids_refusal tree texts (se
     by_refusal None none e = subst (AllByRecursion (Differs tree)) (ok_is (map (licence_edit texts) (set_of (map licence_path (set_of ids)))) edits e) (each (set_of (map licence_path (set_of ids))) (are_made tree texts (set_of ids) none))
     by_refusal (Some refusal) none e = absurd (cc)
 
-each_differs : (command : Command) (tree : Files) (edits : List Edit) → edits_of command tree ≡ Ok edits → AllByRecursion (Differs tree) edits
-each_differs (Annotate places additions how scope) tree edits h = by_styles (styles_in tree) h
+-- what a change that changes something is taken back to isn't what was there
+back_differs : (change : Change) (file : Option (List ℕ)) (edit : Edit) → IsProper change → taken_back change file ≡ Some edit → file ≢ edit.file
+back_differs (Make path new after) None edit proper e = absurd (none-some edit e)
+back_differs (Make path new after) (Some file) edit proper e = λ same.
+    let got : Some file ≡ None = same ∙ ap (λ (x : Edit). x.file) (sym (cond_some (bytes_eq file new) (dropped path new) edit e).1) in cc
+back_differs (Drop path old before) None edit proper e = λ same.
+    let got : None ≡ Some old = same ∙ ap (λ (x : Edit). x.file) (sym (same_Some (made path old) edit e)) in cc
+back_differs (Drop path old before) (Some file) edit proper e = absurd (none-some edit e)
+back_differs (Splice path at old new rest seal) None edit proper e = absurd (none-some edit e)
+back_differs (Splice path at old new rest seal) (Some file) edit proper e = λ same.
+    let is = cond_some (stands_at file new at && is_short file && is_short (spliced file at (length new) old)) (put_back path file at old new) edit e in
+    let stands = and_first (stands_at file new at) (is_short file) (and_first (stands_at file new at && is_short file) (is_short (spliced file at (length new) old)) is.0) in
+    let got : Some file ≡ Some (spliced file at (length new) old) = same ∙ ap (λ (x : Edit). x.file) (sym is.1) in
+    splice_differs empty path file old new at rest seal stands proper (same_Some file (spliced file at (length new) old) got)
+
+back_differs_on : (tree : Files) (change : Change) (edit : Edit) → IsProper change → taken_back_on tree change ≡ Some edit → Differs tree edit
+back_differs_on tree change edit proper e = λ same.
+    back_differs change (get tree (path_of change)) edit proper (back_on tree change edit e).0 (ap (get tree) (sym (path_back tree change edit e)) ∙ same)
+
+revert_differs : (tree : Files) (changes : List Change) → AllByRecursion IsProper changes → AllByRecursion (Differs tree) (backs tree changes)
+revert_differs tree [] all = tt
+revert_differs tree (c ∷ cs) all = by_back (taken_back_on tree c) refl (revert_differs tree cs all.1)
+  where
+    by_back : (o : Option Edit) → taken_back_on tree c ≡ o → AllByRecursion (Differs tree) (backs tree cs) → AllByRecursion (Differs tree) (cons_option o (backs tree cs))
+    by_back None is rest = rest
+    by_back (Some edit) is rest = (back_differs_on tree c edit all.0 is, rest)
+
+each_differs : (command : Command) (tree : Files) (edits : List Edit) → HoldsEntry command → edits_of command tree ≡ Ok edits → AllByRecursion (Differs tree) edits
+each_differs (Annotate places additions how scope) tree edits holds h = by_styles (styles_in tree) h
   where
     by_styles : (styles : Result OwnNames Refusal) → edits_by_names places additions how scope tree styles ≡ Ok edits → AllByRecursion (Differs tree) edits
     by_styles (Err refusal) e = absurd (cc)
     by_styles (Ok own) e =
         let parts = root_or (not scope.recursive && has_root places) (refusals.IsFolder place.Root) (edits_at (annotated_at how scope additions own tree) (worked_paths scope places tree)) edits e in
         all_edits (annotated_at how scope additions own tree) (Differs tree) (λ p e k. annotated_differs how scope additions tree p e own k) (worked_paths scope places tree) edits parts.1
-each_differs ConvertDep5 tree edits h = conversion_differs tree edits h
-each_differs (Download ids texts) tree edits h = download_differs ids texts tree edits h
+each_differs ConvertDep5 tree edits holds h = conversion_differs tree edits h
+each_differs (Download ids texts) tree edits holds h = download_differs ids texts tree edits h
+each_differs (Revert changes skip_moved) tree edits holds h =
+    subst (AllByRecursion (Differs tree)) (edits_are tree (cond skip_moved [] (stuck_on tree changes)) (backs tree changes) edits h)
+    (revert_differs tree changes (recursion_from_All IsProper changes holds.0.proper))
 
 -- ---- the edited tree
 
@@ -422,20 +458,20 @@ few_edits tree after (Ok edits) e = by_size (is_too_many edits) refl e
     by_size true t h = absurd (cc)
     by_size false t h = (edits, refl, t, cc)
 
-of_all : (command : Command) (tree after : Files) (path : List ℕ) → outcome_of command tree ≡ Ok after → (list_any (is_change path) (fates_of command tree) ≡ true) ↔ (get tree path ≢ get after path)
+of_all : (command : Command) (tree after : Files) (path : List ℕ) → HoldsEntry command → outcome_of command tree ≡ Ok after → (list_any (is_change path) (fates_of command tree) ≡ true) ↔ (get tree path ≢ get after path)
 unfolding fates_of outcome_of
-of_all command tree after path h =
+of_all command tree after path holds h =
     let few = few_edits tree after (edits_of command tree) h in
     let limit : limit_fates (edits_of command tree) ≡ [] = ap limit_fates few.1 ∙ ap (λ b. cond b (fate.Refused refusals.TooMany ∷ []) []) few.2 in
     let same : list_any (is_change path) (path_fates command tree ++ limit_fates (edits_of command tree)) ≡ is_among (paths_at few.0) path =
     ap (λ fs. list_any (is_change path) (path_fates command tree ++ fs)) limit ∙ ap (list_any (is_change path)) (append-nil (path_fates command tree)) ∙ of_command command tree path few.0 few.1 in
-    let where_differs = differs_where tree few.0 (each_differs command tree few.0 few.1) path in (
+    let where_differs = differs_where tree few.0 (each_differs command tree few.0 holds few.1) path in (
       λ e. subst (λ t. get tree path ≢ get t path) few.3 (where_differs.0 (sym same ∙ e)),
       λ other. same ∙ where_differs.1 (subst (λ t. get tree path ≢ get t path) (sym few.3) other),
     )
 
-pub changes_where_trees_differ : (command : Command) (tree after : Files) (path : List ℕ) → outcome_of command tree ≡ Ok after → Contains (fates_of command tree) (fate.Changes path) ↔ (get tree path ≢ get after path)
-changes_where_trees_differ command tree after path h =
+pub changes_where_trees_differ : (command : Command) (tree after : Files) (path : List ℕ) → HoldsEntry command → outcome_of command tree ≡ Ok after → Contains (fates_of command tree) (fate.Changes path) ↔ (get tree path ≢ get after path)
+changes_where_trees_differ command tree after path holds h =
     let here = changes_where (fates_of command tree) path in
-    let there = of_all command tree after path h in
+    let there = of_all command tree after path holds h in
     (λ c. there.0 (here.0 c), λ other. here.1 (there.1 other))

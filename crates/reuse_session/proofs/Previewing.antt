@@ -138,4 +138,4 @@ pub run_foretold_on : (command : Command) (held : State) (full : Bool) (answer :
     → cond full (answer ≡ Err refusals.JournalFull) (IfOk answer (λ fates. fates ≡ fates_of command held.tree) × IfErr answer IsLookRefusal) → TellsNoFault answer → answer ≡ run_fates_on held command
 run_foretold_on command held true answer full is told = is ∙ sym (ap (λ b. cond b (Err refusals.JournalFull) (Ok (fates_of command held.tree))) full)
 run_foretold_on command held false (Ok fates) full is told = ap (λ fs. Ok fs) is.0 ∙ sym (ap (λ b. cond b (Err refusals.JournalFull) (Ok (fates_of command held.tree))) full)
-run_foretold_on command held false (Err refusal) full is told = absurd (look_told {A = List Fate} refusal is.1 told)
+run_foretold_on command held false (Err refusal) full is told = absurd (look_told (List Fate) refusal is.1 told)

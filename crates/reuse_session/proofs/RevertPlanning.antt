@@ -7,7 +7,7 @@ use Rattle.std.specs.Str.{bytes_eq}
 use Rattle.std.specs.FinMap.{get}
 use Rattle.std.proofs.lemmas.Bool.{false≢true}
 use Rattle.std.proofs.lemmas.Bool.Decides.{Decides-eqb}
-use Rattle.std.proofs.lemmas.List.{take-append-drop, length-take-le, drop-drop, length-drop}
+use Rattle.std.proofs.lemmas.List.{take-append-drop, length-take-le, drop-drop, length-drop, append_cancel_left, append_cancel_right}
 use Rattle.std.proofs.lemmas.Slice.Eq.{bytes_eq-Decides, starts_is}
 use Rattle.sha2.specs.Sha256.{sha256}
 use Rattle.reuse_text.specs.Text.{spliced}
@@ -29,7 +29,7 @@ use Rattle.reuse_session.specs.declared.reply.Refusal.TheVariants.{Fault, Interr
 abbrev pub found : Option Edit → Result (Option Edit) Refusal
 found edit = Ok edit
 
-and_first : (a b : Bool) → (a && b) ≡ true → a ≡ true
+pub and_first : (a b : Bool) → (a && b) ≡ true → a ≡ true
 and_first true b e = refl
 and_first false b e = e
 
@@ -121,6 +121,11 @@ module _ (tree : Files) (path file old new : List ℕ) (at rest : ℕ) (seal : O
 
     rest_len : length (drop (at + length new) file) ≡ length file - at - length new
     rest_len = omega (arith, length-drop (at + length new) file)
+
+    -- where the bytes differ that give way, the file changes
+    pub splice_differs : old ≢ new → file ≢ spliced file at (length new) old
+    splice_differs apart same = apart (sym (append_cancel_left (take at file) new old
+    (append_cancel_right (take at file ++ new) (take at file ++ old) (drop (at + length new) file) (sym whole ∙ same))))
 
     pub spliced_len : length (spliced file at (length new) old) ≡ length file - length new + length old
     spliced_len = omega (arith, within, front_len, rest_len, length-append (take at file ++ old) (drop (at + length new) file), length-append (take at file) old)

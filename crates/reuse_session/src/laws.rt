@@ -13,6 +13,7 @@ ghost use Rattle.reuse_tree.specs.declared.change.Change.{Change};
 ghost use Rattle.reuse_session.specs.Annotated.{Annotates};
 ghost use Rattle.reuse_session.specs.Choice.{is_chosen};
 ghost use Rattle.reuse_session.specs.Chosen.{IsNamed, StandsBeneath, IsAskedFor};
+ghost use Rattle.reuse_session.specs.Command.{HoldsEntry};
 ghost use Rattle.reuse_session.specs.Covered.{is_covered};
 ghost use Rattle.reuse_session.specs.Entry.{CanBeMade, IsEntry, LeadsAll, LeadsBy, AreAllSealed};
 ghost use Rattle.reuse_session.specs.Fresh.{IsFresh, first_state};
@@ -131,5 +132,5 @@ pub fn reverts_take_steps_back()
 pub fn outcome_follows_fates()
     ensures refused { (command : Command) (tree : Files) (refusal : Refusal) → (outcome_of command tree ≡ Err refusal) ↔ (first_refusal (fates_of command tree) ≡ Some refusal) }
     ensures accepted { (command : Command) (tree : Files) → (first_refusal (fates_of command tree) ≡ None) ↔ ((after : Files) × (outcome_of command tree ≡ Ok after)) }
-    ensures changed { (command : Command) (tree after : Files) (path : List ℕ) → outcome_of command tree ≡ Ok after → Contains (fates_of command tree) (Changes path) ↔ (get tree path ≢ get after path) }
+    ensures changed { (command : Command) (tree after : Files) (path : List ℕ) → HoldsEntry command → outcome_of command tree ≡ Ok after → Contains (fates_of command tree) (Changes path) ↔ (get tree path ≢ get after path) }
 {}

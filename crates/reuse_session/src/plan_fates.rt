@@ -266,8 +266,8 @@ fn plan_listed<S: Store>(
     styles: &StyleTable,
 ) -> Result<Planned, Refusal>
     ensures planned { S.honest store.new → IfOk result (Plans (tree_of (S.files store.old))
-        (map (fate_at how.now scope.now additions.now (lookup styles.now) (tree_of (S.files store.old))) (worked_paths scope.now.recursive places.now (tree_of (S.files store.old))))
-        (edits_at (annotated_at how.now scope.now additions.now (lookup styles.now) (tree_of (S.files store.old))) (worked_paths scope.now.recursive places.now (tree_of (S.files store.old))))) }
+        (map (fate_at how.now scope.now additions.now (lookup styles.now) (tree_of (S.files store.old))) (worked_paths scope.now places.now (tree_of (S.files store.old))))
+        (edits_at (annotated_at how.now scope.now additions.now (lookup styles.now) (tree_of (S.files store.old))) (worked_paths scope.now places.now (tree_of (S.files store.old))))) }
     ensures fails { RefusedAsRead S.Store store.old store.new result }
     ensures reads { OnlyReads S.Store store.old store.new }
     ensures refusal { IfErr result IsLookRefusal }

@@ -17,7 +17,7 @@ returns-then-gives_root-clause-planned g c honest =
     let tree = tree_of (g.S.Store.files c.args.store.now) in
     let own = lookup c.args.styles.now in
     let given = sym c.gives_root.ensures ∙ c.if-gives_root.true in
-    let worked = worked_paths c.args.scope.now.recursive c.args.places.now tree in
+    let worked = worked_paths c.args.scope.now c.args.places.now tree in
     let tell = fate_at c.args.how.now c.args.scope.now c.args.additions.now own tree in
     let at = annotated_at c.args.how.now c.args.scope.now c.args.additions.now own tree in
     refused_as tree (annotation_fates c.args.places.now c.args.additions.now c.args.how.now c.args.scope.now tree (Ok own)) (edits_by_names c.args.places.now c.args.additions.now c.args.how.now c.args.scope.now tree (Ok own))
@@ -31,7 +31,7 @@ returns-clause-planned g c honest =
     let tree = tree_of (g.S.Store.files c.args.store.now) in
     let own = lookup c.args.styles.now in
     let given = sym c.gives_root.ensures ∙ c.if-gives_root.false in
-    let worked = worked_paths c.args.scope.now.recursive c.args.places.now tree in
+    let worked = worked_paths c.args.scope.now c.args.places.now tree in
     let tell = fate_at c.args.how.now c.args.scope.now c.args.additions.now own tree in
     let at = annotated_at c.args.how.now c.args.scope.now c.args.additions.now own tree in
     subst (λ b. IfOk c.plan_listed.result (Plans tree (cond b (fate.Refused (IsFolder place.Root) ∷ []) (map tell worked)) (cond b (Err (IsFolder place.Root)) (edits_at at worked)))) (sym given)
