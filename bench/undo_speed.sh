@@ -8,7 +8,9 @@ set -euo pipefail
 . "$(dirname "$0")/python_tree.sh"
 files=${2:-20000}
 annotate=(annotate -c "Jane Doe" -l MIT -y 2024 -r .)
+# The tags below are data: REUSE-IgnoreStart
 header=$'# SPDX-FileCopyrightText: 2024 Jane Doe\n#\n# SPDX-License-Identifier: MIT\n\n'
+# REUSE-IgnoreEnd
 cc -O2 -o "$room/floor" "$(dirname "$0")/floor.c"
 
 # Runs a command, and notes its times and its peak memory if it was never faster.

@@ -153,7 +153,7 @@ progress() {
   script -qec "$call > $room/out & sleep 0.05; kill -STOP \$!; sleep 1.2; kill -CONT \$!; wait \$!" "$room/typed" < /dev/null > /dev/null
   run=$(tr '\r' '\n' < "$room/typed")
   [[ $(wc -l < "$room/out") == 4000 ]] || fail 'not all files are changed'
-  grep -qE '^[0-9]+ files read, [0-9]+ written' <<< "$run" || fail "no progress: $run"
+  grep -qE '^[0-9]+ files read of [0-9]+ in the tree, [0-9]+ written' <<< "$run" || fail "no progress: $run"
   grep -qE $'^\033\\[K' <<< "$run" || fail 'the progress is not cleared'
   ! "$program" --root "$tree" -v undo 2>&1 > /dev/null | grep -q 'files read' || fail 'progress without a terminal'
 }
