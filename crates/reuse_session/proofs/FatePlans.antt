@@ -23,7 +23,7 @@ use Rattle.reuse_session.specs.Plan.{MakesEdits, MakesEach, IsRefusalOf}
 use Rattle.reuse_session.specs.declared.fate.Fate.{Fate}
 use Rattle.reuse_session.specs.declared.fate.Fate.TheVariants as fate
 use Rattle.reuse_session.specs.declared.licence.LicenceText.{LicenceText}
-use Rattle.reuse_session.specs.declared.plan_fates.Planned.{Planned}
+use Rattle.reuse_session.specs.declared.planned.Planned.{Planned}
 use Rattle.reuse_session.specs.declared.reply.Refusal.{Refusal}
 use Rattle.reuse_session.specs.declared.reply.Refusal.TheVariants as refusals
 use Rattle.reuse_session.proofs.Annotating.{prepended, SoFar, at_start, after_path, at_end}

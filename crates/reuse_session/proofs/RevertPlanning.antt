@@ -126,7 +126,7 @@ module _ (tree : Files) (path file old new : List ℕ) (at rest : ℕ) (seal : O
     pub splice_differs : old ≢ new → file ≢ spliced file at (length new) old
     splice_differs apart same =
         apart (sym (append_cancel_left (take at file) new old
-          (append_cancel_right (take at file ++ new) (take at file ++ old) (drop (at + length new) file) (sym whole ∙ same))))
+        (append_cancel_right (take at file ++ new) (take at file ++ old) (drop (at + length new) file) (sym whole ∙ same))))
 
     pub spliced_len : length (spliced file at (length new) old) ≡ length file - length new + length old
     spliced_len = omega (arith, within, front_len, rest_len, length-append (take at file ++ old) (drop (at + length new) file), length-append (take at file) old)

@@ -165,17 +165,16 @@ fn run<R: Runtime + Files<File = File> + AllocGlobal>(
     at_terminal: bool,
 ) -> u8 {
     let said = match read_words(rt, alloc) {
-        Ok(words) => with_list(rt, alloc, words_to_command(alloc, words.as_slice(), moment)),
+        Ok(words) => words_to_command(alloc, words.as_slice(), moment),
         Err(fault) => Said::fault(fault),
     };
-    let Said {
-        verbose,
-        files_from: _,
-        line,
-    } = said;
     let extras = Extras {
-        notes: at_terminal || verbose,
+        notes: at_terminal || said.verbose,
         progress: at_terminal,
+    };
+    let line = match said.line {
+        Ok(line) => with_list(rt, alloc, line, said.files_from),
+        Err(fault) => Err(fault),
     };
     match line {
         Ok(line) => run_noted(rt, alloc, line, extras),

@@ -297,6 +297,20 @@ fn prints_rows(rt: HostRuntime) -> Result<(), Fail> {
     Ok(())
 }
 
+#[test]
+fn a_log_has_done_and_undone_steps(rt: HostRuntime) -> Result<(), Fail> {
+    let alloc = rt.alloc();
+    let store = tree(alloc, &[("a.py", b"print(1)\n"), ("b.py", b"print(1)\n")])?;
+    let words = "annotate|-c|Jane Doe|-l|MIT|-y|2024|a.py";
+    let (store, _) = run_at(alloc, store, words, 0)?;
+    let words = "annotate|-c|Jane Doe|-l|MIT|-y|2024|b.py";
+    let (store, _) = run_at(alloc, store, words, START_OF_2024)?;
+    let (store, _) = run_at(alloc, store, "undo", START_OF_2024)?;
+    let rows = "1 1970-01-01 annotate 1 done\n2 2024-01-01 annotate 1 undone\n";
+    prints(&rt, alloc, store, "log", rows)?;
+    Ok(())
+}
+
 const JANE_AS_DIFF: &str =
     "would change a.py\ndiff --git a/a.py b/a.py\n--- a/a.py\n+++ b/a.py\n@@ -1,1 +1,5 @@\n\
     +# SPDX-FileCopyrightText: 2024 Jane Doe\n+#\n+# SPDX-License-Identifier: MIT\n+\n print(1)\n";

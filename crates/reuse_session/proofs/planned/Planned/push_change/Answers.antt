@@ -1,7 +1,7 @@
 use Rattle.std.proofs.Common.{◌∙◌, ◌++◌, ◌∷◌, [], Some, ap, subst, sym}
 use Rattle.reuse_session.specs.FatePlan.{AddsChange}
 use Rattle.reuse_session.specs.declared.fate.Fate.TheVariants as fate
-use Rattle.reuse_session.proofs.plan_fates.Planned.push_change.Goals as goal
+use Rattle.reuse_session.proofs.planned.Planned.push_change.Goals as goal
 
 pub returns-in_ok-push-2 : goal.returns-in_ok-push-2
 returns-in_ok-push-2 c tree given told makes is = record {

@@ -5,7 +5,7 @@ use Rattle.reuse_session.specs.Downloads.{download_edits}
 use Rattle.reuse_session.specs.Fates.{edit_fates, id_refusals}
 use Rattle.reuse_session.specs.FatePlan.{Plans}
 use Rattle.reuse_session.proofs.FatePlans.{some_refused, or_some, or_none}
-use Rattle.reuse_session.proofs.plan_fates.download_on.Goals as goal
+use Rattle.reuse_session.proofs.download_fates.download_on.Goals as goal
 
 pub returns-then-not-is_empty-clause-planned : goal.returns-then-not-is_empty-clause-planned
 returns-then-not-is_empty-clause-planned c tree are =

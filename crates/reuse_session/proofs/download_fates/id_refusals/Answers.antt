@@ -5,8 +5,8 @@ use Rattle.reuse_session.specs.Downloads.{id_refusal}
 use Rattle.reuse_session.specs.declared.fate.Fate.TheVariants as fate
 use Rattle.reuse_session.proofs.Annotating.{one_more}
 use Rattle.reuse_session.proofs.FatePlans.{none_is}
-use Rattle.reuse_session.proofs.plan_fates.id_refusals.Goals as goal
-use Rattle.reuse_session.proofs.plan_fates.id_refusals.Goals.{in-Some+in_ok-push, in_default}
+use Rattle.reuse_session.proofs.download_fates.id_refusals.Goals as goal
+use Rattle.reuse_session.proofs.download_fates.id_refusals.Goals.{in-Some+in_ok-push, in_default}
 
 pub loop-id-preserved : goal.loop-id-preserved
 loop-id-preserved c tree are =

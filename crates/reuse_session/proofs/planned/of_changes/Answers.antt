@@ -6,7 +6,7 @@ use Rattle.reuse_session.specs.FatePlan.{Plans}
 use Rattle.reuse_session.specs.Plan.{AnswersEdits}
 use Rattle.reuse_session.specs.declared.fate.Fate.TheVariants as fate
 use Rattle.reuse_session.proofs.FatePlans.{changed_fates, refused_plan}
-use Rattle.reuse_session.proofs.plan_fates.of_changes.Goals as goal
+use Rattle.reuse_session.proofs.planned.of_changes.Goals as goal
 
 pub returns-after-loop-change-clause-planned : goal.returns-after-loop-change-clause-planned
 returns-after-loop-change-clause-planned c tree edits given =
