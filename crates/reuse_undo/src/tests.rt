@@ -6,6 +6,7 @@ mod worked_lines;
 use crate::fault::Fault;
 use crate::line::{Line, LineFault};
 use crate::run_line::run_line;
+use crate::session_tests::trees::tree;
 use crate::status::{exit_status, line_status};
 use crate::words::words_to_command;
 use reuse_session::{LicenceText, LicenceTexts, Moment, Refusal};
