@@ -535,10 +535,9 @@ carries_step state before request answer after held carries =
     met first state held.2 before after held.1 request answer
     (⊎_elim (λ (meets : Meets request first answer after). meets) (λ (meets : Meets request first answer after). meets) (made.settles first first (inl held.1)))) carries
 
--- the same, of equal requests and answers
-pub carries_as : (before after : Files) (request other : Request) (answer same : Result Told Refusal) → Carries before request answer after → request ≡ other → answer ≡ same → Carries before other same after
-carries_as before after request other answer same carries request_is answer_is =
-    subst (λ (r : Request). Carries before r same after) request_is (subst (λ (a : Result Told Refusal). Carries before request a after) answer_is carries)
+-- the same, of an equal answer
+pub carries_as : (before after : Files) (request : Request) (answer same : Result Told Refusal) → Carries before request answer after → answer ≡ same → Carries before request same after
+carries_as before after request answer same carries is = subst (λ (a : Result Told Refusal). Carries before request a after) is carries
 
 -- ---- what is told
 
@@ -552,8 +551,8 @@ told_of telling IsAnswer told old new (Err (faults.WouldRefuse fates)) is finish
   subst (λ t. AppendsSome old new (IsToldText telling t)) finished.1.0 finished.0,
 )
 told_of telling IsAnswer told old new (Err (faults.NoDiff refusal)) is finished = ((told, is), finished)
-told_of telling IsAnswer told old new (Err faults.Write) is finished = (told, is)
-told_of telling IsAnswer told old new (Err faults.Memory) is finished = (told, is)
+told_of telling IsAnswer told old new (Err faults.Write) is finished = (told, is, finished)
+told_of telling IsAnswer told old new (Err faults.Memory) is finished = ((told, is), finished)
 told_of telling IsAnswer told old new (Err (faults.Refused refusal)) is finished = absurd finished.1
 told_of telling IsAnswer told old new (Err faults.InUse) is finished = absurd finished.1
 

@@ -6,6 +6,7 @@ pub mod Within
 pub mod KeptOut
 pub mod Lines
 pub mod Objects
+pub mod Outputs
 pub mod Peeks
 pub mod Places
 pub mod PrefixNames

@@ -37,6 +37,7 @@ use Rattle.reuse_undo.specs.declared.request.Request.{Request}
 use Rattle.reuse_undo.specs.declared.request.Request.TheVariants as requests
 use Rattle.reuse_undo.specs.declared.request.Told.{Told}
 use Rattle.reuse_undo.specs.declared.request.Told.TheVariants as tells
+use Rattle.reuse_undo.specs.Outputs.{AppendsFront}
 use Rattle.reuse_undo.specs.RowLines.{AppendsSome}
 use Rattle.reuse_undo.specs.Told.{IsToldText, told_count, is_refused, WouldBeMade}
 
@@ -185,8 +186,8 @@ Steps state (requests.PreviewRevert number skip_moved) answer files =
 
 -- ---- what is told of it
 
--- The answer is one of these. Of it the writer, if it tells its bytes, was given the lines, and the paths that changed are counted, or it failed; a
--- refusal is handed on, and nothing is written of it. A call that was only looked at is a fault exactly where one of its fates is a refusal. That another
+-- The answer is one of these. Of it the writer, if it tells its bytes, was given the lines, and the paths that changed are counted, or it failed behind
+-- some front part of them; a refusal is handed on, and nothing is written of it, nor for want of memory. A call that was only looked at is a fault exactly where one of its fates is a refusal. That another
 -- run works on the tree is told before a store is asked, so never here.
 abbrev pub Tells : Telling → (Result Told Refusal → Type 0) → Option (List ℕ) → Option (List ℕ) → Result ℕ Fault → Type 0
 Tells telling IsAnswer old new (Ok count) = (told : Told) × IsAnswer (Ok told) × WouldBeMade told × AppendsSome old new (IsToldText telling told) × (count ≡ told_count told)
@@ -195,8 +196,8 @@ Tells telling IsAnswer old new (Err (faults.WouldRefuse fates)) =
     IsAnswer (Ok (tells.Reply (replies.Preview fates))) × (is_refused fates ≡ true) × AppendsSome old new (IsToldText telling (tells.Reply (replies.Preview fates)))
 Tells telling IsAnswer old new (Err (faults.NoDiff refusal)) = ((told : Told) × IsAnswer (Ok told)) × (new ≡ old)
 Tells telling IsAnswer old new (Err faults.InUse) = ⊥
-Tells telling IsAnswer old new (Err faults.Write) = (told : Told) × IsAnswer (Ok told)
-Tells telling IsAnswer old new (Err faults.Memory) = (told : Told) × IsAnswer (Ok told)
+Tells telling IsAnswer old new (Err faults.Write) = (told : Told) × IsAnswer (Ok told) × (text : List ℕ) × IsToldText telling told text × AppendsFront old new text
+Tells telling IsAnswer old new (Err faults.Memory) = ((told : Told) × IsAnswer (Ok told)) × (new ≡ old)
 
 -- a refusal that is told
 abbrev pub IfRefused : {T : Type 0} → Result T Fault → (Refusal → Type 0) → Type 0

@@ -12,6 +12,7 @@ use Rattle.reuse_undo.specs.declared.request.Told.{Told}
 use Rattle.reuse_undo.specs.declared.request.Told.TheVariants.{Reply, Shown, Reverted}
 use Rattle.reuse_undo.specs.Lines.{IsReplyText, IsShownText, reverted_text, path_count}
 use Rattle.reuse_undo.specs.Objects.{AreRowObjects, IsShownObject}
+use Rattle.reuse_undo.specs.Outputs.{AppendsFront}
 use Rattle.reuse_undo.specs.RowLines.{AppendsSome}
 
 -- what an answer is printed as in lines
@@ -47,6 +48,11 @@ abbrev pub WouldBeMade : Told → Type 0
 WouldBeMade (Reply (Preview fates)) = is_refused fates ≡ false
 WouldBeMade told = Unit {0}
 
+-- that a reply couldn't be written is told exactly where the writer failed
+abbrev pub TellsFailure : Bool → Bool → Result ℕ Fault → Type 0
+TellsFailure old new (Err Write) = new ≡ true
+TellsFailure old new result = new ≡ old
+
 -- ---- for private clauses
 
 -- a preview with a refusal is a fault; of every other answer the paths that changed are counted
@@ -55,9 +61,10 @@ Accepts told (Ok count) = (count ≡ told_count told) × WouldBeMade told
 Accepts told (Err (WouldRefuse fates)) = (told ≡ Reply (Preview fates)) × (is_refused fates ≡ true)
 Accepts told (Err fault) = ⊥
 
--- the answer is printed, if the writer tells its bytes, and accepted; or printing failed, or nothing was printed for want of a diff
+-- the answer is printed, if the writer tells its bytes, and accepted; or the writer failed behind some front part of its text; or nothing was printed, for
+-- want of a diff or of memory
 abbrev pub Finishes : Telling → Told → Option (List ℕ) → Option (List ℕ) → Result ℕ Fault → Type 0
 Finishes telling told old new (Err (NoDiff refusal)) = new ≡ old
-Finishes telling told old new (Err Write) = Unit {0}
-Finishes telling told old new (Err Memory) = Unit {0}
+Finishes telling told old new (Err Memory) = new ≡ old
+Finishes telling told old new (Err Write) = (text : List ℕ) × IsToldText telling told text × AppendsFront old new text
 Finishes telling told old new result = AppendsSome old new (IsToldText telling told) × Accepts told result

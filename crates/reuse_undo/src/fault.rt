@@ -1,7 +1,10 @@
 //! Why a line was not carried out.
+ghost use Rattle.std.specs.Prelude.{◌≡◌, IfErr, OnOk};
+ghost use Rattle.reuse_undo.specs.declared.fault.Fault.TheVariants as faults;
+
 use reuse_session::{Fates, Refusal};
 use std::alloc::AllocError;
-use std::io::{self, ErrorKind};
+use std::io;
 use thiserror::Error;
 
 /// Why a line was not carried out; its text is what standard error is told, but for that of a call that was only looked at.
@@ -28,25 +31,22 @@ pub enum Fault {
 }
 
 impl From<AllocError> for Fault {
-    ghost use Rattle.reuse_undo.specs.WriterFaults.{IsOfWriter};
+    ghost use Rattle.reuse_undo.specs.declared.fault.Fault.TheVariants as faults;
 
-    ghost from_gives = { λ error fault. IsOfWriter fault };
+    ghost from_gives = { λ error fault. fault ≡ faults.Memory };
 
     fn from(_: AllocError) -> Fault {
         Fault::Memory
     }
 }
 
-impl From<io::Error> for Fault {
-    ghost use Rattle.reuse_undo.specs.WriterFaults.{IsOfWriter};
-
-    ghost from_gives = { λ error fault. IsOfWriter fault };
-
-    fn from(error: io::Error) -> Fault {
-        if error.kind() == ErrorKind::OutOfMemory {
-            Fault::Memory
-        } else {
-            Fault::Write
-        }
+/// What is printed into memory fails for want of memory alone.
+pub fn in_memory(printed: io::Result<()>) -> Result<(), Fault>
+    ensures fault { IfErr result (λ fault. fault ≡ faults.Memory) }
+    ensures printed { (Printed : Type 0) → OnOk printed Printed → OnOk result Printed }
+{
+    match printed {
+        Ok(()) => Ok(()),
+        Err(_) => Err(Fault::Memory),
     }
 }

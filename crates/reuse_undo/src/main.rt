@@ -16,6 +16,7 @@ mod lines;
 mod lock;
 mod notes;
 mod objects;
+mod output;
 mod place_word;
 mod prefix_name;
 mod progress;

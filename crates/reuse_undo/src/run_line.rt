@@ -1,4 +1,4 @@
-//! Carries a line out on a store.
+//! Carries out on a store what a line asks for.
 ghost use Rattle.std.specs.Prelude.{◌≡◌, ◌≤◌, ◌<◌, IfErr};
 ghost use Rattle.reuse_tree.specs.Asked.{OnlyReads};
 ghost use Rattle.reuse_session.specs.Answer.{HasCause};
@@ -8,53 +8,53 @@ ghost use Rattle.reuse_session.specs.Session.{store_of};
 ghost use Rattle.reuse_session.specs.Standing.{IsStanding};
 ghost use Rattle.reuse_session.specs.Stops.{HoldState};
 ghost use Rattle.reuse_undo.specs.WriterFaults.{IsOfDiff};
-ghost use Rattle.reuse_undo.specs.Requests.{asked, IsLook};
+ghost use Rattle.reuse_undo.specs.Requests.{IsLook};
 ghost use Rattle.reuse_undo.specs.RunLine.{HasCallClash, Carries, Steps, Tells, IfRefused};
+ghost use Rattle.reuse_undo.specs.Told.{TellsFailure};
 
 mod calls;
 mod drawn;
 mod printed;
 
 use crate::fault::Fault;
-use crate::line::{Line, Telling};
-use crate::request::{Request, Told, request_of};
+use crate::line::Telling;
+use crate::output::Output;
+use crate::request::{Request, Told};
 use calls::ask;
 use drawn::{Foreseen, draw, foresee};
 use printed::{finish, is_refused};
-use reuse_session::{LicenceTexts, Refusal, Reply, Session};
+use reuse_session::{Refusal, Reply, Session};
 use reuse_tree::Store;
 use std::alloc::Global;
 use std::io::Write;
 
-/// Opens a session on the store, makes the one call that the line asks for, and writes the lines of its answer. The texts are
-/// those that were found for a download. The store is given back, and how many paths the answer tells that changed; where it can't be
-/// written, what the call changed stands.
-pub fn run_line<S: Store + Drop, W: Write>(
+/// Opens a session on the store, makes the one call that is asked for, and writes the lines of its answer. The store is given back, and how
+/// many paths the answer tells that changed; where it can't be written, what the call changed stands.
+pub fn run_request<S: Store + Drop, W: Write + Drop>(
     alloc: Global,
-    line: Line,
+    request: &Request,
+    telling: Telling,
     store: S,
-    texts: LicenceTexts,
-    out: &mut W,
+    out: &mut Output<W>,
 ) -> (S, Result<usize, Fault>)
-    // From any files, where the store is honest: what is told is the session's answer to the line, and the files are as it left them.
+    // From any files, where the store is honest: what is told is the session's answer, and the files are as it left them.
     ensures exact { S.honest result.0
-        → Tells line.telling (λ answer. Carries (S.files store) (asked line texts) answer (S.files result.0)) (W.contents out.old) (W.contents out.new) result.1 }
+        → Tells telling (λ answer. Carries (S.files store) request.now answer (S.files result.0)) (W.contents out.old.inner) (W.contents out.new.inner) result.1 }
     // From any state that the files hold it is that of the machine that keeps whole copies.
     ensures machine { S.honest result.0 → (state : Snapshots) → HoldState (S.files store) state
-        → Tells line.telling (λ answer. Steps state (asked line texts) answer (S.files result.0)) (W.contents out.old) (W.contents out.new) result.1 }
-    // A line that only asks leaves each file as it is, where nothing is pending.
-    ensures looks { S.honest result.0 → IsLook (asked line texts) → (held : State) → IsStanding (S.files store) held → S.files result.0 ≡ S.files store }
-    // A refusal is told before anything is written.
+        → Tells telling (λ answer. Steps state request.now answer (S.files result.0)) (W.contents out.old.inner) (W.contents out.new.inner) result.1 }
+    // What only asks leaves each file as it is, where nothing is pending.
+    ensures looks { S.honest result.0 → IsLook request.now → (held : State) → IsStanding (S.files store) held → S.files result.0 ≡ S.files store }
+    // A refusal is told before anything is written, and that the reply couldn't be written exactly where the writer failed.
     ensures quiet { IfRefused result.1 (λ refusal. out.new ≡ out.old) }
+    ensures failed { TellsFailure out.old.failed out.new.failed result.1 }
     // A fault has its cause; where nothing is pending, a clash is told only where the path that the call puts clashes.
     ensures fault { IfRefused result.1 (HasCause (S.failures store < S.failures result.0)) }
-    ensures clash { S.honest result.0 → (held : State) → IsStanding (S.files store) held → IfRefused result.1 (HasCallClash (asked line texts) held (S.files store)) }
+    ensures clash { S.honest result.0 → (held : State) → IsStanding (S.files store) held → IfRefused result.1 (HasCallClash request.now held (S.files store)) }
     ensures failures { S.failures store ≤ S.failures result.0 }
     ensures was_honest { S.honest result.0 → S.honest store }
 {
-    let telling = line.telling;
-    let request = request_of(line, texts);
-    let (store, answer, diff) = call(alloc, store, &request, telling);
+    let (store, answer, diff) = call(alloc, store, request, telling);
     match answer {
         Ok(told) => (store, finish(out, alloc, told, telling, diff)),
         Err(refusal) => (store, Err(Fault::Refused(refusal))),

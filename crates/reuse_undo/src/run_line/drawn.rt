@@ -5,7 +5,7 @@ ghost use Rattle.reuse_session.specs.Session.{store_of};
 ghost use Rattle.reuse_undo.specs.WriterFaults.{IsOfDiff};
 
 use crate::diff::{Turn, print_diff};
-use crate::fault::Fault;
+use crate::fault::{Fault, in_memory};
 use crate::request::Request;
 use crate::run_line::calls::revert_command;
 use reuse_session::{Call, Changes, EntryChanges, Event, Refusal, Row, Session};
@@ -173,7 +173,7 @@ fn draw_whole<'a>(
             after: None,
         }
     };
-    Ok(print_diff(text, alloc, turn)?)
+    in_memory(print_diff(text, alloc, turn))
 }
 
 // A file of which a range gives way. Where the range isn't within the file, it isn't as it was looked at, and nothing is told.
@@ -197,5 +197,5 @@ fn draw_range<'a>(
         before: Some(file),
         after: Some(after.as_slice()),
     };
-    Ok(print_diff(text, alloc, turn)?)
+    in_memory(print_diff(text, alloc, turn))
 }

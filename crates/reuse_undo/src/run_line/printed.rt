@@ -1,14 +1,16 @@
 //! What is told of an answer.
-ghost use Rattle.std.specs.Prelude.{◌≡◌, IfErr, OnOk};
+ghost use Rattle.std.specs.Prelude.{◌≡◌, IfOk, IfErr, OnOk};
 ghost use Rattle.reuse_undo.specs.RowLines.{AppendsSome};
-ghost use Rattle.reuse_undo.specs.Told.{Accepts, Finishes, is_refusal, is_refused, IsLinesText, IsToldText};
+ghost use Rattle.reuse_undo.specs.Told.{Accepts, Finishes, is_refusal, is_refused, IsLinesText, IsToldText, TellsFailure};
 ghost use Rattle.reuse_undo.specs.WriterFaults.{IsOfDiff};
+ghost use Rattle.reuse_undo.specs.declared.fault.Fault.TheVariants as faults;
 
 use crate::diff::print_record;
-use crate::fault::Fault;
+use crate::fault::{Fault, in_memory};
 use crate::line::Telling;
 use crate::lines::{path_count, print_reply, print_reverted, print_shown};
 use crate::objects::{print_row_objects, print_shown_object};
+use crate::output::Output;
 use crate::request::Told;
 use reuse_session::{Fate, Fates, Reply};
 use reuse_tree::Change;
@@ -17,19 +19,36 @@ use std::io::{self, Write};
 
 /// Prints an answer, and behind it the diff where one is wanted; how many paths it tells that changed. A preview of a call that would be
 /// refused is a fault.
-pub fn finish<W: Write>(
-    out: &mut W,
+pub fn finish<W: Write + Drop>(
+    out: &mut Output<W>,
     alloc: Global,
     told: Told,
     telling: Telling,
     diff: Result<Vec<u8>, Fault>,
 ) -> Result<usize, Fault>
     requires { IfErr diff IsOfDiff }
-    ensures { Finishes telling told (W.contents out.old) (W.contents out.new) result }
+    ensures told { Finishes telling told (W.contents out.old.inner) (W.contents out.new.inner) result }
+    ensures failed { TellsFailure out.old.failed out.new.failed result }
 {
     let diff = whole_diff(alloc, &told, telling, diff)?;
-    print_told(out, alloc, &told, telling, diff.as_slice())?;
+    let text = text_of(alloc, &told, telling, diff.as_slice())?;
+    out.write_text(text.as_slice())?;
     accept(told)
+}
+
+// What is told of an answer. No part of it is written before it is whole.
+fn text_of(
+    alloc: Global,
+    told: &Told,
+    telling: Telling,
+    diff: &[u8],
+) -> Result<Vec<u8>, Fault>
+    ensures text { IfOk result (λ text. IsToldText telling told.now text.items) }
+    ensures fault { IfErr result (λ fault. fault ≡ faults.Memory) }
+{
+    let mut text = Vec::new(alloc);
+    in_memory(print_told(&mut text, alloc, told, telling, diff))?;
+    Ok(text)
 }
 
 // The diff of what would change, or that of a step that is shown.
@@ -43,16 +62,18 @@ fn whole_diff(
     ensures { IfErr result IsOfDiff }
 {
     match (telling, told) {
-        (Telling::Diff, Told::Shown(shown)) => Ok(records_of(alloc, shown.changes.as_slice())?),
+        (Telling::Diff, Told::Shown(shown)) => records_of(alloc, shown.changes.as_slice()),
         _ => diff,
     }
 }
 
 // What the changes of a step have recorded.
-fn records_of(alloc: Global, changes: &[Change]) -> io::Result<Vec<u8>> {
+fn records_of(alloc: Global, changes: &[Change]) -> Result<Vec<u8>, Fault>
+    ensures { IfErr result IsOfDiff }
+{
     let mut text = Vec::new(alloc);
     for change in changes {
-        print_record(&mut text, alloc, change)?;
+        in_memory(print_record(&mut text, alloc, change))?;
     }
     Ok(text)
 }
