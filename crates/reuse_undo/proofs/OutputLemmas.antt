@@ -1,6 +1,6 @@
 -- A text that is written part by part.
-use Rattle.std.proofs.Common.{◌≡◌, ℕ, List, [], ◌++◌, Option, Some, None, take, drop, refl, sym, ap, ◌∙◌, append_assoc, append-nil, subst}
-use Rattle.std.proofs.lemmas.List.{take-append-drop}
+use Rattle.std.proofs.Common.{◌≡◌, ℕ, List, [], ◌++◌, Option, Some, None, take, drop, refl, sym, ap, ◌∙◌, append_assoc, append-nil, subst, ◌∷◌, ◌-◌, length, arith}
+use Rattle.std.proofs.lemmas.List.{take-append-drop, take_all, length-drop}
 use Rattle.std.proofs.KnownBytes.{Appends-trans}
 use Rattle.std.specs.Io.KnownBytes.{Appends, Keeps}
 use Rattle.reuse_undo.specs.Outputs.{AppendsFront}
@@ -32,8 +32,16 @@ appends_kept (Some xs) (Some ys) (Some zs) front so kept = kept ∙ so
 pub still_written : (old mid new : Option (List ℕ)) (text rest : List ℕ) → Written old mid text rest → Keeps mid new → Written old new text rest
 still_written old mid new text rest so kept = (so.0, so.1, appends_kept old mid new so.0 so.2 kept)
 
-pub all_written : (old new : Option (List ℕ)) (text rest : List ℕ) → Written old new text rest → rest ≡ [] → Appends old new text
-all_written old new text rest so none = subst (Appends old new) (sym (so.1 ∙ ap (λ l. so.0 ++ l) none ∙ append-nil so.0)) so.2
+pub all_written : (old new : Option (List ℕ)) (text rest : List ℕ) → Written old new text rest → length rest ≡ 0 → Appends old new text
+all_written old new text rest so none = subst (Appends old new) (sym (so.1 ∙ ap (λ l. so.0 ++ l) (no_bytes rest none) ∙ append-nil so.0)) so.2
+  where
+    no_bytes : (xs : List ℕ) → length xs ≡ 0 → xs ≡ []
+    no_bytes [] e = refl
+    no_bytes (x ∷ xs) e = absurd (omega (arith, e))
 
 pub front_written : (old new : Option (List ℕ)) (text rest : List ℕ) → Written old new text rest → AppendsFront old new text
 front_written old new text rest so = (so.0, rest, so.1, so.2)
+
+-- all that is behind the part that was taken
+pub whole_rest : (n : ℕ) (rest : List ℕ) → take (length rest - n) (drop n rest) ≡ drop n rest
+whole_rest n rest = take_all (length rest - n) (drop n rest) (omega (arith, length-drop n rest))

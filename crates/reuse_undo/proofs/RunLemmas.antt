@@ -12,14 +12,16 @@ use Rattle.reuse_tree.specs.declared.store.Store.{Ghosts}
 use Rattle.reuse_session.specs.Answer.{TellsNoFault, IsEarly, IsStop, IsFailure, HasCause, HasClash, IsNoClash, IsBrokenOrMemory, RefusedAsRead}
 use Rattle.reuse_session.specs.Fates.{fates_of}
 use Rattle.reuse_session.specs.Journal.{State, Recorded, rows_in}
-use Rattle.reuse_session.specs.JournalFiles.{head_path, entry_path, number_of, EntrySays}
+use Rattle.reuse_session.specs.JournalFiles.{head_path, entry_in, entry_path, number_of, EntrySays}
 use Rattle.reuse_session.specs.Machine.{Snapshots, step, as_reply, fates_in, is_full, run_fates}
 use Rattle.reuse_session.specs.Calls.{IsCall, LeavesRun, folder_of}
 use Rattle.reuse_session.specs.Opening.{OpensOn, StopsOpening}
 use Rattle.reuse_session.specs.Previews.{run_fates_on, OnlyLooks, IsPreviewRefusal}
 use Rattle.reuse_session.specs.RevertCalls.{Reverts, TakesBack, LeavesRevert, as_run}
 use Rattle.reuse_session.specs.Session.{store_of, is_broken, memory_of, Holds, StandsOn, IsKept}
-use Rattle.reuse_session.specs.Showing.{Shows, ShowsIn, ShowsAt, steps_in}
+use Rattle.reuse_session.specs.Showing.{lists, IsUnused, Shows, ShowsIn, ShowsAt, steps_in}
+use Rattle.reuse_session.specs.Session.{StopsAfterRun}
+use Rattle.reuse_session.specs.Tree.{undo_folder_of}
 use Rattle.reuse_session.specs.Standing.{IsStanding, InDoubt}
 use Rattle.reuse_session.specs.Stops.{Point, open_at, closed, Reopens, HoldState, AreLeft}
 use Rattle.reuse_session.specs.declared.command.Command.{Command}
@@ -45,7 +47,8 @@ use Rattle.reuse_session.proofs.Following.{undo_follows, redo_follows, log_follo
 use Rattle.reuse_session.proofs.RunFollowing.{runs_as_machine}
 use Rattle.reuse_session.proofs.Following.{is_full_alike}
 use Rattle.reuse_session.proofs.Previewing.{undo_foretold, redo_foretold}
-use Rattle.reuse_session.proofs.StepsByNumber.{led_to_tree, shows_at}
+use Rattle.reuse_session.proofs.StepsByNumber.{done_step, led_to_tree, says_step, shows_at, unkept}
+use Rattle.reuse_session.proofs.JournalLemmas.{same_entry}
 use Rattle.reuse_undo.specs.declared.fault.Fault.{Fault}
 use Rattle.reuse_undo.specs.declared.fault.Fault.TheVariants as faults
 use Rattle.reuse_undo.specs.declared.line.Telling.{Telling}
@@ -54,8 +57,9 @@ use Rattle.reuse_undo.specs.declared.request.Request.TheVariants as requests
 use Rattle.reuse_undo.specs.declared.request.Told.{Told}
 use Rattle.reuse_undo.specs.Peeks.{Peeks}
 use Rattle.reuse_undo.specs.RowLines.{AppendsSome}
-use Rattle.reuse_undo.specs.RunLine.{Looks, Previews, IsNotDone, Does, IsStopped, Makes, Calls, as_told, RevertsOn, PreviewsRevert, Meets, TakesBackStep, HasCallClash, IsUnopened, IsMade, Carries, StepsBy, StepsBack, ForetellsBack, Steps, Tells, IfRefused}
+use Rattle.reuse_undo.specs.RunLine.{Looks, Previews, Does, IsStopped, Makes, Calls, as_told, RevertsOn, PreviewsRevert, Meets, TakesBackStep, HasCallClash, IsUnopened, IsMade, Carries, StepsBy, StepsBack, StepsBackBy, ForetellsBack, Steps, Tells, IfRefused}
 use Rattle.reuse_undo.specs.Told.{IsToldText, Finishes}
+use Rattle.reuse_undo.proofs.NumberLemmas.{undone_is_unused}
 
 -- a refusal as an answer
 abbrev refused : (A : Type 0) → Refusal → Result A Refusal
@@ -213,13 +217,16 @@ told_again A B (Interrupted cause) told = absurd told
 told_again A B refusal told = tt
 
 -- what is shown of a step that is done is taken back
-pub back_of_shown : (held : State) (number : ℕ) (skip_moved : Bool) (shown : Shown) (result : Result Command Refusal) → Shows held.journal number shown
-    → (shown.row.done ≡ true → result ≡ Ok (Revert shown.changes skip_moved)) → (shown.row.done ≡ false → result ≡ Err (NoSuchStep number)) → TakesBackStep number skip_moved held result
-back_of_shown held number skip_moved shown result shows done undone = by_done shown.row.done refl shows.is_in
+pub back_of_shown : {S : Type 0} (files : S → Files) (session : Session S) (held : State) → StandsOn files session held → (number : ℕ) (skip_moved : Bool) (shown : Shown) (result : Result Command Refusal)
+    → Shows held.journal number shown → (shown.row.done ≡ true → result ≡ Ok (Revert shown.changes skip_moved)) → (shown.row.done ≡ false → result ≡ Err (NoSuchStep number))
+    → TakesBackStep number skip_moved held result
+back_of_shown files session held stands number skip_moved shown result shows done undone = by_done shown.row.done refl shows.is_in
   where
     by_done : (flag : Bool) → shown.row.done ≡ flag → Contains (steps_in flag held.journal) shows.step → TakesBackStep number skip_moved held result
     by_done true is is_in = subst (TakesBackStep number skip_moved held) (sym (done is)) (shows.step, is_in, shows.numbered, ap (λ changes. Revert changes skip_moved) shows.changes)
-    by_done false is is_in = subst (TakesBackStep number skip_moved held) (sym (undone is)) (refl, inr (shows.step, is_in, shows.numbered))
+    by_done false is is_in =
+        subst (TakesBackStep number skip_moved held) (sym (undone is))
+        (refl, undone_is_unused (undo_folder_of (files (store_of session))) held.journal stands.standing.journal shows.step number is_in shows.numbered)
 
 -- what a look at an earlier one makes of it: one look, and then another
 pub peeks_on : {S A B : Type 0} (store : Ghosts S) (first : Result A Refusal) (second : Result B Refusal) (old mid new : Session S) → Peeks store first old mid → Peeks store second mid new
@@ -296,17 +303,42 @@ revert_stands store number skip_moved when held old new refusal early honest sta
 no_early_stop : (cause : Cause) (refusal : Refusal) → refused Reverted (Interrupted cause) ≡ refused Reverted refusal → IsEarly refusal → ⊥
 no_early_stop cause refusal is early = subst IsEarly (sym (same_refusal Reverted (Interrupted cause) refusal is)) early
 
+-- an answer that isn't that of an absent step is of a step that is done
+is_listed : {S : Type 0} (number : ℕ) (old : Session S) (answer : Result Reverted Refusal) → is_broken old ≡ false
+    → ((is_broken old ≡ false) × (lists (memory_of old).done number ≡ false) → answer ≡ Err (NoSuchStep number)) → ¬ (answer ≡ Err (NoSuchStep number)) → lists (memory_of old).done number ≡ true
+is_listed number old answer whole absent other = by_test (lists (memory_of old).done number) refl
+  where
+    by_test : (b : Bool) → lists (memory_of old).done number ≡ b → lists (memory_of old).done number ≡ true
+    by_test true e = e
+    by_test false e = absurd (other (absent (whole, e)))
+
+-- the step that an entry of the number says, where one is listed as done
+listed_step : {S : Type 0} (files : S → Files) (session : Session S) (held : State) → StandsOn files session held → (number : ℕ) → lists (memory_of session).done number ≡ true → (entry : Entry)
+    → EntrySays (get (undo_folder_of (files (store_of session))) (entry_path number)) entry → (step : Recorded) × Contains held.journal.done step × (number_of step ≡ number) × (entry.changes ≡ step.changes)
+listed_step files session held stands number listed entry says =
+    let at = done_step (memory_of session) held.journal number stands.remembers listed in
+    let is = says_step (undo_folder_of (files (store_of session))) held.journal stands.standing.journal true at.0 number at.1 at.2 in
+    (at.0, at.1, at.2, ap (λ (e : Entry). e.changes) (same_entry _ entry (entry_in at.0) says is))
+
+is_no_absence : (cause : Cause) (number : ℕ) → refused Reverted (Interrupted cause) ≡ refused Reverted (NoSuchStep number) → ⊥
+is_no_absence cause number is = cc
+
 -- what a revert answers and leaves, by the clauses of that call
 pub reverts_by : {S : Type 0} (store : Ghosts S) (number : ℕ) (skip_moved : Bool) (when : ℕ) (held : State) (old new : Session S) (answer : Result Reverted Refusal)
-    → store.honest (store_of new) → StandsOn store.files old held → (TellsNoFault answer → (left : State) × StandsOn store.files new left × Reverts number skip_moved when held answer left)
+    → store.honest (store_of new) → StandsOn store.files old held
+    → ((is_broken old ≡ false) × (lists (memory_of old).done number ≡ false) → answer ≡ Err (NoSuchStep number))
+    → (TellsNoFault answer → (left : State) × StandsOn store.files new left × Reverts number skip_moved when held answer left)
     → LeavesRevert store number skip_moved when answer old new → RevertsOn number skip_moved when held answer (store.files (store_of new))
-reverts_by store number skip_moved when held old new (Ok reverted) honest stands exact leaves = let left = exact tt in (left.0, left.2, left.1.standing)
-reverts_by store number skip_moved when held old new (Err (StoreFailed fault)) honest stands exact leaves = revert_stands store number skip_moved when held old new (StoreFailed fault) tt honest stands leaves
-reverts_by store number skip_moved when held old new (Err Memory) honest stands exact leaves = revert_stands store number skip_moved when held old new Memory tt honest stands leaves
-reverts_by store number skip_moved when held old new (Err (Interrupted cause)) honest stands exact leaves =
+reverts_by store number skip_moved when held old new (Ok reverted) honest stands absent exact leaves = let left = exact tt in (left.0, left.2, left.1.standing)
+reverts_by store number skip_moved when held old new (Err (StoreFailed fault)) honest stands absent exact leaves = revert_stands store number skip_moved when held old new (StoreFailed fault) tt honest stands leaves
+reverts_by store number skip_moved when held old new (Err Memory) honest stands absent exact leaves = revert_stands store number skip_moved when held old new Memory tt honest stands leaves
+reverts_by store number skip_moved when held old new (Err (Interrupted cause)) honest stands absent exact leaves =
     ⊎_elim (λ (read : ReadAlone store (Err (Interrupted cause)) old new). absurd (no_early_stop cause read.0 read.1 read.2))
-    (λ (run : RunBack store number skip_moved when (Err (Interrupted cause)) old new). (run.0.changes, run.2.doubt honest held stands tt)) leaves
-reverts_by store number skip_moved when held old new (Err refusal) honest stands exact leaves = let left = exact tt in (left.0, left.2, left.1.standing)
+    (λ (run : RunBack store number skip_moved when (Err (Interrupted cause)) old new).
+    let listed = is_listed number old (Err (Interrupted cause)) stands.whole absent (is_no_absence cause number) in
+    let step = listed_step store.files old held stands number listed run.0 (run.1 honest) in
+    (step.0, step.1, step.2, subst (λ cs. StopsAfterRun (Revert cs skip_moved) when held (store.files (store_of new))) step.3 (run.2.doubt honest held stands tt))) leaves
+reverts_by store number skip_moved when held old new (Err refusal) honest stands absent exact leaves = let left = exact tt in (left.0, left.2, left.1.standing)
 
 -- a clash that a revert tells is that of the path that is put
 pub revert_clash : {S : Type 0} (store : Ghosts S) (number : ℕ) (skip_moved : Bool) (when : ℕ) (old new : Session S) (answer : Result Reverted Refusal) → store.honest (store_of new)
@@ -350,9 +382,9 @@ unchanged_opening before after held refusal standing same stopped = same tt
 
 -- what a revert answers: that no such step is done, or what it takes back
 reverts_one : (number : ℕ) (skip_moved : Bool) (when : ℕ) (old : State) (answer : Result Reverted Refusal) (new : State) → Reverts number skip_moved when old answer new
-    → ((answer ≡ Err (NoSuchStep number)) × (new ≡ old)) ⊎ TakesBack number skip_moved when old answer new
+    → ((answer ≡ Err (NoSuchStep number)) × IsUnused number old.journal.done × (new ≡ old)) ⊎ TakesBack number skip_moved when old answer new
 reverts_one number skip_moved when old (Ok reverted) new back = inr back
-reverts_one number skip_moved when old (Err (NoSuchStep other)) new none = inl (ap (λ n. Err (NoSuchStep n)) none.0, none.2)
+reverts_one number skip_moved when old (Err (NoSuchStep other)) new none = inl (ap (λ n. Err (NoSuchStep n)) none.0, none.1, none.2)
 reverts_one number skip_moved when old (Err refusal) new back = inr back
 
 -- it tells no fault, and so doesn't the answer as that of a run
@@ -388,7 +420,7 @@ run_alike held state holds command =
 foretold_back : (held : State) (state : Snapshots) → Holds held state → (number : ℕ) (skip_moved : Bool) (answer : Result (List Fate) Refusal) → PreviewsRevert number skip_moved held answer
     → ForetellsBack state number skip_moved answer
 foretold_back held state holds number skip_moved answer previews =
-    ⊎_elim (λ (none : (answer ≡ Err (NoSuchStep number)) × IsNotDone number held). inl none.0)
+    ⊎_elim (λ (none : (answer ≡ Err (NoSuchStep number)) × IsUnused number held.journal.done). inl (none.0, unkept number state.tree held.journal.done state.past holds.past none.1))
     (λ (back : (step : Recorded) × Contains held.journal.done step × (number_of step ≡ number) × (answer ≡ run_fates_on held (Revert step.changes skip_moved))).
     inr (back.0.changes, led_to_tree held state holds back.0 number back.1 back.2, back.3 ∙ run_alike held state holds (Revert back.0.changes skip_moved))) previews
 
@@ -460,23 +492,28 @@ module _ (held : State) (state : Snapshots) (holds : Holds held state) (before a
 
   -- a revert goes on as the machine's run that takes the step's changes back
   ran_back : (number : ℕ) (skip_moved : Bool) (when : ℕ) (answer : Result Reverted Refusal) → TellsNoFault answer → (new : State) × Reverts number skip_moved when held answer new × IsStanding after new
-      → StepsBack state number skip_moved when answer after
+      → StepsBackBy state number skip_moved when answer after
   ran_back number skip_moved when answer told reverts =
-      ⊎_elim (λ (none : (answer ≡ Err (NoSuchStep number)) × (reverts.0 ≡ held)). inl (none.0, (held, subst (λ s. IsStanding after s) none.1 reverts.2, holds)))
+      ⊎_elim (λ (none : (answer ≡ Err (NoSuchStep number)) × IsUnused number held.journal.done × (reverts.0 ≡ held)).
+      inl (none.0, unkept number state.tree held.journal.done state.past holds.past none.1, (held, subst (λ s. IsStanding after s) none.2 reverts.2, holds)))
       (λ (back : TakesBack number skip_moved when held answer reverts.0).
       let event = events.Run (Revert back.step.changes skip_moved) when in
       inr (
         back.step.changes,
-        λ is_told. led_to_tree held state holds back.step number back.is_done back.numbered,
+        led_to_tree held state holds back.step number back.is_done back.numbered,
         steps_told state event (as_run answer) after (told_as_run answer told) (did event (as_run answer) (reverts.0, back.runs, reverts.2)),
       )) (reverts_one number skip_moved when held answer reverts.0 reverts.1)
 
   reverted : (number : ℕ) (skip_moved : Bool) (when : ℕ) (answer : Result Reverted Refusal) → RevertsOn number skip_moved when held answer after → StepsBack state number skip_moved when answer after
   reverted number skip_moved when (Ok done) reverts = ran_back number skip_moved when (Ok done) tt reverts
-  reverted number skip_moved when (Err (StoreFailed fault)) reverts = inr ([], λ told. absurd told, (held, reverts, holds))
-  reverted number skip_moved when (Err Memory) reverts = inr ([], λ told. absurd told, (held, reverts, holds))
+  reverted number skip_moved when (Err (StoreFailed fault)) reverts = (held, reverts, holds)
+  reverted number skip_moved when (Err Memory) reverts = (held, reverts, holds)
   reverted number skip_moved when (Err (Interrupted cause)) reverts =
-      inr (reverts.0, λ told. absurd told, inr (run_left held state holds after before (Revert reverts.0 skip_moved) when standing reverts.1))
+      inr (
+        (reverts.0).changes,
+        led_to_tree held state holds reverts.0 number reverts.1 reverts.2,
+        run_left held state holds after before (Revert (reverts.0).changes skip_moved) when standing reverts.3,
+      )
   reverted number skip_moved when (Err refusal) reverts = ran_back number skip_moved when (Err refusal) tt reverts
 
   -- a request is answered as the machine does
@@ -511,17 +548,17 @@ untold_fates Memory failure told = told
 untold_fates (Interrupted cause) failure told = told
 untold_fates refusal failure told = failure
 
-untold_reverted : (refusal : Refusal) → IsFailure refusal → TellsNoFault {A = Reverted} (Err refusal) → ⊥
-untold_reverted (StoreFailed fault) failure told = told
-untold_reverted Memory failure told = told
-untold_reverted (Interrupted cause) failure told = told
-untold_reverted refusal failure told = failure
+failed_back : (state : Snapshots) (number : ℕ) (skip_moved : Bool) (when : ℕ) (refusal : Refusal) (after : Files) → IsFailure refusal → HoldState after state
+    → StepsBack state number skip_moved when (Err refusal) after
+failed_back state number skip_moved when (StoreFailed fault) after failure held = held
+failed_back state number skip_moved when Memory after failure held = held
+failed_back state number skip_moved when (Interrupted cause) after failure held = inl held
+failed_back state number skip_moved when refusal after failure held = absurd failure
 
 failed : (state : Snapshots) (request : Request) (refusal : Refusal) (after : Files) → IsFailure refusal → HoldState after state → Steps state request (Err refusal) after
 failed state (requests.Call event) refusal after failure held = (Err refusal, refl, failed_event state event refusal after failure held)
 failed state (requests.Show number) refusal after failure held = (Err refusal, refl, tt, held)
-failed state (requests.Revert number skip_moved when) refusal after failure held =
-    (Err refusal, refl, inr ([], λ told. absurd (untold_reverted refusal failure told), failed_event state (events.Run (Revert [] skip_moved) when) refusal after failure held))
+failed state (requests.Revert number skip_moved when) refusal after failure held = (Err refusal, refl, failed_back state number skip_moved when refusal after failure held)
 failed state (requests.PreviewRevert number skip_moved) refusal after failure held = (Err refusal, refl, λ told. absurd (untold_fates refusal failure told), held)
 
 pub carries_step : (state : Snapshots) (before : Files) (request : Request) (answer : Result Told Refusal) (after : Files) → HoldState before state → Carries before request answer after
@@ -550,8 +587,8 @@ told_of telling IsAnswer told old new (Err (faults.WouldRefuse fates)) is finish
   finished.1.1,
   subst (λ t. AppendsSome old new (IsToldText telling t)) finished.1.0 finished.0,
 )
-told_of telling IsAnswer told old new (Err (faults.NoDiff refusal)) is finished = ((told, is), finished)
-told_of telling IsAnswer told old new (Err faults.Write) is finished = (told, is, finished)
+told_of telling IsAnswer told old new (Err (faults.NoDiff refusal)) is finished = ((told, is, finished.0), finished.1)
+told_of telling IsAnswer told old new (Err faults.Write) is finished = (told, is, finished.0, finished.1, finished.2)
 told_of telling IsAnswer told old new (Err faults.Memory) is finished = ((told, is), finished)
 told_of telling IsAnswer told old new (Err (faults.Refused refusal)) is finished = absurd finished.1
 told_of telling IsAnswer told old new (Err faults.InUse) is finished = absurd finished.1

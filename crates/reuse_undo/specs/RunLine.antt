@@ -1,12 +1,12 @@
 -- What a line asks a session for, and what comes of it.
 use Rattle.std.specs.Prelude.{◌≡◌, ◌⊎◌, ◌+◌, Bool, List, Option, Some, ℕ, Result, Ok, Err, IfOk, IfErr, true}
-use Rattle.std.specs.List.{Contains}
+use Rattle.std.specs.List.{All, Contains}
 use Rattle.reuse_tree.specs.Files.{Files, Clashes}
 use Rattle.reuse_tree.specs.declared.change.Change.{Change}
 use Rattle.reuse_session.specs.Answer.{IsEarly, IsFailure, HasClash, IsNoClash, IsOpenRefusal, TellsNoFault}
 use Rattle.reuse_session.specs.Journal.{State, Recorded, Undoes, Redoes, rows_in}
 use Rattle.reuse_session.specs.JournalFiles.{head_path, entry_path, number_of}
-use Rattle.reuse_session.specs.Machine.{Snapshots, step, run_fates, as_reply}
+use Rattle.reuse_session.specs.Machine.{Kept, Snapshots, step, run_fates, as_reply}
 use Rattle.reuse_session.specs.Opening.{IsFirstBad, IsStuckAt, OpensOn, StopsOpening}
 use Rattle.reuse_session.specs.Previews.{run_fates_on, Foresees}
 use Rattle.reuse_session.specs.RevertCalls.{Reverts, as_run}
@@ -39,7 +39,7 @@ use Rattle.reuse_undo.specs.declared.request.Told.{Told}
 use Rattle.reuse_undo.specs.declared.request.Told.TheVariants as tells
 use Rattle.reuse_undo.specs.Outputs.{AppendsFront}
 use Rattle.reuse_undo.specs.RowLines.{AppendsSome}
-use Rattle.reuse_undo.specs.Told.{IsToldText, told_count, is_refused, WouldBeMade}
+use Rattle.reuse_undo.specs.Told.{IsToldText, told_count, is_refused, IsForeseen, WouldBeMade}
 
 -- ---- the session's answer to an event, from any files
 
@@ -93,22 +93,18 @@ as_told tell (Ok value) = Ok (tell value)
 as_told tell (Err refusal) = Err refusal
 
 -- what a revert answers and leaves: a fault of the store or want of memory leaves the standing, and a stop files in doubt between it and
--- that after a run that takes some changes back
+-- that after a run that takes the changes of the step back
 abbrev pub RevertsOn : ℕ → Bool → ℕ → State → Result Reverted Refusal → Files → Type 0
 RevertsOn number skip_moved when old (Err (refusals.Fault fault)) files = IsStanding files old
 RevertsOn number skip_moved when old (Err refusals.Memory) files = IsStanding files old
-RevertsOn number skip_moved when old (Err (refusals.Interrupted cause)) files = (changes : List Change) × StopsAfterRun (Revert changes skip_moved) when old files
+RevertsOn number skip_moved when old (Err (refusals.Interrupted cause)) files =
+    (step : Recorded) × Contains old.journal.done step × (number_of step ≡ number) × StopsAfterRun (Revert step.changes skip_moved) when old files
 RevertsOn number skip_moved when old answer files = (new : State) × Reverts number skip_moved when old answer new × IsStanding files new
-
--- no step of the number is done: there is none, or it is undone
-abbrev pub IsNotDone : ℕ → State → Type 0
-IsNotDone number old = (IsUnused number old.journal.done × IsUnused number old.journal.undone)
-    ⊎ ((step : Recorded) × Contains old.journal.undone step × (number_of step ≡ number))
 
 -- what a dry run of a revert answers: what a run would do that takes the changes of the step back, or that no such step is done
 abbrev pub PreviewsRevert : ℕ → Bool → State → Result (List Fate) Refusal → Type 0
 PreviewsRevert number skip_moved old answer =
-    ((answer ≡ Err (refusals.NoSuchStep number)) × IsNotDone number old)
+    ((answer ≡ Err (refusals.NoSuchStep number)) × IsUnused number old.journal.done)
     ⊎ ((step : Recorded) × Contains old.journal.done step × (number_of step ≡ number) × (answer ≡ run_fates_on old (Revert step.changes skip_moved)))
 
 -- what a request is answered and leaves from a standing
@@ -161,17 +157,31 @@ StepsBy state event (Err refusals.Memory) files = HoldState files state
 StepsBy state event (Err (refusals.Interrupted cause)) files = HoldState files state ⊎ AreLeft files state (Some (step state event).1)
 StepsBy state event answer files = (answer ≡ (step state event).0) × HoldState files (step state event).1
 
--- The answer to a revert and the files are those of the machine's run that takes some changes back; where neither a fault nor want of memory is told
--- they are what the step of the number changed. Or no such step is done.
-abbrev pub StepsBack : Snapshots → ℕ → Bool → ℕ → Result Reverted Refusal → Files → Type 0
-StepsBack state number skip_moved when answer files =
-    ((answer ≡ Err (refusals.NoSuchStep number)) × HoldState files state)
-    ⊎ ((changes : List Change) × (TellsNoFault answer → LedTo number changes state.tree state.past) × StepsBy state (events.Run (Revert changes skip_moved) when) (as_run answer) files)
+-- no step that led to the tree has the number
+abbrev pub IsUnkept : ℕ → List Kept → Type 0
+IsUnkept number past = All (λ (kept : Kept). ¬ (kept.label.number ≡ number)) past
 
--- a dry run of a revert answers what the machine says of such a run, or no such step is done
+-- where neither is told: the answer and the files are those of the machine's run that takes back what the step of the number changed, or no step that is
+-- done has the number
+abbrev pub StepsBackBy : Snapshots → ℕ → Bool → ℕ → Result Reverted Refusal → Files → Type 0
+StepsBackBy state number skip_moved when answer files =
+    ((answer ≡ Err (refusals.NoSuchStep number)) × IsUnkept number state.past × HoldState files state)
+    ⊎ ((changes : List Change) × LedTo number changes state.tree state.past × StepsBy state (events.Run (Revert changes skip_moved) when) (as_run answer) files)
+
+-- The answer to a revert and the files are those of the machine. A fault of the store or want of memory leaves the state, and a stop leaves it, or files
+-- in doubt between it and the one that the run leads to.
+abbrev pub StepsBack : Snapshots → ℕ → Bool → ℕ → Result Reverted Refusal → Files → Type 0
+StepsBack state number skip_moved when (Err (refusals.Fault fault)) files = HoldState files state
+StepsBack state number skip_moved when (Err refusals.Memory) files = HoldState files state
+StepsBack state number skip_moved when (Err (refusals.Interrupted cause)) files =
+    HoldState files state
+    ⊎ ((changes : List Change) × LedTo number changes state.tree state.past × AreLeft files state (Some (step state (events.Run (Revert changes skip_moved) when)).1))
+StepsBack state number skip_moved when answer files = StepsBackBy state number skip_moved when answer files
+
+-- a dry run of a revert answers what the machine says of such a run, or no step that is done has the number
 abbrev pub ForetellsBack : Snapshots → ℕ → Bool → Result (List Fate) Refusal → Type 0
 ForetellsBack state number skip_moved answer =
-    (answer ≡ Err (refusals.NoSuchStep number))
+    ((answer ≡ Err (refusals.NoSuchStep number)) × IsUnkept number state.past)
     ⊎ ((changes : List Change) × LedTo number changes state.tree state.past × (answer ≡ run_fates state (Revert changes skip_moved)))
 
 -- the same of a request; what only looks leaves the state, and a step that is shown is one of the machine's
@@ -194,7 +204,7 @@ Tells telling IsAnswer old new (Ok count) = (told : Told) × IsAnswer (Ok told) 
 Tells telling IsAnswer old new (Err (faults.Refused refusal)) = IsAnswer (Err refusal) × (new ≡ old)
 Tells telling IsAnswer old new (Err (faults.WouldRefuse fates)) =
     IsAnswer (Ok (tells.Reply (replies.Preview fates))) × (is_refused fates ≡ true) × AppendsSome old new (IsToldText telling (tells.Reply (replies.Preview fates)))
-Tells telling IsAnswer old new (Err (faults.NoDiff refusal)) = ((told : Told) × IsAnswer (Ok told)) × (new ≡ old)
+Tells telling IsAnswer old new (Err (faults.NoDiff refusal)) = ((told : Told) × IsAnswer (Ok told) × IsForeseen telling told) × (new ≡ old)
 Tells telling IsAnswer old new (Err faults.InUse) = ⊥
 Tells telling IsAnswer old new (Err faults.Write) = (told : Told) × IsAnswer (Ok told) × (text : List ℕ) × IsToldText telling told text × AppendsFront old new text
 Tells telling IsAnswer old new (Err faults.Memory) = ((told : Told) × IsAnswer (Ok told)) × (new ≡ old)
@@ -209,4 +219,4 @@ IfRefused result Claim = Unit {0}
 -- the command takes a step of the number back that is done, or there is none
 abbrev pub TakesBackStep : ℕ → Bool → State → Result Command Refusal → Type 0
 TakesBackStep number skip_moved old (Ok command) = (step : Recorded) × Contains old.journal.done step × (number_of step ≡ number) × (command ≡ Revert step.changes skip_moved)
-TakesBackStep number skip_moved old (Err refusal) = (refusal ≡ refusals.NoSuchStep number) × IsNotDone number old
+TakesBackStep number skip_moved old (Err refusal) = (refusal ≡ refusals.NoSuchStep number) × IsUnused number old.journal.done

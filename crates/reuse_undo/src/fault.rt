@@ -1,5 +1,5 @@
 //! Why a line was not carried out.
-ghost use Rattle.std.specs.Prelude.{◌≡◌, IfErr, OnOk};
+ghost use Rattle.std.specs.Prelude.{◌≡◌, ◌↔◌, IfErr, IsOk};
 ghost use Rattle.reuse_undo.specs.declared.fault.Fault.TheVariants as faults;
 
 use reuse_session::{Fates, Refusal};
@@ -43,7 +43,7 @@ impl From<AllocError> for Fault {
 /// What is printed into memory fails for want of memory alone.
 pub fn in_memory(printed: io::Result<()>) -> Result<(), Fault>
     ensures fault { IfErr result (λ fault. fault ≡ faults.Memory) }
-    ensures printed { (Printed : Type 0) → OnOk printed Printed → OnOk result Printed }
+    ensures done { IsOk result ↔ IsOk printed }
 {
     match printed {
         Ok(()) => Ok(()),

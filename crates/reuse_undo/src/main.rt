@@ -16,6 +16,7 @@ mod lines;
 mod lock;
 mod notes;
 mod objects;
+mod on_folder;
 mod output;
 mod place_word;
 mod prefix_name;
@@ -38,13 +39,15 @@ use findings::Findings;
 use line::{Deed, Line, LineFault};
 use lock::lock_root;
 use notes::{note_call, note_words};
-use progress::{ClearedOutput, Progress, WatchedStore};
+use on_folder::run_on_folder;
+use output::Output;
+use progress::{ClearedOutput, Progress};
+use request::request_of;
 use reuse_session::{Fate, LicenceTexts, Moment};
-use run_line::run_line;
 use status::{exit_status, line_status};
 use std::alloc::{AllocError, Global};
 use std::fs::File;
-use std::io::{BufWriter, ErrorKind, IsTerminal, Write};
+use std::io::{ErrorKind, IsTerminal};
 use std::process::ExitCode;
 use std::rt::{Files, Runtime};
 use std::time::{SystemTime, UNIX_EPOCH};
@@ -98,22 +101,20 @@ fn carry_out<R: Runtime + Files<File = File> + AllocGlobal>(
     let _lock = lock_root(rt, line.root.as_str())?;
     let texts = texts_for(rt, alloc, &line)?;
     let root = String::from_str(alloc, line.root.as_str())?;
-    let mut store = DiskStore::at(rt.clone()?, root);
+    let mut folder = DiskStore::at(rt.clone()?, root);
     if extras.notes {
-        *findings = Some(Findings::before(rt, alloc, &line, &mut store));
+        *findings = Some(Findings::before(rt, alloc, &line, &mut folder));
     }
     let progress = Progress::new(rt.clone()?, extras.progress);
-    let mut out = BufWriter::new(alloc, ClearedOutput::new(&progress))?;
-    let watched = WatchedStore::new(store, &progress);
-    let (watched, outcome) = run_line(alloc, line, watched, texts, &mut out);
+    let mut out = Output::new(ClearedOutput::new(&progress));
+    let telling = line.telling;
+    let request = request_of(line, texts);
+    let (folder, outcome) = run_on_folder(folder, &progress, alloc, &request, telling, &mut out);
     progress.clear();
     if let Some(findings) = findings {
-        findings.look_after(alloc, watched.into_inner());
+        findings.look_after(alloc, folder, &request, &outcome);
     }
-    let flushed = out.flush();
-    let count = outcome?;
-    flushed?;
-    Ok(count)
+    outcome
 }
 
 /// Tells why the words are no line: help on standard output, all else on standard error.

@@ -1,6 +1,6 @@
 //! Notes: what a fault is about, what can be done about it, and what a call has done.
 use crate::fault::Fault;
-use crate::findings::{Findings, Task};
+use crate::findings::{Findings, Task, unrecognised_among};
 use crate::line::LineFault;
 use reuse_dep5::{Dep5Cause, Dep5Refusal};
 use reuse_notice::NoticeRefusal;
@@ -79,6 +79,24 @@ fn note_refusal(rt: &impl Eprint, findings: &Findings, refusal: &Refusal) {
     }
 }
 
+/// Tells how many names aren't recognised, where one is refused for that, or some were passed over.
+fn note_unrecognised(rt: &impl Eprint, count: usize, passed_over: bool) {
+    let files = if count == 1 { "file" } else { "files" };
+    let _ = match (passed_over, count) {
+        (true, 1..) => {
+            eprintln!(rt;
+                "reuse-undo: note: {count} {files} passed over, since no comment style is known for the names; --dry-run names them"
+            )
+        }
+        (false, 2..) => {
+            eprintln!(rt;
+                "reuse-undo: note: {count} {files} have names that aren't recognised; --dry-run names them"
+            )
+        }
+        _ => Ok(()),
+    };
+}
+
 /// Tells what the refusals among fates are about, each advice once.
 fn note_fates(rt: &impl Eprint, findings: &Findings, fates: &[Fate]) {
     let mut last = None;
@@ -91,6 +109,7 @@ fn note_fates(rt: &impl Eprint, findings: &Findings, fates: &[Fate]) {
             last = told;
         }
     }
+    note_unrecognised(rt, unrecognised_among(fates, false), false);
 }
 
 /// Tells how many files a call changed, and how that is taken back.
@@ -126,6 +145,7 @@ pub fn note_call(rt: &impl Eprint, findings: &Findings, outcome: &Result<usize, 
         Err(Fault::WouldRefuse(fates)) => note_fates(rt, findings, fates.as_slice()),
         Err(_) => {}
     }
+    note_unrecognised(rt, findings.unrecognised, outcome.is_ok());
     if findings.is_table_empty && outcome.is_ok() {
         note(
             rt,

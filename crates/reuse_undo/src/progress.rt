@@ -117,12 +117,16 @@ pub struct WatchedStore<'a, S: Store + Drop, R: Runtime> {
 
 impl<'a, S: Store + Drop, R: Runtime> WatchedStore<'a, S, R> {
     /// A store over this one.
-    pub fn new(inner: S, progress: &'a Progress<R>) -> WatchedStore<'a, S, R> {
+    pub fn new(inner: S, progress: &'a Progress<R>) -> WatchedStore<'a, S, R>
+        ensures { result.inner ≡ inner }
+    {
         WatchedStore { inner, progress }
     }
 
     /// Gives the store inside back.
-    pub fn into_inner(self) -> S {
+    pub fn into_inner(self) -> S
+        ensures { result ≡ self.inner }
+    {
         self.inner
     }
 }

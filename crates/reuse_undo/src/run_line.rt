@@ -1,5 +1,5 @@
 //! Carries out on a store what a line asks for.
-ghost use Rattle.std.specs.Prelude.{◌≡◌, ◌≤◌, ◌<◌, IfErr};
+ghost use Rattle.std.specs.Prelude.{◌≡◌, ◌≤◌, ◌<◌, IfOk, IfErr, IsTrue, false};
 ghost use Rattle.reuse_tree.specs.Asked.{OnlyReads};
 ghost use Rattle.reuse_session.specs.Answer.{HasCause};
 ghost use Rattle.reuse_session.specs.Journal.{State};
@@ -10,7 +10,7 @@ ghost use Rattle.reuse_session.specs.Stops.{HoldState};
 ghost use Rattle.reuse_undo.specs.WriterFaults.{IsOfDiff};
 ghost use Rattle.reuse_undo.specs.Requests.{IsLook};
 ghost use Rattle.reuse_undo.specs.RunLine.{HasCallClash, Carries, Steps, Tells, IfRefused};
-ghost use Rattle.reuse_undo.specs.Told.{TellsFailure};
+ghost use Rattle.reuse_undo.specs.Told.{IsDiffOf, IsNoDiff, IsWanted, TellsFailure};
 
 mod calls;
 mod drawn;
@@ -73,7 +73,7 @@ fn call<S: Store + Drop>(
     ensures looks { S.honest result.0 → IsLook request.now → (held : State) → IsStanding (S.files store) held → S.files result.0 ≡ S.files store }
     ensures fault { IfErr result.1 (HasCause (S.failures store < S.failures result.0)) }
     ensures clash { S.honest result.0 → (held : State) → IsStanding (S.files store) held → IfErr result.1 (HasCallClash request.now held (S.files store)) }
-    ensures diff { IfErr result.2 IsOfDiff }
+    ensures diff { IfOk result.1 (λ told. IsDiffOf telling told result.2) }
     ensures failures { S.failures store ≤ S.failures result.0 }
     ensures was_honest { S.honest result.0 → S.honest store }
 {
@@ -88,15 +88,12 @@ fn call<S: Store + Drop>(
     }
 }
 
-// Whether a diff is wanted of what would be made.
-fn wants_diff(telling: Telling, answer: &Result<Told, Refusal>) -> bool {
-    telling == Telling::Diff && would_be_made(answer)
-}
-
-// Whether the answer is a preview without a refusal.
-fn would_be_made(answer: &Result<Told, Refusal>) -> bool {
-    match answer {
-        Ok(Told::Reply(Reply::Preview(fates))) => !is_refused(fates.as_slice()),
+// Whether a diff is wanted, of a preview without a refusal.
+fn wants_diff(telling: Telling, answer: &Result<Told, Refusal>) -> bool
+    ensures { IsTrue result → IsWanted telling answer.now }
+{
+    match (telling, answer) {
+        (Telling::Diff, Ok(Told::Reply(Reply::Preview(fates)))) => !is_refused(fates.as_slice()),
         _ => false,
     }
 }
@@ -109,6 +106,7 @@ fn close<S: Store + Drop>(
     wants_diff: bool,
 ) -> (S, Result<Vec<u8>, Fault>)
     ensures reads { OnlyReads S.Store (store_of session) result.0 }
+    ensures none { wants_diff ≡ false → IsNoDiff result.1 }
     ensures diff { IfErr result.1 IsOfDiff }
 {
     if wants_diff {

@@ -5,8 +5,10 @@ mod options;
 mod worked_lines;
 
 use crate::fault::Fault;
-use crate::line::{Line, LineFault};
-use crate::run_line::run_line;
+use crate::line::{Line, LineFault, Telling};
+use crate::output::Output;
+use crate::request::request_of;
+use crate::run_line::run_request;
 use crate::status::{exit_status, line_status};
 use crate::words::words_to_command;
 use reuse_session::{LicenceText, LicenceTexts, Moment, Refusal};
@@ -94,9 +96,11 @@ fn run_at(
 ) -> Result<(MemoryStore, Result<String, String>), Fail> {
     let line = read(alloc, words, second)?.or(Err("a line is wanted"))?;
     let texts = texts(alloc)?;
-    let mut out: Vec<u8> = Vec::new(alloc);
-    let (store, outcome) = run_line(alloc, line, store, texts, &mut out);
-    let told = told(alloc, outcome, out)?;
+    let mut out = Output::new(Vec::new(alloc));
+    let telling = line.telling;
+    let request = request_of(line, texts);
+    let (store, outcome) = run_request(alloc, &request, telling, store, &mut out);
+    let told = told(alloc, outcome, out.into_inner())?;
     Ok((store, told))
 }
 
@@ -301,7 +305,8 @@ fn annotate_untold(alloc: Global) -> Result<(MemoryStore, Fault), Fail> {
     let line = read_line(alloc, "annotate|-c|Jane Doe|-l|MIT|a.py")?;
     let store = store_of(alloc, "a.py", b"print(1)\n")?;
     let texts = texts(alloc)?;
-    match run_line(alloc, line, store, texts, &mut Full) {
+    let request = request_of(line, texts);
+    match run_request(alloc, &request, Telling::Lines, store, &mut Output::new(Full)) {
         (store, Err(fault)) => Ok((store, fault)),
         _ => Err("a fault is wanted")?,
     }

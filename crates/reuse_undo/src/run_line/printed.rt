@@ -1,8 +1,7 @@
 //! What is told of an answer.
-ghost use Rattle.std.specs.Prelude.{◌≡◌, IfOk, IfErr, OnOk};
+ghost use Rattle.std.specs.Prelude.{◌≡◌, ◌⊎◌, [], IfOk, IfErr, OnOk};
 ghost use Rattle.reuse_undo.specs.RowLines.{AppendsSome};
-ghost use Rattle.reuse_undo.specs.Told.{Accepts, Finishes, is_refusal, is_refused, IsLinesText, IsToldText, TellsFailure};
-ghost use Rattle.reuse_undo.specs.WriterFaults.{IsOfDiff};
+ghost use Rattle.reuse_undo.specs.Told.{Accepts, Finishes, is_refusal, is_refused, IsBehind, IsDiffOf, IsLinesText, IsToldText, TellsFailure, WouldBeMade};
 ghost use Rattle.reuse_undo.specs.declared.fault.Fault.TheVariants as faults;
 
 use crate::diff::print_record;
@@ -26,7 +25,7 @@ pub fn finish<W: Write + Drop>(
     telling: Telling,
     diff: Result<Vec<u8>, Fault>,
 ) -> Result<usize, Fault>
-    requires { IfErr diff IsOfDiff }
+    requires { IsDiffOf telling told diff }
     ensures told { Finishes telling told (W.contents out.old.inner) (W.contents out.new.inner) result }
     ensures failed { TellsFailure out.old.failed out.new.failed result }
 {
@@ -43,7 +42,7 @@ fn text_of(
     telling: Telling,
     diff: &[u8],
 ) -> Result<Vec<u8>, Fault>
-    ensures text { IfOk result (λ text. IsToldText telling told.now text.items) }
+    ensures text { (diff.now ≡ []) ⊎ WouldBeMade told.now → IfOk result (λ text. IsToldText telling told.now text.items) }
     ensures fault { IfErr result (λ fault. fault ≡ faults.Memory) }
 {
     let mut text = Vec::new(alloc);
@@ -58,8 +57,8 @@ fn whole_diff(
     telling: Telling,
     diff: Result<Vec<u8>, Fault>,
 ) -> Result<Vec<u8>, Fault>
-    requires { IfErr diff IsOfDiff }
-    ensures { IfErr result IsOfDiff }
+    requires { IsDiffOf telling told.now diff }
+    ensures { IsBehind telling told.now result }
 {
     match (telling, told) {
         (Telling::Diff, Told::Shown(shown)) => records_of(alloc, shown.changes.as_slice()),
@@ -69,7 +68,7 @@ fn whole_diff(
 
 // What the changes of a step have recorded.
 fn records_of(alloc: Global, changes: &[Change]) -> Result<Vec<u8>, Fault>
-    ensures { IfErr result IsOfDiff }
+    ensures { IfErr result (λ fault. fault ≡ faults.Memory) }
 {
     let mut text = Vec::new(alloc);
     for change in changes {
@@ -85,7 +84,7 @@ fn print_told<W: Write>(
     telling: Telling,
     diff: &[u8],
 ) -> io::Result<()>
-    ensures { OnOk result (AppendsSome (W.contents out.old) (W.contents out.new) (IsToldText telling told.now)) }
+    ensures { (diff.now ≡ []) ⊎ WouldBeMade told.now → OnOk result (AppendsSome (W.contents out.old) (W.contents out.new) (IsToldText telling told.now)) }
 {
     match telling {
         Telling::Lines => print_lines(out, told),

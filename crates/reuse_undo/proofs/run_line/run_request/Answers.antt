@@ -34,8 +34,8 @@ returns-in-Ok-clause-clash g c honest held standing =
 pub returns-in-Ok-clause-quiet : goal.returns-in-Ok-clause-quiet
 returns-in-Ok-clause-quiet g c = no_refusal _ _ _ _ c.finish.result (λ refusal. c.finish.new.out ≡ c.args.out.now) c.finish.ensures.told
 
-pub returns-clause-exact : goal.returns-clause-exact
-returns-clause-exact g c honest =
+pub returns-in-Err-clause-exact : goal.returns-in-Err-clause-exact
+returns-in-Err-clause-exact g c honest =
     let before = g.S.Store.files c.args.store in
     let after = g.S.Store.files c.call-store.result.0 in
     let request = c.args.request.now in (
@@ -43,8 +43,8 @@ returns-clause-exact g c honest =
       refl,
     )
 
-pub returns-clause-machine : goal.returns-clause-machine
-returns-clause-machine g c honest state held =
+pub returns-in-Err-clause-machine : goal.returns-in-Err-clause-machine
+returns-in-Err-clause-machine g c honest state held =
     let before = g.S.Store.files c.args.store in
     let after = g.S.Store.files c.call-store.result.0 in
     let request = c.args.request.now in (
@@ -53,10 +53,10 @@ returns-clause-machine g c honest state held =
       refl,
     )
 
-pub returns-clause-looks : goal.returns-clause-looks
-returns-clause-looks g c honest look = c.call-store.ensures.looks honest look
+pub returns-in-Err-clause-looks : goal.returns-in-Err-clause-looks
+returns-in-Err-clause-looks g c honest look = c.call-store.ensures.looks honest look
 
-pub returns-clause-clash : goal.returns-clause-clash
-returns-clause-clash g c honest held standing =
+pub returns-in-Err-clause-clash : goal.returns-in-Err-clause-clash
+returns-in-Err-clause-clash g c honest held standing =
     let before = g.S.Store.files c.args.store in
     subst (λ answer. IfErr answer (HasCallClash c.args.request.now held before)) c.in-Err.is (c.call-store.ensures.clash honest held standing)

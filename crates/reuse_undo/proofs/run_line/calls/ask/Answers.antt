@@ -68,7 +68,7 @@ returns-in-Revert-clause-meets g c honest held stands =
       c.revert.result,
       c.reverted_told.ensures,
       reverts_by g.S.Store c.in-Revert.number c.in-Revert.skip_moved c.in-Revert.when held c.args.session.now c.revert.new.self c.revert.result honest stands
-          (c.revert.ensures.exact honest held stands) c.revert.ensures.leaves,
+          c.revert.ensures.absent.1 (c.revert.ensures.exact honest held stands) c.revert.ensures.leaves,
     )
 
 pub returns-in-Revert-clause-looks : goal.returns-in-Revert-clause-looks

@@ -1,4 +1,4 @@
-use Rattle.std.proofs.Common.{inl, sym, subst}
+use Rattle.std.proofs.Common.{sym, subst}
 use Rattle.reuse_session.specs.Answer.{TellsNoFault}
 use Rattle.reuse_session.specs.Showing.{ShowsIn}
 use Rattle.reuse_session.specs.declared.command.Command.{Command}
@@ -10,7 +10,7 @@ use Rattle.reuse_undo.proofs.run_line.calls.revert_command.Goals as goal
 pub returns-in-Ok-clause-right : goal.returns-in-Ok-clause-right
 returns-in-Ok-clause-right g c honest held stands told =
     let shows = subst (ShowsIn held.journal c.args.number) c.in-Ok.is (c.show.ensures.exact honest held stands (subst TellsNoFault (sym c.in-Ok.is) tt)) in
-    back_of_shown held c.args.number c.args.skip_moved c.in-Ok.shown c.command_back.result shows c.command_back.ensures.done c.command_back.ensures.undone
+    back_of_shown g.S.Store.files c.args.session.now held stands c.args.number c.args.skip_moved c.in-Ok.shown c.command_back.result shows c.command_back.ensures.done c.command_back.ensures.undone
 
 pub returns-in-Ok-clause-peeks : goal.returns-in-Ok-clause-peeks
 returns-in-Ok-clause-peeks g c =
@@ -20,7 +20,7 @@ returns-in-Ok-clause-peeks g c =
 pub returns-in-Err-clause-right : goal.returns-in-Err-clause-right
 returns-in-Err-clause-right g c honest held stands told =
     let none = subst (ShowsIn held.journal c.args.number) c.in-Err.is (c.show.ensures.exact honest held stands (subst TellsNoFault (sym c.in-Err.is) (told_again Command Shown c.in-Err.refusal told))) in
-    (none.0, inl (none.1, none.2))
+    (none.0, none.1)
 
 pub returns-in-Err-clause-peeks : goal.returns-in-Err-clause-peeks
 returns-in-Err-clause-peeks g c =
