@@ -27,7 +27,7 @@ ghost use Rattle.reuse_session.specs.Opening.{IsFirstBad, IsStuckAt, CanOpenOn};
 ghost use Rattle.reuse_session.specs.Outcome.{outcome_of};
 ghost use Rattle.reuse_session.specs.Reverting.{taken_back};
 ghost use Rattle.reuse_session.specs.Seals.{tree_for, IsAsLeft, IsToldApart, IsUntouched};
-ghost use Rattle.reuse_session.specs.Session.{IsRun};
+ghost use Rattle.reuse_session.specs.Session.{IsRun, Runs};
 ghost use Rattle.reuse_session.specs.Stops.{HoldState};
 ghost use Rattle.reuse_session.specs.TablePut.{PutsTable};
 ghost use Rattle.reuse_session.specs.TextsPut.{PutsTexts};
@@ -42,6 +42,7 @@ ghost use Rattle.reuse_session.specs.declared.entry.Way.TheVariants.{Undo};
 ghost use Rattle.reuse_session.specs.declared.fate.Fate.TheVariants.{Changes};
 ghost use Rattle.reuse_session.specs.declared.licence.LicenceText.{LicenceText};
 ghost use Rattle.reuse_session.specs.declared.reply.Refusal.{Refusal};
+ghost use Rattle.reuse_session.specs.declared.reply.Reply.{Reply};
 
 use reuse_header::annotating_keeps_other_bytes;
 
@@ -63,28 +64,34 @@ pub fn entries_lead_in_turn()
     ensures back { (changes others : List Change) (before after : Files) → IsEntry changes → IsPermutation changes others → LeadsBy Undo changes before after ↔ LeadsInTurn (map inverse_of others) before after }
 {}
 
-/// A download that isn't refused puts the text of each id at `LICENSES/ID.txt`, where no file was, and changes no other path.
+/// A download that isn't refused puts the text of each id at `LICENSES/ID.txt`, where no file was, and changes no other path. A run that
+/// isn't refused leaves that.
 pub fn downloads_put_each_text()
-    ensures { (ids : List (List ℕ)) (texts : List LicenceText) (tree after : Files) → outcome_of (Download ids texts) tree ≡ Ok after → PutsTexts ids texts tree after }
+    ensures made { (ids : List (List ℕ)) (texts : List LicenceText) (tree after : Files) → outcome_of (Download ids texts) tree ≡ Ok after → PutsTexts ids texts tree after }
+    ensures left { (ids : List (List ℕ)) (texts : List LicenceText) (when : ℕ) (old new : State) (reply : Reply) → Runs (Download ids texts) when old (Ok reply) new
+        → PutsTexts ids texts old.tree new.tree }
 {}
 
 /// What annotate does on a tree, in other words. Where it isn't refused, each file that is gone through is commented: it holds what the
 /// header rules make of its own bytes in its style; or accompanied: its neighbour holds what they make of the neighbour's own bytes, or
 /// of none; or skipped, where that is asked for. Every byte outside the old header block stays, and so does every other path. These words
-/// leave one tree.
+/// leave one tree. A run that isn't refused leaves it: of `Runs` speaks what `Session::run` promises.
 pub fn annotations_change_chosen_places_alone()
     ensures made { (places : List Place) (additions : Additions) (how : How) (scope : Scope) (tree after : Files) → outcome_of (Annotate places additions how scope) tree ≡ Ok after
         → Annotates places additions how scope tree after }
     ensures one { (places : List Place) (additions : Additions) (how : How) (scope : Scope) (before after other : Files) → Annotates places additions how scope before after
         → Annotates places additions how scope before other → after ≡ other }
+    ensures left { (places : List Place) (additions : Additions) (how : How) (scope : Scope) (when : ℕ) (old new : State) (reply : Reply) → Runs (Annotate places additions how scope) when old (Ok reply) new
+        → Annotates places additions how scope old.tree new.tree }
 {
     annotating_keeps_other_bytes();
 }
 
 /// Where a conversion isn't refused, `.reuse/dep5` was there and is gone, `REUSE.toml` wasn't and holds the text that the dep5 is
-/// converted to, and every other path holds what it held.
+/// converted to, and every other path holds what it held. A run that isn't refused leaves that.
 pub fn conversions_put_a_table()
-    ensures { (tree after : Files) → outcome_of ConvertDep5 tree ≡ Ok after → PutsTable tree after }
+    ensures made { (tree after : Files) → outcome_of ConvertDep5 tree ≡ Ok after → PutsTable tree after }
+    ensures left { (when : ℕ) (old new : State) (reply : Reply) → Runs ConvertDep5 when old (Ok reply) new → PutsTable old.tree new.tree }
 {}
 
 /// A tree with nothing under `.reuse/undo/` holds the state of the machine without earlier and later trees, of which no number is used;
@@ -118,11 +125,13 @@ pub fn worked_paths_are_asked_for()
     ensures all { (scope : Scope) (path : List ℕ) → scope.listed ≡ None → scope.excluded ≡ [] → is_chosen scope path ≡ is_covered path }
 {}
 
-/// A revert of a sealed step that is the last leads back to the tree before it, as its undo does. And of a file that was edited below what a
-/// step wrote, that gives way to what was there before, whatever is below it.
+/// A revert of a sealed step that is the last leads back to the tree before it, as its undo does, and a run that isn't refused leaves that
+/// tree. And of a file that was edited below what a step wrote, that gives way to what was there before, whatever is below it.
 pub fn reverts_take_steps_back()
     ensures undo { (changes : List Change) (skip_moved : Bool) (before after : Files) → IsEntry changes → AreAllSealed true changes → AreFiles before → LeadsAll changes before after
         → outcome_of (Revert changes skip_moved) after ≡ Ok before }
+    ensures left { (changes : List Change) (skip_moved : Bool) (before : Files) (when : ℕ) (old new : State) (reply : Reply) → IsEntry changes → AreAllSealed true changes → AreFiles before
+        → LeadsAll changes before old.tree → Runs (Revert changes skip_moved) when old (Ok reply) new → new.tree ≡ before }
     ensures below { (path front old new behind : List ℕ) (rest : ℕ) (seal : Option Seal) → length (front ++ new ++ behind) ≤ 16_777_216 → length (front ++ old ++ behind) ≤ 16_777_216
         → taken_back (Splice path (length front) old new rest seal) (Some (front ++ new ++ behind)) ≡ Some (record { path = path; removed = new; written = old; file = Some (front ++ old ++ behind) }) }
 {}

@@ -1,4 +1,6 @@
+use Rattle.reuse_session.specs.declared.command.Command.TheVariants.{Annotate}
 use Rattle.reuse_session.proofs.AnnotatedTrees.{annotates}
+use Rattle.reuse_session.proofs.LeftByRuns.{left_by_run}
 use Rattle.reuse_session.proofs.OneAnnotation.{one_tree}
 use Rattle.reuse_session.proofs.laws.annotations_change_chosen_places_alone.Goals as goal
 
@@ -8,4 +10,7 @@ returns c =
     record {
       made = λ places additions how scope tree after h. annotates kept.replaced kept.inserted kept.neighbour_replaced kept.neighbour_inserted places additions how scope tree after h;
       one = λ places additions how scope before after other this that. one_tree places additions how scope before after other this that;
+      left = λ places additions how scope when old new reply runs.
+          annotates kept.replaced kept.inserted kept.neighbour_replaced kept.neighbour_inserted places additions how scope old.tree new.tree
+          (left_by_run (Annotate places additions how scope) when old new reply runs);
     }
