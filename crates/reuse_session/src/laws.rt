@@ -75,7 +75,7 @@ pub fn downloads_put_each_text()
 /// What annotate does on a tree, in other words. Where it isn't refused, each file that is gone through is commented: it holds what the
 /// header rules make of its own bytes in its style; or accompanied: its neighbour holds what they make of the neighbour's own bytes, or
 /// of none; or skipped, where that is asked for. Every byte outside the old header block stays, and so does every other path. These words
-/// leave one tree. A run that isn't refused leaves it: of `Runs` speaks what `Session::run` promises.
+/// leave one tree. A run that isn't refused leaves it: `Runs` is what `Session::run` promises.
 pub fn annotations_change_chosen_places_alone()
     ensures made { (places : List Place) (additions : Additions) (how : How) (scope : Scope) (tree after : Files) → outcome_of (Annotate places additions how scope) tree ≡ Ok after
         → Annotates places additions how scope tree after }
