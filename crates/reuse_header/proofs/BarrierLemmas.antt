@@ -21,7 +21,7 @@ open_lines (line ∷ lines) = if is_barrier line.1.content then [] else line ∷
 abbrev IsOpen : ℕ × TextLine → Type 0
 IsOpen line = is_barrier line.1.content ≡ false
 
-lines_cut : (lines : PlacedLines) → lines ≡ open_lines lines ++ closed_lines lines
+pub lines_cut : (lines : PlacedLines) → lines ≡ open_lines lines ++ closed_lines lines
 lines_cut [] = refl
 lines_cut (line ∷ lines) = elim (truth (is_barrier line.1.content)) [
   | inl is ↦ rw is refl
@@ -50,7 +50,7 @@ contents_open (line ∷ lines) = elim (truth (is_barrier line.1.content)) [
 ]
 
 -- the text behind the mark is that of the lines
-pub text_cut : (file : List ℕ) → text_of (lines_of (after_mark file)) ≡ after_mark file → after_mark file ≡ bytes_of (open_lines (file_lines file)) ++ bytes_of (closed_lines (file_lines file))
+text_cut : (file : List ℕ) → text_of (lines_of (after_mark file)) ≡ after_mark file → after_mark file ≡ bytes_of (open_lines (file_lines file)) ++ bytes_of (closed_lines (file_lines file))
 text_cut file law =
     let lines = file_lines file in
     sym law ∙ sym (bytes_of-placed (lines_of (after_mark file)) (mark_len_of file)) ∙ ap bytes_of (lines_cut lines) ∙ bytes_of-append (open_lines lines) (closed_lines lines)

@@ -1,17 +1,18 @@
 -- The lines of a text and their contents are text.
-use Rattle.std.proofs.Common.{◌≡◌, ℕ, ◌+◌, Bool, true, false, List, [], ◌∷◌, ◌++◌, length, append_assoc, map, take, drop, Option, None, Some, refl, sym, ap, subst, inl, inr, arith}
+use Rattle.std.proofs.Common.{◌≡◌, ℕ, ◌+◌, Bool, true, false, List, [], ◌∷◌, ◌++◌, length, length-append, length-take, append_assoc, map, take, drop, Option, None, Some, refl, sym, ap, subst, ◌∙◌, inl, inr, arith}
 use Rattle.std.specs.Prelude.{◌||◌, ◌==◌, nat_eq, if◌then◌else◌}
 use Rattle.std.specs.List.{starts_with}
 use Rattle.std.specs.Str.{IsUtf8}
 use lib.Utf8.{encode}
+use Rattle.std.proofs.Math.Seq.{drop-append_seam, take-append_seam}
 use Rattle.std.proofs.lemmas.Bool.{false≢true, eqb-true, cases_Bool as truth}
 use Rattle.std.proofs.lemmas.Bool.Decides.{Decides-eqb}
-use Rattle.std.proofs.lemmas.List.{append-nil}
+use Rattle.std.proofs.lemmas.List.{append-nil, take-append-drop}
 use Rattle.std.proofs.lemmas.Slice.Eq.{starts_is}
 use Rattle.std.proofs.lemmas.Str.{IsUtf8-append}
 use Rattle.reuse_text.specs.declared.LineKind.{LineKind}
 use Rattle.reuse_text.specs.declared.LineKind.TheVariants.{Lf, Crlf}
-use Rattle.reuse_text.specs.Text.{TextLine, AreLines, line_bytes, ending_bytes, text_of, placed, after_mark, mark_len_of, byte_order_mark}
+use Rattle.reuse_text.specs.Text.{TextLine, AreLines, line_bytes, ending_bytes, lines_of, text_of, placed, file_lines, after_mark, mark_len_of, byte_order_mark}
 use Rattle.reuse_notice.specs.Tags.{is_blank}
 use Rattle.reuse_notice.proofs.SoundLemmas.{IsSound, is_low, sound_nil, sound_low, sound_append, sound_behind, sound_to_low, sound_after, sound_end}
 use Rattle.reuse_header.specs.Search.{is_return}
@@ -20,6 +21,7 @@ use Rattle.reuse_header.specs.Blocks.{without_returns}
 use Rattle.reuse_header.specs.Split.{bytes_of}
 use Rattle.reuse_header.specs.Neighbour.{closed_lines}
 use Rattle.reuse_header.proofs.SayableLemmas.{Each}
+use Rattle.reuse_header.proofs.CutLemmas.{bytes_of-append, bytes_of-placed, mark_within}
 
 -- ---- the mark
 
@@ -106,3 +108,28 @@ pub contents_sound : (cs : List (List ℕ)) → Each IsSound cs → Each IsSound
 unfolding Each
 contents_sound [] h = tt
 contents_sound (c ∷ cs) h = (sound_end is_return return_low c h.0, contents_sound cs h.1)
+
+-- ---- a file, cut at one of its lines
+
+-- the parts of a list of which each has a property
+pub each_parts : {X : Type 0} (P : X → Type 0) (xs ys : List X) → Each P (xs ++ ys) → Each P xs × Each P ys
+unfolding Each
+each_parts P [] ys h = (tt, h)
+each_parts P (x ∷ xs) ys h = let deep = each_parts P xs ys h.1 in ((h.0, deep.0), deep.1)
+
+-- the bytes before the lines from some on, and theirs
+pub cut_at_line : (file : List ℕ) (first last : PlacedLines) (place : ℕ) → text_of (lines_of (after_mark file)) ≡ after_mark file → file_lines file ≡ first ++ last → place ≡ mark_len_of file + length (bytes_of first)
+    → (take place file ≡ take (mark_len_of file) file ++ bytes_of first) × (drop place file ≡ bytes_of last)
+cut_at_line file first last place law lines at =
+    let mark = take (mark_len_of file) file in
+    let within = mark_within file in
+    let n : length mark ≡ mark_len_of file = simp length-take (omega (arith, within)) in
+    let size = length-append mark (bytes_of first) in
+    let text : after_mark file ≡ bytes_of first ++ bytes_of last =
+    sym law ∙ sym (bytes_of-placed (lines_of (after_mark file)) (mark_len_of file)) ∙ ap bytes_of lines ∙ bytes_of-append first last in
+    let whole : file ≡ (mark ++ bytes_of first) ++ bytes_of last =
+    sym (take-append-drop (mark_len_of file) file) ∙ ap (λ (xs : List ℕ). mark ++ xs) text ∙ sym (append_assoc mark (bytes_of first) (bytes_of last)) in
+    let seam : place ≡ length (mark ++ bytes_of first) = omega (arith, at, n, size) in (
+      ap (λ (k : ℕ). take k file) seam ∙ ap (take (length (mark ++ bytes_of first))) whole ∙ take-append_seam (mark ++ bytes_of first) (bytes_of last),
+      ap (λ (k : ℕ). drop k file) seam ∙ ap (drop (length (mark ++ bytes_of first))) whole ∙ drop-append_seam (mark ++ bytes_of first) (bytes_of last),
+    )

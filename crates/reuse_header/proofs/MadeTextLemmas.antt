@@ -1,12 +1,10 @@
 -- What annotating makes of a neighbour that is text is text.
-use Rattle.std.proofs.Common.{◌≡◌, ℕ, Bool, true, false, List, [], ◌∷◌, ◌++◌, length, length-append, length-take, append_assoc, map, take, drop, Some, refl, sym, ap, subst, ◌∙◌, arith}
+use Rattle.std.proofs.Common.{◌≡◌, ℕ, Bool, true, false, List, [], ◌∷◌, ◌++◌, map, take, drop, Some, refl, sym, ap, subst, ◌∙◌}
 use Rattle.std.specs.Prelude.{Result, Ok, Err, not, ◌&&◌, ◌||◌, if◌then◌else◌, codes}
 use Rattle.std.specs.List.{list_all, list_any}
 use Rattle.std.specs.Option.{option_to_list}
 use Rattle.std.specs.Str.{is_utf8}
-use Rattle.std.proofs.Math.Seq.{drop-append_seam}
 use Rattle.std.proofs.lemmas.Bool.{false≢true, and_parts}
-use Rattle.std.proofs.lemmas.List.{take-append-drop}
 use Rattle.std.proofs.lemmas.Str.{IsUtf8-from_is_utf8, is_utf8-from_IsUtf8}
 use Rattle.reuse_text.specs.declared.LineKind.{LineKind}
 use Rattle.reuse_text.specs.Text.{AreLines, ending_bytes, lines_of, text_of, file_lines, after_mark, mark_len_of}
@@ -22,19 +20,17 @@ use Rattle.reuse_header.specs.declared.annotation.HeaderRefusal.TheVariants.{Not
 use Rattle.reuse_header.specs.Body.{open_contents}
 use Rattle.reuse_header.specs.Header.{neighbour_contents}
 use Rattle.reuse_header.specs.Writing.{new_info, neighbour_marks, contributor_text, licence_text, joined, set_off, separator_of, holder_lines, licence_lines, free_lines, inner_lines, block_lines, block_text, ended_by}
-use Rattle.reuse_header.specs.Split.{bytes_of}
 use Rattle.reuse_header.specs.Annotation.{Edit, edited, ending_if, kind_of_file, made_by}
 use Rattle.reuse_header.specs.Neighbour.{is_text, closed_lines, neighbour_end, replaced_contents, neighbour_written, neighbour_annotation_of, neighbour_annotated}
 use Rattle.reuse_header.specs.Laws.{IsInsertion, neighbour_info_written}
 use Rattle.reuse_header.proofs.SayableLemmas.{Each, each_both}
 use Rattle.reuse_header.proofs.MergedLemmas.{Merges}
 use Rattle.reuse_header.proofs.AgainLemmas.{each-joined, each-set_off}
-use Rattle.reuse_header.proofs.BarrierLemmas.{open_lines, text_cut, end_behind}
-use Rattle.reuse_header.proofs.CutLemmas.{mark_within}
+use Rattle.reuse_header.proofs.BarrierLemmas.{open_lines, lines_cut, end_behind}
 use Rattle.reuse_header.proofs.KeptLemmas.{neighbour_replacing_keeps_others, neighbour_inserting_keeps_others}
 use Rattle.reuse_header.proofs.WrittenLemmas.{error_is_ok}
 use Rattle.reuse_header.proofs.LawLemmas.{neighbour_ok, neighbour_text, text_lines}
-use Rattle.reuse_header.proofs.LineSoundLemmas.{SoundLine, mark_sound, ending_sound, lines_sound, open_sound, closed_sound, bytes_sound, blank_low, contents_sound}
+use Rattle.reuse_header.proofs.LineSoundLemmas.{cut_at_line, SoundLine, mark_sound, ending_sound, lines_sound, open_sound, closed_sound, bytes_sound, blank_low, contents_sound}
 use Rattle.reuse_header.proofs.InfoSoundLemmas.{AreLow, IsSoundInfo, AreSound, new_sound, additions_sound}
 
 -- ---- the block
@@ -69,7 +65,7 @@ block_sound marks are info h =
     (each-set_off IsSound (separator_of marks) (free_lines marks info) separator free) in
     each_both IsSound (option_to_list marks.first ++ inner_lines marks info) (option_to_list marks.last) (each_both IsSound (option_to_list marks.first) (inner_lines marks info) are.first inner) are.last
 
-ended_sound : (kind : LineKind) (lines : List (List ℕ)) → Each IsSound lines → IsSound (ended_by kind lines)
+pub ended_sound : (kind : LineKind) (lines : List (List ℕ)) → Each IsSound lines → IsSound (ended_by kind lines)
 unfolding Each
 ended_sound kind [] h = sound_nil
 ended_sound kind (line ∷ lines) h =
@@ -85,14 +81,14 @@ no_punctuation b e = by (is_blank b) refl e
     by true p h = blank_low b p
     by false p h = absurd (false≢true h)
 
-text_is : (bytes : List ℕ) → is_text bytes ≡ true → IsSound bytes
+pub text_is : (bytes : List ℕ) → is_text bytes ≡ true → IsSound bytes
 text_is bytes h = let parts = and_parts (is_utf8 bytes) (not (list_any is_nul bytes)) h in record { utf8 = IsUtf8-from_is_utf8 bytes parts.0; clean = not_true (list_any is_nul bytes) parts.1 }
   where
     not_true : (b : Bool) → not b ≡ true → b ≡ false
     not_true true e = absurd (false≢true e)
     not_true false e = refl
 
-text_made : (bytes : List ℕ) → IsSound bytes → is_text bytes ≡ true
+pub text_made : (bytes : List ℕ) → IsSound bytes → is_text bytes ≡ true
 text_made bytes s = ap (λ (b : Bool). b && not (list_any is_nul bytes)) (is_utf8-from_IsUtf8 bytes s.utf8) ∙ ap not s.clean
 
 -- no marks
@@ -133,18 +129,8 @@ module _ (joined : (text : List ℕ) → text_of (lines_of text) ≡ text) (well
 
   behind_end : IsSound (drop (neighbour_end file) file)
   behind_end =
-      let before = bytes_of (open_lines (file_lines file)) in
-      let behind = bytes_of (closed_lines (file_lines file)) in
-      let mark = take (mark_len_of file) file in
-      let within = mark_within file in
-      let n : length mark ≡ mark_len_of file = simp length-take (omega (arith, within)) in
-      let size = length-append mark before in
-      let whole : file ≡ (mark ++ before) ++ behind =
-      sym (take-append-drop (mark_len_of file) file) ∙ ap (λ (xs : List ℕ). mark ++ xs) (text_cut file (joined (after_mark file))) ∙ sym (append_assoc mark before behind) in
-      let end = end_behind file (joined (after_mark file)) in
-      let at : neighbour_end file ≡ length (mark ++ before) = omega (arith, end, n, size) in
-      subst IsSound (sym (ap (drop (neighbour_end file)) whole ∙ ap (λ (k : ℕ). drop k ((mark ++ before) ++ behind)) at ∙ drop-append_seam (mark ++ before) behind))
-      (bytes_sound (closed_lines (file_lines file)) (closed_sound (file_lines file) lines_are))
+      let cut = cut_at_line file (open_lines (file_lines file)) (closed_lines (file_lines file)) (neighbour_end file) (joined (after_mark file)) (lines_cut (file_lines file)) (end_behind file (joined (after_mark file))) in
+      subst IsSound (sym cut.1) (bytes_sound (closed_lines (file_lines file)) (closed_sound (file_lines file) lines_are))
 
   made_sound : Merges → (how : How) (additions : Additions) (edit : Edit) → AreSound additions → neighbour_annotation_of how additions file ≡ Ok edit → is_text (edited file edit) ≡ true
   made_sound merges how additions edit plain e = text_made (edited file edit) (by how.replace refl)
@@ -179,13 +165,14 @@ is_text_first how additions file edit e = by (is_text file) refl e
     by true is k = is
     by false is k = absurd (error_is_ok NotText edit k)
 
--- what is made of a neighbour is text
+-- a neighbour that is annotated is text, and so is what is made of it
 pub neighbour_is_text : ((text : List ℕ) → text_of (lines_of text) ≡ text) → ((text : List ℕ) → AreLines (lines_of text)) → Merges → (how : How) (additions : Additions) (file made : List ℕ) → ArePlain additions → AreUtf8 additions
-    → neighbour_annotated how additions file ≡ Ok made → is_text made ≡ true
+    → neighbour_annotated how additions file ≡ Ok made → (is_text file ≡ true) × (is_text made ≡ true)
 neighbour_is_text joined well merges how additions file made plain utf8 e = by (neighbour_annotation_of how additions file) refl e
   where
-    by : (answer : Result Edit HeaderRefusal) → neighbour_annotation_of how additions file ≡ answer → made_by file answer ≡ Ok made → is_text made ≡ true
+    by : (answer : Result Edit HeaderRefusal) → neighbour_annotation_of how additions file ≡ answer → made_by file answer ≡ Ok made → (is_text file ≡ true) × (is_text made ≡ true)
     by (Err refusal) is k = absurd (error_is_ok refusal made k)
     by (Ok edit) is k =
         let same : edited file edit ≡ made = cc k in
-        ap is_text (sym same) ∙ made_sound joined well file (is_text_first how additions file edit is) merges how additions edit (additions_sound additions plain utf8) is
+        let text = is_text_first how additions file edit is in
+        (text, ap is_text (sym same) ∙ made_sound joined well file text merges how additions edit (additions_sound additions plain utf8) is)

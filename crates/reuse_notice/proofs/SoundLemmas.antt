@@ -86,6 +86,9 @@ sound_append front rest a b = record { utf8 = IsUtf8-append front rest a.utf8 b.
 pub sound_behind : (front rest : List ℕ) → IsSound (front ++ rest) → IsUtf8 front → IsSound rest
 sound_behind front rest whole first = record { utf8 = utf8_behind front rest whole.utf8 first; clean = (none_parts front rest whole.clean).1 }
 
+pub sound_before : (front rest : List ℕ) → IsSound (front ++ rest) → IsUtf8 rest → IsSound front
+sound_before front rest whole last = record { utf8 = utf8_before front rest whole.utf8 last; clean = (none_parts front rest whole.clean).0 }
+
 pub sound_to_low : (front rest : List ℕ) (b : ℕ) → IsSound (front ++ b ∷ rest) → b < 128 → IsSound front
 sound_to_low front rest b whole low = record { utf8 = utf8_to_low front rest b whole.utf8 low; clean = (none_parts front (b ∷ rest) whole.clean).0 }
 

@@ -2,7 +2,6 @@ use Rattle.reuse_notice.specs.Adding.{additions_of}
 use Rattle.reuse_header.proofs.MergedLemmas.{Merges}
 use Rattle.reuse_header.proofs.LinesLemmas.{Known}
 use Rattle.reuse_header.proofs.RepeatLemmas.{Laws, file_again}
-use Rattle.reuse_header.proofs.MadeTextLemmas.{neighbour_is_text}
 use Rattle.reuse_header.proofs.OpenLemmas.{neighbour_file_again}
 use Rattle.reuse_header.proofs.laws.annotating_again_changes_nothing.Goals as goal
 
@@ -21,6 +20,5 @@ returns c =
     record {
       files = λ style how arguments file made replace plain ends e. file_again known laws style how arguments file made replace plain ends e;
       neighbours = λ how arguments file made replace plain utf8 e.
-          neighbour_file_again known laws how arguments file made replace plain (neighbour_is_text laws.joined laws.well known.merges how (additions_of arguments) file made plain utf8 e) e;
-      texts = neighbour_is_text laws.joined laws.well known.merges;
+          neighbour_file_again known laws how arguments file made replace plain (c.annotated_texts_are_texts.ensures.neighbours how (additions_of arguments) file made plain utf8 e).1 e;
     }
