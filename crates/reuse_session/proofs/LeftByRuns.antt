@@ -1,5 +1,5 @@
 -- A run that isn't refused leaves the tree that its command gives.
-use Rattle.std.proofs.Common.{◌≡◌, ℕ, List, Ok, ap, ◌∙◌, sym}
+use Rattle.std.proofs.Common.{◌≡◌, ℕ, Ok, sym, ap, ◌∙◌}
 use Rattle.reuse_session.specs.Journal.{State}
 use Rattle.reuse_session.specs.Outcome.{outcome_of}
 use Rattle.reuse_session.specs.Session.{Runs}

@@ -7,10 +7,11 @@ ghost use Rattle.std.specs.List.Sorted.{IsPermutation, IsStrictlySortedBy};
 ghost use Rattle.std.specs.FinMap.{get};
 ghost use Rattle.reuse_header.specs.declared.annotation.How.{How};
 ghost use Rattle.reuse_notice.specs.declared.adding.Additions.{Additions};
+ghost use Rattle.reuse_notice.specs.Plain.{ArePlain, AreUtf8};
 ghost use Rattle.reuse_tree.specs.Files.{Files, AreFiles};
 ghost use Rattle.reuse_tree.specs.Change.{inverse_of};
 ghost use Rattle.reuse_tree.specs.declared.change.Change.{Change};
-ghost use Rattle.reuse_session.specs.Annotated.{Annotates};
+ghost use Rattle.reuse_session.specs.Annotated.{Annotates, StaysOrIsText};
 ghost use Rattle.reuse_session.specs.Choice.{is_chosen};
 ghost use Rattle.reuse_session.specs.Chosen.{IsNamed, StandsBeneath, IsAskedFor};
 ghost use Rattle.reuse_session.specs.Command.{HoldsEntry};
@@ -44,7 +45,7 @@ ghost use Rattle.reuse_session.specs.declared.licence.LicenceText.{LicenceText};
 ghost use Rattle.reuse_session.specs.declared.reply.Refusal.{Refusal};
 ghost use Rattle.reuse_session.specs.declared.reply.Reply.{Reply};
 
-use reuse_header::annotating_keeps_other_bytes;
+use reuse_header::{annotated_texts_are_texts, annotating_keeps_other_bytes};
 
 /// Any files open in one way: at most one path is the first at fault, at most one is where the pending step is stuck, at most one
 /// standing can be opened on, and no two of these three are there.
@@ -75,7 +76,8 @@ pub fn downloads_put_each_text()
 /// What annotate does on a tree, in other words. Where it isn't refused, each file that is gone through is commented: it holds what the
 /// header rules make of its own bytes in its style; or accompanied: its neighbour holds what they make of the neighbour's own bytes, or
 /// of none; or skipped, where that is asked for. Every byte outside the old header block stays, and so does every other path. These words
-/// leave one tree. A run that isn't refused leaves it: `Runs` is what `Session::run` promises.
+/// leave one tree. A run that isn't refused leaves it: `Runs` is what `Session::run` promises. No file goes, and each that changes is text
+/// then, where the additions are plain and UTF-8, as `Additions::new` makes them.
 pub fn annotations_change_chosen_places_alone()
     ensures made { (places : List Place) (additions : Additions) (how : How) (scope : Scope) (tree after : Files) → outcome_of (Annotate places additions how scope) tree ≡ Ok after
         → Annotates places additions how scope tree after }
@@ -83,8 +85,11 @@ pub fn annotations_change_chosen_places_alone()
         → Annotates places additions how scope before other → after ≡ other }
     ensures left { (places : List Place) (additions : Additions) (how : How) (scope : Scope) (when : ℕ) (old new : State) (reply : Reply) → Runs (Annotate places additions how scope) when old (Ok reply) new
         → Annotates places additions how scope old.tree new.tree }
+    ensures texts { (places : List Place) (additions : Additions) (how : How) (scope : Scope) (before after : Files) → Annotates places additions how scope before after
+        → ArePlain additions → AreUtf8 additions → (path : List ℕ) → StaysOrIsText before after path }
 {
     annotating_keeps_other_bytes();
+    annotated_texts_are_texts();
 }
 
 /// Where a conversion isn't refused, `.reuse/dep5` was there and is gone, `REUSE.toml` wasn't and holds the text that the dep5 is

@@ -1,4 +1,5 @@
 use Rattle.reuse_session.specs.declared.command.Command.TheVariants.{Annotate}
+use Rattle.reuse_session.proofs.AnnotatedTexts.{stays_or_text}
 use Rattle.reuse_session.proofs.AnnotatedTrees.{annotates}
 use Rattle.reuse_session.proofs.LeftByRuns.{left_by_run}
 use Rattle.reuse_session.proofs.OneAnnotation.{one_tree}
@@ -13,4 +14,6 @@ returns c =
       left = λ places additions how scope when old new reply runs.
           annotates kept.replaced kept.inserted kept.neighbour_replaced kept.neighbour_inserted places additions how scope old.tree new.tree
           (left_by_run (Annotate places additions how scope) when old new reply runs);
+      texts = λ places additions how scope before after made plain utf8 path.
+          stays_or_text c.annotated_texts_are_texts.ensures.files c.annotated_texts_are_texts.ensures.neighbours additions how scope plain utf8 places before after made path;
     }
