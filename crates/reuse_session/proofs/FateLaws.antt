@@ -51,7 +51,7 @@ use Rattle.reuse_session.proofs.FatePlans.{first_of_ids, none_refused}
 use Rattle.reuse_session.proofs.Planning.{paths_at, with_same, with_other, edited_other}
 use Rattle.reuse_session.proofs.RevertFitting.{backs, back_on, path_back, edits_are}
 use Rattle.reuse_session.proofs.RevertPlanning.{and_first, splice_differs}
-use Rattle.reuse_session.specs.Reverting.{stands_at, is_short, put_back, taken_back, taken_back_on, stuck_on, unless_stuck, revert_edits}
+use Rattle.reuse_session.specs.Reverting.{stands_as_written, is_short, put_back, taken_back, taken_back_on, stuck_on, unless_stuck, revert_edits}
 use Rattle.reuse_text.specs.Text.{spliced}
 use Rattle.reuse_tree.specs.Change.{path_of, IsProper}
 use Rattle.reuse_tree.specs.declared.change.Change.{Change}
@@ -398,8 +398,8 @@ back_differs (Drop path old before) None edit proper e = λ same.
 back_differs (Drop path old before) (Some file) edit proper e = absurd (none-some edit e)
 back_differs (Splice path at old new rest seal) None edit proper e = absurd (none-some edit e)
 back_differs (Splice path at old new rest seal) (Some file) edit proper e = λ same.
-    let is = cond_some (stands_at file new at && is_short file && is_short (spliced file at (length new) old)) (put_back path file at old new) edit e in
-    let stands = and_first (stands_at file new at) (is_short file) (and_first (stands_at file new at && is_short file) (is_short (spliced file at (length new) old)) is.0) in
+    let is = cond_some (stands_as_written file at old new rest seal && is_short file && is_short (spliced file at (length new) old)) (put_back path file at old new) edit e in
+    let stands = and_first (stands_as_written file at old new rest seal) (is_short file) (and_first (stands_as_written file at old new rest seal && is_short file) (is_short (spliced file at (length new) old)) is.0) in
     let got : Some file ≡ Some (spliced file at (length new) old) = same ∙ ap (λ (x : Edit). x.file) (sym is.1) in
     splice_differs empty path file old new at rest seal stands proper (same_Some file (spliced file at (length new) old) got)
 

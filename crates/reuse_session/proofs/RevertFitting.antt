@@ -21,7 +21,7 @@ use Rattle.reuse_session.specs.Edit.{Edit, made, dropped}
 use Rattle.reuse_session.specs.Entry.{makes, paths_of, touches, IsEntry}
 use Rattle.reuse_session.specs.EntryText.{HavePaths}
 use Rattle.reuse_session.specs.Listing.{ArePaths, is_among}
-use Rattle.reuse_session.specs.Reverting.{stands_at, is_short, put_back, taken_back, taken_back_on, stuck_on, unless_stuck, revert_edits}
+use Rattle.reuse_session.specs.Reverting.{stands_as_written, is_short, put_back, taken_back, taken_back_on, stuck_on, unless_stuck, revert_edits}
 use Rattle.reuse_session.specs.Tree.{is_of_tree}
 use Rattle.reuse_session.specs.declared.entry.Way.TheVariants.{Undo}
 use Rattle.reuse_session.proofs.Planning.{paths_at, IsFit, AreEdits}
@@ -37,7 +37,7 @@ back_path (Drop path old before) None edit e = ap (λ (x : Edit). x.path) (sym (
 back_path (Drop path old before) (Some file) edit e = absurd (none-some edit e)
 back_path (Splice path at old new rest seal) None edit e = absurd (none-some edit e)
 back_path (Splice path at old new rest seal) (Some file) edit e =
-    ap (λ (x : Edit). x.path) (sym (cond_some (stands_at file new at && is_short file && is_short (spliced file at (length new) old)) (put_back path file at old new) edit e).1)
+    ap (λ (x : Edit). x.path) (sym (cond_some (stands_as_written file at old new rest seal && is_short file && is_short (spliced file at (length new) old)) (put_back path file at old new) edit e).1)
 
 -- only a change that makes a file again is taken back where nothing is
 makes_there : (change : Change) (edit : Edit) → taken_back change None ≡ Some edit → makes Undo change ≡ true

@@ -1,5 +1,5 @@
 -- The planner of a revert: what takes a change back does what its edit says.
-use Rattle.std.proofs.Common.{◌≡◌, ◌≢◌, ◌⊎◌, inl, inr, ℕ, ◌+◌, ◌-◌, ◌≤◌, Bool, true, false, cond, not, ◌&&◌, nat_eq, nat_le, List, [], ◌∷◌, ◌++◌, length, take, drop, Option, Some, None, IsSome, is_some, Result, Ok, Err, refl, sym, ap, ap₂, subst, ◌∙◌, arith, length-append, append_assoc, append-nil, le-leb, leb-true}
+use Rattle.std.proofs.Common.{◌≡◌, ◌≢◌, ◌⊎◌, inl, inr, ℕ, ◌+◌, ◌-◌, ◌≤◌, Bool, true, false, cond, not, ◌&&◌, ◌||◌, nat_eq, nat_le, List, [], ◌∷◌, ◌++◌, length, take, drop, Option, Some, None, IsSome, is_some, Result, Ok, Err, refl, sym, ap, ap₂, subst, ◌∙◌, arith, length-append, append_assoc, append-nil, le-leb, leb-true}
 use Rattle.std.specs.Option.{option_map, option_to_list}
 use Rattle.std.specs.Prelude.{filter_map}
 use Rattle.std.specs.List.{starts_with, cons_option}
@@ -21,7 +21,7 @@ use Rattle.reuse_session.specs.Clash.{is_clash}
 use Rattle.reuse_session.specs.Edit.{Edit, made, dropped}
 use Rattle.reuse_session.specs.Entry.{makes}
 use Rattle.reuse_session.specs.Plan.{IsRefusalOf, Makes, MakesEach, MakesEdit, MakesEdits}
-use Rattle.reuse_session.specs.Reverting.{stands_at, is_short, put_back, taken_back, taken_back_on, stuck_on, unless_stuck, revert_edits}
+use Rattle.reuse_session.specs.Reverting.{stands_at, is_as_left, stands_as_written, is_short, put_back, taken_back, taken_back_on, stuck_on, unless_stuck, revert_edits}
 use Rattle.reuse_session.specs.declared.entry.Way.TheVariants.{Undo}
 use Rattle.reuse_session.specs.declared.reply.Refusal.{Refusal}
 use Rattle.reuse_session.specs.declared.reply.Refusal.TheVariants.{Fault, Interrupted, Memory, Moved}
@@ -33,7 +33,7 @@ pub and_first : (a b : Bool) → (a && b) ≡ true → a ≡ true
 and_first true b e = refl
 and_first false b e = e
 
-and_second : (a b : Bool) → (a && b) ≡ true → b ≡ true
+pub and_second : (a b : Bool) → (a && b) ≡ true → b ≡ true
 and_second true b e = e
 and_second false b e = absurd (false≢true e)
 
@@ -97,10 +97,13 @@ module _ (tree : Files) (path file old new : List ℕ) (at rest : ℕ) (seal : O
   abbrev given_back : Option Edit
   given_back = taken_back (Splice path at old new rest seal) (Some file)
 
-  pub splice_kept : stands_at file new at ≡ false → MakesEdit tree (found given_back) None
+  pub splice_kept : stands_as_written file at old new rest seal ≡ false → MakesEdit tree (found given_back) None
   splice_kept e = ap (λ b. found (cond (b && is_short file && is_short (spliced file at (length new) old)) (Some (put_back path file at old new)) None)) e
 
-  module _ (stands : stands_at file new at ≡ true) where
+  module _ (as_written : stands_as_written file at old new rest seal ≡ true) where
+    stands : stands_at file new at ≡ true
+    stands = and_first (stands_at file new at) (not (starts_with nat_eq old new) || is_as_left file at new rest seal) as_written
+
     low : at ≤ length file
     low = leb-true at (length file) (and_first (nat_le at (length file)) (starts_with nat_eq (drop at file) new) stands)
 
@@ -134,7 +137,7 @@ module _ (tree : Files) (path file old new : List ℕ) (at rest : ℕ) (seal : O
     pub splice_long : length file ≤ 16_777_216 → (length file - length new + length old ≤ 16_777_216 → ⊥) → MakesEdit tree (found given_back) None
     splice_long short long =
         ap (λ b. found (cond b (Some (put_back path file at old new)) None))
-        (all_true (stands_at file new at) (is_short file) (is_short (spliced file at (length new) old)) stands (short_test (length file) short)
+        (all_true (stands_as_written file at old new rest seal) (is_short file) (is_short (spliced file at (length new) old)) as_written (short_test (length file) short)
         ∙ long_test (length (spliced file at (length new) old)) (λ h. long (omega (arith, h, spliced_len))))
 
     pub splice_makes : (clone removed written : List ℕ) → clone ≡ path → removed ≡ new → written ≡ old → old ≢ new → get tree path ≡ Some file → length file ≤ 16_777_216
@@ -142,7 +145,7 @@ module _ (tree : Files) (path file old new : List ℕ) (at rest : ℕ) (seal : O
     splice_makes clone removed written cloned is_new is_old differ here short fits = (
       put_back path file at old new,
       ap (λ b. found (cond b (Some (put_back path file at old new)) None))
-          (all_true (stands_at file new at) (is_short file) (is_short (spliced file at (length new) old)) stands (short_test (length file) short)
+          (all_true (stands_as_written file at old new rest seal) (is_short file) (is_short (spliced file at (length new) old)) as_written (short_test (length file) short)
           ∙ short_test (length (spliced file at (length new) old)) (omega (arith, fits, spliced_len))),
       subst (λ p. Makes tree (sealed_splice p file at removed written) (put_back path file at old new)) (sym cloned)
           (subst (λ r. Makes tree (sealed_splice path file at r written) (put_back path file at old new)) (sym is_new)

@@ -1,8 +1,8 @@
 //! Laws of the definitions that the contracts of a session cite.
-ghost use Rattle.std.specs.Prelude.{◌≡◌, ◌≢◌, ◌↔◌, ◌⊎◌, [], List, map, ℕ, true, Ok, None, ◌≤◌, ◌++◌, length, Bool, Option, Some, Err};
+ghost use Rattle.std.specs.Prelude.{◌≡◌, ◌≢◌, ◌↔◌, ◌⊎◌, [], List, map, ℕ, nat_eq, true, false, Ok, None, ◌≤◌, ◌++◌, length, Bool, Option, Some, Err};
 ghost use Rattle.std.specs.Ordering.{nat_cmp};
 ghost use Rattle.std.specs.Cmp.Lexicographic.{slice_cmp};
-ghost use Rattle.std.specs.List.{All, Contains};
+ghost use Rattle.std.specs.List.{All, Contains, starts_with};
 ghost use Rattle.std.specs.List.Sorted.{IsPermutation, IsStrictlySortedBy};
 ghost use Rattle.std.specs.FinMap.{get};
 ghost use Rattle.reuse_header.specs.declared.annotation.How.{How};
@@ -16,6 +16,7 @@ ghost use Rattle.reuse_session.specs.Choice.{is_chosen};
 ghost use Rattle.reuse_session.specs.Chosen.{IsNamed, StandsBeneath, IsAskedFor};
 ghost use Rattle.reuse_session.specs.Command.{HoldsEntry};
 ghost use Rattle.reuse_session.specs.Covered.{is_covered};
+ghost use Rattle.reuse_session.specs.Edit.{Edit};
 ghost use Rattle.reuse_session.specs.Entry.{CanBeMade, IsEntry, LeadsAll, LeadsBy, AreAllSealed};
 ghost use Rattle.reuse_session.specs.Fresh.{IsFresh, first_state};
 ghost use Rattle.reuse_tree.specs.declared.change.Change.TheVariants.{Splice};
@@ -131,14 +132,17 @@ pub fn worked_paths_are_asked_for()
 {}
 
 /// A revert of a sealed step that is the last leads back to the tree before it, as its undo does, and a run that isn't refused leaves that
-/// tree. And of a file that was edited below what a step wrote, that gives way to what was there before, whatever is below it.
+/// tree. Of a file that was edited below what a step wrote, that gives way to what was there before, whatever is below it, where that didn't
+/// begin with what was written. And bytes that a step took away come back once.
 pub fn reverts_take_steps_back()
     ensures undo { (changes : List Change) (skip_moved : Bool) (before after : Files) → IsEntry changes → AreAllSealed true changes → AreFiles before → LeadsAll changes before after
         → outcome_of (Revert changes skip_moved) after ≡ Ok before }
     ensures left { (changes : List Change) (skip_moved : Bool) (before : Files) (when : ℕ) (old new : State) (reply : Reply) → IsEntry changes → AreAllSealed true changes → AreFiles before
         → LeadsAll changes before old.tree → Runs (Revert changes skip_moved) when old (Ok reply) new → new.tree ≡ before }
-    ensures below { (path front old new behind : List ℕ) (rest : ℕ) (seal : Option Seal) → length (front ++ new ++ behind) ≤ 16_777_216 → length (front ++ old ++ behind) ≤ 16_777_216
+    ensures below { (path front old new behind : List ℕ) (rest : ℕ) (seal : Option Seal) → starts_with nat_eq old new ≡ false → length (front ++ new ++ behind) ≤ 16_777_216 → length (front ++ old ++ behind) ≤ 16_777_216
         → taken_back (Splice path (length front) old new rest seal) (Some (front ++ new ++ behind)) ≡ Some (record { path = path; removed = new; written = old; file = Some (front ++ old ++ behind) }) }
+    ensures once { (path old new file : List ℕ) (at rest : ℕ) (seal : Option Seal) (edit : Edit) → starts_with nat_eq old new ≡ true → old ≢ new
+        → taken_back (Splice path at old new rest seal) (Some file) ≡ Some edit → taken_back (Splice path at old new rest seal) edit.file ≡ None }
 {}
 
 /// The outcome of a command follows the fates of its paths: it is refused exactly by the first refusal among them, and where there is

@@ -9,13 +9,12 @@ ghost use Rattle.reuse_tree.specs.Change.{path_of, IsProper};
 ghost use Rattle.reuse_tree.specs.Files.{Files, tree_of};
 ghost use Rattle.reuse_tree.specs.Store.{reading_of};
 ghost use Rattle.reuse_tree.specs.declared.change.Change.TheVariants.{Make, Splice};
-ghost use Rattle.reuse_tree.specs.declared.digest.Seal.{Seal};
 ghost use Rattle.reuse_tree.specs.declared.fault.StoreFault.{StoreFault};
 ghost use Rattle.reuse_session.specs.Answer.{IsFailure, IsOfPlan, IsTestRefusal, RefusedAsRead};
 ghost use Rattle.reuse_session.specs.Entry.{makes, IsEntry, IsSmall};
 ghost use Rattle.reuse_session.specs.EntryText.{HavePaths};
 ghost use Rattle.reuse_session.specs.Plan.{AnswersEdits, MakesEdit};
-ghost use Rattle.reuse_session.specs.Reverting.{revert_edits, stands_at, taken_back, taken_back_on};
+ghost use Rattle.reuse_session.specs.Reverting.{has_digest, is_as_left, revert_edits, stands_as_written, stands_at, taken_back, taken_back_on};
 ghost use Rattle.reuse_session.specs.Tree.{is_of_tree};
 ghost use Rattle.reuse_session.specs.declared.entry.Way.TheVariants.{Undo};
 
@@ -27,7 +26,7 @@ use crate::perform::makes_any;
 use crate::reply::Refusal;
 use crate::turn::makes;
 use reuse_text::Bytes;
-use reuse_tree::{Change, PathText, Reading, Store};
+use reuse_tree::{Change, Digest, PathText, Reading, Seal, Store};
 use std::alloc::{AllocError, Global};
 
 const LONGEST_FILE: usize = 16_777_216;
@@ -163,10 +162,11 @@ fn change_back(
                 at,
                 old,
                 new,
-                ..
+                rest,
+                seal,
             },
             Reading::Found(file),
-        ) => put_back(alloc, path, file, *at, old, new),
+        ) => put_back(alloc, path, file, *at, old, new, *rest, *seal),
         _ => Ok(None),
     }
 }
@@ -187,7 +187,7 @@ fn drop_made(
     Ok(Some(Change::sealed_drop(path.try_clone(alloc)?, file)))
 }
 
-// The old bytes are put back in the place of the new ones, where these stand there.
+// The old bytes are put back in the place of the new ones, where these stand there as they were written.
 fn put_back(
     alloc: Global,
     path: &PathText,
@@ -195,11 +195,20 @@ fn put_back(
     at: usize,
     old: &Bytes,
     new: &Bytes,
+    rest: usize,
+    seal: Option<Seal>,
 ) -> Result<Option<Change>, AllocError>
-    ensures { (tree : Files) (rest : ℕ) (seal : Option Seal) → old.now ≢ new.now → get tree path.now ≡ Some file → length file ≤ 16_777_216
+    ensures { (tree : Files) → old.now ≢ new.now → get tree path.now ≡ Some file → length file ≤ 16_777_216
         → IfOk result (MakesEdit tree (Ok (taken_back (Splice path.now at old.now new.now rest seal) (Some file)))) }
 {
-    if !stands_at(file.as_slice(), new.as_slice(), at) {
+    if !stands_as_written(
+        file.as_slice(),
+        at,
+        old.as_slice(),
+        new.as_slice(),
+        rest,
+        seal,
+    ) {
         return Ok(None);
     }
     if !fits(file.len() - new.len(), old.len()) {
@@ -218,6 +227,38 @@ fn is_same(file: &[u8], other: &[u8]) -> bool
     ensures { result ≡ bytes_eq file.now other.now }
 {
     file == other
+}
+
+// Whether the new bytes stand in the file at the place, as a step wrote them.
+fn stands_as_written(
+    file: &[u8],
+    at: usize,
+    old: &[u8],
+    new: &[u8],
+    rest: usize,
+    seal: Option<Seal>,
+) -> bool
+    ensures value { result ≡ stands_as_written file.now at old.now new.now rest seal }
+    ensures room { IsTrue result → at + length new.now ≤ length file.now }
+{
+    stands_at(file, new, at) && (!old.starts_with(new) || is_as_left(file, at, new, rest, seal))
+}
+
+// Whether a file that has the new bytes at the place is as a step left it.
+fn is_as_left(file: &[u8], at: usize, new: &[u8], rest: usize, seal: Option<Seal>) -> bool
+    requires { at + length new.now ≤ length file.now }
+    ensures { result ≡ is_as_left file.now at new.now rest seal }
+{
+    file.len() - at - new.len() == rest && has_digest(file, seal)
+}
+
+fn has_digest(file: &[u8], seal: Option<Seal>) -> bool
+    ensures { result ≡ has_digest file.now seal }
+{
+    match seal {
+        Some(seal) => Digest::of(file) == seal.after,
+        None => true,
+    }
 }
 
 // Whether the part stands in the file at the place.

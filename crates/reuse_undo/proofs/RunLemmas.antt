@@ -57,6 +57,16 @@ use Rattle.reuse_undo.specs.RowLines.{AppendsSome}
 use Rattle.reuse_undo.specs.RunLine.{Looks, Previews, IsNotDone, Does, IsStopped, Makes, Calls, as_told, RevertsOn, PreviewsRevert, Meets, TakesBackStep, HasCallClash, IsUnopened, IsMade, Carries, StepsBy, StepsBack, ForetellsBack, Steps, Tells, IfRefused}
 use Rattle.reuse_undo.specs.Told.{IsToldText, Finishes}
 
+-- a refusal as an answer
+abbrev refused : (A : Type 0) → Refusal → Result A Refusal
+refused A refusal = Err refusal
+
+same_refusal : (A : Type 0) (one other : Refusal) → refused A one ≡ refused A other → one ≡ other
+same_refusal A one other is = cc
+
+no_step_is_no_fault : (A : Type 0) (number : ℕ) (fault : StoreFault) → refused A (NoSuchStep number) ≡ refused A (StoreFailed fault) → ⊥
+no_step_is_no_fault A number fault is = cc
+
 -- a fault that has one cause has the other that follows
 pub caused : {A : Type 0} (Rose Higher : Type 0) → (Rose → Higher) → (answer : Result A Refusal) → IfErr answer (HasCause Rose) → IfErr answer (HasCause Higher)
 caused Rose Higher on (Ok reply) h = tt
@@ -139,29 +149,23 @@ peeks_err {S} {A} {B} store refusal old new peeks =
       kept = peeks.kept;
       fails =
           record {
-            device = λ is. peeks.fails.device (ap (λ r. Err {A = A} r) (err_of {B} refusal _ is));
-            clash = λ honest is. peeks.fails.clash honest (ap (λ r. Err {A = A} r) (err_of {B} refusal _ is));
-            memory = λ is. peeks.fails.memory (ap (λ r. Err {A = A} r) (err_of {B} refusal _ is));
+            device = λ is. peeks.fails.device (ap (refused A) (same_refusal B refusal _ is));
+            clash = λ honest is. peeks.fails.clash honest (ap (refused A) (same_refusal B refusal _ is));
+            memory = λ is. peeks.fails.memory (ap (refused A) (same_refusal B refusal _ is));
           };
       unstopped = peeks.unstopped;
       caused = peeks.caused;
     }
-  where
-    err_of : {B : Type 0} (one other : Refusal) → Err {A = B} one ≡ Err other → one ≡ other
-    err_of one other is = cc
 
 pub peeks_absent : {S A B : Type 0} (store : Ghosts S) (first : Result A Refusal) (number : ℕ) (old new : Session S) → Peeks store first old new → Peeks {A = B} store (Err (NoSuchStep number)) old new
 peeks_absent {S} {A} {B} store first number old new peeks =
     record {
       reads = peeks.reads;
       kept = peeks.kept;
-      fails = record { device = λ is. absurd (is_no_fault _ is); clash = λ honest is. is_no_fault _ is; memory = λ is. is_no_fault _ is };
+      fails = record { device = λ is. absurd (no_step_is_no_fault B number _ is); clash = λ honest is. no_step_is_no_fault B number _ is; memory = λ is. no_step_is_no_fault B number _ is };
       unstopped = λ whole. tt;
       caused = tt;
     }
-  where
-    is_no_fault : (fault : StoreFault) → Err {A = B} (NoSuchStep number) ≡ Err (StoreFailed fault) → ⊥
-    is_no_fault fault is = cc
 
 -- what is made of a step that is shown only looks too
 pub peeks_back : {S A : Type 0} (store : Ghosts S) (first : Result A Refusal) (number : ℕ) (skip_moved : Bool) (shown : Shown) (result : Result Command Refusal) (old new : Session S)
@@ -185,7 +189,7 @@ preview_peeks store answer old new looks is =
       kept = looks.kept;
       fails = looks.fails;
       unstopped = λ whole. unstopped answer is;
-      caused = cause answer looks.fails is;
+      caused = caused_by answer looks.fails is;
     }
   where
     unstopped : {A : Type 0} (answer : Result A Refusal) → IfErr answer IsPreviewRefusal → IfErr answer IsEarly
@@ -193,20 +197,20 @@ preview_peeks store answer old new looks is =
     unstopped (Err (Interrupted cause)) is = absurd is
     unstopped (Err refusal) is = tt
 
-    cause : {A S : Type 0} {store : Ghosts S} {old new : S} (answer : Result A Refusal) → RefusedAsRead store old new answer → IfErr answer IsPreviewRefusal
+    caused_by : {A S : Type 0} {store : Ghosts S} {old new : S} (answer : Result A Refusal) → RefusedAsRead store old new answer → IfErr answer IsPreviewRefusal
         → IfErr answer (HasCause (store.failures old < store.failures new))
-    cause (Ok value) fails is = tt
-    cause (Err (StoreFailed stores.Device)) fails is = fails.device refl
-    cause (Err (StoreFailed stores.Memory)) fails is = absurd (fails.memory refl)
-    cause (Err (Interrupted cause)) fails is = absurd is
-    cause (Err refusal) fails is = tt
+    caused_by (Ok value) fails is = tt
+    caused_by (Err (StoreFailed stores.Device)) fails is = fails.device refl
+    caused_by (Err (StoreFailed stores.Memory)) fails is = absurd (fails.memory refl)
+    caused_by (Err (Interrupted cause)) fails is = absurd is
+    caused_by (Err refusal) fails is = tt
 
 -- a refusal that tells no fault as one answer tells none as another
-pub told_again : {A B : Type 0} (refusal : Refusal) → TellsNoFault {A = A} (Err refusal) → TellsNoFault {A = B} (Err refusal)
-told_again (StoreFailed fault) told = absurd told
-told_again Memory told = absurd told
-told_again (Interrupted cause) told = absurd told
-told_again refusal told = tt
+pub told_again : (A B : Type 0) (refusal : Refusal) → TellsNoFault (refused A refusal) → TellsNoFault (refused B refusal)
+told_again A B (StoreFailed fault) told = absurd told
+told_again A B Memory told = absurd told
+told_again A B (Interrupted cause) told = absurd told
+told_again A B refusal told = tt
 
 -- what is shown of a step that is done is taken back
 pub back_of_shown : (held : State) (number : ℕ) (skip_moved : Bool) (shown : Shown) (result : Result Command Refusal) → Shows held.journal number shown
@@ -289,11 +293,8 @@ revert_stands store number skip_moved when held old new refusal early honest sta
     ⊎_elim (λ (read : ReadAlone store (Err refusal) old new). subst (λ f. IsStanding f held) (sym (read.3.files honest)) stands.standing)
     (λ (run : RunBack store number skip_moved when (Err refusal) old new). (run.2.stands honest held stands early).standing) leaves
 
-refused_so : {A : Type 0} (one other : Refusal) → Err {A = A} one ≡ Err other → other ≡ one
-refused_so one other is = cc
-
-no_early_stop : (cause : Cause) (refusal : Refusal) → Err {A = Reverted} (Interrupted cause) ≡ Err refusal → IsEarly refusal → ⊥
-no_early_stop cause refusal is early = subst IsEarly (refused_so (Interrupted cause) refusal is) early
+no_early_stop : (cause : Cause) (refusal : Refusal) → refused Reverted (Interrupted cause) ≡ refused Reverted refusal → IsEarly refusal → ⊥
+no_early_stop cause refusal is early = subst IsEarly (sym (same_refusal Reverted (Interrupted cause) refusal is)) early
 
 -- what a revert answers and leaves, by the clauses of that call
 pub reverts_by : {S : Type 0} (store : Ghosts S) (number : ℕ) (skip_moved : Bool) (when : ℕ) (held : State) (old new : Session S) (answer : Result Reverted Refusal)
@@ -314,7 +315,7 @@ pub revert_clash : {S : Type 0} (store : Ghosts S) (number : ℕ) (skip_moved : 
 revert_clash store number skip_moved when old new (Ok reverted) honest leaves = tt
 revert_clash store number skip_moved when old new (Err refusal) honest leaves =
     ⊎_elim (λ (read : ReadAlone store (Err refusal) old new).
-    no_clash_of _ _ refusal (unclashed_read refusal (λ is. read.4.clash honest (ap (λ r. Err r) is)) (let same : read.0 ≡ refusal = refused_so refusal read.0 read.1 in subst IsEarly same read.2)))
+    no_clash_of _ _ refusal (unclashed_read refusal (λ is. read.4.clash honest (ap (λ r. Err r) is)) (let same : read.0 ≡ refusal = sym (same_refusal Reverted refusal read.0 read.1) in subst IsEarly same read.2)))
     (λ (run : RunBack store number skip_moved when (Err refusal) old new). run.2.clash honest) leaves
 
 -- ---- the opening and the call

@@ -28,6 +28,10 @@ pub enum Fault {
 }
 
 impl From<AllocError> for Fault {
+    ghost use Rattle.reuse_undo.specs.WriterFaults.{IsOfWriter};
+
+    ghost from_gives = { λ error fault. IsOfWriter fault };
+
     fn from(_: AllocError) -> Fault {
         Fault::Memory
     }

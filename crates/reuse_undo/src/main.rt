@@ -168,12 +168,17 @@ fn run<R: Runtime + Files<File = File> + AllocGlobal>(
         Ok(words) => words_to_command(alloc, words.as_slice(), moment),
         Err(fault) => Said::fault(fault),
     };
+    let Said {
+        verbose,
+        files_from,
+        line,
+    } = said;
     let extras = Extras {
-        notes: at_terminal || said.verbose,
+        notes: at_terminal || verbose,
         progress: at_terminal,
     };
-    let line = match said.line {
-        Ok(line) => with_list(rt, alloc, line, said.files_from),
+    let line = match line {
+        Ok(line) => with_list(rt, alloc, line, files_from),
         Err(fault) => Err(fault),
     };
     match line {

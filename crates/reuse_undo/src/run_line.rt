@@ -81,12 +81,16 @@ fn call<S: Store + Drop>(
         Ok(opened) => {
             let mut session = opened;
             let answer = ask(alloc, &mut session, request);
-            let wants_diff = telling == Telling::Diff && would_be_made(&answer);
-            let (store, diff) = close(alloc, session, request, wants_diff);
+            let (store, diff) = close(alloc, session, request, wants_diff(telling, &answer));
             (store, answer, diff)
         }
         Err((refusal, store)) => (store, Err(refusal), Ok(Vec::new(alloc))),
     }
+}
+
+// Whether a diff is wanted of what would be made.
+fn wants_diff(telling: Telling, answer: &Result<Told, Refusal>) -> bool {
+    telling == Telling::Diff && would_be_made(answer)
 }
 
 // Whether the answer is a preview without a refusal.

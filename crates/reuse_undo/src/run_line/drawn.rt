@@ -151,11 +151,11 @@ fn draw_one<S: Store>(
 }
 
 // A file that is made, or removed.
-fn draw_whole(
+fn draw_whole<'a>(
     text: &mut Vec<u8>,
     alloc: Global,
-    path: &PathText,
-    file: &[u8],
+    path: &'a PathText,
+    file: &'a [u8],
     is_made: bool,
 ) -> Result<(), Fault>
     ensures { IfErr result IsOfDiff }
@@ -177,11 +177,11 @@ fn draw_whole(
 }
 
 // A file of which a range gives way. Where the range isn't within the file, it isn't as it was looked at, and nothing is told.
-fn draw_range(
+fn draw_range<'a>(
     text: &mut Vec<u8>,
     alloc: Global,
-    path: &PathText,
-    file: &[u8],
+    path: &'a PathText,
+    file: &'a [u8],
     at: usize,
     length: usize,
     new: &[u8],

@@ -25,10 +25,7 @@ fn reverted(
     let Ok(mut session) = Session::open(alloc, store) else {
         return Err("open")?;
     };
-    let line = line_of(
-        alloc,
-        &session.revert(alloc, number, skip_moved, moment()?),
-    )?;
+    let line = line_of(alloc, &session.revert(alloc, number, skip_moved, moment()?))?;
     Ok((session.into_store(), line))
 }
 
@@ -63,7 +60,10 @@ fn a_header_comes_out_of_a_file_that_was_edited_below(rt: HostRuntime) -> Result
     let alloc = rt.alloc();
     let (mut store, line) = reverted(alloc, edited(alloc, LONGER)?, 1, false)?;
     assert!(rt; line.as_str() == "changed a.py b.py, skipped", "{line}");
-    let plain = [("a.py", b"print(1)\nprint(2)\n".as_slice()), ("b.py", PLAIN)];
+    let plain = [
+        ("a.py", b"print(1)\nprint(2)\n".as_slice()),
+        ("b.py", PLAIN),
+    ];
     assert!(rt; has_just(alloc, &mut store, &plain)?);
     let lines = "opened\nlog 1 done 2 done\nundone a.py b.py\n";
     let mut store = plays(&rt, alloc, store, &["log", "undo"], lines)?;
@@ -116,6 +116,12 @@ fn a_step_without_a_seal_is_reverted(rt: HostRuntime) -> Result<(), Fail> {
     };
     let shown = session.show(alloc, 2).map_err(|_| "show")?;
     assert!(rt; shown.row.command == CommandName::Revert && shown.row.done);
-    assert!(rt; shown.changes.as_slice().iter().all(|change| change.is_sealed()));
+    assert!(rt;
+        shown
+            .changes
+            .as_slice()
+            .iter()
+            .all(|change| change.is_sealed())
+    );
     Ok(())
 }

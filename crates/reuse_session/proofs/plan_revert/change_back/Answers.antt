@@ -40,4 +40,4 @@ returns-in-Splice-Found c tree proper small reading =
     let here = ap (λ (k : Change). get tree (path_of k)) (sym at.is-0) ∙ file.0 in
     subst (λ f. IfOk c.put_back.result (MakesEdit tree (found (taken_back c.args.change.now f)))) (sym file.0)
     (subst (λ (k : Change). IfOk c.put_back.result (MakesEdit tree (found (taken_back k (Some c.in-Splice-Found.file))))) (sym at.is-0)
-    (c.put_back.ensures tree at.rest-0 at.seal-0 (subst IsProper at.is-0 proper) here file.1))
+    (c.put_back.ensures tree (subst IsProper at.is-0 proper) here file.1))

@@ -10,25 +10,25 @@ returns-in-Ok-clause-carries g c honest =
     let before = files c.args.store in
     let request = c.args.request.now in
     let answer = c.ask-answer.result in
-    let is_honest = c.close.ensures.reads.was_honest honest in
+    let is_honest = c.close-store.ensures.reads.was_honest honest in
     let was_honest = c.ask-answer.ensures.was_honest is_honest in
-    subst (λ f. Carries before request answer f) (sym (c.close.ensures.reads.files honest))
+    subst (λ f. Carries before request answer f) (sym (c.close-store.ensures.reads.files honest))
     (carried files before request c.in-Ok.opened answer (files (store_of c.ask-answer.new.session)) (c.in-Ok.ensures.opened was_honest)
     (λ first second doubt. c.in-Ok.ensures.settles first second doubt was_honest) (c.ask-answer.ensures.meets is_honest))
 
 pub returns-in-Ok-clause-looks : goal.returns-in-Ok-clause-looks
 returns-in-Ok-clause-looks g c honest look held standing =
     let files = g.S.Store.files in
-    let is_honest = c.close.ensures.reads.was_honest honest in
+    let is_honest = c.close-store.ensures.reads.was_honest honest in
     let was_honest = c.ask-answer.ensures.was_honest is_honest in
     let found =
     found_again files (files c.args.store) c.in-Ok.opened held standing (c.in-Ok.ensures.opened was_honest) (λ first second doubt. c.in-Ok.ensures.settles first second doubt was_honest) in
-    c.close.ensures.reads.files honest ∙ c.ask-answer.ensures.looks is_honest look ∙ found.1
+    c.close-store.ensures.reads.files honest ∙ c.ask-answer.ensures.looks is_honest look ∙ found.1
 
 pub returns-in-Ok-clause-clash : goal.returns-in-Ok-clause-clash
 returns-in-Ok-clause-clash g c honest held standing =
     let files = g.S.Store.files in
-    let is_honest = c.close.ensures.reads.was_honest honest in
+    let is_honest = c.close-store.ensures.reads.was_honest honest in
     let was_honest = c.ask-answer.ensures.was_honest is_honest in
     let found =
     found_again files (files c.args.store) c.in-Ok.opened held standing (c.in-Ok.ensures.opened was_honest) (λ first second doubt. c.in-Ok.ensures.settles first second doubt was_honest) in
@@ -40,14 +40,14 @@ returns-in-Ok-clause-fault g c =
     let opened = failures (store_of c.in-Ok.opened) in
     let left = failures (store_of c.ask-answer.new.session) in
     let first = failures c.args.store in
-    let last = failures c.close.result.0 in
-    caused (opened < left) (first < last) (λ rose. omega (arith, rose, c.in-Ok.ensures.later.failures, c.close.ensures.reads.failures)) c.ask-answer.result c.ask-answer.ensures.fault
+    let last = failures c.close-store.result.0 in
+    caused (opened < left) (first < last) (λ rose. omega (arith, rose, c.in-Ok.ensures.later.failures, c.close-store.ensures.reads.failures)) c.ask-answer.result c.ask-answer.ensures.fault
 
 pub returns-in-Ok-clause-failures : goal.returns-in-Ok-clause-failures
-returns-in-Ok-clause-failures g c = omega (arith, c.in-Ok.ensures.later.failures, c.ask-answer.ensures.failures, c.close.ensures.reads.failures)
+returns-in-Ok-clause-failures g c = omega (arith, c.in-Ok.ensures.later.failures, c.ask-answer.ensures.failures, c.close-store.ensures.reads.failures)
 
 pub returns-in-Ok-clause-was_honest : goal.returns-in-Ok-clause-was_honest
-returns-in-Ok-clause-was_honest g c honest = c.in-Ok.ensures.later.was_honest (c.ask-answer.ensures.was_honest (c.close.ensures.reads.was_honest honest))
+returns-in-Ok-clause-was_honest g c honest = c.in-Ok.ensures.later.was_honest (c.ask-answer.ensures.was_honest (c.close-store.ensures.reads.was_honest honest))
 
 pub returns-in-Err-clause-carries : goal.returns-in-Err-clause-carries
 returns-in-Err-clause-carries g c honest =

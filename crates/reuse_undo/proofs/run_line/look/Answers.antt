@@ -11,4 +11,4 @@ returns-in-Ok-clause-reads g c =
     (subst (λ s. OnlyReads store s c.draw_from.result.0) c.into_store.ensures c.draw_from.ensures.reads)
 
 pub returns-in-Err-clause-reads : goal.returns-in-Err-clause-reads
-returns-in-Err-clause-reads g c = subst (λ s. OnlyReads g.S.Store (store_of c.args.session) s) (sym c.into_store.ensures) c.foresee.ensures
+returns-in-Err-clause-reads g c = subst (λ s. OnlyReads g.S.Store (store_of c.args.session) s) (sym c.into_store-in-Err.ensures) c.foresee.ensures

@@ -34,6 +34,15 @@ returns-in-Ok-clause-clash g c honest held standing =
 pub returns-in-Ok-clause-quiet : goal.returns-in-Ok-clause-quiet
 returns-in-Ok-clause-quiet g c = no_refusal _ _ _ _ c.finish.result (λ refusal. c.finish.new.out ≡ c.args.out.now) c.finish.ensures
 
+pub returns-clause-exact : goal.returns-clause-exact
+returns-clause-exact g c honest =
+    let before = g.S.Store.files c.args.store in
+    let after = g.S.Store.files c.call-store.result.0 in
+    let request = asked c.args.line c.args.texts in (
+      carries_as before after c.request_of-request.result request c.call-store.result.1 (Err c.in-Err.refusal) (c.call-store.ensures.carries honest) c.request_of-request.ensures c.in-Err.is,
+      refl,
+    )
+
 pub returns-clause-machine : goal.returns-clause-machine
 returns-clause-machine g c honest state held =
     let before = g.S.Store.files c.args.store in

@@ -42,7 +42,7 @@ returns-in-Show-clause-meets g c honest held stands =
     subst (λ (r : Request). Meets r held c.shown_told.result (g.S.Store.files (store_of c.show.new.self))) (sym c.in-Show.is) (
       c.show.result,
       c.shown_told.ensures,
-      peek_looks g.S.Store (ShowsIn held.journal c.in-Show.number.now) c.show.result c.args.session.now c.show.new.self held peeks honest stands (c.show.ensures.exact honest held stands),
+      peek_looks g.S.Store (ShowsIn held.journal c.in-Show.number) c.show.result c.args.session.now c.show.new.self held peeks honest stands (c.show.ensures.exact honest held stands),
     )
 
 pub returns-in-Show-clause-looks : goal.returns-in-Show-clause-looks
@@ -67,7 +67,7 @@ returns-in-Revert-clause-meets g c honest held stands =
     subst (λ (r : Request). Meets r held c.reverted_told.result (g.S.Store.files (store_of c.revert.new.self))) (sym c.in-Revert.is) (
       c.revert.result,
       c.reverted_told.ensures,
-      reverts_by g.S.Store c.in-Revert.number.now c.in-Revert.skip_moved.now c.in-Revert.when.now held c.args.session.now c.revert.new.self c.revert.result honest stands
+      reverts_by g.S.Store c.in-Revert.number c.in-Revert.skip_moved c.in-Revert.when held c.args.session.now c.revert.new.self c.revert.result honest stands
           (c.revert.ensures.exact honest held stands) c.revert.ensures.leaves,
     )
 
@@ -85,7 +85,7 @@ returns-in-Revert-clause-clash g c honest held stands =
     err_told tells.Reverted c.revert.result c.reverted_told.result (HasCallClash c.args.request.now held files) c.reverted_told.ensures
     (subst (λ (r : Request). IfErr c.revert.result (HasCallClash r held files)) (sym c.in-Revert.is)
     (subst (λ n. IfErr c.revert.result (HasClash (Clashes files (entry_path (n + 1))) (Clashes files head_path))) stands.remembers.used
-    (revert_clash g.S.Store c.in-Revert.number.now c.in-Revert.skip_moved.now c.in-Revert.when.now c.args.session.now c.revert.new.self c.revert.result honest c.revert.ensures.leaves)))
+    (revert_clash g.S.Store c.in-Revert.number c.in-Revert.skip_moved c.in-Revert.when c.args.session.now c.revert.new.self c.revert.result honest c.revert.ensures.leaves)))
 
 -- ---- a dry run of one
 
@@ -95,7 +95,7 @@ returns-in-PreviewRevert-clause-meets g c honest held stands =
     subst (λ (r : Request). Meets r held c.fates_told.result (g.S.Store.files (store_of back.new.session))) (sym c.in-PreviewRevert.is) (
       back.result,
       c.fates_told.ensures,
-      peek_looks g.S.Store (PreviewsRevert c.in-PreviewRevert.number.now c.in-PreviewRevert.skip_moved.now held) back.result c.args.session.now back.new.session held back.ensures.peeks honest stands
+      peek_looks g.S.Store (PreviewsRevert c.in-PreviewRevert.number c.in-PreviewRevert.skip_moved held) back.result c.args.session.now back.new.session held back.ensures.peeks honest stands
           (back.ensures.right honest held stands),
     )
 

@@ -1,5 +1,7 @@
-use Rattle.std.proofs.Common.{Err, inl, inr, ap, sym, subst, ◌∙◌}
+use Rattle.std.proofs.Common.{Err, List, inl, inr, ap, sym, subst, ◌∙◌}
 use Rattle.reuse_session.specs.Answer.{TellsNoFault}
+use Rattle.reuse_session.specs.declared.command.Command.{Command}
+use Rattle.reuse_session.specs.declared.fate.Fate.{Fate}
 use Rattle.reuse_undo.specs.Peeks.{Peeks}
 use Rattle.reuse_session.specs.Previews.{run_fates_on}
 use Rattle.reuse_undo.specs.RunLine.{TakesBackStep}
@@ -21,7 +23,7 @@ returns-in-Ok-clause-peeks g c =
 
 pub returns-in-Err-clause-right : goal.returns-in-Err-clause-right
 returns-in-Err-clause-right g c honest held stands told =
-    let none = subst (TakesBackStep c.args.number c.args.skip_moved held) c.in-Err.is (c.revert_command.ensures.right honest held stands (subst TellsNoFault (sym c.in-Err.is) (told_again c.in-Err.refusal told))) in
+    let none = subst (TakesBackStep c.args.number c.args.skip_moved held) c.in-Err.is (c.revert_command.ensures.right honest held stands (subst TellsNoFault (sym c.in-Err.is) (told_again (List Fate) Command c.in-Err.refusal told))) in
     inl (ap (λ r. Err r) none.0, none.1)
 
 pub returns-in-Err-clause-peeks : goal.returns-in-Err-clause-peeks

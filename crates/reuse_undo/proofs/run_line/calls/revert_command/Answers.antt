@@ -1,6 +1,8 @@
 use Rattle.std.proofs.Common.{inl, sym, subst}
 use Rattle.reuse_session.specs.Answer.{TellsNoFault}
 use Rattle.reuse_session.specs.Showing.{ShowsIn}
+use Rattle.reuse_session.specs.declared.command.Command.{Command}
+use Rattle.reuse_session.specs.declared.reply.Shown.{Shown}
 use Rattle.reuse_undo.specs.Peeks.{Peeks}
 use Rattle.reuse_undo.proofs.RunLemmas.{back_of_shown, show_peeks, peeks_back, peeks_err, told_again}
 use Rattle.reuse_undo.proofs.run_line.calls.revert_command.Goals as goal
@@ -17,7 +19,7 @@ returns-in-Ok-clause-peeks g c =
 
 pub returns-in-Err-clause-right : goal.returns-in-Err-clause-right
 returns-in-Err-clause-right g c honest held stands told =
-    let none = subst (ShowsIn held.journal c.args.number) c.in-Err.is (c.show.ensures.exact honest held stands (subst TellsNoFault (sym c.in-Err.is) (told_again c.in-Err.refusal told))) in
+    let none = subst (ShowsIn held.journal c.args.number) c.in-Err.is (c.show.ensures.exact honest held stands (subst TellsNoFault (sym c.in-Err.is) (told_again Command Shown c.in-Err.refusal told))) in
     (none.0, inl (none.1, none.2))
 
 pub returns-in-Err-clause-peeks : goal.returns-in-Err-clause-peeks
