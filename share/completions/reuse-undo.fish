@@ -71,7 +71,7 @@ complete -c reuse-undo -n '__reuse_undo_subcommand_is ""' -a convert-dep5 -d 'Pu
 complete -c reuse-undo -n '__reuse_undo_subcommand_is ""' -a download -d 'Copy licence texts into LICENSES'
 complete -c reuse-undo -n '__reuse_undo_subcommand_is ""' -a undo -d 'Take the last step back'
 complete -c reuse-undo -n '__reuse_undo_subcommand_is ""' -a redo -d 'Make the step again that was undone last'
-complete -c reuse-undo -n '__reuse_undo_subcommand_is ""' -a revert -d 'Take any step back by a new one'
+complete -c reuse-undo -n '__reuse_undo_subcommand_is ""' -a revert -d 'Take a step back by a new one'
 complete -c reuse-undo -n '__reuse_undo_subcommand_is ""' -a log -d 'List the steps'
 complete -c reuse-undo -n '__reuse_undo_subcommand_is ""' -a show -d 'Tell what a step changed'
 complete -c reuse-undo -n '__reuse_undo_subcommand_is ""' -a help -d 'Print help'

@@ -90,7 +90,7 @@ Example:
 const AFTER_REVERT: &str = "\
 It makes a new step, which undo takes back in turn. Of each file of step NUMBER what the step wrote must stand where it
 was written, whatever follows it; a file that the step made must be as it was made, and where it removed one none must
-be. Where one file isn't so, none is changed.
+be. Where the step only took bytes away, the file must be as the step left it. Where one file isn't so, none is changed.
 
 Example:
   reuse-undo revert 3 --dry-run --diff";
@@ -303,7 +303,7 @@ fn with_dry_run<'a>(alloc: Global, command: Command<'a>) -> Result<Command<'a>, 
     let dry_run = flag(
         alloc,
         "dry-run",
-        "Tell what would change, with all refusals, and write nothing",
+        "Tell what would change, with the refusal of each path, and write nothing",
     );
     let diff = flag(
         alloc,

@@ -4,9 +4,7 @@ use crate::disk::{DiskStore, Failure};
 use crate::fault::Fault;
 use crate::line::{Action, Deed, Line};
 use crate::request::Request;
-use reuse_session::{
-    Command, Event, Fate, Head, Refusal, Scope, Session, Unknown, decode_head,
-};
+use reuse_session::{Command, Event, Fate, Head, Refusal, Scope, Session, Unknown, decode_head};
 use reuse_text::Bytes;
 use reuse_tree::{PathText, Reading, Store};
 use std::alloc::Global;
@@ -113,7 +111,9 @@ impl Findings {
         }
         if let Some(command) = passing_over(request, outcome) {
             let passed_over = outcome.is_ok();
-            self.unrecognised = unrecognised_names(alloc, folder, command, passed_over).unwrap_or(0);
+            self.unrecognised = unrecognised_names(alloc, folder, command, passed_over).unwrap_or(
+                0,
+            );
         }
     }
 }

@@ -1,4 +1,7 @@
 //! What a command line asks for.
+ghost use Rattle.std.specs.Prelude.{◌≡◌, if◌then◌else◌};
+ghost use Rattle.reuse_undo.specs.declared.line.Action.TheVariants as actions;
+
 use reuse_notice::NoticeRefusal;
 use reuse_session::{Command, Ids, Moment};
 use std::alloc::{AllocError, AllocFailed};
@@ -43,6 +46,17 @@ pub enum Action {
 }
 
 impl Action {
+    /// To change the tree, or to tell what that would change.
+    pub fn of(deed: Deed, dry_run: bool) -> Action
+        ensures { result ≡ (if dry_run then actions.Foretell deed else actions.Do deed) }
+    {
+        if dry_run {
+            Action::Foretell(deed)
+        } else {
+            Action::Do(deed)
+        }
+    }
+
     /// What would change the tree, or is told of.
     pub fn deed(&self) -> Option<&Deed> {
         match self {

@@ -306,7 +306,13 @@ fn annotate_untold(alloc: Global) -> Result<(MemoryStore, Fault), Fail> {
     let store = store_of(alloc, "a.py", b"print(1)\n")?;
     let texts = texts(alloc)?;
     let request = request_of(line, texts);
-    match run_request(alloc, &request, Telling::Lines, store, &mut Output::new(Full)) {
+    match run_request(
+        alloc,
+        &request,
+        Telling::Lines,
+        store,
+        &mut Output::new(Full),
+    ) {
         (store, Err(fault)) => Ok((store, fault)),
         _ => Err("a fault is wanted")?,
     }

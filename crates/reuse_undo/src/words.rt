@@ -106,11 +106,7 @@ fn read_action(
         "show" => Ok(Action::Show(read_number(matches))),
         _ => {
             let deed = read_deed(alloc, name, matches, moment)?;
-            Ok(if matches.get_flag("dry-run") {
-                Action::Foretell(deed)
-            } else {
-                Action::Do(deed)
-            })
+            Ok(Action::of(deed, matches.get_flag("dry-run")))
         }
     }
 }

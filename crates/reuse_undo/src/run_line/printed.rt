@@ -36,12 +36,7 @@ pub fn finish<W: Write + Drop>(
 }
 
 // What is told of an answer. No part of it is written before it is whole.
-fn text_of(
-    alloc: Global,
-    told: &Told,
-    telling: Telling,
-    diff: &[u8],
-) -> Result<Vec<u8>, Fault>
+fn text_of(alloc: Global, told: &Told, telling: Telling, diff: &[u8]) -> Result<Vec<u8>, Fault>
     ensures text { (diff.now ≡ []) ⊎ WouldBeMade told.now → IfOk result (λ text. IsToldText telling told.now text.items) }
     ensures fault { IfErr result (λ fault. fault ≡ faults.Memory) }
 {
