@@ -1,6 +1,5 @@
 //! Carries out on a folder what a line asks for.
-ghost use Rattle.reuse_tree.specs.Calls.{Start};
-ghost use Rattle.reuse_tree.specs.Files.{AreFiles};
+ghost use Rattle.std.specs.Prelude.{◌≡◌};
 ghost use Rattle.reuse_session.specs.Machine.{Snapshots};
 ghost use Rattle.reuse_session.specs.Stops.{HoldState};
 ghost use Rattle.reuse_undo.specs.RunLine.{Carries, Steps, Tells, IfRefused};

@@ -1,4 +1,6 @@
 //! How far long work is, for a terminal.
+ghost use Rattle.std.specs.Prelude.{◌≡◌};
+
 use reuse_tree::{PathText, Reading, Store, StoreFault};
 use std::alloc::Global;
 use std::cell::Cell;
@@ -125,7 +127,7 @@ impl<'a, S: Store + Drop, R: Runtime> WatchedStore<'a, S, R> {
 
     /// Gives the store inside back.
     pub fn into_inner(self) -> S
-        ensures { result ≡ self.inner }
+        ensures { result ≡ self.entry.inner }
     {
         self.inner
     }
