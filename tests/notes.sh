@@ -88,7 +88,10 @@ refusals() {
   notes revert 1 : '1 file changed; reuse-undo undo takes that back'
   "$program" --root "$tree" revert 1 > /dev/null
   notes revert 1 : "what the step wrote doesn't stand in this file as it did: .*--skip-moved"
-  notes annotate -n -l MIT b.xyz c.xyz a.py : 'no comment style is known .*'
+  notes annotate -n -l MIT b.xyz c.xyz a.py : 'no comment style is known .*' "2 files have names that aren't recognised; --dry-run names them"
+  notes annotate -l MIT b.xyz c.xyz : 'no comment style is known .*' "2 files have names that aren't recognised; --dry-run names them"
+  notes annotate --skip-unrecognised -l MIT b.xyz c.xyz : '2 files passed over, since no comment style is known for the names; --dry-run names them'
+  notes annotate --skip-unrecognised --skip-existing -l MIT b.xyz c.xyz :
   notes annotate -l MIT zz :
 }
 
