@@ -108,6 +108,9 @@ prints $'redone a.py\nredone b.c\nredone p.png.license\nredone sub/d.py' redo
 # A revert of the revert
 prints $'changed a.py\nchanged b.c\nchanged p.png.license\nchanged sub/d.py' revert 4
 holds a.py "${header}x = 1\nx = 2\n"
+# What a step took away comes back once.
+refuses 'a.py: moved' revert 4
+holds a.py "${header}x = 1\nx = 2\n"
 # Files that can't be taken back
 printf '# me\n' | cat - "$tree/b.c" > "$room/new"
 cp "$room/new" "$tree/b.c"
