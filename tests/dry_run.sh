@@ -4,6 +4,7 @@
 # call: for the examples of docs/USAGE.md, and for random trees, with real files of /usr among them. Prints what was compared; ends with status 1
 # at the first fault.
 # usage: tests/dry_run.sh PROGRAM [ROUNDS]      (300 rounds by default)
+# The tags below are data: REUSE-IgnoreStart
 set -euo pipefail
 . "$(dirname "$0")/common.sh"
 wants git git

@@ -3,6 +3,7 @@
 # tree and log as they were before the run or as they are after it. The runs are calls on three files and a dep5, and openings after a
 # kill. Some of the journals have steps of both formats. Prints how many calls failed; ends with status 1 at the first fault.
 # usage: tests/fail_system_calls.sh PROGRAM
+# The tags below are data: REUSE-IgnoreStart
 set -euo pipefail
 . "$(dirname "$0")/common.sh"
 wants strace strace
