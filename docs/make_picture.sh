@@ -14,8 +14,8 @@ shows() {
 
 session() {
   shows cat greet.py
-  shows reuse-undo annotate --copyright '"Jane Doe"' --license MIT --year 2019 --year 2024 greet.py
-  shows cat greet.py
+  shows reuse-undo annotate -c '"Jane Doe"' -l MIT -y 2019 -y 2024 --dry-run --diff greet.py
+  shows reuse-undo annotate -c '"Jane Doe"' -l MIT -y 2019 -y 2024 greet.py
   shows reuse-undo log
   shows reuse-undo undo
   shows cat greet.py
@@ -30,12 +30,12 @@ session | awk '
   END {
     height = 20 * NR + 28
     printf "<svg xmlns=\"http://www.w3.org/2000/svg\" width=\"820\" height=\"%d\" viewBox=\"0 0 820 %d\" role=\"img\">\n", height, height
-    print "<title>reuse-undo on a file: annotate, log, undo and redo</title>"
+    print "<title>reuse-undo on a file: a dry run with its diff, annotate, log, undo and redo</title>"
     print "<!-- The tags below are data: REUSE-IgnoreStart -->"
     print "<rect width=\"100%\" height=\"100%\" rx=\"8\" fill=\"#1d2433\"/>"
     print "<g font-family=\"ui-monospace, Menlo, Consolas, DejaVu Sans Mono, monospace\" font-size=\"14\" fill=\"#d8dee9\">"
     for (k = 1; k <= NR; k++) {
-      colour = lines[k] ~ /^\$ / ? " fill=\"#8fd694\"" : ""
+      colour = lines[k] ~ /^\$ / ? " fill=\"#8fd694\"" : lines[k] ~ /^\+/ ? " fill=\"#88c0d0\"" : lines[k] ~ /^(-|@@)/ ? " fill=\"#b48ead\"" : ""
       printf "<text x=\"18\" y=\"%d\" xml:space=\"preserve\"%s>%s</text>\n", 20 * k + 12, colour, lines[k]
     }
     print "</g>"

@@ -11,6 +11,9 @@ completions=$(realpath "$(dirname "$0")/../share/completions")
 mkdir -p "$room/here/source/deep" "$room/there/src/deep" "$room/texts"
 touch "$room/here/setup.py" "$room/here/source/a.py" "$room/there/src/b c.py" "$room/there/src/d.py" "$room/there/sign.png"
 touch "$room/texts/"{MIT,MIT-0,ISC}.txt "$room/texts/README"
+mkdir "$room/bin"
+ln -s "$program" "$room/bin/reuse-undo"
+PATH=$room/bin:$PATH
 cd "$room/here"
 
 # What bash has in COMPREPLY for the words
@@ -99,7 +102,7 @@ completes annotate --copyright-prefix '' gives $(help_values copyright-prefix)
 completes an gives annotate
 completes --ro gives --root
 completes --root ../there und gives undo
-completes help re gives redo
+completes help re gives redo revert
 completes annotate --co gives --contributor --copyright --copyright-prefix --copyright-style
 completes annotate --s gives --single-line --skip-existing --skip-unrecognised --style
 completes annotate --f gives --fallback-dot-license --files-from --force-dot-license
@@ -116,4 +119,11 @@ completes annotate --root=../there src/d gives src/d.py src/deep
 completes download --te gives --texts
 completes download --texts ../texts M gives MIT MIT-0
 completes undo --h gives --help
+# The numbers of the steps
+for holder in A B; do "$program" --root ../there annotate -c $holder --force-dot-license sign.png > "$room/out"; done
+"$program" --root ../there undo > "$room/out"
+completes --root ../there show '' gives 1 2
+completes --root ../there revert '' gives 1
+completes --root ../there revert --s gives --skip-moved
+completes show '' gives
 echo "$compared lines are completed as stated by bash, zsh and fish"

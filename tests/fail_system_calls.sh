@@ -3,6 +3,7 @@
 # tree and log as they were before the run or as they are after it. The runs are calls on three files and a dep5, and openings after a
 # kill. Some of the journals have steps of both formats. Prints how many calls failed; ends with status 1 at the first fault.
 # usage: tests/fail_system_calls.sh PROGRAM
+# The tags below are data: REUSE-IgnoreStart
 set -euo pipefail
 . "$(dirname "$0")/common.sh"
 wants strace strace
@@ -82,6 +83,13 @@ make_killed killed_annotate plain 6 "${annotate[@]}"
 make_killed killed_undo done 4 undo
 make_killed killed_redo undone 5 redo
 make_killed killed_older older 4 undo
+# A step below another one, with a file that was edited and one that can't be taken back
+cp -a "$room/done" "$room/edited"
+"$program" --root "$room/edited" convert-dep5 > "$room/out"
+echo 'y = 2' >> "$room/edited/a.py"
+cp -a "$room/edited" "$room/stuck"
+echo '# SPDX-License-Identifier: ISC' > "$room/stuck/c.json.license"
+make_killed killed_revert edited 5 revert 1
 
 try_all plain "${annotate[@]}"
 try_all plain convert-dep5
@@ -90,4 +98,8 @@ try_all undone redo
 try_all mixed undo
 try_all older undo
 try_all older redo
-for name in killed_annotate killed_undo killed_redo killed_older; do try_all $name log; done
+try_all edited revert 1
+try_all stuck revert --skip-moved 1
+try_all stuck revert --skip-moved --dry-run --diff 1
+try_all edited show --diff 1
+for name in killed_annotate killed_undo killed_redo killed_older killed_revert; do try_all $name log; done

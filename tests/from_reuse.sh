@@ -193,6 +193,11 @@ habits() {
   has "$theirs" a.scala "$tag\n\nx\n"
   has "$ours" a.scala '// SPDX-License-Identifier: MIT\n\nx\n'
 
+  row 'seeing it before' a.py 'x\n' a.xyz 'x\n'
+  tool 2 'unrecognized arguments' annotate -l MIT --dry-run a.py
+  program 0 'would change a.py' annotate -l MIT --dry-run a.py
+  has "$ours" a.py 'x\n'
+
   row 'taking it back' a.py 'x\n'
   both annotate -l MIT a.py
   tool 2 'invalid choice' undo

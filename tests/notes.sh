@@ -76,12 +76,22 @@ changes() {
 }
 
 refusals() {
-  files b.xyz 'x\n' a.py 'x\n'
+  files b.xyz 'x\n' c.xyz 'x\n' a.py 'x\n'
   notes annotate -l MIT b.xyz : 'no comment style is known .*--style .*\.reuse/styles\.toml.*--fallback-dot-license.*--skip-unrecognised'
   notes download --texts "$room/texts" Foo : "the text was sought in $room/texts/Foo\.txt"
   "$program" --root "$tree" annotate -l MIT a.py > /dev/null
   echo y >> "$tree/a.py"
-  notes undo : 'this file was changed since: .*'
+  notes undo : 'this file was changed since: .*reuse-undo revert .*'
+  notes undo -n : 'this file was changed since: .*'
+  notes revert 7 : 'reuse-undo log tells the numbers of the steps'
+  notes show 7 : 'reuse-undo log tells the numbers of the steps'
+  notes revert 1 : '1 file changed; reuse-undo undo takes that back'
+  "$program" --root "$tree" revert 1 > /dev/null
+  notes revert 1 : "what the step wrote doesn't stand in this file as it did: .*--skip-moved"
+  notes annotate -n -l MIT b.xyz c.xyz a.py : 'no comment style is known .*' "2 files have names that aren't recognised; --dry-run names them"
+  notes annotate -l MIT b.xyz c.xyz : 'no comment style is known .*' "2 files have names that aren't recognised; --dry-run names them"
+  notes annotate --skip-unrecognised -l MIT b.xyz c.xyz : '2 files passed over, since no comment style is known for the names; --dry-run names them'
+  notes annotate --skip-unrecognised --skip-existing -l MIT b.xyz c.xyz :
   notes annotate -l MIT zz :
 }
 

@@ -47,6 +47,11 @@ _reuse_undo_paths() {
   done < <(cd -- "$1" 2> /dev/null && compgen -f -- "$word")
 }
 
+# The numbers of the steps below the root, or of those done alone
+_reuse_undo_steps() {
+  _reuse_undo_of "$(reuse-undo --root "$root" log 2> /dev/null | sed -nE "s/^([0-9]+) .*${1:+ }${1-}\$/\1/p")"
+}
+
 _reuse_undo_of() { mapfile -t COMPREPLY < <(compgen -W "$1" -- "$word"); }
 
 _reuse_undo() {
@@ -82,16 +87,22 @@ _reuse_undo() {
       annotate)
         _reuse_undo_of '--copyright --license --contributor --year --exclude-year --style --copyright-prefix --copyright-style
           --merge-copyrights --single-line --multi-line --no-replace --recursive --files-from --exclude --force-dot-license --fallback-dot-license
-          --skip-unrecognised --skip-existing --root --verbose --help'
+          --skip-unrecognised --skip-existing --dry-run --diff --root --verbose --help'
         ;;
-      download) _reuse_undo_of '--texts --root --verbose --help' ;;
+      download) _reuse_undo_of '--texts --dry-run --diff --root --verbose --help' ;;
+      convert-dep5 | undo | redo) _reuse_undo_of '--dry-run --diff --root --verbose --help' ;;
+      revert) _reuse_undo_of '--dry-run --diff --skip-moved --root --verbose --help' ;;
+      log) _reuse_undo_of '--json --root --verbose --help' ;;
+      show) _reuse_undo_of '--diff --json --root --verbose --help' ;;
       *) _reuse_undo_of '--root --verbose --help' ;;
     esac
     return
   fi
   case $subcommand in
-    '') _reuse_undo_of 'annotate convert-dep5 download undo redo log help' ;;
-    help) _reuse_undo_of 'annotate convert-dep5 download undo redo log' ;;
+    '') _reuse_undo_of 'annotate convert-dep5 download undo redo revert log show help' ;;
+    help) _reuse_undo_of 'annotate convert-dep5 download undo redo revert log show' ;;
+    revert) _reuse_undo_steps done ;;
+    show) _reuse_undo_steps ;;
     annotate) _reuse_undo_paths "$root" ;;
     download)
       while IFS= read -r id; do COMPREPLY+=("${id%.txt}"); done < <(cd -- "$texts" 2> /dev/null && compgen -f -X '!*.txt' -- "$word")

@@ -54,6 +54,12 @@ function __reuse_undo_ids
     end
 end
 
+# The numbers of the steps below the root, of those that are in this state where one is given
+function __reuse_undo_steps
+    set -l root (__reuse_undo_value --root .)
+    reuse-undo --root $root log 2>/dev/null | string replace -rf "^([0-9]+) .* $argv[1].*\$" '$1'
+end
+
 complete -c reuse-undo -f
 complete -c reuse-undo -l root -x -a '(__fish_complete_directories)' -d 'The root of the source tree'
 complete -c reuse-undo -s v -l verbose -d 'Tell notes on standard error'
@@ -65,9 +71,11 @@ complete -c reuse-undo -n '__reuse_undo_subcommand_is ""' -a convert-dep5 -d 'Pu
 complete -c reuse-undo -n '__reuse_undo_subcommand_is ""' -a download -d 'Copy licence texts into LICENSES'
 complete -c reuse-undo -n '__reuse_undo_subcommand_is ""' -a undo -d 'Take the last step back'
 complete -c reuse-undo -n '__reuse_undo_subcommand_is ""' -a redo -d 'Make the step again that was undone last'
+complete -c reuse-undo -n '__reuse_undo_subcommand_is ""' -a revert -d 'Take a step back by a new one'
 complete -c reuse-undo -n '__reuse_undo_subcommand_is ""' -a log -d 'List the steps'
+complete -c reuse-undo -n '__reuse_undo_subcommand_is ""' -a show -d 'Tell what a step changed'
 complete -c reuse-undo -n '__reuse_undo_subcommand_is ""' -a help -d 'Print help'
-complete -c reuse-undo -n '__reuse_undo_subcommand_is help' -a 'annotate convert-dep5 download undo redo log'
+complete -c reuse-undo -n '__reuse_undo_subcommand_is help' -a 'annotate convert-dep5 download undo redo revert log show'
 
 set -l annotate -c reuse-undo -n '__reuse_undo_subcommand_is annotate'
 set -l prefixes 'spdx spdx-c spdx-symbol spdx-string spdx-string-c spdx-string-symbol string string-c string-symbol symbol'
@@ -94,3 +102,14 @@ complete $annotate -a '(__reuse_undo_paths)'
 
 complete -c reuse-undo -n '__reuse_undo_subcommand_is download' -l texts -x -a '(__fish_complete_directories)' -d 'The folder of the licence texts'
 complete -c reuse-undo -n '__reuse_undo_subcommand_is download' -a '(__reuse_undo_ids)'
+
+for word in annotate convert-dep5 download undo redo revert
+    complete -c reuse-undo -n "__reuse_undo_subcommand_is $word" -s n -l dry-run -d 'Tell what would change, and write nothing'
+    complete -c reuse-undo -n "__reuse_undo_subcommand_is $word" -l diff -d 'With --dry-run, tell it as a diff too'
+end
+complete -c reuse-undo -n '__reuse_undo_subcommand_is revert' -l skip-moved -d 'Leave a file where the step cannot be taken back'
+complete -c reuse-undo -n '__reuse_undo_subcommand_is revert' -a '(__reuse_undo_steps done)'
+complete -c reuse-undo -n '__reuse_undo_subcommand_is log' -l json -d 'Print a JSON object on each line'
+complete -c reuse-undo -n '__reuse_undo_subcommand_is show' -l diff -d 'Tell the lines that the step took away and wrote'
+complete -c reuse-undo -n '__reuse_undo_subcommand_is show' -l json -d 'Print a JSON object'
+complete -c reuse-undo -n '__reuse_undo_subcommand_is show' -a '(__reuse_undo_steps)'

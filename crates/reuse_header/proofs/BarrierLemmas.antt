@@ -14,14 +14,14 @@ use Rattle.std.proofs.lemmas.Bool.{cases_Bool as truth}
 use Rattle.reuse_header.proofs.CutLemmas.{bytes_of-append, bytes_of-placed, place_behind, mark_within}
 
 -- the lines before the first barrier
-abbrev open_lines : PlacedLines → PlacedLines
+abbrev pub open_lines : PlacedLines → PlacedLines
 open_lines [] = []
 open_lines (line ∷ lines) = if is_barrier line.1.content then [] else line ∷ open_lines lines
 
 abbrev IsOpen : ℕ × TextLine → Type 0
 IsOpen line = is_barrier line.1.content ≡ false
 
-lines_cut : (lines : PlacedLines) → lines ≡ open_lines lines ++ closed_lines lines
+pub lines_cut : (lines : PlacedLines) → lines ≡ open_lines lines ++ closed_lines lines
 lines_cut [] = refl
 lines_cut (line ∷ lines) = elim (truth (is_barrier line.1.content)) [
   | inl is ↦ rw is refl
@@ -55,7 +55,7 @@ text_cut file law =
     let lines = file_lines file in
     sym law ∙ sym (bytes_of-placed (lines_of (after_mark file)) (mark_len_of file)) ∙ ap bytes_of (lines_cut lines) ∙ bytes_of-append (open_lines lines) (closed_lines lines)
 
-end_behind : (file : List ℕ) → text_of (lines_of (after_mark file)) ≡ after_mark file → neighbour_end file ≡ mark_len_of file + length (bytes_of (open_lines (file_lines file)))
+pub end_behind : (file : List ℕ) → text_of (lines_of (after_mark file)) ≡ after_mark file → neighbour_end file ≡ mark_len_of file + length (bytes_of (open_lines (file_lines file)))
 end_behind file law =
     let lines = file_lines file in
     let whole : length file ≡ mark_len_of file + length (text_of (lines_of (after_mark file))) =

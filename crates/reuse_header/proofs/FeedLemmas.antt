@@ -1,10 +1,9 @@
 -- The texts of contents and of additions hold no LF.
 use Rattle.std.proofs.Common.{◌≡◌, ℕ, zero, suc, ◌+◌, ◌/◌, ◌%◌, Bool, true, false, cond, List, [], ◌∷◌, ◌++◌, length, take, drop, map, Option, None, Some, refl, sym, ap, subst, ◌∙◌, inl, inr, arith}
 use Rattle.std.specs.Prelude.{not, ◌&&◌, ◌||◌, ◌==◌, if◌then◌else◌, Contains, filter, filter_map, codes, unwrap_or, nat_eq}
-use Rattle.std.specs.List.{list_all, list_any, starts_with, cons_option}
+use Rattle.std.specs.List.{list_any, starts_with, cons_option}
 use Rattle.std.specs.Option.{option_map, option_map_or, option_to_list, is_none}
-use Rattle.std.proofs.lemmas.Bool.{false≢true, eqb-true, false_from_ne_true}
-use Rattle.std.proofs.lemmas.List.Folds.{list_any-append}
+use Rattle.std.proofs.lemmas.Bool.{false≢true, eqb-true, or_parts, false_from_ne_true}
 use Rattle.reuse_text.specs.Text.{TextLine, AreLines, line_bytes, lines_of, placed, file_lines, after_mark, mark_len_of}
 use Rattle.reuse_notice.specs.declared.prefixes.Prefix.{Prefix}
 use Rattle.reuse_notice.specs.declared.prefixes.Prefix.TheVariants.{Spdx, SpdxC, SpdxSymbol, SpdxString, SpdxStringC, SpdxStringSymbol, String, StringC, StringSymbol, Symbol}
@@ -17,6 +16,7 @@ use Rattle.reuse_notice.specs.Contents.{notice_text, contributor_value, licence_
 use Rattle.reuse_notice.specs.Adding.{is_control, four_digits, years_text, notice_written}
 use Rattle.reuse_notice.specs.Plain.{IsPlain, ArePlain}
 use Rattle.reuse_notice.specs.Infos.{info_of, union_of, merged_of}
+use Rattle.reuse_notice.proofs.NoneLemmas.{or_none, none_append, none_drop, none_take, none_front, none_end, none_trimmed, none_weaker}
 use Rattle.reuse_header.specs.declared.style.Style.{Style}
 use Rattle.reuse_header.specs.declared.style.Form.{Form}
 use Rattle.reuse_header.specs.declared.style.Form.TheVariants.{Single, Multi}
@@ -30,55 +30,6 @@ use Rattle.std.proofs.lemmas.Bool.{cases_Bool as truth}
 use Rattle.reuse_header.proofs.SplitLemmas.{split_found}
 use Rattle.reuse_header.proofs.SayableLemmas.{Each, all_of_each, each_of_all, each_both, each_front, each_end, each_set, notice_whole, contributor_is, licence_is}
 use Rattle.reuse_header.proofs.MergedLemmas.{Merges, merged_each}
-
--- ---- bytes without one that passes a test
-
-pub or_parts : (a b : Bool) → (a || b) ≡ false → (a ≡ false) × (b ≡ false)
-or_parts true b e = absurd (false≢true (sym e))
-or_parts false b e = (refl, e)
-
-pub or_none : (a b : Bool) → a ≡ false → b ≡ false → (a || b) ≡ false
-or_none true b e f = e
-or_none false b e f = f
-
-module _ (p : ℕ → Bool) where
-  pub none_append : (xs ys : List ℕ) → list_any p xs ≡ false → list_any p ys ≡ false → list_any p (xs ++ ys) ≡ false
-  none_append xs ys e f = list_any-append p xs ys ∙ or_none (list_any p xs) (list_any p ys) e f
-
-  none_drop : (n : ℕ) (xs : List ℕ) → list_any p xs ≡ false → list_any p (drop n xs) ≡ false
-  none_drop zero xs e = e
-  none_drop (suc n) [] e = refl
-  none_drop (suc n) (x ∷ xs) e = none_drop n xs (or_parts (p x) (list_any p xs) e).1
-
-  none_take : (n : ℕ) (xs : List ℕ) → list_any p xs ≡ false → list_any p (take n xs) ≡ false
-  none_take zero xs e = refl
-  none_take (suc n) [] e = refl
-  none_take (suc n) (x ∷ xs) e = let q = or_parts (p x) (list_any p xs) e in or_none (p x) (list_any p (take n xs)) q.0 (none_take n xs q.1)
-
-  none_front : (test : ℕ → Bool) (xs : List ℕ) → list_any p xs ≡ false → list_any p (drop_front test xs) ≡ false
-  unfolding drop_front
-  none_front test [] e = refl
-  none_front test (x ∷ xs) e = elim (truth (test x)) [
-    | inl t ↦ rw t (none_front test xs (or_parts (p x) (list_any p xs) e).1)
-    | inr f ↦ rw f e
-  ]
-
-  none_end : (test : ℕ → Bool) (xs : List ℕ) → list_any p xs ≡ false → list_any p (drop_end test xs) ≡ false
-  unfolding drop_end
-  none_end test [] e = refl
-  none_end test (x ∷ xs) e = elim (truth (list_all test (x ∷ xs))) [
-    | inl t ↦ rw t refl
-    | inr f ↦ (let q = or_parts (p x) (list_any p xs) e in rw f (or_none (p x) (list_any p (drop_end test xs)) q.0 (none_end test xs q.1)))
-  ]
-
-  none_trimmed : (test : ℕ → Bool) (xs : List ℕ) → list_any p xs ≡ false → list_any p (trimmed test xs) ≡ false
-  none_trimmed test xs e = none_end test (drop_front test xs) (none_front test xs e)
-
-none_weaker : (p q : ℕ → Bool) → ((b : ℕ) → q b ≡ true → p b ≡ true) → (xs : List ℕ) → list_any p xs ≡ false → list_any q xs ≡ false
-none_weaker p q w [] e = refl
-none_weaker p q w (x ∷ xs) e =
-    let parts = or_parts (p x) (list_any p xs) e in
-    or_none (q x) (list_any q xs) (false_from_ne_true (q x) (λ t. false≢true (sym parts.0 ∙ w x t))) (none_weaker p q w xs parts.1)
 
 -- ---- no LF
 

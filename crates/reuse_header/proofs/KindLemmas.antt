@@ -4,7 +4,7 @@ use Rattle.std.specs.Prelude.{◌&&◌, ◌||◌, ◌==◌, if◌then◌else◌}
 use Rattle.std.specs.List.{list_any, starts_with}
 use Rattle.std.specs.Option.{option_map}
 use Rattle.std.proofs.Math.Bool.{and-true, and-false}
-use Rattle.std.proofs.lemmas.Bool.{false≢true}
+use Rattle.std.proofs.lemmas.Bool.{false≢true, or_parts}
 use Rattle.std.proofs.lemmas.List.{append-nil, take-append-drop}
 use Rattle.std.proofs.Math.Seq.{take-append_seam}
 use Rattle.reuse_text.specs.declared.LineKind.{LineKind}
@@ -21,7 +21,7 @@ use Rattle.std.proofs.lemmas.Bool.{cases_Bool as truth}
 use Rattle.reuse_header.proofs.PlaceLemmas.{front_occurs}
 use Rattle.reuse_header.proofs.SplitLemmas.{begins_in-within, split_found}
 use Rattle.reuse_header.proofs.CutLemmas.{bytes_of-append, bytes_of-placed, place_behind, file_size, before_body, mark_within}
-use Rattle.reuse_header.proofs.FeedLemmas.{or_parts, is_feed, Feedless, feedless_from}
+use Rattle.reuse_header.proofs.FeedLemmas.{is_feed, Feedless, feedless_from}
 use Rattle.reuse_header.proofs.LinesLemmas.{ends_append}
 
 -- ---- the kind, by the first LF

@@ -152,7 +152,7 @@ unfolding neighbour_edit
 neighbour_insertion true file text e = absurd (false≢true (sym e))
 neighbour_insertion false file text e = (refl, refl)
 
-neighbour_text : (replace : Bool) (file text : List ℕ) → (neighbour_edit replace file text).text ≡ text
+pub neighbour_text : (replace : Bool) (file text : List ℕ) → (neighbour_edit replace file text).text ≡ text
 unfolding neighbour_edit
 neighbour_text true file text = refl
 neighbour_text false file text = refl

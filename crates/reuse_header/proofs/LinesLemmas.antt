@@ -33,7 +33,8 @@ use Rattle.std.proofs.lemmas.Bool.{cases_Bool as truth}
 use Rattle.reuse_header.proofs.SayableLemmas.{Each, all_of_each, each_of_all, each_both, end_again, notice_whole, value_whole, contributor_read, licence_read, info_sayable, union_sayable, found_clean, neighbour_clean}
 use Rattle.reuse_header.proofs.PlainLemmas.{NoFillers, letters, no_letters, additions_sayable}
 use Rattle.reuse_header.proofs.MergedLemmas.{Merges, merged_sayable}
-use Rattle.reuse_header.proofs.FeedLemmas.{is_feed, none_append, Feedless, feedless_holds, HasNoFeed, found_feedless, neighbour_feedless, additions_feedless, new_feedless}
+use Rattle.reuse_notice.proofs.NoneLemmas.{none_append}
+use Rattle.reuse_header.proofs.FeedLemmas.{is_feed, Feedless, feedless_holds, HasNoFeed, found_feedless, neighbour_feedless, additions_feedless, new_feedless}
 use Rattle.reuse_header.proofs.AgainLemmas.{each-joined, each-set_off}
 
 -- ---- no CR at an end

@@ -15,7 +15,7 @@ ghost use Rattle.reuse_header.specs.Marks.{LineMarks, marks_of};
 ghost use Rattle.reuse_header.specs.Reading.{IsSayable, AreSayable};
 ghost use Rattle.reuse_notice.specs.Tags.{is_filler};
 ghost use Rattle.reuse_notice.specs.Adding.{Arguments, additions_of};
-ghost use Rattle.reuse_notice.specs.Plain.{ArePlain};
+ghost use Rattle.reuse_notice.specs.Plain.{ArePlain, AreUtf8};
 ghost use Rattle.reuse_header.specs.Blocks.{contents_of, count_to_closer, multi_count, without_returns};
 ghost use Rattle.reuse_header.specs.Styles.{BlockForm, punctuation_of};
 ghost use Rattle.reuse_header.specs.declared.style.Form.{Form};
@@ -214,14 +214,27 @@ pub fn annotated_files_read_back()
     repeating_adds_nothing();
 }
 
+/// What annotating makes of text is text, UTF-8 without a NUL byte, where the additions are plain and UTF-8, as `Additions::new` makes
+/// them. A neighbour that isn't text is refused.
+pub fn annotated_texts_are_texts()
+    ensures files { (style : Style) (how : How) (additions : Additions) (file made : List ℕ) → ArePlain additions → AreUtf8 additions → is_text file ≡ true
+        → annotated style how additions file ≡ Ok made → is_text made ≡ true }
+    ensures neighbours { (how : How) (additions : Additions) (file made : List ℕ) → ArePlain additions → AreUtf8 additions → neighbour_annotated how additions file ≡ Ok made
+        → (is_text file ≡ true) × (is_text made ≡ true) }
+{
+    lines_are_one();
+    merged_notices_are_written();
+    holders_are_values();
+}
+
 /// Where old blocks are replaced, the same call on the file that annotating made changes nothing. One file is
 /// left out: one of a single prefix line that is not ended and ends in CR, since the ending that is put behind it makes
-/// that CR a part of a CRLF, and the file one of another kind. Of a neighbour the law asks that what was made
-/// is text.
+/// that CR a part of a CRLF, and the file one of another kind. A neighbour that isn't text is refused, and what is made of one is text
+/// where the additions are plain and UTF-8, as `Additions::new` makes them.
 pub fn annotating_again_changes_nothing()
     ensures files { (style : Style) (how : How) (arguments : Arguments) (file made : List ℕ) → how.replace ≡ true → ArePlain (additions_of arguments) → EndsPlainly style file
         → annotated style how (additions_of arguments) file ≡ Ok made → answer_of made (annotation_of style how (additions_of arguments) made) ≡ Ok None }
-    ensures neighbours { (how : How) (arguments : Arguments) (file made : List ℕ) → how.replace ≡ true → ArePlain (additions_of arguments) → is_text made ≡ true
+    ensures neighbours { (how : How) (arguments : Arguments) (file made : List ℕ) → how.replace ≡ true → ArePlain (additions_of arguments) → AreUtf8 (additions_of arguments)
         → neighbour_annotated how (additions_of arguments) file ≡ Ok made → answer_of made (neighbour_annotation_of how (additions_of arguments) made) ≡ Ok None }
 {
     lines_are_one();
@@ -230,6 +243,7 @@ pub fn annotating_again_changes_nothing()
     merged_notices_are_written();
     holders_are_values();
     repeating_adds_nothing();
+    annotated_texts_are_texts();
 }
 
 /// Own names stand before the table's: the whole of a path's last part is looked for first. A path neither of whose

@@ -11,7 +11,7 @@ use Rattle.reuse_notice.specs.Tags.{NoticeText, is_blank, all_blank, drop_front,
 use Rattle.reuse_notice.specs.Merging.{class_of, class_text, class_prefix, class_years, merged_as, merged}
 use Rattle.reuse_notice.specs.Keeping.{IsWrittenOf}
 use Rattle.std.proofs.lemmas.Bool.{cases_Bool as truth}
-use Rattle.reuse_notice.proofs.PlainLemmas.{and-parts, all-drop_end, drop_end-twice, drop_front-kept}
+use Rattle.reuse_notice.proofs.PlainLemmas.{class-digits, and-parts, all-drop_end, drop_end-twice, drop_front-kept}
 use Rattle.reuse_notice.proofs.PrefixLemmas.{found_passes}
 use Rattle.reuse_notice.proofs.SetLemmas.{In-from_contains, Contains-from_in, In-set_of}
 use Rattle.reuse_notice.proofs.RepeatLemmas.{In-from_map, class_text-is}
@@ -127,6 +127,7 @@ merged_written command notices text h =
             prefix = class_prefix command (class_of notices n.holder);
             years = class_years (class_of notices n.holder);
             read = is;
+            digits = class-digits n.holder notices;
             written = same ∙ k.1.written;
           },
         )

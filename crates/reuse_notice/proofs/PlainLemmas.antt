@@ -1,10 +1,12 @@
 -- The texts of additions are plain.
 use Rattle.std.proofs.Common.{◌≡◌, ◌≢◌, ℕ, ◌+◌, ◌-◌, ◌*◌, ◌/◌, ◌%◌, ◌≤◌, Bool, true, false, cond, List, [], ◌∷◌, ◌++◌, length, map, Bor, Option, Some, None, refl, sym, ap, ◌∙◌, subst, arith, inl, inr, append_assoc, length-append}
-use Rattle.std.specs.Prelude.{All, find, fold, filter_map, ◌||◌, ◌&&◌, ◌==◌, min, max, codes}
+use Rattle.std.specs.Prelude.{All, find, fold, filter_map, not, ◌||◌, ◌&&◌, ◌==◌, nat_eq, nat_le, nat_lt, min, max, take, drop, codes, slice_index}
 use Rattle.std.specs.Char.{is_ascii_digit}
+use Rattle.std.specs.Str.{bytes_eq}
 use Rattle.std.specs.Prelude.{slice_index_or}
 use Rattle.std.proofs.lemmas.Bool.Decides.{nat_tests}
-use Rattle.std.specs.List.{list_any, list_all, cons_option}
+use Rattle.std.specs.List.{list_any, list_all, starts_with, cons_option}
+use Rattle.std.specs.Option.{option_map, option_and_then}
 use Rattle.std.proofs.lemmas.Bool.{le-ltb, eqb-true, false_from_ne_true}
 use Rattle.std.proofs.lemmas.List.Folds.{list_any-append, list_all-append}
 use Rattle.std.proofs.Math.Bool.{and-false}
@@ -13,7 +15,9 @@ use Rattle.reuse_notice.specs.declared.prefixes.Prefix.{Prefix}
 use Rattle.reuse_notice.specs.declared.prefixes.Prefix.TheVariants.{Spdx, SpdxC, SpdxSymbol, SpdxString, SpdxStringC, SpdxStringSymbol, String, StringC, StringSymbol, Symbol}
 use Rattle.reuse_notice.specs.declared.tags.Years.{Years}
 use Rattle.reuse_notice.specs.Prefixes.{prefix_text}
-use Rattle.reuse_notice.specs.Tags.{drop_front, drop_end, year_of}
+use Rattle.reuse_notice.specs.Tags.{NoticeText, is_blank, all_blank, drop_front, drop_end, year_of, years_between, years_written, years_in, years_or, years_front, prefix_of, notice_behind, notice_of}
+use Rattle.reuse_notice.specs.Merging.{with_holder, member, class_of, joined_years, class_years}
+use Rattle.reuse_notice.specs.Keeping.{HaveFourDigits}
 use Rattle.reuse_notice.specs.Texts.{texts_of}
 use Rattle.reuse_notice.specs.Adding.{is_space, is_control, is_bad_text, holds, ignore_start, snippet_begin, without_spaces, four_digits, years_text, chosen_years, notice_written}
 use Rattle.reuse_notice.specs.Plain.{IsPlain}
@@ -115,18 +119,13 @@ printable-digits : (n : ℕ) → n ≤ 9999 → list_any is_control (four_digits
 printable-digits n low =
     or-none _ _ (digit (n / 1000) (omega arith)) (or-none _ _ (digit (n / 100 % 10) (omega arith)) (or-none _ _ (digit (n / 10 % 10) (omega arith)) (or-none _ _ (digit (n % 10) (omega arith)) refl)))
 
--- years of four digits
-pub record AreShort (years : Years) : Type 0 where
-  pub low : years.low ≤ 9999
-  pub high : years.high ≤ 9999
-
 none-append : (xs ys : List ℕ) → list_any is_control xs ≡ false → list_any is_control ys ≡ false → list_any is_control (xs ++ ys) ≡ false
 none-append xs ys e f = list_any-append is_control xs ys ∙ or-none _ _ e f
 
-printable-years : (years : Years) → AreShort years → list_any is_control (years_text years) ≡ false
+printable-years : (years : Years) → HaveFourDigits (Some years) → list_any is_control (years_text years) ≡ false
 printable-years years short = elim (truth (years.low == years.high)) [
-  | inl e ↦ rw e (printable-digits years.low short.low)
-  | inr e ↦ rw e (none-append (four_digits years.low ++ codes " - ") (four_digits years.high) (none-append (four_digits years.low) (codes " - ") (printable-digits years.low short.low) refl) (printable-digits years.high short.high))
+  | inl e ↦ rw e (printable-digits years.low short.0)
+  | inr e ↦ rw e (none-append (four_digits years.low ++ codes " - ") (four_digits years.high) (none-append (four_digits years.low) (codes " - ") (printable-digits years.low short.0) refl) (printable-digits years.high short.1))
 ]
 
 printable-prefix : (prefix : Prefix) → list_any is_control (prefix_text prefix) ≡ false
@@ -167,13 +166,7 @@ plain-behind front holder kept printable plain =
       trimmed = ap (drop_end is_space) kept ∙ drop_end-append is_space front (32 ∷ holder) space (λ e. cc e);
     }
 
--- the years of a notice are short, if it has some
-pub IsShort : Option Years → Type 0
-IsShort None = Unit {0}
-IsShort (Some years) = AreShort years
-
-pub plain-notice : (prefix : Prefix) (years : Option Years) (holder : List ℕ) → IsShort years → IsPlain holder → IsPlain (notice_written prefix years holder)
-unfolding IsShort
+pub plain-notice : (prefix : Prefix) (years : Option Years) (holder : List ℕ) → HaveFourDigits years → IsPlain holder → IsPlain (notice_written prefix years holder)
 plain-notice prefix None holder short plain = plain-behind (prefix_text prefix) holder (front-kept prefix (32 ∷ holder)) (printable-prefix prefix) plain
 plain-notice prefix (Some years) holder short plain =
     plain-behind (prefix_text prefix ++ 32 ∷ years_text years) holder
@@ -225,11 +218,78 @@ highest high (t ∷ texts) h = by (year_of t) (short-year t) (λ n low. highest 
     by None short more = more high h
     by (Some y) short more = more (max high y) (omega arith)
 
-pub short-chosen : (years : List (List ℕ)) (exclude : Bool) (current : ℕ) → current ≤ 9999 → IsShort (chosen_years years exclude current)
-unfolding IsShort
+pub short-chosen : (years : List (List ℕ)) (exclude : Bool) (current : ℕ) → current ≤ 9999 → HaveFourDigits (chosen_years years exclude current)
 short-chosen years true current h = tt
-short-chosen [] false current h = record { low = h; high = h }
-short-chosen (y ∷ years) false current h = record { low = lowest 9999 (filter_map year_of (y ∷ years)) (omega arith); high = highest 0 (y ∷ years) (omega arith) }
+short-chosen [] false current h = (h, h)
+short-chosen (y ∷ years) false current h = (lowest 9999 (filter_map year_of (y ∷ years)) (omega arith), highest 0 (y ∷ years) (omega arith))
 
-pub plain-notices : (prefix : Prefix) (years : Option Years) (holders : List (List ℕ)) → IsShort years → All IsPlain holders → All IsPlain (map (notice_written prefix years) holders)
+pub plain-notices : (prefix : Prefix) (years : Option Years) (holders : List (List ℕ)) → HaveFourDigits years → All IsPlain holders → All IsPlain (map (notice_written prefix years) holders)
 plain-notices prefix years holders short plain = All-map IsPlain (notice_written prefix years) holders (λ k d low. plain-notice prefix years (slice_index_or holders k d) short (plain k d low))
+
+-- ---- the years that are read and merged
+
+between-digits : (low high : Option ℕ) → IsShortYear low → IsShortYear high → HaveFourDigits (years_between low high)
+unfolding IsShortYear
+between-digits (Some low) (Some high) a b = by (nat_le low high)
+  where
+    by : (t : Bool) → HaveFourDigits (cond t (Some (record { low = low; high = high })) None)
+    by true = (a, b)
+    by false = tt
+between-digits (Some low) None a b = tt
+between-digits None high a b = tt
+
+one-of : (t : Bool) (some other : Option Years) → HaveFourDigits some → HaveFourDigits other → HaveFourDigits (cond t some other)
+one-of true some other a b = a
+one-of false some other a b = b
+
+written-digits : (text : List ℕ) → HaveFourDigits (years_written text)
+written-digits text =
+    one-of (length text == 4) _ _ (between-digits (year_of text) (year_of text) (short-year text) (short-year text))
+    (one-of (length text == 9 && starts_with nat_eq (drop 4 text) (codes "-")) _ _ (between-digits (year_of (take 4 text)) (year_of (drop 5 text)) (short-year (take 4 text)) (short-year (drop 5 text)))
+    (one-of (length text == 11 && starts_with nat_eq (drop 4 text) (codes " - ")) _ _ (between-digits (year_of (take 4 text)) (year_of (drop 7 text)) (short-year (take 4 text)) (short-year (drop 7 text))) tt))
+
+in-digits : (n : ℕ) (value : List ℕ) → HaveFourDigits (years_in n value)
+in-digits n value = one-of (nat_lt n (length value) && is_blank (slice_index value n) && not (all_blank (drop (n + 1) value))) _ _ (written-digits (take n value)) tt
+
+or-digits : (years : Option Years) (n : ℕ) (shorter : Option Years × ℕ) → HaveFourDigits years → HaveFourDigits shorter.0 → HaveFourDigits (years_or years n shorter).0
+or-digits (Some years) n shorter a b = a
+or-digits None n shorter a b = b
+
+front-digits : (value : List ℕ) → HaveFourDigits (years_front value).0
+front-digits value =
+    or-digits (years_in 11 value) 11 _ (in-digits 11 value) (or-digits (years_in 9 value) 9 _ (in-digits 9 value) (or-digits (years_in 4 value) 4 (None, 0) (in-digits 4 value) tt))
+
+read-digits : (text : List ℕ) (notice : NoticeText) → notice_of text ≡ Some notice → HaveFourDigits notice.years
+read-digits text notice e = by (prefix_of text) e
+  where
+    by : (o : Option Prefix) → option_map (notice_behind text) o ≡ Some notice → HaveFourDigits notice.years
+    by None h = absurd (cc h)
+    by (Some p) h =
+        let same : notice_behind text p ≡ notice = cc h in
+        subst (λ (m : NoticeText). HaveFourDigits m.years) same (front-digits (drop_front is_blank (drop (length (prefix_text p)) text)))
+
+joined-digits : (a b : Option Years) → HaveFourDigits a → HaveFourDigits b → HaveFourDigits (joined_years a b)
+joined-digits None b h k = k
+joined-digits (Some a) None h k = h
+joined-digits (Some a) (Some b) h k = let low = h.0 in let high = h.1 in let low_too = k.0 in let high_too = k.1 in (omega arith, omega arith)
+
+of-member : (holder text : List ℕ) (n : NoticeText) (o : Option NoticeText) → notice_of text ≡ o → option_and_then (with_holder holder) o ≡ Some n → HaveFourDigits n.years
+of-member holder text n None is h = absurd (cc h)
+of-member holder text n (Some m) is h = by-test (bytes_eq m.holder holder) h
+  where
+    by-test : (t : Bool) → cond t (Some m) None ≡ Some n → HaveFourDigits n.years
+    by-test true k = let same : m ≡ n = cc k in subst (λ (x : NoticeText). HaveFourDigits x.years) same (read-digits text m is)
+    by-test false k = absurd (cc k)
+
+class-digits-from : (holder : List ℕ) (years : Option Years) (texts : List (List ℕ)) → HaveFourDigits years → HaveFourDigits (fold joined_years years (map (λ (n : NoticeText). n.years) (class_of texts holder)))
+class-digits-from holder years [] h = h
+class-digits-from holder years (text ∷ texts) h = by (member holder text) refl (λ others k. class-digits-from holder others texts k)
+  where
+    by : (o : Option NoticeText) → member holder text ≡ o
+        → ((others : Option Years) → HaveFourDigits others → HaveFourDigits (fold joined_years others (map (λ (n : NoticeText). n.years) (class_of texts holder))))
+        → HaveFourDigits (fold joined_years years (map (λ (n : NoticeText). n.years) (cons_option o (class_of texts holder))))
+    by None is more = more years h
+    by (Some n) is more = more (joined_years years n.years) (joined-digits years n.years h (of-member holder text n (notice_of text) refl is))
+
+pub class-digits : (holder : List ℕ) (texts : List (List ℕ)) → HaveFourDigits (class_years (class_of texts holder))
+class-digits holder texts = class-digits-from holder None texts tt

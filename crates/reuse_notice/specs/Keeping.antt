@@ -20,10 +20,16 @@ pub record IsKeptBy (text other : List ℕ) : Type 0 where
   pub holder : is.holder ≡ was.holder
   pub years : Include is.years was.years
 
--- the other text is written of the holder that the text names
+-- years of four digits, if there are some
+abbrev pub HaveFourDigits : Option Years → Type 0
+HaveFourDigits None = Unit {0}
+HaveFourDigits (Some years) = (years.low ≤ 9999) × (years.high ≤ 9999)
+
+-- the other text is written of the holder that the text names, with years of four digits
 pub record IsWrittenOf (text other : List ℕ) : Type 0 where
   pub notice : NoticeText
   pub prefix : Prefix
   pub years : Option Years
   pub read : notice_of text ≡ Some notice
+  pub digits : HaveFourDigits years
   pub written : other ≡ notice_written prefix years notice.holder

@@ -1,9 +1,10 @@
 //! What a command adds to the licensing information of a file.
-ghost use Rattle.std.specs.Prelude.{◌≡◌, ◌≤◌, ◌<◌, ◌++◌, ◌∷◌, IfOk, IfErr, IfSome, OnOk, None, Some, map, find, filter_map, fold, min, max};
+ghost use Rattle.std.specs.Prelude.{◌≡◌, ◌≤◌, ◌<◌, ◌++◌, ◌∷◌, IfOk, IfErr, IfSome, OnOk, None, Some, All, IsUtf8, map, find, filter_map, fold, min, max};
 ghost use Rattle.std.specs.Option.{option_map, option_to_list};
 ghost use Rattle.std.specs.List.{list_any};
 ghost use Rattle.reuse_notice.specs.Tags.{year_of, drop_front, drop_end};
 ghost use Rattle.reuse_notice.specs.Adding.{is_space, without_spaces, holds, is_bad_text, is_bad_year, is_control, bad_expression, bad_licence, four_digits, chosen_years, notice_written};
+ghost use Rattle.reuse_notice.specs.Keeping.{HaveFourDigits};
 ghost use Rattle.reuse_notice.specs.Texts.{texts_of};
 
 use crate::expressions::find_fault;
@@ -59,7 +60,7 @@ impl From<AllocError> for NoticeRefusal {
 impl Additions {
     ghost use Rattle.reuse_notice.specs.Adding.{refusal_of, additions_of};
     ghost use Rattle.reuse_notice.specs.Refusals.{refusal_view, arguments};
-    ghost use Rattle.reuse_notice.specs.Plain.{ArePlain};
+    ghost use Rattle.reuse_notice.specs.Plain.{ArePlain, AreUtf8};
 
     /// What a command with these arguments adds. The notices have the years from the lowest to the
     /// highest of `years`, or else the `current` one, unless they are excluded. Outer spaces of
@@ -79,6 +80,7 @@ impl Additions {
         ensures added { IfOk result (λ additions. let given = arguments copyrights.now licences.now contributors.now years.now exclude current prefix in
             (refusal_of given ≡ None) × (additions ≡ additions_of given)) }
         ensures plain { IfOk result (λ additions. ArePlain additions) }
+        ensures utf8 { IfOk result (λ additions. AreUtf8 additions) }
         ensures refused { IfErr result (λ e. let given = arguments copyrights.now licences.now contributors.now years.now exclude current prefix in
             IfSome (refusal_view e) (λ refusal. refusal_of given ≡ Some refusal)) }
     {
@@ -115,7 +117,7 @@ fn find_bad_year<'a>(years: &[&'a str]) -> Option<&'a [u8]>
     ensures { option_map (λ t. t.now) result ≡ find is_bad_year (texts_of years.now) }
 {
     for year in years {
-        let text = trim_spaces(year.as_bytes());
+        let text = trim_spaces(year);
         if parse_year(text).is_none() {
             return Some(text);
         }
@@ -128,7 +130,7 @@ fn find_bad_text<'a>(texts: &[&'a str]) -> Option<&'a [u8]>
     ensures { option_map (λ t. t.now) result ≡ find is_bad_text (texts_of texts.now) }
 {
     for text in texts {
-        let text = trim_spaces(text.as_bytes());
+        let text = trim_spaces(text);
         if is_unfit(text) {
             return Some(text);
         }
@@ -170,7 +172,7 @@ fn find_bad_licence<'a>(licences: &[&'a str]) -> Option<(&'a [u8], usize)>
     ensures { option_map (λ t. bad_expression t.0.now t.1) result ≡ bad_licence (texts_of licences.now) }
 {
     for licence in licences {
-        let text = trim_spaces(licence.as_bytes());
+        let text = trim_spaces(licence);
         if let Some(place) = find_fault(text) {
             return Some((text, place));
         }
@@ -178,11 +180,12 @@ fn find_bad_licence<'a>(licences: &[&'a str]) -> Option<(&'a [u8], usize)>
     None
 }
 
-// The bytes without outer spaces.
-fn trim_spaces(bytes: &[u8]) -> &[u8]
-    ensures { result.now ≡ without_spaces bytes.now }
+// The bytes of a text without outer spaces.
+fn trim_spaces(text: &str) -> &[u8]
+    ensures value { result.now ≡ without_spaces text.now }
+    ensures utf8 { IsUtf8 result.now }
 {
-    trim_spaces_end(trim_spaces_start(bytes))
+    trim_spaces_end(trim_spaces_start(text.as_bytes()))
 }
 
 // Whether a byte is a space.
@@ -239,7 +242,7 @@ fn span_years(years: &[&str]) -> Years
     let mut low = 9999;
     let mut high = 0;
     for year in years {
-        let number = parse_year(trim_spaces(year.as_bytes()));
+        let number = parse_year(trim_spaces(year));
         low = lower(low, number);
         high = higher(high, number);
     }
@@ -273,11 +276,12 @@ fn write_notices(
     years: Option<Years>,
     holders: &[&str],
 ) -> Result<Texts, AllocError>
-    ensures { IfOk result (λ notices. notices ≡ map (notice_written prefix years) (texts_of holders.now)) }
+    ensures written { IfOk result (λ notices. notices ≡ map (notice_written prefix years) (texts_of holders.now)) }
+    ensures utf8 { HaveFourDigits years → IfOk result (λ notices. All IsUtf8 notices) }
 {
     let mut notices = Vec::new(alloc);
     for holder in holders {
-        notices.push(write_notice(alloc, prefix, years, trim_spaces(holder.as_bytes()))?)?;
+        notices.push(write_notice(alloc, prefix, years, trim_spaces(holder))?)?;
     }
     Ok(Texts::new(notices))
 }
@@ -320,11 +324,12 @@ fn push_year(bytes: &mut Vec<u8>, year: u16) -> Result<(), AllocError>
 
 // Copies of the texts without their outer spaces.
 fn copy_texts(alloc: Global, texts: &[&str]) -> Result<Texts, AllocError>
-    ensures { IfOk result (λ copied. copied ≡ texts_of texts.now) }
+    ensures texts { IfOk result (λ copied. copied ≡ texts_of texts.now) }
+    ensures utf8 { IfOk result (λ copied. All IsUtf8 copied) }
 {
     let mut copied = Vec::new(alloc);
     for text in texts {
-        copied.push(Bytes::from_slice(alloc, trim_spaces(text.as_bytes()))?)?;
+        copied.push(Bytes::from_slice(alloc, trim_spaces(text))?)?;
     }
     Ok(Texts::new(copied))
 }

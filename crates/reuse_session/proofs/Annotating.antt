@@ -264,12 +264,12 @@ some_length zero h = absurd (h refl)
 some_length (suc n) h = omega arith
 
 -- an option's value behind those of a part of a list
-pub one_more : {X : Type 0} (h : X → Option (List ℕ)) (xs : List X) (i : ℕ) (d : X) (old new : List (List ℕ)) → i < length xs → old ≡ filter_map h (take i xs)
+pub one_more : {X Y : Type 0} (h : X → Option Y) (xs : List X) (i : ℕ) (d : X) (old new : List Y) → i < length xs → old ≡ filter_map h (take i xs)
     → new ≡ old ++ option_to_list (h (get_or xs i d)) → new ≡ filter_map h (take (i + 1) xs)
 one_more h xs i d old new low so is =
     is ∙ ap (λ ys. ys ++ option_to_list (h (get_or xs i d))) so ∙ ap (λ ys. filter_map h (take i xs) ++ ys) (of_one (h (get_or xs i d)))
     ∙ sym (filter_map-append h (take i xs) (get_or xs i d ∷ [])) ∙ ap (filter_map h) (sym (take_more xs i d low))
   where
-    of_one : (o : Option (List ℕ)) → option_to_list o ≡ cons_option o []
+    of_one : {Y : Type 0} (o : Option Y) → option_to_list o ≡ cons_option o []
     of_one None = refl
     of_one (Some x) = refl

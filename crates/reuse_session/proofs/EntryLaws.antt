@@ -24,12 +24,12 @@ use Rattle.reuse_session.specs.Format.{format_number}
 use Rattle.reuse_tree.specs.Change.{is_sealed}
 use Rattle.reuse_tree.specs.declared.digest.Seal.{Seal}
 use Rattle.std.specs.Option.{option_map}
-use Rattle.reuse_session.specs.EntryText.{command_name, hex_text, hex_value, digest_text, is_any_sealed, change_text, entry_text, change_value, entry_value, AreDigestBytes, IsHex, IsHexDigest, IsChangeValue, IsChangeInMemory, IsSoundEntry, IsGoodEntry}
+use Rattle.reuse_session.specs.EntryText.{command_name, hex_text, hex_value, digest_text, is_any_sealed, change_text, entry_text, change_value, entry_value, AreDigestBytes, IsHex, IsHexDigest, IsChangeValue, IsChangeInMemory, IsEntryInMemory, IsSoundEntry, IsGoodEntry}
 use Rattle.reuse_tree.specs.declared.change.Change.{Change}
 use Rattle.reuse_tree.specs.declared.change.Change.TheVariants.{Make, Drop, Splice}
 use Rattle.reuse_session.specs.declared.journal.entry.Entry.{Entry}
 use Rattle.reuse_session.specs.declared.command.CommandName.{CommandName}
-use Rattle.reuse_session.specs.declared.command.CommandName.TheVariants.{Annotate, ConvertDep5, Download}
+use Rattle.reuse_session.specs.declared.command.CommandName.TheVariants.{Annotate, ConvertDep5, Download, Revert}
 use Rattle.reuse_session.proofs.JsonPrinting.{IsReadable, read-compact_text}
 use Rattle.reuse_session.proofs.JoinedTexts.{length-join-le, IsUtf8-join, AllByRecursion-weaker}
 use Rattle.reuse_session.proofs.EntryTexts.{entry_compact}
@@ -39,7 +39,7 @@ record IsWritable (c : Change) : Type 0 where
   small : IsSmall c
   in_memory : IsChangeInMemory c
 
-all_writable : (e : Entry) → IsSoundEntry e → AllByRecursion IsWritable e.changes
+all_writable : (e : Entry) → IsEntryInMemory e → AllByRecursion IsWritable e.changes
 all_writable e sound = recursion_from_All IsWritable e.changes (λ k c below. record { small = sound.changes.small k c below; in_memory = sound.in_memory k c below })
 
 -- the bytes of the file that a splice keeps
@@ -118,7 +118,7 @@ few_formats : (second : Bool) → format_number second < 2 ^ 64
 few_formats false = omega arith
 few_formats true = omega arith
 
-entry_readable : (e : Entry) → IsSoundEntry e → IsReadable (entry_value e)
+entry_readable : (e : Entry) → IsEntryInMemory e → IsReadable (entry_value e)
 entry_readable e sound =
     let wide = AllByRecursion-weaker IsWritable (λ c. kept c < 2 ^ 64) few_kept e.changes (all_writable e sound) in
     let when : e.when < 2 ^ 64 = omega (arith, sound.when) in
@@ -211,8 +211,9 @@ name_utf8 : (w : CommandName) → IsUtf8 (command_name w)
 name_utf8 Annotate = IsUtf8-are_ascii _ refl
 name_utf8 ConvertDep5 = IsUtf8-are_ascii _ refl
 name_utf8 Download = IsUtf8-are_ascii _ refl
+name_utf8 Revert = IsUtf8-are_ascii _ refl
 
-entry_utf8 : (e : Entry) → IsSoundEntry e → IsUtf8 (entry_text e)
+entry_utf8 : (e : Entry) → IsEntryInMemory e → IsUtf8 (entry_text e)
 entry_utf8 e sound =
     let second = is_any_sealed e.changes in
     let each = AllByRecursion-weaker IsWritable (λ c. IsUtf8 (change_text c)) change_utf8 e.changes (all_writable e sound) in
@@ -366,6 +367,7 @@ name_length : (w : CommandName) → length (command_name w) ≤ 12
 name_length Annotate = omega arith
 name_length ConvertDep5 = omega arith
 name_length Download = omega arith
+name_length Revert = omega arith
 
 format_length : (second : Bool) → length (decimal (format_number second)) ≤ 20
 format_length second = number_length (format_number second) (few_formats second)
@@ -374,7 +376,7 @@ around_length : (items name format when : List ℕ) → length (codes "{\"change
 around_length items name format when = simp length-append (omega arith)
 
 -- the text of an entry is no longer than its entry size
-pub entry_length : (e : Entry) → IsSoundEntry e → length (entry_text e) ≤ entry_size e.changes
+pub entry_length : (e : Entry) → IsEntryInMemory e → length (entry_text e) ≤ entry_size e.changes
 entry_length e sound =
     let each = AllByRecursion-weaker IsWritable (λ c. length (change_text c) + 1 ≤ change_size c) change_length e.changes (all_writable e sound) in
     omega (
@@ -429,7 +431,7 @@ changes_are : (cs : List Change) → AllByRecursion IsWritable cs → AllZip IsC
 changes_are [] h = tt
 changes_are (c ∷ cs) h = (change_is c h.0, changes_are cs h.1)
 
-alike : (e : Entry) → IsSoundEntry e → AreAllSealed (is_any_sealed e.changes) e.changes
+alike : (e : Entry) → IsEntryInMemory e → AreAllSealed (is_any_sealed e.changes) e.changes
 alike e sound =
     let IsAs : Bool → Change → Type 0 = λ b c. is_sealed c ≡ b in
     let one = sound.changes.alike in
@@ -437,13 +439,13 @@ alike e sound =
 
 pub entry_good : (e : Entry) → IsSoundEntry e → IsGoodEntry (entry_text e) e
 entry_good e sound = record {
-  short = omega (arith, entry_length e sound, sound.changes.light);
+  short = omega (arith, entry_length e sound.held, sound.held.changes.light);
   value = (
     entry_value e,
-    record { utf8 = entry_utf8 e sound; reads = ap read (sym (entry_compact e)) ∙ read-compact_text (entry_value e) (entry_readable e sound) },
-    (is_any_sealed e.changes, map change_value e.changes, alike e sound, changes_are e.changes (all_writable e sound), refl),
+    record { utf8 = entry_utf8 e sound.held; reads = ap read (sym (entry_compact e)) ∙ read-compact_text (entry_value e) (entry_readable e sound.held) },
+    (is_any_sealed e.changes, map change_value e.changes, alike e sound.held, sound.known, changes_are e.changes (all_writable e sound.held), refl),
   );
-  changes = sound.changes;
-  paths = λ k c below. (sound.in_memory k c below).path;
-  when = sound.when;
+  changes = sound.held.changes;
+  paths = λ k c below. (sound.held.in_memory k c below).path;
+  when = sound.held.when;
 }

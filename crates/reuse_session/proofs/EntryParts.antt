@@ -20,14 +20,15 @@ use Rattle.reuse_tree.specs.Change.{path_of, is_sealed}
 use Rattle.reuse_tree.specs.declared.digest.Seal.{Seal}
 use Rattle.reuse_session.specs.Entry.{AreAllSealed}
 use Rattle.reuse_session.specs.Json.{count, array_of, members_of, IsJson}
+use Rattle.reuse_session.specs.Format.{knows}
 use Rattle.reuse_session.specs.EntryText.{command_name, make_members, drop_members, splice_members, IsHex, IsHexDigest, IsChangeValue, IsEntryValue, HavePaths, IsJsonEntry, IsGoodEntry}
 use Rattle.reuse_session.specs.JsonReading.{first_member, if_none_left, format_in, number_in, read_items}
-use Rattle.reuse_session.specs.EntryReading.{if_text, digest_in, first_digest, seal_of, hex_in, path_in, command_from, moment_in, make_in, drop_in, splice_in, splice_bytes_in, splice_end_in, change_in, changes_in, entry_in}
+use Rattle.reuse_session.specs.EntryReading.{if_text, digest_in, first_digest, seal_of, hex_in, path_in, command_from, if_known, moment_in, make_in, drop_in, splice_in, splice_bytes_in, splice_end_in, change_in, changes_in, entry_in}
 use Rattle.reuse_tree.specs.declared.change.Change.{Change}
 use Rattle.reuse_tree.specs.declared.change.Change.TheVariants.{Make, Drop, Splice}
 use Rattle.reuse_session.specs.declared.journal.entry.Entry.{Entry}
 use Rattle.reuse_session.specs.declared.command.CommandName.{CommandName}
-use Rattle.reuse_session.specs.declared.command.CommandName.TheVariants.{Annotate, ConvertDep5, Download}
+use Rattle.reuse_session.specs.declared.command.CommandName.TheVariants.{Annotate, ConvertDep5, Download, Revert}
 use Rattle.reuse_session.proofs.JsonParts.{either, bind_some, first_member_found, none_left_found, object_found, array_found, string_found, number_found, format_found, format_again, IfOk-from_gives, IsAnswer-from_gives, same_json}
 
 -- ---- parts
@@ -77,7 +78,10 @@ command_found name w e = elim (either (bytes_eq name (codes "annotate")) Annotat
   | inl first ↦ named name Annotate w first
   | inr other ↦ elim (either (bytes_eq name (codes "convert-dep5")) ConvertDep5 w _ other) [
     | inl second ↦ named name ConvertDep5 w second
-    | inr last ↦ named name Download w (cond_some (bytes_eq name (codes "download")) Download w last)
+    | inr third ↦ elim (either (bytes_eq name (codes "download")) Download w _ third) [
+      | inl is ↦ named name Download w is
+      | inr last ↦ named name Revert w (cond_some (bytes_eq name (codes "revert")) Revert w last)
+    ]
   ]
 ]
 
@@ -85,6 +89,7 @@ command_again : (w : CommandName) → command_from (command_name w) ≡ Some w
 command_again Annotate = refl
 command_again ConvertDep5 = refl
 command_again Download = refl
+command_again Revert = refl
 
 -- ---- a change
 
@@ -307,6 +312,9 @@ changes_again sealed cs values h are sound =
 
 -- ---- an entry
 
+known_again : (sealed : Bool) (command : CommandName) → knows sealed command ≡ true → if_known sealed command ≡ Some tt
+known_again sealed command is = ap (λ b. cond b (Some tt) None) is
+
 -- what is read as an entry is a value of it
 entry_found : (d : Data) (entry : Entry) → entry_in d ≡ Some entry → IsEntryValue entry d × (entry.when ≤ 250_000_000_000)
 unfolding entry_in
@@ -318,7 +326,8 @@ entry_found d entry e =
     let name = bind_some _ (command_from text.0) entry text.2 in
     let format = bind_some _ (first_member (codes "format") command.0.1) entry name.2 in
     let sealed = bind_some _ (format_in format.0.0) entry format.2 in
-    let when = bind_some _ (first_member (codes "when") format.0.1) entry sealed.2 in
+    let known = bind_some _ (if_known sealed.0 name.0) entry sealed.2 in
+    let when = bind_some _ (first_member (codes "when") format.0.1) entry known.2 in
     let w = bind_some _ (moment_in when.0.0) entry when.2 in
     let end = bind_some _ (if_none_left when.0.1) entry w.2 in
     let cs = bind_some _ (changes_in sealed.0 changes.0.0) entry end.2 in
@@ -332,13 +341,13 @@ entry_found d entry e =
     let first = first_member_found (codes "changes") fields.0 changes.0 changes.1 ∙ ap₂ (member (codes "changes")) values.1 second in
     let found : Entry = record { changes = cs.0; command = name.0; when = w.0 } in
     subst (λ (x : Entry). IsEntryValue x d × (x.when ≤ 250_000_000_000)) (same_Some found entry cs.2)
-    ((sealed.0, values.0, All-from_recursion IsAs cs.0 values.2.0, values.2.1, object_found d fields.0 fields.1 ∙ ap object first), moment.1)
+    ((sealed.0, values.0, All-from_recursion IsAs cs.0 values.2.0, (cond_some (knows sealed.0 name.0) tt known.0 known.1).0, values.2.1, object_found d fields.0 fields.1 ∙ ap object first), moment.1)
 
 -- a value of an entry is read as the entry
 entry_again : (d : Data) (entry : Entry) → HavePaths entry.changes → entry.when ≤ 250_000_000_000 → IsEntryValue entry d → entry_in d ≡ Some entry
 unfolding entry_in
 entry_again d entry paths when h =
-    rw h.4 (rw (command_again entry.command, format_again h.0, moment_again entry.when when, changes_again h.0 entry.changes h.1 h.3 h.2 paths) refl)
+    rw h.5 (rw (command_again entry.command, format_again h.0, known_again h.0 entry.command h.3, moment_again entry.when when, changes_again h.0 entry.changes h.1 h.4 h.2 paths) refl)
 
 -- ---- what `read_entry` answers
 

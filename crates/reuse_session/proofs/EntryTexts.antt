@@ -10,7 +10,7 @@ use Rattle.reuse_tree.specs.declared.change.Change.{Change}
 use Rattle.reuse_tree.specs.declared.change.Change.TheVariants.{Make, Drop, Splice}
 use Rattle.reuse_session.specs.declared.journal.entry.Entry.{Entry}
 use Rattle.reuse_session.specs.declared.command.CommandName.{CommandName}
-use Rattle.reuse_session.specs.declared.command.CommandName.TheVariants.{Annotate, ConvertDep5, Download}
+use Rattle.reuse_session.specs.declared.command.CommandName.TheVariants.{Annotate, ConvertDep5, Download, Revert}
 use Rattle.reuse_session.proofs.JsonPrinting.{items_text-map}
 
 -- the members of a change from its kind on, one after another
@@ -88,6 +88,7 @@ unfolding escape_byte
 command_text Annotate = refl
 command_text ConvertDep5 = refl
 command_text Download = refl
+command_text Revert = refl
 
 unfoldable pub entry_shape : (items name format when : List ℕ) → List ℕ
 entry_shape items name format when = codes "{\"changes\":[" ++ (items ++ (codes ",\"command\":" ++ (name ++ (codes ",\"format\":" ++ (format ++ (codes ",\"when\":" ++ (when ++ codes "}")))))))

@@ -27,7 +27,7 @@ use Rattle.reuse_session.specs.Edit.{Edit}
 use Rattle.reuse_session.specs.Annotate.{neighbour_of, neighbour_is_tagged, target_of, edit_by, edit_inside, edit_neighbour, edit_beside, edit_target, annotated_where, annotated_at}
 use Rattle.reuse_session.specs.Annotations.{Due}
 use Rattle.reuse_session.specs.Clash.{is_clash}
-use Rattle.reuse_session.specs.Command.{has_root, paths_among}
+use Rattle.reuse_session.specs.Command.{has_root, paths_among, HoldsEntry}
 use Rattle.reuse_session.specs.Covered.{last_part, is_in, is_outside, has_stem, is_covered}
 use Rattle.reuse_session.specs.Listing.{ArePaths, is_among, is_folder}
 use Rattle.reuse_session.specs.Outcome.{edits_at, edits_by_names, edits_of}
@@ -35,7 +35,7 @@ use Rattle.reuse_session.specs.Tree.{is_of_tree}
 use Rattle.reuse_session.specs.TreeStyles.{OwnNames, styles_in}
 use Rattle.reuse_session.specs.Worked.{expanded, worked_paths}
 use Rattle.reuse_session.specs.declared.command.Command.{Command}
-use Rattle.reuse_session.specs.declared.command.Command.TheVariants.{Annotate, ConvertDep5, Download}
+use Rattle.reuse_session.specs.declared.command.Command.TheVariants.{Annotate, ConvertDep5, Download, Revert}
 use Rattle.reuse_session.specs.declared.command.Place.TheVariants as place
 use Rattle.reuse_session.specs.declared.command.Scope.{Scope}
 use Rattle.reuse_session.specs.declared.plan_target.Target.{Target}
@@ -49,6 +49,7 @@ use Rattle.reuse_session.proofs.EditOrder.{AreDistinct, AreFit}
 use Rattle.reuse_session.proofs.ListingLemmas.{under_from_test, test_from_under}
 use Rattle.reuse_session.proofs.NeighbourLemmas.{good_neighbour}
 use Rattle.reuse_session.proofs.Planning.{paths_at, IsFit, AreEdits}
+use Rattle.reuse_session.proofs.RevertFitting.{revert_fits}
 use Rattle.reuse_session.proofs.Testing.{clashes_keys}
 
 -- ---- names of neighbours
@@ -351,8 +352,8 @@ fit_of : (tree : Files) (edits : List Edit) → AreEdits tree edits → AreFit t
 fit_of tree edits are = record { distinct = distinct_of (paths_at edits) are.ascending; apart = are.apart; each = are.each }
 
 -- the edits of a command
-pub command_fits : (command : Command) (tree : Files) → AreFiles tree → (edits : List Edit) → edits_of command tree ≡ Ok edits → AreFit tree edits
-command_fits (Annotate places additions how scope) tree are edits h = by_names (styles_in tree) h
+pub command_fits : (command : Command) (tree : Files) → HoldsEntry command → AreFiles tree → (edits : List Edit) → edits_of command tree ≡ Ok edits → AreFit tree edits
+command_fits (Annotate places additions how scope) tree holds are edits h = by_names (styles_in tree) h
   where
     by_names : (styles : Result OwnNames Refusal) → edits_by_names places additions how scope tree styles ≡ Ok edits → AreFit tree edits
     by_names (Err refusal) e = absurd (cc)
@@ -360,5 +361,6 @@ command_fits (Annotate places additions how scope) tree are edits h = by_names (
         edits_fit how scope additions own tree are (worked_paths scope places tree) edits
         (if_not (not scope.recursive && has_root places) (refusals.IsFolder place.Root) (edits_at (annotated_at how scope additions own tree) (worked_paths scope places tree)) edits e)
         (sorted-set_of (cond scope.recursive (flat_map (expanded scope tree) places) (paths_among places)))
-command_fits ConvertDep5 tree are edits h = fit_of tree edits (conversion_fits tree edits h)
-command_fits (Download ids texts) tree are edits h = fit_of tree edits (download_fits ids texts tree edits h)
+command_fits ConvertDep5 tree holds are edits h = fit_of tree edits (conversion_fits tree edits h)
+command_fits (Download ids texts) tree holds are edits h = fit_of tree edits (download_fits ids texts tree edits h)
+command_fits (Revert changes skip) tree holds are edits h = fit_of tree edits (revert_fits tree changes skip edits holds.0 holds.1 h)

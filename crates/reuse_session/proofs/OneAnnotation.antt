@@ -1,5 +1,5 @@
 -- What annotate makes of a tree, said in other words, is one tree.
-use Rattle.std.proofs.Common.{◌≡◌, ◌≢◌, ◌⊎◌, inl, inr, ℕ, Bool, true, false, List, [], ◌∷◌, Option, Some, None, Result, Ok, Err, refl, sym, ap, ap₂, subst, ◌∙◌}
+use Rattle.std.proofs.Common.{◌≡◌, ◌≢◌, ◌⊎◌, inl, inr, ℕ, Bool, true, false, List, [], ◌∷◌, Some, None, Result, Ok, refl, sym, ap, subst, ◌∙◌}
 use Rattle.std.specs.List.{Contains}
 use Rattle.std.specs.Str.{bytes_eq}
 use Rattle.std.specs.FinMap.{get}
@@ -7,7 +7,6 @@ use Rattle.std.proofs.lemmas.Bool.{false≢true}
 use Rattle.std.proofs.lemmas.Slice.Eq.{bytes_eq-Decides}
 use Rattle.reuse_notice.specs.declared.adding.Additions.{Additions}
 use Rattle.reuse_notice.proofs.SetLemmas.{In, In-from_contains, Contains-from_in}
-use Rattle.reuse_header.specs.declared.style.Style.{Style}
 use Rattle.reuse_header.specs.declared.annotation.How.{How}
 use Rattle.reuse_header.specs.declared.annotation.HeaderRefusal.{HeaderRefusal}
 use Rattle.reuse_header.specs.Annotation.{annotated}
@@ -78,13 +77,13 @@ annotated_one additions how scope own path old new other one two =
 
 -- whether a path is one that is made of some
 module _ (of : List ℕ → List ℕ) (q : List ℕ) where
-  abbrev Found : List (List ℕ) → Type 0
+  abbrev pub Found : List (List ℕ) → Type 0
   Found paths = (path : List ℕ) × In path paths × (q ≡ of path)
 
-  abbrev Lacking : List (List ℕ) → Type 0
+  abbrev pub Lacking : List (List ℕ) → Type 0
   Lacking paths = (path : List ℕ) → In path paths → q ≢ of path
 
-  sought : (paths : List (List ℕ)) → Found paths ⊎ Lacking paths
+  pub sought : (paths : List (List ℕ)) → Found paths ⊎ Lacking paths
   sought [] = inr (λ path there. absurd there)
   sought (first ∷ paths) = of_test (bytes_eq q (of first)) refl (sought paths)
     where

@@ -1,5 +1,5 @@
 -- What a run answers and leaves, from the step that it records.
-use Rattle.std.proofs.Common.{◌≡◌, ◌+◌, ◌<◌, ◌≤◌, ℕ, false, None, Some, List, [], ◌∷◌, length, Result, Ok, Err, IfErr, inl, refl, sym, ap, subst, ◌∙◌, arith}
+use Rattle.std.proofs.Common.{◌≡◌, ◌+◌, ◌<◌, ◌≤◌, ℕ, true, false, None, Some, List, [], ◌∷◌, length, Result, Ok, Err, IfErr, inl, refl, sym, ap, subst, ◌∙◌, arith}
 use Rattle.std.specs.FinMap.{get}
 use Rattle.std.specs.List.{All}
 use Rattle.std.proofs.lemmas.List.{length-append}
@@ -11,7 +11,8 @@ use Rattle.reuse_session.specs.Answer.{IsEarly, IsStop, IsPutRefusal, HasClash}
 use Rattle.reuse_session.specs.Calls.{files_of, folder_of, next_path, LeavesRun}
 use Rattle.reuse_session.specs.Command.{name_of}
 use Rattle.reuse_session.specs.Entry.{paths_of, entry_size, IsEntry, LeadsAll, CanBeMade, CanGo}
-use Rattle.reuse_session.specs.EntryText.{entry_text}
+use Rattle.reuse_session.specs.EntryText.{entry_text, is_any_sealed}
+use Rattle.reuse_session.specs.Format.{knows}
 use Rattle.reuse_session.specs.Head.{IsSoundHead}
 use Rattle.reuse_session.specs.History.{Memory, head_listing, remember_run}
 use Rattle.reuse_session.specs.Journal.{State}
@@ -39,6 +40,7 @@ use Rattle.reuse_tree.specs.Asked.{OnlyReads}
 use Rattle.reuse_session.proofs.OnlyReading.{early_is_no_stop}
 use Rattle.reuse_session.proofs.RunFollowing.{runs_step}
 use Rattle.reuse_session.proofs.Running.{full_alike, size_recorded}
+use Rattle.reuse_session.proofs.KnownCommands.{recorded_known}
 use Rattle.reuse_session.proofs.StepAnswers.{still_stands, stands_beside, kept_put, put_clash, clash_of, head_clash_before}
 use Rattle.reuse_session.proofs.Stepping.{step_of, second_of, run_step, is_run, remembers_run, sound_between, sound_second}
 use Rattle.reuse_session.proofs.Walk.{can_lead}
@@ -81,6 +83,12 @@ module _ {S : Type 0} (store : Ghosts S) (old : Session S) (command : Command) (
         size_recorded tree (edits_of command tree) changes (here honest).recorded ∙ ap (λ t. recorded_size (edits_of command t)) stands.standing.tree in
         omega (arith, at_most good, size, ap (λ (e : Entry). entry_size e.changes) is_entry)
 
+    -- the entry is sealed, and so is of a format that knows each command
+    known : store.honest put → knows (is_any_sealed entry.changes) entry.command ≡ true
+    known honest =
+        subst (λ (e : Entry). knows (is_any_sealed e.changes) e.command ≡ true) (sym is_entry)
+        (recorded_known (tree_of (files_of store old)) (edits_of command (tree_of (files_of store old))) changes (name_of command) (here honest).entry (here honest).recorded)
+
     -- each of its changes can be made beside it
     pub can_go : (made : List Change) → made ≡ entry.changes → store.honest put → CanGo way.Do (tree_of (store.files put)) made
     can_go made is_made honest =
@@ -111,10 +119,13 @@ module _ {S : Type 0} (store : Ghosts S) (old : Session S) (command : Command) (
     }
 
     -- it was, and says what the step does
-    module _ (says : store.honest put → IsEntry entry.changes → EntrySays (get (store.files put) (entry_path (number + 1))) entry)
+    module _ (says_known : store.honest put → IsEntry entry.changes → knows (is_any_sealed entry.changes) entry.command ≡ true → EntrySays (get (store.files put) (entry_path (number + 1))) entry)
         (listed : ListedEntry) (is_listed : listed ≡ record { number = number + 1; when = when; command = name_of command; count = length changes })
         (moved : Memory) (is_moved : moved ≡ remember_run (memory_of old) listed) (made : List Change) (is_made : made ≡ entry.changes)
       where
+        says : store.honest put → IsEntry entry.changes → EntrySays (get (store.files put) (entry_path (number + 1))) entry
+        says honest good = says_known honest good (known honest)
+
         same : made ≡ changes
         same = is_made ∙ ap (λ (e : Entry). e.changes) is_entry
 

@@ -6,13 +6,14 @@ use Rattle.hex.specs.Hex.{decode_of}
 use Rattle.serde_json.specs.Data.{Data, Members}
 use Rattle.serde_json.specs.Find.{as_array, as_object, as_str, get}
 use Rattle.reuse_tree.specs.Path.{is_path}
+use Rattle.reuse_session.specs.Format.{knows}
 use Rattle.reuse_session.specs.JsonReading.{◌>>=◌, first_member, if_none_left, format_in, number_in, read_items}
 use Rattle.reuse_tree.specs.declared.change.Change.{Change}
 use Rattle.reuse_tree.specs.declared.digest.Seal.{Seal}
 use Rattle.reuse_tree.specs.declared.change.Change.TheVariants.{Make, Drop, Splice}
 use Rattle.reuse_session.specs.declared.journal.entry.Entry.{Entry}
 use Rattle.reuse_session.specs.declared.command.CommandName.{CommandName}
-use Rattle.reuse_session.specs.declared.command.CommandName.TheVariants.{Annotate, ConvertDep5, Download}
+use Rattle.reuse_session.specs.declared.command.CommandName.TheVariants.{Annotate, ConvertDep5, Download, Revert}
 
 -- the value is this text
 abbrev pub if_text : List ℕ → Data → Option Unit
@@ -35,7 +36,12 @@ command_from name =
     if bytes_eq name (codes "annotate") then Some Annotate
     else if bytes_eq name (codes "convert-dep5") then Some ConvertDep5
     else if bytes_eq name (codes "download") then Some Download
+    else if bytes_eq name (codes "revert") then Some Revert
     else None
+
+-- the format knows the command
+abbrev pub if_known : Bool → CommandName → Option Unit
+if_known sealed command = if knows sealed command then Some tt else None
 
 abbrev pub moment_in : Data → Option ℕ
 moment_in d = do
@@ -145,6 +151,7 @@ entry_in d = do
   name ← command_from text
   format ← first_member (codes "format") command.1
   sealed ← format_in format.0
+  _ ← if_known sealed name
   when ← first_member (codes "when") format.1
   w ← moment_in when.0
   _ ← if_none_left when.1

@@ -1,5 +1,5 @@
 -- An entry of the journal: its text.
-use Rattle.std.specs.Prelude.{◌≡◌, ℕ, ◌≤◌, Bool, List, [], ◌∷◌, ◌++◌, length, map, codes, decimal, Option, Some, None, Ok, IsUtf8, IsTrue}
+use Rattle.std.specs.Prelude.{◌≡◌, ℕ, ◌≤◌, Bool, true, List, [], ◌∷◌, ◌++◌, length, map, codes, decimal, Option, Some, None, Ok, IsUtf8, IsTrue}
 use Rattle.std.specs.Option.{option_map}
 use Rattle.std.specs.List.{All, join_with_byte, list_any, AllZip}
 use Rattle.json.specs.Print.{quoted}
@@ -10,11 +10,11 @@ use Rattle.reuse_tree.specs.Change.{path_of, digest_after, digest_before, is_sea
 use Rattle.reuse_tree.specs.declared.change.Change.{Change}
 use Rattle.reuse_tree.specs.declared.change.Change.TheVariants.{Make, Drop, Splice}
 use Rattle.reuse_session.specs.Entry.{removed_by, written_by, AreAllSealed, IsEntry}
-use Rattle.reuse_session.specs.Format.{format_number}
+use Rattle.reuse_session.specs.Format.{format_number, knows}
 use Rattle.reuse_session.specs.Json.{IsJson, count, object_of, array_of}
 use Rattle.reuse_session.specs.declared.journal.entry.Entry.{Entry}
 use Rattle.reuse_session.specs.declared.command.CommandName.{CommandName}
-use Rattle.reuse_session.specs.declared.command.CommandName.TheVariants.{Annotate, ConvertDep5, Download}
+use Rattle.reuse_session.specs.declared.command.CommandName.TheVariants.{Annotate, ConvertDep5, Download, Revert}
 
 -- ---- the text that is written
 
@@ -23,6 +23,7 @@ abbrev pub command_name : CommandName → List ℕ
 command_name Annotate = codes "annotate"
 command_name ConvertDep5 = codes "convert-dep5"
 command_name Download = codes "download"
+command_name Revert = codes "revert"
 
 -- bytes in small hexadecimal digits, as a JSON string
 abbrev pub hex_text : List ℕ → List ℕ
@@ -88,9 +89,9 @@ IsChangeValue (Splice path at old new rest (Some seal)) value = (n : Data) × (o
     × (a : Data) × (b : Data) × IsHexDigest seal.after a × IsHexDigest seal.before b
     × (value ≡ object_of ((codes "after", a) ∷ (codes "at", count at) ∷ (codes "before", b) ∷ splice_members path o n rest))
 
--- an entry: an object with just these keys and values, in the second format where its changes are sealed
+-- an entry: an object with just these keys and values, in the second format where its changes are sealed, of a command that the format knows
 abbrev pub IsEntryValue : Entry → Data → Type 0
-IsEntryValue e value = (sealed : Bool) × (values : List Data) × AreAllSealed sealed e.changes × AllZip IsChangeValue e.changes values × (value ≡ object_of (
+IsEntryValue e value = (sealed : Bool) × (values : List Data) × AreAllSealed sealed e.changes × (knows sealed e.command ≡ true) × AllZip IsChangeValue e.changes values × (value ≡ object_of (
     (codes "changes", array_of values) ∷
     (codes "command", string (command_name e.command)) ∷
     (codes "format", count (format_number sealed)) ∷
@@ -130,11 +131,16 @@ pub record IsChangeInMemory (change : Change) : Type 0 where
   pub before : AreDigestBytes (digest_before change)
   pub after : AreDigestBytes (digest_after change)
 
--- an entry whose text is good
-pub record IsSoundEntry (entry : Entry) : Type 0 where
+-- an entry in memory, of good changes
+pub record IsEntryInMemory (entry : Entry) : Type 0 where
   pub changes : IsEntry entry.changes
   pub in_memory : All IsChangeInMemory entry.changes
   pub when : entry.when ≤ 250_000_000_000
+
+-- an entry whose text is good: its format knows its command
+pub record IsSoundEntry (entry : Entry) : Type 0 where
+  pub held : IsEntryInMemory entry
+  pub known : knows (is_any_sealed entry.changes) entry.command ≡ true
 
 -- ---- for private clauses
 

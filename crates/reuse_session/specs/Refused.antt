@@ -3,7 +3,7 @@ use Rattle.std.specs.Prelude.{◌≡◌, Option, Some}
 use Rattle.reuse_session.specs.declared.reply.Refusal.{Refusal}
 use Rattle.reuse_dep5.specs.declared.refusal.Dep5Refusal.{Dep5Refusal}
 use Rattle.reuse_dep5.specs.declared.refusal.Dep5Refusal.TheVariants as dep5
-use Rattle.reuse_session.specs.declared.reply.Refusal.TheVariants.{Broken, JournalFull, NothingToUndo, NothingToRedo, Moved, Memory, Interrupted, Fault, BadJournal, Dep5}
+use Rattle.reuse_session.specs.declared.reply.Refusal.TheVariants.{Broken, JournalFull, NothingToUndo, NothingToRedo, NoSuchStep, Moved, Memory, Interrupted, Fault, BadJournal, Dep5}
 
 -- the refusal is one of planning, and tells no fault of a store
 abbrev pub IsNoFault : Refusal → Type 0
@@ -11,6 +11,7 @@ IsNoFault Broken = ⊥
 IsNoFault JournalFull = ⊥
 IsNoFault NothingToUndo = ⊥
 IsNoFault NothingToRedo = ⊥
+IsNoFault (NoSuchStep number) = ⊥
 IsNoFault (Moved path) = ⊥
 IsNoFault (Interrupted cause) = ⊥
 IsNoFault (Fault fault) = ⊥

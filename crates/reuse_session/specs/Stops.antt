@@ -53,9 +53,16 @@ abbrev pub Lists : Step → Result Reply Refusal → Point → Point → Type 0
 Lists next (Err Memory) old new = new ≡ old
 Lists next answer old new = (answer ≡ next.0) × (new ≡ old)
 
+-- a preview answers the machine's fates, or a fault of the store or want of memory refused it, and changes nothing
+abbrev pub Foretells : Step → Result Reply Refusal → Point → Point → Type 0
+Foretells next (Err (Fault fault)) old new = new ≡ old
+Foretells next (Err Memory) old new = new ≡ old
+Foretells next answer old new = (answer ≡ next.0) × (new ≡ old)
+
 -- an event of an open session
 abbrev pub Continues : Event → Result Reply Refusal → Point → Point → Type 0
 Continues event.Log answer old new = Lists (step old.state event.Log) answer old new
+Continues (event.Preview asked) answer old new = Foretells (step old.state (event.Preview asked)) answer old new
 Continues event answer old new = Goes (step old.state event) answer old new
 
 -- while no session is open, all but an opening is refused as broken

@@ -1,8 +1,10 @@
 // What a session remembers of the journal: its entries' labels, and not their changes.
 ghost use Rattle.std.specs.Prelude.{◌≡◌, ◌<◌, ◌≤◌, ◌+◌, ◌*◌, ◌++◌, ◌∷◌, [], Option, None, Some, List, IfOk, length, map, true, false};
+ghost use Rattle.std.specs.Option.{option_copied};
 ghost use Rattle.reuse_session.specs.Head.{head_text, IsGoodHead, IsSoundHead};
 ghost use Rattle.reuse_session.specs.History.{Memory, head_listing, row_listing, rows_listing, remember_run, entries_ahead, remember_moved};
 ghost use Rattle.reuse_session.specs.Machine.{is_full};
+ghost use Rattle.reuse_session.specs.Showing.{lists, entry_of, row_in};
 ghost use Rattle.reuse_session.specs.declared.history.ListedEntry.{ListedEntry};
 
 use crate::command::CommandName;
@@ -135,6 +137,26 @@ impl History {
         encode_head(alloc, &head)
     }
 
+    /// Whether an entry of this number is done.
+    pub fn is_done(&self, number: u32) -> bool
+        ensures { result ≡ lists self.now.done number }
+    {
+        self.done.iter().any(|entry| entry.number == number)
+    }
+
+    /// The row of the entry of this number, done or undone.
+    pub fn row(&self, number: u32) -> Option<Row>
+        ensures { result ≡ row_in self.now number }
+    {
+        match entry_of(self.done.as_slice(), number) {
+            Some(entry) => Some(row_of(entry, true)),
+            None => match entry_of(self.undone.as_slice(), number) {
+                Some(entry) => Some(row_of(entry, false)),
+                None => None,
+            },
+        }
+    }
+
     /// The rows of a log.
     pub fn rows(&self, alloc: Global) -> Result<Rows, AllocError>
         ensures { IfOk result (λ rows. rows ≡ rows_listing self.now) }
@@ -148,6 +170,13 @@ impl History {
         }
         Ok(Rows { rows })
     }
+}
+
+// The first entry of this number.
+fn entry_of(entries: &[ListedEntry], number: u32) -> Option<&ListedEntry>
+    ensures { option_copied result ≡ entry_of entries.now number }
+{
+    entries.iter().find(|entry| entry.number == number)
 }
 
 // The row of an entry.

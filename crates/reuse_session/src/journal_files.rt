@@ -1,5 +1,5 @@
 // The files of the journal: reads and puts its head and its entries.
-ghost use Rattle.std.specs.Prelude.{◌≡◌, ◌≢◌, ◌⊎◌, ◌<◌, ◌≤◌, ◌+◌, ℕ, List, Option, Some, IfOk, IfErr, OnOk, OnErr, IsErrOf, length, IsSome};
+ghost use Rattle.std.specs.Prelude.{◌≡◌, ◌≢◌, ◌⊎◌, ◌<◌, ◌≤◌, ◌+◌, ℕ, List, Option, Some, true, IfOk, IfErr, OnOk, OnErr, IsErrOf, length, IsSome};
 ghost use Rattle.std.specs.FinMap as map;
 ghost use Rattle.reuse_tree.specs.Files.{Clashes, tree_of};
 ghost use Rattle.reuse_tree.specs.Store.{reading_of};
@@ -7,7 +7,8 @@ ghost use Rattle.reuse_tree.specs.declared.fault.StoreFault.{StoreFault};
 ghost use Rattle.reuse_tree.specs.declared.fault.StoreFault.TheVariants as faults;
 ghost use Rattle.reuse_session.specs.Answer.{IsReadRefusal, IsPutRefusal, bad_text, RefusedAsRead};
 ghost use Rattle.reuse_session.specs.Entry.{IsEntry, entry_size};
-ghost use Rattle.reuse_session.specs.EntryText.{entry_text};
+ghost use Rattle.reuse_session.specs.EntryText.{entry_text, is_any_sealed, HavePaths};
+ghost use Rattle.reuse_session.specs.Format.{knows};
 ghost use Rattle.reuse_session.specs.Head.{IsSoundHead};
 ghost use Rattle.reuse_session.specs.Session.{HasEntryText, IsSameBut};
 ghost use Rattle.reuse_session.specs.Tree.{Sets, undo_folder_of};
@@ -136,6 +137,7 @@ fn head_in(alloc: Global, path: PathText, reading: Reading) -> Result<Head, Refu
 pub fn read_entry<S: Store>(alloc: Global, store: &mut S, number: u32) -> Result<Entry, Refusal>
     ensures ok { S.honest store.new → IfOk result (EntrySays (map.get (undo_folder_of (S.files store.old)) (entry_path number))) }
     ensures good { IfOk result (λ entry. IsEntry entry.changes) }
+    ensures paths { IfOk result (λ entry. HavePaths entry.changes) }
     ensures bad { S.honest store.new → (path : List ℕ) → result ≡ Err (Refusal.BadJournal path)
         → (path ≡ entry_path number) × ((entry : Entry) → ¬ (EntrySays (map.get (undo_folder_of (S.files store.old)) (entry_path number)) entry)) }
     ensures refusal { IfErr result IsReadRefusal }
@@ -151,6 +153,7 @@ pub fn read_entry<S: Store>(alloc: Global, store: &mut S, number: u32) -> Result
 fn entry_in(alloc: Global, path: PathText, reading: Reading) -> Result<Entry, Refusal>
     ensures ok { (file : Option (List ℕ)) → reading ≡ reading_of file 268_435_456 → IfOk result (EntrySays file) }
     ensures good { IfOk result (λ entry. IsEntry entry.changes) }
+    ensures paths { IfOk result (λ entry. HavePaths entry.changes) }
     ensures bad { (file : Option (List ℕ)) → reading ≡ reading_of file 268_435_456 → (place : List ℕ) → result ≡ Err (Refusal.BadJournal place)
         → (place ≡ path) × ((entry : Entry) → ¬ (EntrySays file entry)) }
     ensures refusal { IfErr result IsReadRefusal }
@@ -182,7 +185,7 @@ pub fn put_entry<S: Store>(
     number: u32,
     entry: &Entry,
 ) -> Result<(), Refusal>
-    ensures ok { S.honest store.new → IsEntry entry.now.changes
+    ensures ok { S.honest store.new → IsEntry entry.now.changes → knows (is_any_sealed entry.now.changes) entry.now.command ≡ true
         → OnOk result (EntrySays (map.get (S.files store.new) (entry_path number)) entry.now) }
     ensures text { S.honest store.new → OnOk result (HasEntryText number entry.now (S.files store.new)) }
     ensures counted { OnOk result (S.written store.new ≡ S.written store.old + length (entry_text entry.now)) }

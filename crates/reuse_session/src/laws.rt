@@ -1,42 +1,52 @@
 //! Laws of the definitions that the contracts of a session cite.
-ghost use Rattle.std.specs.Prelude.{◌≡◌, ◌≢◌, ◌↔◌, ◌⊎◌, [], List, map, ℕ, true, Ok, None};
+ghost use Rattle.std.specs.Prelude.{◌≡◌, ◌≢◌, ◌↔◌, ◌⊎◌, [], List, map, ℕ, nat_eq, true, false, Ok, None, ◌≤◌, ◌++◌, length, Bool, Option, Some, Err};
 ghost use Rattle.std.specs.Ordering.{nat_cmp};
 ghost use Rattle.std.specs.Cmp.Lexicographic.{slice_cmp};
-ghost use Rattle.std.specs.List.{All, Contains};
+ghost use Rattle.std.specs.List.{All, Contains, starts_with};
 ghost use Rattle.std.specs.List.Sorted.{IsPermutation, IsStrictlySortedBy};
 ghost use Rattle.std.specs.FinMap.{get};
 ghost use Rattle.reuse_header.specs.declared.annotation.How.{How};
 ghost use Rattle.reuse_notice.specs.declared.adding.Additions.{Additions};
-ghost use Rattle.reuse_tree.specs.Files.{Files};
+ghost use Rattle.reuse_notice.specs.Plain.{ArePlain, AreUtf8};
+ghost use Rattle.reuse_tree.specs.Files.{Files, AreFiles};
 ghost use Rattle.reuse_tree.specs.Change.{inverse_of};
 ghost use Rattle.reuse_tree.specs.declared.change.Change.{Change};
-ghost use Rattle.reuse_session.specs.Annotated.{Annotates};
+ghost use Rattle.reuse_session.specs.Annotated.{Annotates, StaysOrIsText};
 ghost use Rattle.reuse_session.specs.Choice.{is_chosen};
 ghost use Rattle.reuse_session.specs.Chosen.{IsNamed, StandsBeneath, IsAskedFor};
+ghost use Rattle.reuse_session.specs.Command.{HoldsEntry};
 ghost use Rattle.reuse_session.specs.Covered.{is_covered};
-ghost use Rattle.reuse_session.specs.Entry.{CanBeMade, IsEntry, LeadsAll, LeadsBy};
+ghost use Rattle.reuse_session.specs.Edit.{Edit};
+ghost use Rattle.reuse_session.specs.Entry.{CanBeMade, IsEntry, LeadsAll, LeadsBy, AreAllSealed};
 ghost use Rattle.reuse_session.specs.Fresh.{IsFresh, first_state};
+ghost use Rattle.reuse_tree.specs.declared.change.Change.TheVariants.{Splice};
+ghost use Rattle.reuse_tree.specs.declared.digest.Seal.{Seal};
+ghost use Rattle.reuse_session.specs.Fates.{first_refusal, fates_of};
 ghost use Rattle.reuse_session.specs.InTurn.{LeadsInTurn};
 ghost use Rattle.reuse_session.specs.Journal.{State};
 ghost use Rattle.reuse_session.specs.JournalFiles.{IsFree};
 ghost use Rattle.reuse_session.specs.Opening.{IsFirstBad, IsStuckAt, CanOpenOn};
 ghost use Rattle.reuse_session.specs.Outcome.{outcome_of};
+ghost use Rattle.reuse_session.specs.Reverting.{taken_back};
 ghost use Rattle.reuse_session.specs.Seals.{tree_for, IsAsLeft, IsToldApart, IsUntouched};
-ghost use Rattle.reuse_session.specs.Session.{IsRun};
+ghost use Rattle.reuse_session.specs.Session.{IsRun, Runs};
 ghost use Rattle.reuse_session.specs.Stops.{HoldState};
 ghost use Rattle.reuse_session.specs.TablePut.{PutsTable};
 ghost use Rattle.reuse_session.specs.TextsPut.{PutsTexts};
 ghost use Rattle.reuse_session.specs.Tree.{changed_paths, undo_folder_of};
 ghost use Rattle.reuse_session.specs.Worked.{worked_paths};
 ghost use Rattle.reuse_session.specs.declared.command.Command.{Command};
-ghost use Rattle.reuse_session.specs.declared.command.Command.TheVariants.{Annotate, ConvertDep5, Download};
+ghost use Rattle.reuse_session.specs.declared.command.Command.TheVariants.{Annotate, ConvertDep5, Download, Revert};
 ghost use Rattle.reuse_session.specs.declared.command.Place.{Place};
 ghost use Rattle.reuse_session.specs.declared.command.Scope.{Scope};
 ghost use Rattle.reuse_session.specs.declared.entry.Way.{Way};
 ghost use Rattle.reuse_session.specs.declared.entry.Way.TheVariants.{Undo};
+ghost use Rattle.reuse_session.specs.declared.fate.Fate.TheVariants.{Changes};
 ghost use Rattle.reuse_session.specs.declared.licence.LicenceText.{LicenceText};
+ghost use Rattle.reuse_session.specs.declared.reply.Refusal.{Refusal};
+ghost use Rattle.reuse_session.specs.declared.reply.Reply.{Reply};
 
-use reuse_header::annotating_keeps_other_bytes;
+use reuse_header::{annotated_texts_are_texts, annotating_keeps_other_bytes};
 
 /// Any files open in one way: at most one path is the first at fault, at most one is where the pending step is stuck, at most one
 /// standing can be opened on, and no two of these three are there.
@@ -56,28 +66,38 @@ pub fn entries_lead_in_turn()
     ensures back { (changes others : List Change) (before after : Files) → IsEntry changes → IsPermutation changes others → LeadsBy Undo changes before after ↔ LeadsInTurn (map inverse_of others) before after }
 {}
 
-/// A download that isn't refused puts the text of each id at `LICENSES/ID.txt`, where no file was, and changes no other path.
+/// A download that isn't refused puts the text of each id at `LICENSES/ID.txt`, where no file was, and changes no other path. A run that
+/// isn't refused leaves that.
 pub fn downloads_put_each_text()
-    ensures { (ids : List (List ℕ)) (texts : List LicenceText) (tree after : Files) → outcome_of (Download ids texts) tree ≡ Ok after → PutsTexts ids texts tree after }
+    ensures made { (ids : List (List ℕ)) (texts : List LicenceText) (tree after : Files) → outcome_of (Download ids texts) tree ≡ Ok after → PutsTexts ids texts tree after }
+    ensures left { (ids : List (List ℕ)) (texts : List LicenceText) (when : ℕ) (old new : State) (reply : Reply) → Runs (Download ids texts) when old (Ok reply) new
+        → PutsTexts ids texts old.tree new.tree }
 {}
 
 /// What annotate does on a tree, in other words. Where it isn't refused, each file that is gone through is commented: it holds what the
 /// header rules make of its own bytes in its style; or accompanied: its neighbour holds what they make of the neighbour's own bytes, or
 /// of none; or skipped, where that is asked for. Every byte outside the old header block stays, and so does every other path. These words
-/// leave one tree.
+/// leave one tree. A run that isn't refused leaves it: `Runs` is what `Session::run` promises. No file goes, and each that changes is text
+/// then, where the additions are plain and UTF-8, as `Additions::new` makes them.
 pub fn annotations_change_chosen_places_alone()
     ensures made { (places : List Place) (additions : Additions) (how : How) (scope : Scope) (tree after : Files) → outcome_of (Annotate places additions how scope) tree ≡ Ok after
         → Annotates places additions how scope tree after }
     ensures one { (places : List Place) (additions : Additions) (how : How) (scope : Scope) (before after other : Files) → Annotates places additions how scope before after
         → Annotates places additions how scope before other → after ≡ other }
+    ensures left { (places : List Place) (additions : Additions) (how : How) (scope : Scope) (when : ℕ) (old new : State) (reply : Reply) → Runs (Annotate places additions how scope) when old (Ok reply) new
+        → Annotates places additions how scope old.tree new.tree }
+    ensures texts { (places : List Place) (additions : Additions) (how : How) (scope : Scope) (before after : Files) → Annotates places additions how scope before after
+        → ArePlain additions → AreUtf8 additions → (path : List ℕ) → StaysOrIsText before after path }
 {
     annotating_keeps_other_bytes();
+    annotated_texts_are_texts();
 }
 
 /// Where a conversion isn't refused, `.reuse/dep5` was there and is gone, `REUSE.toml` wasn't and holds the text that the dep5 is
-/// converted to, and every other path holds what it held.
+/// converted to, and every other path holds what it held. A run that isn't refused leaves that.
 pub fn conversions_put_a_table()
-    ensures { (tree after : Files) → outcome_of ConvertDep5 tree ≡ Ok after → PutsTable tree after }
+    ensures made { (tree after : Files) → outcome_of ConvertDep5 tree ≡ Ok after → PutsTable tree after }
+    ensures left { (when : ℕ) (old new : State) (reply : Reply) → Runs ConvertDep5 when old (Ok reply) new → PutsTable old.tree new.tree }
 {}
 
 /// A tree with nothing under `.reuse/undo/` holds the state of the machine without earlier and later trees, of which no number is used;
@@ -109,4 +129,26 @@ pub fn worked_paths_are_asked_for()
     ensures asked { (scope : Scope) (places : List Place) (tree : Files) (path : List ℕ) → scope.recursive ≡ true
         → Contains (worked_paths scope places tree) path ↔ (IsNamed places tree path ⊎ (StandsBeneath places tree path × IsAskedFor scope path)) }
     ensures all { (scope : Scope) (path : List ℕ) → scope.listed ≡ None → scope.excluded ≡ [] → is_chosen scope path ≡ is_covered path }
+{}
+
+/// A revert of a sealed step that is the last leads back to the tree before it, as its undo does, and a run that isn't refused leaves that
+/// tree. Of a file that was edited below what a step wrote, that gives way to what was there before, whatever is below it, where that didn't
+/// begin with what was written. And bytes that a step took away come back once.
+pub fn reverts_take_steps_back()
+    ensures undo { (changes : List Change) (skip_moved : Bool) (before after : Files) → IsEntry changes → AreAllSealed true changes → AreFiles before → LeadsAll changes before after
+        → outcome_of (Revert changes skip_moved) after ≡ Ok before }
+    ensures left { (changes : List Change) (skip_moved : Bool) (before : Files) (when : ℕ) (old new : State) (reply : Reply) → IsEntry changes → AreAllSealed true changes → AreFiles before
+        → LeadsAll changes before old.tree → Runs (Revert changes skip_moved) when old (Ok reply) new → new.tree ≡ before }
+    ensures below { (path front old new behind : List ℕ) (rest : ℕ) (seal : Option Seal) → starts_with nat_eq old new ≡ false → length (front ++ new ++ behind) ≤ 16_777_216 → length (front ++ old ++ behind) ≤ 16_777_216
+        → taken_back (Splice path (length front) old new rest seal) (Some (front ++ new ++ behind)) ≡ Some (record { path = path; removed = new; written = old; file = Some (front ++ old ++ behind) }) }
+    ensures once { (path old new file : List ℕ) (at rest : ℕ) (seal : Option Seal) (edit : Edit) → starts_with nat_eq old new ≡ true → old ≢ new
+        → taken_back (Splice path at old new rest seal) (Some file) ≡ Some edit → taken_back (Splice path at old new rest seal) edit.file ≡ None }
+{}
+
+/// The outcome of a command follows the fates of its paths: it is refused exactly by the first refusal among them, and where there is
+/// none it is a tree, which differs from the tree that was there exactly at the paths that change.
+pub fn outcome_follows_fates()
+    ensures refused { (command : Command) (tree : Files) (refusal : Refusal) → (outcome_of command tree ≡ Err refusal) ↔ (first_refusal (fates_of command tree) ≡ Some refusal) }
+    ensures accepted { (command : Command) (tree : Files) → (first_refusal (fates_of command tree) ≡ None) ↔ ((after : Files) × (outcome_of command tree ≡ Ok after)) }
+    ensures changed { (command : Command) (tree after : Files) (path : List ℕ) → HoldsEntry command → outcome_of command tree ≡ Ok after → Contains (fates_of command tree) (Changes path) ↔ (get tree path ≢ get after path) }
 {}

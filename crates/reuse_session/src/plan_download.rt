@@ -41,8 +41,8 @@ pub(crate) fn plan_download<S: Store>(
     download_changes(alloc, &paths, ids, texts)
 }
 
-// The changes of a download on the tree that has these paths, or its first refusal.
-fn download_changes(
+/// The changes of a download on the tree that has these paths, or its first refusal.
+pub(crate) fn download_changes(
     alloc: Global,
     paths: &[PathText],
     ids: &[Bytes],
@@ -58,8 +58,8 @@ fn download_changes(
     }
 }
 
-// The ids in byte order, without repeats.
-fn sorted_ids(alloc: Global, ids: &[Bytes]) -> Result<Vec<Bytes>, AllocError>
+/// The ids in byte order, without repeats.
+pub(crate) fn sorted_ids(alloc: Global, ids: &[Bytes]) -> Result<Vec<Bytes>, AllocError>
     ensures { IfOk result (λ sorted. sorted.items ≡ set_of ids.now) }
 {
     let mut sorted = copied_ids(alloc, ids)?;
@@ -109,8 +109,8 @@ fn made_paths(
     Ok(made)
 }
 
-// The path of the file that is made of an id's text, or why none is.
-fn made_path(
+/// The path of the file that is made of an id's text, or why none is.
+pub(crate) fn made_path(
     alloc: Global,
     paths: &[PathText],
     id: &Bytes,

@@ -1,17 +1,25 @@
--- The lines of one path more.
-use Rattle.std.proofs.Common.{◌≡◌, ◌<◌, ◌+◌, ℕ, List, [], ◌∷◌, ◌++◌, length, take, refl, sym, ◌∙◌, ap, append_assoc, append-nil, get_or}
+-- The lines of one path, or of one of anything, more.
+use Rattle.std.proofs.Common.{◌≡◌, ◌<◌, ◌+◌, ℕ, List, [], ◌∷◌, ◌++◌, Option, length, take, refl, sym, ◌∙◌, ap, append_assoc, append-nil, get_or, subst}
 use Rattle.std.proofs.lemmas.List.{take_more}
-use Rattle.reuse_undo.specs.Lines.{line_of, lines_of}
+use Rattle.std.proofs.KnownBytes.{Appends-trans}
+use Rattle.std.specs.Io.KnownBytes.{Appends}
+use Rattle.reuse_undo.specs.Lines.{joined}
 
-pub lines_of-append : (word : List ℕ) (xs ys : List (List ℕ)) → lines_of word (xs ++ ys) ≡ lines_of word xs ++ lines_of word ys
-lines_of-append word [] ys = refl
-lines_of-append word (x ∷ xs) ys = ap (λ l. line_of word x ++ l) (lines_of-append word xs ys) ∙ sym (append_assoc (line_of word x) (lines_of word xs) (lines_of word ys))
+pub joined-append : {A : Type 0} (text_of : A → List ℕ) (xs ys : List A) → joined text_of (xs ++ ys) ≡ joined text_of xs ++ joined text_of ys
+joined-append text_of [] ys = refl
+joined-append text_of (x ∷ xs) ys = ap (λ l. text_of x ++ l) (joined-append text_of xs ys) ∙ sym (append_assoc (text_of x) (joined text_of xs) (joined text_of ys))
 
-pub lines_of-more : (word : List ℕ) (xs : List (List ℕ)) (i : ℕ) (d : List ℕ) → i < length xs
-    → lines_of word (take i xs) ++ line_of word (get_or xs i d) ≡ lines_of word (take (i + 1) xs)
-lines_of-more word xs i d h =
+pub joined-more : {A : Type 0} (text_of : A → List ℕ) (xs : List A) (i : ℕ) (d : A) → i < length xs
+    → joined text_of (take i xs) ++ text_of (get_or xs i d) ≡ joined text_of (take (i + 1) xs)
+joined-more text_of xs i d h =
     let last = get_or xs i d in
-    let one : lines_of word (last ∷ []) ≡ line_of word last = append-nil (line_of word last) in
-    sym (ap (lines_of word) (take_more xs i d h)
-    ∙ lines_of-append word (take i xs) (last ∷ [])
-    ∙ ap (λ l. lines_of word (take i xs) ++ l) one)
+    let one : joined text_of (last ∷ []) ≡ text_of last = append-nil (text_of last) in
+    sym (ap (joined text_of) (take_more xs i d h)
+    ∙ joined-append text_of (take i xs) (last ∷ [])
+    ∙ ap (λ l. joined text_of (take i xs) ++ l) one)
+
+-- a text that is written behind those so far
+pub Appends-joined : {A : Type 0} (text_of : A → List ℕ) (old mid new : Option (List ℕ)) (xs : List A) (i : ℕ) (d : A) → i < length xs
+    → Appends old mid (joined text_of (take i xs)) → Appends mid new (text_of (get_or xs i d)) → Appends old new (joined text_of (take (i + 1) xs))
+Appends-joined text_of old mid new xs i d h all one =
+    subst (λ (l : List ℕ). Appends old new l) (joined-more text_of xs i d h) (Appends-trans old mid new (joined text_of (take i xs)) (text_of (get_or xs i d)) all one)

@@ -1,29 +1,45 @@
--- The line of one row more.
-use Rattle.std.proofs.Common.{◌<◌, ◌+◌, ℕ, List, [], ◌∷◌, ◌++◌, Option, length, take, refl, sym, ◌∙◌, ap, append_assoc, append-nil, get_or, subst}
+-- The text of one row more, and what stands behind it.
+use Rattle.std.proofs.Common.{◌<◌, ◌+◌, ℕ, List, [], ◌∷◌, ◌++◌, Option, length, take, refl, sym, ◌∙◌, ap, append_assoc, append-nil, get_or, subst, ◌≡◌, ◌⊎◌}
 use Rattle.std.proofs.lemmas.List.{take_more}
 use Rattle.std.proofs.KnownBytes.{Appends-trans}
-use Rattle.reuse_session.specs.declared.reply.Row.{Row}
-use Rattle.reuse_undo.specs.RowLines.{IsRowLine, AreRowLines, AppendsSome}
+use Rattle.std.specs.Io.KnownBytes.{Appends}
+use Rattle.reuse_session.specs.declared.reply.Shown.{Shown}
+use Rattle.reuse_undo.specs.declared.line.Telling.TheVariants.{Diff}
+use Rattle.reuse_undo.specs.declared.request.Told.{Told}
+use Rattle.reuse_undo.specs.Lines.{change_lines, IsShownText}
+use Rattle.reuse_undo.specs.RowLines.{AreJoined, AppendsSome, IsRowLine}
+use Rattle.reuse_undo.specs.Told.{IsLinesText, IsToldText, WouldBeMade}
 
-AreRowLines-push : (rows : List Row) (row : Row) (text line : List ℕ) → AreRowLines rows text → IsRowLine row line → AreRowLines (rows ++ row ∷ []) (text ++ line)
-AreRowLines-push [] row text line none one = (line, ([], (one, (refl, ap (λ l. l ++ line) none ∙ sym (append-nil line)))))
-AreRowLines-push (first ∷ rows) row text line all one = (
+AreJoined-push : {A : Type 0} (IsText : A → List ℕ → Type 0) (xs : List A) (x : A) (text line : List ℕ) → AreJoined IsText xs text → IsText x line
+    → AreJoined IsText (xs ++ x ∷ []) (text ++ line)
+AreJoined-push IsText [] x text line none one = (line, ([], (one, (refl, ap (λ l. l ++ line) none ∙ sym (append-nil line)))))
+AreJoined-push IsText (first ∷ xs) x text line all one = (
   all.0,
   (
     all.1.0 ++ line,
     (
       all.1.1.0,
       (
-        AreRowLines-push rows row all.1.0 line all.1.1.1.0 one,
+        AreJoined-push IsText xs x all.1.0 line all.1.1.1.0 one,
         ap (λ l. l ++ line) all.1.1.1.1 ∙ append_assoc all.0 all.1.0 line,
       ),
     ),
   ),
 )
 
--- with one row more
-pub AppendsSome-row : (old mid new : Option (List ℕ)) (rows : List Row) (i : ℕ) (d : Row) → i < length rows
-    → AppendsSome old mid (AreRowLines (take i rows)) → AppendsSome mid new (IsRowLine (get_or rows i d)) → AppendsSome old new (AreRowLines (take (i + 1) rows))
-AppendsSome-row old mid new rows i d h all one =
-    subst (λ (l : List Row). AppendsSome old new (AreRowLines l)) (sym (take_more rows i d h))
-    (all.0 ++ one.0, (AreRowLines-push (take i rows) (get_or rows i d) all.0 one.0 all.1.0 one.1.0, Appends-trans old mid new all.0 one.0 all.1.1 one.1.1))
+-- with one more
+pub AppendsSome-row : {A : Type 0} (IsText : A → List ℕ → Type 0) (old mid new : Option (List ℕ)) (xs : List A) (i : ℕ) (d : A) → i < length xs
+    → AppendsSome old mid (AreJoined IsText (take i xs)) → AppendsSome mid new (IsText (get_or xs i d)) → AppendsSome old new (AreJoined IsText (take (i + 1) xs))
+AppendsSome-row IsText old mid new xs i d h all one =
+    subst (λ l. AppendsSome old new (AreJoined IsText l)) (sym (take_more xs i d h))
+    (all.0 ++ one.0, (AreJoined-push IsText (take i xs) (get_or xs i d) all.0 one.0 all.1.0 one.1.0, Appends-trans old mid new all.0 one.0 all.1.1 one.1.1))
+
+-- the line of a row, and those of changes behind it
+pub AppendsSome-shown : (shown : Shown) (old mid new : Option (List ℕ)) → AppendsSome old mid (IsRowLine shown.row) → Appends mid new (change_lines shown.changes) → AppendsSome old new (IsShownText shown)
+AppendsSome-shown shown old mid new row rest =
+    (row.0 ++ change_lines shown.changes, ((row.0, row.1.0, refl), Appends-trans old mid new row.0 (change_lines shown.changes) row.1.1 rest))
+
+-- the lines of an answer, and a diff behind them
+pub AppendsSome-diff : (told : Told) (diff : List ℕ) (old mid new : Option (List ℕ)) → (diff ≡ []) ⊎ WouldBeMade told → AppendsSome old mid (IsLinesText told) → Appends mid new diff
+    → AppendsSome old new (IsToldText Diff told)
+AppendsSome-diff told diff old mid new may lines rest = (lines.0 ++ diff, ((lines.0, diff, lines.1.0, may, refl), Appends-trans old mid new lines.0 diff lines.1.1 rest))

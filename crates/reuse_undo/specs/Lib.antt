@@ -5,9 +5,14 @@ pub mod Honesty
 pub mod Within
 pub mod KeptOut
 pub mod Lines
+pub mod Objects
+pub mod Outputs
+pub mod Peeks
 pub mod Places
 pub mod PrefixNames
+pub mod Requests
 pub mod RowLines
 pub mod RunLine
 pub mod Statuses
+pub mod Told
 pub mod WriterFaults

@@ -1,17 +1,46 @@
--- The lines that a reply is printed as.
+-- The lines that an answer is printed as.
 use Rattle.std.specs.Prelude.{◌≡◌, ℕ, List, [], ◌∷◌, ◌++◌, codes, length}
-use Rattle.reuse_undo.specs.RowLines.{AreRowLines}
+use Rattle.reuse_tree.specs.declared.change.Change.{Change}
+use Rattle.reuse_tree.specs.declared.change.Change.TheVariants.{Make, Drop, Splice}
+use Rattle.reuse_undo.specs.RowLines.{AreRowLines, IsRowLine}
+use Rattle.reuse_session.specs.declared.fate.Fate.{Fate}
+use Rattle.reuse_session.specs.declared.fate.Fate.TheVariants.{Changes, Unchanged, Skipped, Refused}
 use Rattle.reuse_session.specs.declared.reply.Reply.{Reply}
-use Rattle.reuse_session.specs.declared.reply.Reply.TheVariants.{Opened, Changed, NothingChanged, Undone, Redone, Log}
+use Rattle.reuse_session.specs.declared.reply.Reply.TheVariants.{Opened, Changed, NothingChanged, Undone, Redone, Log, Preview}
+use Rattle.reuse_session.specs.declared.reply.Reverted.{Reverted}
+use Rattle.reuse_session.specs.declared.reply.Shown.{Shown}
 
 -- a word, a space, a path and a line end
 abbrev pub line_of : List ℕ → List ℕ → List ℕ
 line_of word path = word ++ 32 ∷ [] ++ path ++ 10 ∷ []
 
+-- the texts of all, one after the other
+abbrev pub joined : {A : Type 0} → (A → List ℕ) → List A → List ℕ
+joined text_of [] = []
+joined text_of (one ∷ others) = text_of one ++ joined text_of others
+
 -- one line for each path
 abbrev pub lines_of : List ℕ → List (List ℕ) → List ℕ
-lines_of word [] = []
-lines_of word (path ∷ paths) = line_of word path ++ lines_of word paths
+lines_of word paths = joined (line_of word) paths
+
+-- what would become of a path; a refusal is told elsewhere
+abbrev pub fate_line : Fate → List ℕ
+fate_line (Changes path) = line_of (codes "would change") path
+fate_line (Unchanged path) = line_of (codes "unchanged") path
+fate_line (Skipped path) = line_of (codes "skipped") path
+fate_line (Refused refusal) = []
+
+abbrev pub fate_lines : List Fate → List ℕ
+fate_lines fates = joined fate_line fates
+
+-- what a change made of its path
+abbrev pub change_line : Change → List ℕ
+change_line (Make path new after) = line_of (codes "made") path
+change_line (Drop path old before) = line_of (codes "removed") path
+change_line (Splice path at old new rest seal) = line_of (codes "changed") path
+
+abbrev pub change_lines : List Change → List ℕ
+change_lines changes = joined change_line changes
 
 -- what a reply is printed as; that a session was opened is not told
 abbrev pub IsReplyText : Reply → List ℕ → Type 0
@@ -21,8 +50,22 @@ IsReplyText NothingChanged text = text ≡ codes "nothing changed" ++ 10 ∷ []
 IsReplyText (Undone paths) text = text ≡ lines_of (codes "undone") paths
 IsReplyText (Redone paths) text = text ≡ lines_of (codes "redone") paths
 IsReplyText (Log rows) text = AreRowLines rows text
+IsReplyText (Preview fates) text = text ≡ fate_lines fates
 
--- how many paths a reply tells
+-- what a step is printed as: its row of the log, and a line for each path
+abbrev pub IsShownText : Shown → List ℕ → Type 0
+IsShownText shown text = (line : List ℕ) × IsRowLine shown.row line × (text ≡ line ++ change_lines shown.changes)
+
+-- the paths at which a step was taken back
+abbrev pub changed_text : List (List ℕ) → List ℕ
+changed_text [] = codes "nothing changed" ++ 10 ∷ []
+changed_text (path ∷ paths) = lines_of (codes "changed") (path ∷ paths)
+
+-- what a revert is printed as: these, and then the paths that were left
+abbrev pub reverted_text : Reverted → List ℕ
+reverted_text reverted = changed_text reverted.changed ++ lines_of (codes "skipped") reverted.skipped
+
+-- how many paths a reply tells that changed
 abbrev pub path_count : Reply → ℕ
 path_count Opened = 0
 path_count (Changed paths) = length paths
@@ -30,3 +73,4 @@ path_count NothingChanged = 0
 path_count (Undone paths) = length paths
 path_count (Redone paths) = length paths
 path_count (Log rows) = 0
+path_count (Preview fates) = 0

@@ -7,12 +7,13 @@ use Rattle.jiff.specs.Words.{date_text}
 use Rattle.reuse_undo.specs.Dates.{IsDateOf}
 use Rattle.reuse_session.specs.declared.reply.Row.{Row}
 use Rattle.reuse_session.specs.declared.command.CommandName.{CommandName}
-use Rattle.reuse_session.specs.declared.command.CommandName.TheVariants.{Annotate, ConvertDep5, Download}
+use Rattle.reuse_session.specs.declared.command.CommandName.TheVariants.{Annotate, ConvertDep5, Download, Revert}
 
 abbrev pub command_word : CommandName → List ℕ
 command_word Annotate = codes "annotate"
 command_word ConvertDep5 = codes "convert-dep5"
 command_word Download = codes "download"
+command_word Revert = codes "revert"
 
 abbrev pub state_word : Bool → List ℕ
 state_word done = if done then codes "done" else codes "undone"
@@ -27,10 +28,14 @@ row_line row date =
 abbrev pub IsRowLine : Row → List ℕ → Type 0
 IsRowLine row line = (date : Date) × (IsDateOf row.when date × (line ≡ row_line row date))
 
+-- such texts of all, one after the other
+abbrev pub AreJoined : {A : Type 0} → (A → List ℕ → Type 0) → List A → List ℕ → Type 0
+AreJoined IsText [] text = text ≡ []
+AreJoined IsText (one ∷ others) text = (line : List ℕ) × ((rest : List ℕ) × (IsText one line × (AreJoined IsText others rest × (text ≡ line ++ rest))))
+
 -- the lines of rows, one after the other
 abbrev pub AreRowLines : List Row → List ℕ → Type 0
-AreRowLines [] text = text ≡ []
-AreRowLines (row ∷ rows) text = (line : List ℕ) × ((rest : List ℕ) × (IsRowLine row line × (AreRowLines rows rest × (text ≡ line ++ rest))))
+AreRowLines rows text = AreJoined IsRowLine rows text
 
 -- the writer, if it tells its bytes, was given such a text
 abbrev pub AppendsSome : Option (List ℕ) → Option (List ℕ) → (List ℕ → Type 0) → Type 0

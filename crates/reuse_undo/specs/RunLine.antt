@@ -1,46 +1,59 @@
 -- What a line asks a session for, and what comes of it.
-use Rattle.std.specs.Prelude.{◌≡◌, ◌⊎◌, ◌+◌, List, Option, Some, ℕ, Result, Ok, Err}
+use Rattle.std.specs.Prelude.{◌≡◌, ◌⊎◌, ◌+◌, Bool, List, Option, Some, ℕ, Result, Ok, Err, IfOk, IfErr, true}
+use Rattle.std.specs.List.{All, Contains}
 use Rattle.reuse_tree.specs.Files.{Files, Clashes}
-use Rattle.reuse_session.specs.Answer.{IsEarly, IsFailure, HasClash, IsNoClash, IsOpenRefusal}
-use Rattle.reuse_session.specs.Journal.{State, Undoes, Redoes, rows_in}
-use Rattle.reuse_session.specs.JournalFiles.{head_path, entry_path}
-use Rattle.reuse_session.specs.Machine.{Snapshots, step}
+use Rattle.reuse_tree.specs.declared.change.Change.{Change}
+use Rattle.reuse_session.specs.Answer.{IsEarly, IsFailure, HasClash, IsNoClash, IsOpenRefusal, TellsNoFault}
+use Rattle.reuse_session.specs.Journal.{State, Recorded, Undoes, Redoes, rows_in}
+use Rattle.reuse_session.specs.JournalFiles.{head_path, entry_path, number_of}
+use Rattle.reuse_session.specs.Machine.{Kept, Snapshots, step, run_fates, as_reply}
 use Rattle.reuse_session.specs.Opening.{IsFirstBad, IsStuckAt, OpensOn, StopsOpening}
+use Rattle.reuse_session.specs.Previews.{run_fates_on, Foresees}
+use Rattle.reuse_session.specs.RevertCalls.{Reverts, as_run}
 use Rattle.reuse_session.specs.Session.{Runs, StopsAfterRun, StopsAfter}
+use Rattle.reuse_session.specs.Showing.{IsUnused, ShowsIn, ShowsAt, LedTo}
 use Rattle.reuse_session.specs.Standing.{IsStanding, InDoubt}
 use Rattle.reuse_session.specs.Stops.{HoldState, AreLeft}
-use Rattle.reuse_session.specs.declared.command.Command.TheVariants.{ConvertDep5, Download}
+use Rattle.reuse_session.specs.declared.command.Command.{Command}
+use Rattle.reuse_session.specs.declared.command.Command.TheVariants.{Revert}
+use Rattle.reuse_session.specs.declared.entry.Way.TheVariants as go
 use Rattle.reuse_session.specs.declared.events.Event.{Event}
 use Rattle.reuse_session.specs.declared.events.Event.TheVariants as events
+use Rattle.reuse_session.specs.declared.fate.Call.{Call}
+use Rattle.reuse_session.specs.declared.fate.Call.TheVariants as calls
+use Rattle.reuse_session.specs.declared.fate.Fate.{Fate}
 use Rattle.reuse_session.specs.declared.journal.head.PendingWay.TheVariants as ways
-use Rattle.reuse_session.specs.declared.licence.LicenceText.{LicenceText}
 use Rattle.reuse_session.specs.declared.reply.Cause.{Cause}
 use Rattle.reuse_session.specs.declared.reply.Reply.{Reply}
 use Rattle.reuse_session.specs.declared.reply.Reply.TheVariants as replies
+use Rattle.reuse_session.specs.declared.reply.Reverted.{Reverted}
+use Rattle.reuse_session.specs.declared.reply.Shown.{Shown}
 use Rattle.reuse_session.specs.declared.reply.Refusal.{Refusal}
 use Rattle.reuse_session.specs.declared.reply.Refusal.TheVariants as refusals
-use Rattle.reuse_undo.specs.declared.line.Action.{Action}
-use Rattle.reuse_undo.specs.declared.line.Action.TheVariants as actions
-use Rattle.reuse_undo.specs.declared.line.Line.{Line}
 use Rattle.reuse_undo.specs.declared.fault.Fault.{Fault}
 use Rattle.reuse_undo.specs.declared.fault.Fault.TheVariants as faults
-use Rattle.reuse_undo.specs.Lines.{IsReplyText, path_count}
+use Rattle.reuse_undo.specs.declared.line.Telling.{Telling}
+use Rattle.reuse_undo.specs.declared.request.Request.{Request}
+use Rattle.reuse_undo.specs.declared.request.Request.TheVariants as requests
+use Rattle.reuse_undo.specs.declared.request.Told.{Told}
+use Rattle.reuse_undo.specs.declared.request.Told.TheVariants as tells
+use Rattle.reuse_undo.specs.Outputs.{AppendsFront}
 use Rattle.reuse_undo.specs.RowLines.{AppendsSome}
+use Rattle.reuse_undo.specs.Told.{IsToldText, told_count, is_refused, IsForeseen, WouldBeMade}
 
--- what the action asks a session for; the texts are those that were found for a download
-abbrev pub event_of : Action → ℕ → List LicenceText → Event
-event_of (actions.Annotate command) moment texts = events.Run command moment
-event_of actions.ConvertDep5 moment texts = events.Run ConvertDep5 moment
-event_of (actions.Download folder ids) moment texts = events.Run (Download ids texts) moment
-event_of actions.Undo moment texts = events.Undo
-event_of actions.Redo moment texts = events.Redo
-event_of actions.Log moment texts = events.Log
+-- ---- the session's answer to an event, from any files
 
--- what the line asks for
-abbrev pub asked : Line → List LicenceText → Event
-asked line texts = event_of line.action line.moment texts
+-- what a preview answers
+abbrev pub Previews : Call → State → Result (List Fate) Refusal → Type 0
+Previews (calls.Run command) old answer = answer ≡ run_fates_on old command
+Previews calls.Undo old answer = Foresees go.Undo old.journal.done old.tree answer
+Previews calls.Redo old answer = Foresees go.Do old.journal.undone old.tree answer
 
--- ---- the session's answer, from any files
+-- a call that only looks leaves the standing; unless it tells a fault of the store or want of memory, its answer is such a one
+pub record Looks {A : Type 0} (IsAnswer : Result A Refusal → Type 0) (old : State) (answer : Result A Refusal) (files : Files) : Type 0 where
+  pub right : TellsNoFault answer → IsAnswer answer
+  pub stands : IsStanding files old
+  pub unstopped : IfErr answer IsEarly
 
 -- what a call answers and which standing it leaves, where it tells neither a fault of the store nor want of memory
 abbrev pub Does : Event → State → Result Reply Refusal → State → Type 0
@@ -48,6 +61,7 @@ Does (events.Run command when) old answer new = Runs command when old answer new
 Does events.Undo old answer new = Undoes old.journal.done old answer new
 Does events.Redo old answer new = Redoes old.journal.undone old answer new
 Does events.Log old answer new = (answer ≡ Ok (replies.Log (rows_in old.journal))) × (new ≡ old)
+Does (events.Preview call) old answer new = ⊥
 Does events.Reopen old answer new = (answer ≡ Ok replies.Opened) × (new ≡ old)
 
 -- a call that stopped leaves files in doubt between the standing before it and that after it; a log doesn't stop
@@ -66,14 +80,50 @@ Makes event old answer files = (new : State) × Does event old answer new × IsS
 
 -- what a call answers and leaves from a standing; a log answers its rows, or memory ran out
 abbrev pub Calls : Event → State → Result Reply Refusal → Files → Type 0
+Calls (events.Preview call) old answer files = (fates : Result (List Fate) Refusal) × (answer ≡ as_reply fates) × Looks (Previews call old) old fates files
 Calls events.Log old (Err refusals.Memory) files = IsStanding files old
 Calls events.Log old answer files = (new : State) × Does events.Log old answer new × IsStanding files new
 Calls event old answer files = Makes event old answer files
 
--- a clash that is told is that of the path that is put: of the next entry, which a run alone puts, or of the head
-abbrev pub HasCallClash : Event → State → Files → Refusal → Type 0
-HasCallClash (events.Run command when) old files = HasClash (Clashes files (entry_path (old.journal.used + 1))) (Clashes files head_path)
-HasCallClash event old files = HasClash ⊥ (Clashes files head_path)
+-- ---- the session's answer to a request
+
+-- an answer, as it is told
+abbrev pub as_told : {A : Type 0} → (A → Told) → Result A Refusal → Result Told Refusal
+as_told tell (Ok value) = Ok (tell value)
+as_told tell (Err refusal) = Err refusal
+
+-- what a revert answers and leaves: a fault of the store or want of memory leaves the standing, and a stop files in doubt between it and
+-- that after a run that takes the changes of the step back
+abbrev pub RevertsOn : ℕ → Bool → ℕ → State → Result Reverted Refusal → Files → Type 0
+RevertsOn number skip_moved when old (Err (refusals.Fault fault)) files = IsStanding files old
+RevertsOn number skip_moved when old (Err refusals.Memory) files = IsStanding files old
+RevertsOn number skip_moved when old (Err (refusals.Interrupted cause)) files =
+    (step : Recorded) × Contains old.journal.done step × (number_of step ≡ number) × StopsAfterRun (Revert step.changes skip_moved) when old files
+RevertsOn number skip_moved when old answer files = (new : State) × Reverts number skip_moved when old answer new × IsStanding files new
+
+-- what a dry run of a revert answers: what a run would do that takes the changes of the step back, or that no such step is done
+abbrev pub PreviewsRevert : ℕ → Bool → State → Result (List Fate) Refusal → Type 0
+PreviewsRevert number skip_moved old answer =
+    ((answer ≡ Err (refusals.NoSuchStep number)) × IsUnused number old.journal.done)
+    ⊎ ((step : Recorded) × Contains old.journal.done step × (number_of step ≡ number) × (answer ≡ run_fates_on old (Revert step.changes skip_moved)))
+
+-- what a request is answered and leaves from a standing
+abbrev pub Meets : Request → State → Result Told Refusal → Files → Type 0
+Meets (requests.Call event) old answer files = (reply : Result Reply Refusal) × (answer ≡ as_told tells.Reply reply) × Calls event old reply files
+Meets (requests.Show number) old answer files = (shown : Result Shown Refusal) × (answer ≡ as_told tells.Shown shown) × Looks (ShowsIn old.journal number) old shown files
+Meets (requests.Revert number skip_moved when) old answer files =
+    (reverted : Result Reverted Refusal) × (answer ≡ as_told tells.Reverted reverted) × RevertsOn number skip_moved when old reverted files
+Meets (requests.PreviewRevert number skip_moved) old answer files =
+    (fates : Result (List Fate) Refusal) × (answer ≡ as_told (λ (f : List Fate). tells.Reply (replies.Preview f)) fates) × Looks (PreviewsRevert number skip_moved old) old fates files
+
+-- A clash that is told is that of the path that is put: of the next entry, which a run and a revert alone put, or of the head. What only looks tells
+-- none.
+abbrev pub HasCallClash : Request → State → Files → Refusal → Type 0
+HasCallClash (requests.Call (events.Run command when)) old files = HasClash (Clashes files (entry_path (old.journal.used + 1))) (Clashes files head_path)
+HasCallClash (requests.Revert number skip_moved when) old files = HasClash (Clashes files (entry_path (old.journal.used + 1))) (Clashes files head_path)
+HasCallClash (requests.Call events.Undo) old files = HasClash ⊥ (Clashes files head_path)
+HasCallClash (requests.Call events.Redo) old files = HasClash ⊥ (Clashes files head_path)
+HasCallClash request old files = IsNoClash
 
 -- no session was opened
 pub record IsUnopened (before : Files) (refusal : Refusal) (after : Files) : Type 0 where
@@ -88,37 +138,85 @@ pub record IsUnopened (before : Files) (refusal : Refusal) (after : Files) : Typ
   pub settles : (first second : State) → InDoubt first second before → IsFailure refusal × InDoubt first second after
 
 -- a session was opened, and the call was made on the standing that it found
-pub record IsMade (before : Files) (event : Event) (answer : Result Reply Refusal) (after : Files) : Type 0 where
-  pub made : (found : State) × (opened : Files) × OpensOn before found opened × Calls event found answer after
+pub record IsMade (before : Files) (request : Request) (answer : Result Told Refusal) (after : Files) : Type 0 where
+  pub made : (found : State) × (opened : Files) × OpensOn before found opened × Meets request found answer after
   -- of files in doubt that is one of the two
-  pub settles : (first second : State) → InDoubt first second before → Calls event first answer after ⊎ Calls event second answer after
+  pub settles : (first second : State) → InDoubt first second before → Meets request first answer after ⊎ Meets request second answer after
 
--- a session's answer to the event, or its opening's refusal, and the files then
-abbrev pub Carries : Files → Event → Result Reply Refusal → Files → Type 0
-Carries before event answer after = ((refusal : Refusal) × (answer ≡ Err refusal) × IsUnopened before refusal after) ⊎ IsMade before event answer after
+-- a session's answer to the request, or its opening's refusal, and the files then
+abbrev pub Carries : Files → Request → Result Told Refusal → Files → Type 0
+Carries before request answer after = ((refusal : Refusal) × (answer ≡ Err refusal) × IsUnopened before refusal after) ⊎ IsMade before request answer after
 
 -- ---- from a state of the machine
 
--- The answer and the files are those of the machine that keeps whole copies. A fault of the store or want of memory leaves the state,
--- and a stop leaves it, or files in doubt between it and the next.
-abbrev pub Steps : Snapshots → Event → Result Reply Refusal → Files → Type 0
-Steps state event (Err (refusals.Fault fault)) files = HoldState files state
-Steps state event (Err refusals.Memory) files = HoldState files state
-Steps state event (Err (refusals.Interrupted cause)) files = HoldState files state ⊎ AreLeft files state (Some (step state event).1)
-Steps state event answer files = (answer ≡ (step state event).0) × HoldState files (step state event).1
+-- The answer to an event and the files are those of the machine that keeps whole copies. A fault of the store or want of memory leaves the
+-- state, and a stop leaves it, or files in doubt between it and the next.
+abbrev pub StepsBy : Snapshots → Event → Result Reply Refusal → Files → Type 0
+StepsBy state event (Err (refusals.Fault fault)) files = HoldState files state
+StepsBy state event (Err refusals.Memory) files = HoldState files state
+StepsBy state event (Err (refusals.Interrupted cause)) files = HoldState files state ⊎ AreLeft files state (Some (step state event).1)
+StepsBy state event answer files = (answer ≡ (step state event).0) × HoldState files (step state event).1
+
+-- no step that led to the tree has the number
+abbrev pub IsUnkept : ℕ → List Kept → Type 0
+IsUnkept number past = All (λ (kept : Kept). ¬ (kept.label.number ≡ number)) past
+
+-- where neither is told: the answer and the files are those of the machine's run that takes back what the step of the number changed, or no step that is
+-- done has the number
+abbrev pub StepsBackBy : Snapshots → ℕ → Bool → ℕ → Result Reverted Refusal → Files → Type 0
+StepsBackBy state number skip_moved when answer files =
+    ((answer ≡ Err (refusals.NoSuchStep number)) × IsUnkept number state.past × HoldState files state)
+    ⊎ ((changes : List Change) × LedTo number changes state.tree state.past × StepsBy state (events.Run (Revert changes skip_moved) when) (as_run answer) files)
+
+-- The answer to a revert and the files are those of the machine. A fault of the store or want of memory leaves the state, and a stop leaves it, or files
+-- in doubt between it and the one that the run leads to.
+abbrev pub StepsBack : Snapshots → ℕ → Bool → ℕ → Result Reverted Refusal → Files → Type 0
+StepsBack state number skip_moved when (Err (refusals.Fault fault)) files = HoldState files state
+StepsBack state number skip_moved when (Err refusals.Memory) files = HoldState files state
+StepsBack state number skip_moved when (Err (refusals.Interrupted cause)) files =
+    HoldState files state
+    ⊎ ((changes : List Change) × LedTo number changes state.tree state.past × AreLeft files state (Some (step state (events.Run (Revert changes skip_moved) when)).1))
+StepsBack state number skip_moved when answer files = StepsBackBy state number skip_moved when answer files
+
+-- a dry run of a revert answers what the machine says of such a run, or no step that is done has the number
+abbrev pub ForetellsBack : Snapshots → ℕ → Bool → Result (List Fate) Refusal → Type 0
+ForetellsBack state number skip_moved answer =
+    ((answer ≡ Err (refusals.NoSuchStep number)) × IsUnkept number state.past)
+    ⊎ ((changes : List Change) × LedTo number changes state.tree state.past × (answer ≡ run_fates state (Revert changes skip_moved)))
+
+-- the same of a request; what only looks leaves the state, and a step that is shown is one of the machine's
+abbrev pub Steps : Snapshots → Request → Result Told Refusal → Files → Type 0
+Steps state (requests.Call event) answer files = (reply : Result Reply Refusal) × (answer ≡ as_told tells.Reply reply) × StepsBy state event reply files
+Steps state (requests.Show number) answer files = (shown : Result Shown Refusal) × (answer ≡ as_told tells.Shown shown) × IfOk shown (ShowsAt state number) × HoldState files state
+Steps state (requests.Revert number skip_moved when) answer files =
+    (reverted : Result Reverted Refusal) × (answer ≡ as_told tells.Reverted reverted) × StepsBack state number skip_moved when reverted files
+Steps state (requests.PreviewRevert number skip_moved) answer files =
+    (fates : Result (List Fate) Refusal) × (answer ≡ as_told (λ (f : List Fate). tells.Reply (replies.Preview f)) fates)
+    × (TellsNoFault fates → ForetellsBack state number skip_moved fates) × HoldState files state
 
 -- ---- what is told of it
 
--- The answer is one of these. Of a reply the writer, if it tells its bytes, was given the lines, and its paths are counted, or it failed; a
--- refusal is handed on, and nothing is written of it. That another run works on the tree is told before a store is asked, so never here.
-abbrev pub Tells : (Result Reply Refusal → Type 0) → Option (List ℕ) → Option (List ℕ) → Result ℕ Fault → Type 0
-Tells IsAnswer old new (Ok count) = (reply : Reply) × IsAnswer (Ok reply) × AppendsSome old new (IsReplyText reply) × (count ≡ path_count reply)
-Tells IsAnswer old new (Err (faults.Refused refusal)) = IsAnswer (Err refusal) × (new ≡ old)
-Tells IsAnswer old new (Err faults.InUse) = ⊥
-Tells IsAnswer old new (Err faults.Write) = (reply : Reply) × IsAnswer (Ok reply)
-Tells IsAnswer old new (Err faults.Memory) = (reply : Reply) × IsAnswer (Ok reply)
+-- The answer is one of these. Of it the writer, if it tells its bytes, was given the lines, and the paths that changed are counted, or it failed behind
+-- some front part of them; a refusal is handed on, and nothing is written of it, nor for want of memory. A call that was only looked at is a fault exactly where one of its fates is a refusal. That another
+-- run works on the tree is told before a store is asked, so never here.
+abbrev pub Tells : Telling → (Result Told Refusal → Type 0) → Option (List ℕ) → Option (List ℕ) → Result ℕ Fault → Type 0
+Tells telling IsAnswer old new (Ok count) = (told : Told) × IsAnswer (Ok told) × WouldBeMade told × AppendsSome old new (IsToldText telling told) × (count ≡ told_count told)
+Tells telling IsAnswer old new (Err (faults.Refused refusal)) = IsAnswer (Err refusal) × (new ≡ old)
+Tells telling IsAnswer old new (Err (faults.WouldRefuse fates)) =
+    IsAnswer (Ok (tells.Reply (replies.Preview fates))) × (is_refused fates ≡ true) × AppendsSome old new (IsToldText telling (tells.Reply (replies.Preview fates)))
+Tells telling IsAnswer old new (Err (faults.NoDiff refusal)) = ((told : Told) × IsAnswer (Ok told) × IsForeseen telling told) × (new ≡ old)
+Tells telling IsAnswer old new (Err faults.InUse) = ⊥
+Tells telling IsAnswer old new (Err faults.Write) = (told : Told) × IsAnswer (Ok told) × (text : List ℕ) × IsToldText telling told text × AppendsFront old new text
+Tells telling IsAnswer old new (Err faults.Memory) = ((told : Told) × IsAnswer (Ok told)) × (new ≡ old)
 
 -- a refusal that is told
 abbrev pub IfRefused : {T : Type 0} → Result T Fault → (Refusal → Type 0) → Type 0
 IfRefused (Err (faults.Refused refusal)) Claim = Claim refusal
 IfRefused result Claim = Unit {0}
+
+-- ---- for private clauses
+
+-- the command takes a step of the number back that is done, or there is none
+abbrev pub TakesBackStep : ℕ → Bool → State → Result Command Refusal → Type 0
+TakesBackStep number skip_moved old (Ok command) = (step : Recorded) × Contains old.journal.done step × (number_of step ≡ number) × (command ≡ Revert step.changes skip_moved)
+TakesBackStep number skip_moved old (Err refusal) = (refusal ≡ refusals.NoSuchStep number) × IsUnused number old.journal.done

@@ -1,10 +1,9 @@
--- Which faults a writer gives.
+-- Which faults making a diff gives.
 use Rattle.reuse_undo.specs.declared.fault.Fault.{Fault}
-use Rattle.reuse_undo.specs.declared.fault.Fault.TheVariants.{Refused, InUse, Write, Memory}
+use Rattle.reuse_undo.specs.declared.fault.Fault.TheVariants.{NoDiff, Memory}
 
--- a fault that comes after the call, in writing its reply
-abbrev pub IsOfWriter : Fault → Type 0
-IsOfWriter Write = Unit {0}
-IsOfWriter Memory = Unit {0}
-IsOfWriter (Refused refusal) = ⊥
-IsOfWriter InUse = ⊥
+-- a fault that comes in making a diff
+abbrev pub IsOfDiff : Fault → Type 0
+IsOfDiff (NoDiff refusal) = Unit {0}
+IsOfDiff Memory = Unit {0}
+IsOfDiff fault = ⊥

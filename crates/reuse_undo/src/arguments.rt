@@ -1,4 +1,5 @@
 //! The options and subcommands that the command line has, with their help.
+use clap::builder::ValueParser;
 use clap::{Arg, ArgAction, ArgGroup, Command};
 use std::alloc::{AllocError, Global};
 
@@ -14,6 +15,9 @@ const STYLES: &[&str] = &[
     "ml",
     "vim",
 ];
+
+/// The largest number that a step may be asked for by.
+const MOST_NUMBER: u64 = 4_294_967_295;
 
 const PREFIXES: &[&str] = &[
     "spdx",
@@ -39,6 +43,7 @@ DIR/.reuse/undo.
 
 Examples:
   reuse-undo annotate -c \"Jane Doe\" -l MIT -r src
+  reuse-undo annotate -c \"Jane Doe\" -l MIT -r src --dry-run --diff
   reuse-undo undo
 
 Status: 0 on success, 1 where a call was refused, 2 where the words are wrong.";
@@ -81,6 +86,20 @@ It is refused, and changes nothing, where a file of the step isn't as it was bef
 
 Example:
   reuse-undo redo";
+
+const AFTER_REVERT: &str = "\
+It makes a new step, which undo takes back in turn. Of each file of step NUMBER what the step wrote must stand where it
+was written, whatever follows it; a file that the step made must be as it was made, and where it removed one none must
+be. Where the step only took bytes away, the file must be as the step left it. Where one file isn't so, none is changed.
+
+Example:
+  reuse-undo revert 3 --dry-run --diff";
+
+const AFTER_SHOW: &str = "\
+The first line is that of `log`. A line `made PATH`, `removed PATH` or `changed PATH` follows for each path.
+
+Example:
+  reuse-undo show 3 --diff";
 
 const AFTER_LOG: &str = "\
 A line is NUMBER DATE COMMAND COUNT STATE: the step's number, its date in UTC, the command, how many paths it
@@ -265,6 +284,77 @@ fn plain<'a>(alloc: Global, name: &'a str, about: &'a str, after: &'a str) -> Co
     Command::new(alloc, name).about(about).after_help(after)
 }
 
+fn convert<'a>(alloc: Global) -> Command<'a> {
+    let about = "Puts a REUSE.toml in the place of .reuse/dep5";
+    plain(alloc, "convert-dep5", about, AFTER_CONVERT)
+}
+
+fn undo<'a>(alloc: Global) -> Command<'a> {
+    plain(alloc, "undo", "Takes the last step back", AFTER_UNDO)
+}
+
+fn redo<'a>(alloc: Global) -> Command<'a> {
+    let about = "Makes the step again that was undone last";
+    plain(alloc, "redo", about, AFTER_REDO)
+}
+
+/// What changes a tree, with the options that have it told beforehand.
+fn with_dry_run<'a>(alloc: Global, command: Command<'a>) -> Result<Command<'a>, AllocError> {
+    let dry_run = flag(
+        alloc,
+        "dry-run",
+        "Tell what would change, with the refusal of each path, and write nothing",
+    );
+    let diff = flag(
+        alloc,
+        "diff",
+        "With --dry-run, tell as a diff too what would change",
+    );
+    command
+        .arg(dry_run.short('n'))?
+        .arg(diff.requires_arg("dry-run")?)
+}
+
+fn number<'a>(alloc: Global) -> Arg<'a> {
+    Arg::new(alloc, "NUMBER")
+        .required(true)
+        .value_parser(ValueParser::unsigned(0, MOST_NUMBER))
+        .help("The number of a step, as log tells it")
+}
+
+fn revert<'a>(alloc: Global) -> Result<Command<'a>, AllocError> {
+    let command = plain(
+        alloc,
+        "revert",
+        "Takes the step NUMBER back, by a new step",
+        AFTER_REVERT,
+    );
+    let command = with_dry_run(alloc, command)?;
+    command
+        .arg(flag(
+            alloc,
+            "skip-moved",
+            "Leave a file as it is where the step can't be taken back",
+        ))?
+        .arg(number(alloc))
+}
+
+fn json<'a>(alloc: Global) -> Arg<'a> {
+    flag(alloc, "json", "Print a JSON object on each line")
+}
+
+fn show<'a>(alloc: Global) -> Result<Command<'a>, AllocError> {
+    let diff = flag(
+        alloc,
+        "diff",
+        "Tell the lines that the step took away and wrote",
+    );
+    plain(alloc, "show", "Tells what a step changed", AFTER_SHOW)
+        .arg(diff.conflicts_with("json")?)?
+        .arg(json(alloc))?
+        .arg(number(alloc))
+}
+
 /// The whole command line.
 pub fn whole<'a>(alloc: Global) -> Result<Command<'a>, AllocError> {
     let root = Arg::new(alloc, "root")
@@ -289,20 +379,12 @@ pub fn whole<'a>(alloc: Global) -> Result<Command<'a>, AllocError> {
         .subcommand_required(true)
         .arg(root)?
         .arg(verbose)?
-        .subcommand(annotate(alloc)?)?
-        .subcommand(plain(
-            alloc,
-            "convert-dep5",
-            "Puts a REUSE.toml in the place of .reuse/dep5",
-            AFTER_CONVERT,
-        ))?
-        .subcommand(download(alloc)?)?
-        .subcommand(plain(alloc, "undo", "Takes the last step back", AFTER_UNDO))?
-        .subcommand(plain(
-            alloc,
-            "redo",
-            "Makes the step again that was undone last",
-            AFTER_REDO,
-        ))?
-        .subcommand(plain(alloc, "log", "Lists the steps", AFTER_LOG))
+        .subcommand(with_dry_run(alloc, annotate(alloc)?)?)?
+        .subcommand(with_dry_run(alloc, convert(alloc))?)?
+        .subcommand(with_dry_run(alloc, download(alloc)?)?)?
+        .subcommand(with_dry_run(alloc, undo(alloc))?)?
+        .subcommand(with_dry_run(alloc, redo(alloc))?)?
+        .subcommand(revert(alloc)?)?
+        .subcommand(plain(alloc, "log", "Lists the steps", AFTER_LOG).arg(json(alloc))?)?
+        .subcommand(show(alloc)?)
 }

@@ -4,9 +4,8 @@ ghost use Rattle.std.specs.Option.{option_to_list};
 ghost use Rattle.reuse_notice.specs.Sets.{set_of};
 ghost use Rattle.reuse_undo.specs.FileLists.{has_nul, separator_of, path_of_word, listed_paths};
 
-use crate::line::{Action, Line, LineFault};
+use crate::line::{Action, Deed, Line, LineFault};
 use crate::place_word::place_of_word;
-use crate::words::Said;
 use reuse_session::{Command, PathList, Place};
 use reuse_tree::PathText;
 use std::alloc::{AllocError, Global};
@@ -17,34 +16,22 @@ use std::rt::{Files, Runtime};
 /// The most bytes that a list may have.
 const LONGEST_LIST: u64 = 268_435_456;
 
-/// What the words say, with the list of files that they name. One that can't be read is a fault.
-pub fn with_list<R: Runtime>(rt: &R, alloc: Global, said: Said) -> Said {
-    let Said {
-        verbose,
-        files_from,
-        line,
-    } = said;
-    let line = match (line, &files_from) {
-        (Ok(line), Some(file)) => with_list_of(rt, alloc, line, file),
-        (line, _) => line,
-    };
-    Said {
-        verbose,
-        files_from,
-        line,
-    }
-}
-
-fn with_list_of<R: Runtime>(
+/// The line with the list of files that it names. One that can't be read is a fault.
+pub fn with_list<R: Runtime>(
     rt: &R,
     alloc: Global,
     line: Line,
-    file: &String,
+    files_from: Option<String>,
 ) -> Result<Line, LineFault> {
     let mut line = line;
+    let Some(file) = files_from else {
+        return Ok(line);
+    };
     let listed = read_list(rt, alloc, file.as_str())?;
-    if let Action::Annotate(Command::Annotate { scope, .. }) = &mut line.action {
-        scope.listed = Some(listed);
+    if let Action::Do(deed) | Action::Foretell(deed) = &mut line.action {
+        if let Deed::Annotate(Command::Annotate { scope, .. }) = deed {
+            scope.listed = Some(listed);
+        }
     }
     Ok(line)
 }

@@ -1,8 +1,10 @@
 //! What is found out about a call beside its outcome, for notes.
 use crate::above::journal_above;
 use crate::disk::{DiskStore, Failure};
-use crate::line::{Action, Line};
-use reuse_session::{Head, decode_head};
+use crate::fault::Fault;
+use crate::line::{Action, Deed, Line};
+use crate::request::Request;
+use reuse_session::{Command, Event, Fate, Head, Refusal, Scope, Session, Unknown, decode_head};
 use reuse_text::Bytes;
 use reuse_tree::{PathText, Reading, Store};
 use std::alloc::Global;
@@ -29,18 +31,21 @@ pub enum Task {
     Undo,
     /// To make a step again.
     Redo,
+    /// To take a step back by a new one, or to tell what that would do.
+    Revert,
     /// To change nothing.
-    Log,
+    Look,
 }
 
 impl Task {
     fn of(action: &Action) -> Task {
         match action {
-            Action::Annotate(_) | Action::Download { .. } => Task::Step,
-            Action::ConvertDep5 => Task::Conversion,
-            Action::Undo => Task::Undo,
-            Action::Redo => Task::Redo,
-            Action::Log => Task::Log,
+            Action::Do(Deed::Annotate(_) | Deed::Download { .. }) => Task::Step,
+            Action::Do(Deed::ConvertDep5) => Task::Conversion,
+            Action::Do(Deed::Undo) => Task::Undo,
+            Action::Do(Deed::Redo) => Task::Redo,
+            Action::Do(Deed::Revert { .. }) | Action::Foretell(Deed::Revert { .. }) => Task::Revert,
+            Action::Foretell(_) | Action::Log | Action::Show(_) => Task::Look,
         }
     }
 }
@@ -59,6 +64,8 @@ pub struct Findings {
     pub is_set_back: bool,
     /// Whether the table that was made says nothing of any file.
     pub is_table_empty: bool,
+    /// How many files have names that aren't recognised, where the call was refused for one or passed them over.
+    pub unrecognised: usize,
     /// The call of the store that failed.
     pub failure: Option<Failure>,
 }
@@ -71,8 +78,8 @@ impl Findings {
         line: &Line,
         store: &mut impl Store,
     ) -> Findings {
-        let texts = match &line.action {
-            Action::Download { folder, .. } => String::from_str(alloc, folder.as_str()).ok(),
+        let texts = match line.action.deed() {
+            Some(Deed::Download { folder, .. }) => String::from_str(alloc, folder.as_str()).ok(),
             _ => None,
         };
         Findings {
@@ -82,6 +89,7 @@ impl Findings {
             begun: begun_step(alloc, store),
             is_set_back: false,
             is_table_empty: false,
+            unrecognised: 0,
             failure: None,
         }
     }
@@ -90,16 +98,64 @@ impl Findings {
     pub fn look_after<R: Files + AllocGlobal + Clone + Drop>(
         &mut self,
         alloc: Global,
-        mut store: DiskStore<R>,
+        mut folder: DiskStore<R>,
+        request: &Request,
+        outcome: &Result<usize, Fault>,
     ) {
-        self.failure = store.take_failure();
+        self.failure = folder.take_failure();
         if self.begun.is_some() {
-            self.is_set_back = has_settled(alloc, &mut store);
+            self.is_set_back = has_settled(alloc, &mut folder);
         }
         if self.task == Task::Conversion {
-            self.is_table_empty = is_table_empty(alloc, &mut store);
+            self.is_table_empty = is_table_empty(alloc, &mut folder);
+        }
+        if let Some(command) = passing_over(request, outcome) {
+            let passed_over = outcome.is_ok();
+            self.unrecognised = unrecognised_names(alloc, folder, command, passed_over).unwrap_or(
+                0,
+            );
         }
     }
+}
+
+/// The annotation that was refused for a name that isn't recognised, or passed such names over, and no others.
+fn passing_over<'a>(request: &'a Request, outcome: &Result<usize, Fault>) -> Option<&'a Command> {
+    let Request::Call(Event::Run(command, _)) = request else {
+        return None;
+    };
+    match (command, outcome) {
+        (_, Err(Fault::Refused(Refusal::Unrecognised(_)))) => Some(command),
+        (Command::Annotate { scope, .. }, Ok(_)) if passes_over(scope) => Some(command),
+        _ => None,
+    }
+}
+
+fn passes_over(scope: &Scope) -> bool {
+    scope.unknown == Unknown::Skip && !scope.skip_existing
+}
+
+/// Of how many files that the annotation goes through the names aren't recognised. It is looked at once more for that.
+fn unrecognised_names<S: Store + Drop>(
+    alloc: Global,
+    folder: S,
+    command: &Command,
+    passed_over: bool,
+) -> Option<usize> {
+    let mut session = Session::open(alloc, folder).ok()?;
+    let fates = session.preview(alloc, command).ok()?;
+    Some(unrecognised_among(fates.as_slice(), passed_over))
+}
+
+/// How many of the fates are of names that aren't recognised: they are refused, or, where such are passed over, skipped.
+pub fn unrecognised_among(fates: &[Fate], passed_over: bool) -> usize {
+    fates
+        .iter()
+        .filter(|fate| match fate {
+            Fate::Refused(Refusal::Unrecognised(_)) => true,
+            Fate::Skipped(_) => passed_over,
+            _ => false,
+        })
+        .count()
 }
 
 fn read(alloc: Global, store: &mut impl Store, path: &str) -> Option<Bytes> {

@@ -1,12 +1,15 @@
 //! What a command line asks for.
+ghost use Rattle.std.specs.Prelude.{◌≡◌, if◌then◌else◌};
+ghost use Rattle.reuse_undo.specs.declared.line.Action.TheVariants as actions;
+
 use reuse_notice::NoticeRefusal;
 use reuse_session::{Command, Ids, Moment};
 use std::alloc::{AllocError, AllocFailed};
 use thiserror::Error;
 
-/// What a line asks for.
+/// What changes a tree.
 #[derive(Debug, Drop)]
-pub enum Action {
+pub enum Deed {
     /// To run this command, which is `annotate`.
     Annotate(Command),
     /// To run `convert-dep5`.
@@ -21,8 +24,57 @@ pub enum Action {
     Undo,
     /// To make the step again that was taken back last.
     Redo,
+    /// To take a step back, wherever it stands in the history.
+    Revert {
+        number: u32,
+        /// Whether the paths that can't be taken back are left as they are.
+        skip_moved: bool,
+    },
+}
+
+/// What a line asks for.
+#[derive(Debug, Drop)]
+pub enum Action {
+    /// To change the tree.
+    Do(Deed),
+    /// To tell what that would change.
+    Foretell(Deed),
     /// For the log.
     Log,
+    /// To show the step of this number.
+    Show(u32),
+}
+
+impl Action {
+    /// To change the tree, or to tell what that would change.
+    pub fn of(deed: Deed, dry_run: bool) -> Action
+        ensures { result ≡ (if dry_run then actions.Foretell deed else actions.Do deed) }
+    {
+        if dry_run {
+            Action::Foretell(deed)
+        } else {
+            Action::Do(deed)
+        }
+    }
+
+    /// What would change the tree, or is told of.
+    pub fn deed(&self) -> Option<&Deed> {
+        match self {
+            Action::Do(deed) | Action::Foretell(deed) => Some(deed),
+            Action::Log | Action::Show(_) => None,
+        }
+    }
+}
+
+/// How what is told is written.
+#[derive(Clone, Copy, Debug, PartialEq, Eq)]
+pub enum Telling {
+    /// A line for each path or row.
+    Lines,
+    /// These lines, and what changes as a diff.
+    Diff,
+    /// A JSON object on each line.
+    Json,
 }
 
 /// A command line that was read.
@@ -31,6 +83,7 @@ pub struct Line {
     /// The folder of the tree, relative to the working folder.
     pub root: String,
     pub action: Action,
+    pub telling: Telling,
     /// When the line was read.
     pub moment: Moment,
 }

@@ -1,12 +1,12 @@
-//! The lines that a reply is printed as.
+//! The lines that an answer is printed as.
 ghost use Rattle.std.specs.Prelude.{◌≡◌, OnOk};
 ghost use Rattle.std.specs.Io.KnownBytes.{Appends};
-ghost use Rattle.reuse_undo.specs.Lines.{line_of, lines_of, path_count, IsReplyText};
+ghost use Rattle.reuse_undo.specs.Lines.{line_of, lines_of, fate_line, fate_lines, change_line, change_lines, path_count, IsReplyText, IsShownText, changed_text, reverted_text};
 ghost use Rattle.reuse_undo.specs.RowLines.{AppendsSome};
 
-use crate::rows::print_rows;
-use reuse_session::Reply;
-use reuse_tree::PathText;
+use crate::rows::{print_row, print_rows};
+use reuse_session::{Fate, Reply, Reverted, Shown};
+use reuse_tree::{Change, PathText};
 use std::io::{self, Write};
 
 fn print_path<W: Write>(out: &mut W, word: &str, path: &PathText) -> io::Result<()>
@@ -25,7 +25,7 @@ fn print_paths<W: Write>(out: &mut W, word: &str, paths: &[PathText]) -> io::Res
     Ok(())
 }
 
-/// Prints a reply: a line for each path or row. That a session was opened is not told.
+/// Prints a reply: a line for each path or row. That a session was opened is not told, nor the refusals of a preview.
 pub fn print_reply<W: Write>(out: &mut W, reply: &Reply) -> io::Result<()>
     ensures { OnOk result (AppendsSome (W.contents out.old) (W.contents out.new) (IsReplyText reply.now)) }
 {
@@ -35,11 +35,78 @@ pub fn print_reply<W: Write>(out: &mut W, reply: &Reply) -> io::Result<()>
         Reply::Redone(paths) => print_paths(out, "redone", paths.as_slice()),
         Reply::NothingChanged => writeln!(out, "nothing changed"),
         Reply::Log(rows) => print_rows(out, rows.as_slice()),
+        Reply::Preview(fates) => print_fates(out, fates.as_slice()),
         Reply::Opened => Ok(()),
     }
 }
 
-/// How many paths a reply tells.
+/// Prints a line for each fate that is no refusal.
+fn print_fates<W: Write>(out: &mut W, fates: &[Fate]) -> io::Result<()>
+    ensures { OnOk result (Appends (W.contents out.old) (W.contents out.new) (fate_lines fates.now)) }
+{
+    for fate in fates {
+        print_fate(out, fate)?;
+    }
+    Ok(())
+}
+
+fn print_fate<W: Write>(out: &mut W, fate: &Fate) -> io::Result<()>
+    ensures { OnOk result (Appends (W.contents out.old) (W.contents out.new) (fate_line fate.now)) }
+{
+    match fate {
+        Fate::Changes(path) => print_path(out, "would change", path),
+        Fate::Unchanged(path) => print_path(out, "unchanged", path),
+        Fate::Skipped(path) => print_path(out, "skipped", path),
+        Fate::Refused(_) => Ok(()),
+    }
+}
+
+/// Prints a step: its row of the log, and a line for each path.
+pub fn print_shown<W: Write>(out: &mut W, shown: &Shown) -> io::Result<()>
+    ensures { OnOk result (AppendsSome (W.contents out.old) (W.contents out.new) (IsShownText shown.now)) }
+{
+    print_row(out, &shown.row)?;
+    print_changes(out, shown.changes.as_slice())
+}
+
+fn print_changes<W: Write>(out: &mut W, changes: &[Change]) -> io::Result<()>
+    ensures { OnOk result (Appends (W.contents out.old) (W.contents out.new) (change_lines changes.now)) }
+{
+    for change in changes {
+        print_change(out, change)?;
+    }
+    Ok(())
+}
+
+fn print_change<W: Write>(out: &mut W, change: &Change) -> io::Result<()>
+    ensures { OnOk result (Appends (W.contents out.old) (W.contents out.new) (change_line change.now)) }
+{
+    match change {
+        Change::Make { path, .. } => print_path(out, "made", path),
+        Change::Drop { path, .. } => print_path(out, "removed", path),
+        Change::Splice { path, .. } => print_path(out, "changed", path),
+    }
+}
+
+/// Prints what a revert did: the paths that changed, and then those that were left.
+pub fn print_reverted<W: Write>(out: &mut W, reverted: &Reverted) -> io::Result<()>
+    ensures { OnOk result (Appends (W.contents out.old) (W.contents out.new) (reverted_text reverted.now)) }
+{
+    print_reverted_paths(out, reverted.changed.as_slice())?;
+    print_paths(out, "skipped", reverted.skipped.as_slice())
+}
+
+fn print_reverted_paths<W: Write>(out: &mut W, paths: &[PathText]) -> io::Result<()>
+    ensures { OnOk result (Appends (W.contents out.old) (W.contents out.new) (changed_text paths.now)) }
+{
+    if paths.is_empty() {
+        writeln!(out, "nothing changed")
+    } else {
+        print_paths(out, "changed", paths)
+    }
+}
+
+/// How many paths a reply tells that changed.
 pub fn path_count(reply: &Reply) -> usize
     ensures { result ≡ path_count reply.now }
 {
@@ -47,6 +114,6 @@ pub fn path_count(reply: &Reply) -> usize
         Reply::Changed(paths) | Reply::Undone(paths) | Reply::Redone(paths) => {
             paths.as_slice().len()
         }
-        Reply::NothingChanged | Reply::Log(_) | Reply::Opened => 0,
+        Reply::NothingChanged | Reply::Log(_) | Reply::Preview(_) | Reply::Opened => 0,
     }
 }

@@ -6,6 +6,7 @@ mod arguments;
 #[cfg(test)]
 mod call_tests;
 mod date;
+mod diff;
 mod disk;
 mod fault;
 mod file_list;
@@ -14,9 +15,13 @@ mod line;
 mod lines;
 mod lock;
 mod notes;
+mod objects;
+mod on_folder;
+mod output;
 mod place_word;
 mod prefix_name;
 mod progress;
+mod request;
 mod rows;
 mod run_line;
 #[cfg(test)]
@@ -31,16 +36,18 @@ use disk::DiskStore;
 use fault::Fault;
 use file_list::with_list;
 use findings::Findings;
-use line::{Action, Line, LineFault};
+use line::{Deed, Line, LineFault};
 use lock::lock_root;
 use notes::{note_call, note_words};
-use progress::{ClearedOutput, Progress, WatchedStore};
-use reuse_session::{LicenceTexts, Moment};
-use run_line::run_line;
+use on_folder::run_on_folder;
+use output::Output;
+use progress::{ClearedOutput, Progress};
+use request::request_of;
+use reuse_session::{Fate, LicenceTexts, Moment};
 use status::{exit_status, line_status};
 use std::alloc::{AllocError, Global};
 use std::fs::File;
-use std::io::{BufWriter, ErrorKind, IsTerminal, Write};
+use std::io::{ErrorKind, IsTerminal};
 use std::process::ExitCode;
 use std::rt::{Files, Runtime};
 use std::time::{SystemTime, UNIX_EPOCH};
@@ -69,8 +76,8 @@ fn read_words<R: Runtime + AllocGlobal>(rt: &R, alloc: Global) -> Result<Vec<Str
 
 /// The texts that the line needs.
 fn texts_for<R: Runtime>(rt: &R, alloc: Global, line: &Line) -> Result<LicenceTexts, AllocError> {
-    match &line.action {
-        Action::Download { folder, ids } => find_texts(rt, alloc, folder.as_str(), ids),
+    match line.action.deed() {
+        Some(Deed::Download { folder, ids }) => find_texts(rt, alloc, folder.as_str(), ids),
         _ => Ok(LicenceTexts::new(Vec::new(alloc))),
     }
 }
@@ -82,7 +89,7 @@ struct Extras {
     progress: bool,
 }
 
-/// Carries a line out on the folder that it names, and prints its reply; how many paths that tells. Until that is done no other run works
+/// Carries a line out on the folder that it names, and prints its answer; how many paths that tells. Until that is done no other run works
 /// on the folder. Where notes are asked for, what they tell is found too.
 fn carry_out<R: Runtime + Files<File = File> + AllocGlobal>(
     rt: &R,
@@ -94,21 +101,20 @@ fn carry_out<R: Runtime + Files<File = File> + AllocGlobal>(
     let _lock = lock_root(rt, line.root.as_str())?;
     let texts = texts_for(rt, alloc, &line)?;
     let root = String::from_str(alloc, line.root.as_str())?;
-    let mut store = DiskStore::at(rt.clone()?, root);
+    let mut folder = DiskStore::at(rt.clone()?, root);
     if extras.notes {
-        *findings = Some(Findings::before(rt, alloc, &line, &mut store));
+        *findings = Some(Findings::before(rt, alloc, &line, &mut folder));
     }
     let progress = Progress::new(rt.clone()?, extras.progress);
-    let mut out = BufWriter::new(alloc, ClearedOutput::new(&progress))?;
-    let watched = WatchedStore::new(store, &progress);
-    let (watched, outcome) = run_line(alloc, line, watched, texts, &mut out);
+    let mut out = Output::new(ClearedOutput::new(&progress));
+    let telling = line.telling;
+    let request = request_of(line, texts);
+    let (folder, outcome) = run_on_folder(folder, &progress, alloc, &request, telling, &mut out);
     progress.clear();
     if let Some(findings) = findings {
-        findings.look_after(alloc, watched.into_inner());
+        findings.look_after(alloc, folder, &request, &outcome);
     }
-    let count = outcome?;
-    out.flush()?;
-    Ok(count)
+    outcome
 }
 
 /// Tells why the words are no line: help on standard output, all else on standard error.
@@ -117,6 +123,19 @@ fn tell(rt: &(impl Print + Eprint), fault: &LineFault) -> io::Result<()> {
         LineFault::Help(text) => print!(rt; "{text}"),
         LineFault::Usage(text) => eprint!(rt; "{text}"),
         _ => eprintln!(rt; "reuse-undo: {fault}"),
+    }
+}
+
+/// Tells why a line was not carried out. Where standard error can't be written either, the status tells.
+fn tell_fault(rt: &impl Eprint, fault: &Fault) {
+    let Fault::WouldRefuse(fates) = fault else {
+        let _ = eprintln!(rt; "reuse-undo: {fault}");
+        return;
+    };
+    for fate in fates.as_slice() {
+        if let Fate::Refused(refusal) = fate {
+            let _ = eprintln!(rt; "reuse-undo: {refusal}");
+        }
     }
 }
 
@@ -130,8 +149,7 @@ fn run_noted<R: Runtime + Files<File = File> + AllocGlobal>(
     let mut findings = None;
     let outcome = carry_out(rt, alloc, line, extras, &mut findings);
     if let Err(fault) = &outcome {
-        // Where standard error can't be written either, the status tells.
-        let _ = eprintln!(rt; "reuse-undo: {fault}");
+        tell_fault(rt, fault);
     }
     if let Some(findings) = &findings {
         note_call(rt, findings, &outcome);
@@ -149,17 +167,21 @@ fn run<R: Runtime + Files<File = File> + AllocGlobal>(
     at_terminal: bool,
 ) -> u8 {
     let said = match read_words(rt, alloc) {
-        Ok(words) => with_list(rt, alloc, words_to_command(alloc, words.as_slice(), moment)),
+        Ok(words) => words_to_command(alloc, words.as_slice(), moment),
         Err(fault) => Said::fault(fault),
     };
     let Said {
         verbose,
-        files_from: _,
+        files_from,
         line,
     } = said;
     let extras = Extras {
         notes: at_terminal || verbose,
         progress: at_terminal,
+    };
+    let line = match line {
+        Ok(line) => with_list(rt, alloc, line, files_from),
+        Err(fault) => Err(fault),
     };
     match line {
         Ok(line) => run_noted(rt, alloc, line, extras),

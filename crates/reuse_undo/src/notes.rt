@@ -1,10 +1,10 @@
 //! Notes: what a fault is about, what can be done about it, and what a call has done.
 use crate::fault::Fault;
-use crate::findings::{Findings, Task};
+use crate::findings::{Findings, Task, unrecognised_among};
 use crate::line::LineFault;
 use reuse_dep5::{Dep5Cause, Dep5Refusal};
 use reuse_notice::NoticeRefusal;
-use reuse_session::Refusal;
+use reuse_session::{Fate, Refusal};
 use std::fmt::Display;
 
 /// Tells a note. Where standard error can't be written, there is nobody to tell.
@@ -23,7 +23,7 @@ pub fn note_words(rt: &impl Eprint, fault: &LineFault) {
 }
 
 /// What can be done about a refusal, where a note says that.
-fn advice(refusal: &Refusal, is_begun: bool) -> Option<&'static str> {
+fn advice(refusal: &Refusal, is_begun: bool, task: Task) -> Option<&'static str> {
     match refusal {
         Refusal::Unrecognised(_) => Some(
             "no comment style is known for this name: name one with --style or in .reuse/styles.toml, \
@@ -33,9 +33,15 @@ fn advice(refusal: &Refusal, is_begun: bool) -> Option<&'static str> {
             "a stopped run had begun to change this file, and it was changed since: put it back as it was before that run, \
             or as that run would have left it",
         ),
-        Refusal::Moved(_) => Some(
-            "this file was changed since: take that change back and call again, or keep it and leave the step as it is",
+        Refusal::Moved(_) if task == Task::Revert => Some(
+            "what the step wrote doesn't stand in this file as it did: take that change back and call again, \
+            or leave the file as it is with --skip-moved",
         ),
+        Refusal::Moved(_) => Some(
+            "this file was changed since: take that change back and call again, or keep it; \
+            reuse-undo revert takes a step out of files that were edited below what it wrote",
+        ),
+        Refusal::NoSuchStep(_) => Some("reuse-undo log tells the numbers of the steps"),
         Refusal::Interrupted(_) => {
             Some("the next call on this tree, log too, takes back what was begun")
         }
@@ -68,16 +74,49 @@ fn note_refusal(rt: &impl Eprint, findings: &Findings, refusal: &Refusal) {
         let _ = eprintln!(rt; "reuse-undo: note: the text was sought in {folder}/{id}.txt");
     }
     let is_begun = findings.begun.is_some() && !findings.is_set_back;
-    if let Some(advice) = advice(refusal, is_begun) {
+    if let Some(advice) = advice(refusal, is_begun, findings.task) {
         note(rt, advice);
     }
+}
+
+/// Tells how many names aren't recognised, where one is refused for that, or some were passed over.
+fn note_unrecognised(rt: &impl Eprint, count: usize, passed_over: bool) {
+    let files = if count == 1 { "file" } else { "files" };
+    let _ = match (passed_over, count) {
+        (true, 1..) => {
+            eprintln!(rt;
+                "reuse-undo: note: {count} {files} passed over, since no comment style is known for the names; --dry-run names them"
+            )
+        }
+        (false, 2..) => {
+            eprintln!(rt;
+                "reuse-undo: note: {count} {files} have names that aren't recognised; --dry-run names them"
+            )
+        }
+        _ => Ok(()),
+    };
+}
+
+/// Tells what the refusals among fates are about, each advice once.
+fn note_fates(rt: &impl Eprint, findings: &Findings, fates: &[Fate]) {
+    let mut last = None;
+    for fate in fates {
+        if let Fate::Refused(refusal) = fate {
+            let told = advice(refusal, false, findings.task);
+            if told.is_none() || told != last {
+                note_refusal(rt, findings, refusal);
+            }
+            last = told;
+        }
+    }
+    note_unrecognised(rt, unrecognised_among(fates, false), false);
 }
 
 /// Tells how many files a call changed, and how that is taken back.
 fn note_change(rt: &impl Eprint, task: Task, count: usize) {
     let files = if count == 1 { "file" } else { "files" };
     let _ = match task {
-        Task::Step | Task::Conversion | Task::Redo if count > 0 => {
+        Task::Step | Task::Conversion | Task::Redo | Task::Revert if count > 0 => {
             eprintln!(rt;
                 "reuse-undo: note: {count} {files} changed; reuse-undo undo takes that back"
             )
@@ -100,9 +139,13 @@ pub fn note_call(rt: &impl Eprint, findings: &Findings, outcome: &Result<usize, 
     }
     match outcome {
         Ok(count) => note_change(rt, findings.task, *count),
-        Err(Fault::Refused(refusal)) => note_refusal(rt, findings, refusal),
+        Err(Fault::Refused(refusal) | Fault::NoDiff(refusal)) => {
+            note_refusal(rt, findings, refusal)
+        }
+        Err(Fault::WouldRefuse(fates)) => note_fates(rt, findings, fates.as_slice()),
         Err(_) => {}
     }
+    note_unrecognised(rt, findings.unrecognised, outcome.is_ok());
     if findings.is_table_empty && outcome.is_ok() {
         note(
             rt,

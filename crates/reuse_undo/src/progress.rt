@@ -1,4 +1,6 @@
 //! How far long work is, for a terminal.
+ghost use Rattle.std.specs.Prelude.{◌≡◌};
+
 use reuse_tree::{PathText, Reading, Store, StoreFault};
 use std::alloc::Global;
 use std::cell::Cell;
@@ -117,12 +119,16 @@ pub struct WatchedStore<'a, S: Store + Drop, R: Runtime> {
 
 impl<'a, S: Store + Drop, R: Runtime> WatchedStore<'a, S, R> {
     /// A store over this one.
-    pub fn new(inner: S, progress: &'a Progress<R>) -> WatchedStore<'a, S, R> {
+    pub fn new(inner: S, progress: &'a Progress<R>) -> WatchedStore<'a, S, R>
+        ensures { result.inner ≡ inner }
+    {
         WatchedStore { inner, progress }
     }
 
     /// Gives the store inside back.
-    pub fn into_inner(self) -> S {
+    pub fn into_inner(self) -> S
+        ensures { result ≡ self.entry.inner }
+    {
         self.inner
     }
 }

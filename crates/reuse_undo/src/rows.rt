@@ -20,7 +20,7 @@ pub fn print_rows<W: Write>(out: &mut W, rows: &[Row]) -> io::Result<()>
     Ok(())
 }
 
-fn print_row<W: Write>(out: &mut W, row: &Row) -> io::Result<()>
+pub fn print_row<W: Write>(out: &mut W, row: &Row) -> io::Result<()>
     ensures { OnOk result (AppendsSome (W.contents out.old) (W.contents out.new) (IsRowLine row.now)) }
 {
     print_dated(out, row, date_of(row.when))
@@ -52,13 +52,14 @@ fn print_back<W: Write>(out: &mut W, command: &str, count: usize, state: &str) -
     writeln!(out, "{command} {count} {state}")
 }
 
-fn command_word(command: CommandName) -> &'static str
+pub fn command_word(command: CommandName) -> &'static str
     ensures { result.now ≡ command_word command }
 {
     match command {
         CommandName::Annotate => "annotate",
         CommandName::ConvertDep5 => "convert-dep5",
         CommandName::Download => "download",
+        CommandName::Revert => "revert",
     }
 }
 

@@ -1,122 +1,145 @@
-//! Carries a line out on a store.
-ghost use Rattle.std.specs.Prelude.{◌≡◌, ◌≤◌, ◌<◌, IfErr, IfOk, OnOk};
+//! Carries out on a store what a line asks for.
+ghost use Rattle.std.specs.Prelude.{◌≡◌, ◌≤◌, ◌<◌, IfOk, IfErr, IsTrue, false};
+ghost use Rattle.reuse_tree.specs.Asked.{OnlyReads};
 ghost use Rattle.reuse_session.specs.Answer.{HasCause};
 ghost use Rattle.reuse_session.specs.Journal.{State};
 ghost use Rattle.reuse_session.specs.Machine.{Snapshots};
-ghost use Rattle.reuse_session.specs.Session.{store_of, StandsOn};
+ghost use Rattle.reuse_session.specs.Session.{store_of};
 ghost use Rattle.reuse_session.specs.Standing.{IsStanding};
 ghost use Rattle.reuse_session.specs.Stops.{HoldState};
-ghost use Rattle.reuse_undo.specs.Lines.{IsReplyText, path_count};
-ghost use Rattle.reuse_undo.specs.RowLines.{AppendsSome};
-ghost use Rattle.reuse_undo.specs.WriterFaults.{IsOfWriter};
-ghost use Rattle.reuse_undo.specs.RunLine.{asked, Calls, HasCallClash, Carries, Steps, Tells, IfRefused};
+ghost use Rattle.reuse_undo.specs.WriterFaults.{IsOfDiff};
+ghost use Rattle.reuse_undo.specs.Requests.{IsLook};
+ghost use Rattle.reuse_undo.specs.RunLine.{HasCallClash, Carries, Steps, Tells, IfRefused};
+ghost use Rattle.reuse_undo.specs.Told.{IsDiffOf, IsNoDiff, IsWanted, TellsFailure};
+
+mod calls;
+mod drawn;
+mod printed;
 
 use crate::fault::Fault;
-use crate::line::{Action, Line};
-use crate::lines::{path_count, print_reply};
-use reuse_session::{Answer, Command, Event, LicenceTexts, Reply, Session};
+use crate::line::Telling;
+use crate::output::Output;
+use crate::request::{Request, Told};
+use calls::ask;
+use drawn::{Foreseen, draw, foresee};
+use printed::{finish, is_refused};
+use reuse_session::{Refusal, Reply, Session};
 use reuse_tree::Store;
 use std::alloc::Global;
 use std::io::Write;
 
-/// Opens a session on the store, makes the one call that the line asks for, and writes the lines of its reply. The texts are
-/// those that were found for a download. The store is given back, and how many paths the reply tells; where it can't be written,
-/// what the call changed stands.
-pub fn run_line<S: Store + Drop, W: Write>(
+/// Opens a session on the store, makes the one call that is asked for, and writes the lines of its answer. The store is given back, and how
+/// many paths the answer tells that changed; where it can't be written, what the call changed stands.
+pub fn run_request<S: Store + Drop, W: Write + Drop>(
     alloc: Global,
-    line: Line,
+    request: &Request,
+    telling: Telling,
     store: S,
-    texts: LicenceTexts,
-    out: &mut W,
+    out: &mut Output<W>,
 ) -> (S, Result<usize, Fault>)
-    // From any files, where the store is honest: what is told is the session's answer to the line, and the files are as it left them.
+    // From any files, where the store is honest: what is told is the session's answer, and the files are as it left them.
     ensures exact { S.honest result.0
-        → Tells (λ answer. Carries (S.files store) (asked line texts) answer (S.files result.0)) (W.contents out.old) (W.contents out.new) result.1 }
+        → Tells telling (λ answer. Carries (S.files store) request.now answer (S.files result.0)) (W.contents out.old.inner) (W.contents out.new.inner) result.1 }
     // From any state that the files hold it is that of the machine that keeps whole copies.
     ensures machine { S.honest result.0 → (state : Snapshots) → HoldState (S.files store) state
-        → Tells (λ answer. Steps state (asked line texts) answer (S.files result.0)) (W.contents out.old) (W.contents out.new) result.1 }
-    // A refusal is told before anything is written.
+        → Tells telling (λ answer. Steps state request.now answer (S.files result.0)) (W.contents out.old.inner) (W.contents out.new.inner) result.1 }
+    // What only asks leaves each file as it is, where nothing is pending.
+    ensures looks { S.honest result.0 → IsLook request.now → (held : State) → IsStanding (S.files store) held → S.files result.0 ≡ S.files store }
+    // A refusal is told before anything is written, and that the reply couldn't be written exactly where the writer failed.
     ensures quiet { IfRefused result.1 (λ refusal. out.new ≡ out.old) }
+    ensures failed { TellsFailure out.old.failed out.new.failed result.1 }
     // A fault has its cause; where nothing is pending, a clash is told only where the path that the call puts clashes.
     ensures fault { IfRefused result.1 (HasCause (S.failures store < S.failures result.0)) }
-    ensures clash { S.honest result.0 → (held : State) → IsStanding (S.files store) held → IfRefused result.1 (HasCallClash (asked line texts) held (S.files store)) }
+    ensures clash { S.honest result.0 → (held : State) → IsStanding (S.files store) held → IfRefused result.1 (HasCallClash request.now held (S.files store)) }
     ensures failures { S.failures store ≤ S.failures result.0 }
     ensures was_honest { S.honest result.0 → S.honest store }
 {
-    let event = event_of(line, texts);
-    let (store, answer) = call(alloc, store, &event);
+    let (store, answer, diff) = call(alloc, store, request, telling);
     match answer {
-        Ok(reply) => (store, print(out, &reply)),
+        Ok(told) => (store, finish(out, alloc, told, telling, diff)),
         Err(refusal) => (store, Err(Fault::Refused(refusal))),
     }
 }
 
-// Opens a session on the store, and makes the call.
-fn call<S: Store + Drop>(alloc: Global, store: S, event: &Event) -> (S, Answer)
-    ensures carries { S.honest result.0 → Carries (S.files store) event.now result.1 (S.files result.0) }
+// Opens a session on the store, and makes the call. Where the line wants a diff and would be carried out, the diff of what would change is
+// made too.
+fn call<S: Store + Drop>(
+    alloc: Global,
+    store: S,
+    request: &Request,
+    telling: Telling,
+) -> (S, Result<Told, Refusal>, Result<Vec<u8>, Fault>)
+    ensures carries { S.honest result.0 → Carries (S.files store) request.now result.1 (S.files result.0) }
+    ensures looks { S.honest result.0 → IsLook request.now → (held : State) → IsStanding (S.files store) held → S.files result.0 ≡ S.files store }
     ensures fault { IfErr result.1 (HasCause (S.failures store < S.failures result.0)) }
-    ensures clash { S.honest result.0 → (held : State) → IsStanding (S.files store) held → IfErr result.1 (HasCallClash event.now held (S.files store)) }
+    ensures clash { S.honest result.0 → (held : State) → IsStanding (S.files store) held → IfErr result.1 (HasCallClash request.now held (S.files store)) }
+    ensures diff { IfOk result.1 (λ told. IsDiffOf telling told result.2) }
     ensures failures { S.failures store ≤ S.failures result.0 }
     ensures was_honest { S.honest result.0 → S.honest store }
 {
     match Session::open(alloc, store) {
         Ok(opened) => {
             let mut session = opened;
-            let answer = ask(alloc, &mut session, event);
-            (session.into_store(), answer)
+            let answer = ask(alloc, &mut session, request);
+            let (store, diff) = close(alloc, session, request, wants_diff(telling, &answer));
+            (store, answer, diff)
         }
-        Err((refusal, store)) => (store, Err(refusal)),
+        Err((refusal, store)) => (store, Err(refusal), Ok(Vec::new(alloc))),
     }
 }
 
-// Makes the call. A session that is asked to be opened is open.
-fn ask<S: Store + Drop>(alloc: Global, session: &mut Session<S>, event: &Event) -> Answer
-    ensures calls { S.honest (store_of session.new) → (held : State) → StandsOn S.files session.old held → Calls event.now held result (S.files (store_of session.new)) }
-    ensures fault { IfErr result (HasCause (S.failures (store_of session.old) < S.failures (store_of session.new))) }
-    ensures clash { S.honest (store_of session.new) → (held : State) → StandsOn S.files session.old held
-        → IfErr result (HasCallClash event.now held (S.files (store_of session.old))) }
-    ensures failures { S.failures (store_of session.old) ≤ S.failures (store_of session.new) }
-    ensures was_honest { S.honest (store_of session.new) → S.honest (store_of session.old) }
+// Whether a diff is wanted, of a preview without a refusal.
+fn wants_diff(telling: Telling, answer: &Result<Told, Refusal>) -> bool
+    ensures { IsTrue result → IsWanted telling answer.now }
 {
-    match event {
-        Event::Run(command, when) => session.run(alloc, command, *when),
-        Event::Undo => session.undo(alloc),
-        Event::Redo => session.redo(alloc),
-        Event::Log => match session.log(alloc) {
-            Ok(rows) => Ok(Reply::Log(rows)),
-            Err(refusal) => Err(refusal),
-        },
-        Event::Reopen => Ok(Reply::Opened),
+    match (telling, answer) {
+        (Telling::Diff, Ok(Told::Reply(Reply::Preview(fates)))) => !is_refused(fates.as_slice()),
+        _ => false,
     }
 }
 
-// What the line asks the session for.
-fn event_of(line: Line, texts: LicenceTexts) -> Event
-    ensures { result ≡ asked line texts }
+// Gives the store back, and the diff of what a previewed call would change, where one is wanted. It only reads.
+fn close<S: Store + Drop>(
+    alloc: Global,
+    session: Session<S>,
+    request: &Request,
+    wants_diff: bool,
+) -> (S, Result<Vec<u8>, Fault>)
+    ensures reads { OnlyReads S.Store (store_of session) result.0 }
+    ensures none { wants_diff ≡ false → IsNoDiff result.1 }
+    ensures diff { IfErr result.1 IsOfDiff }
 {
-    let Line {
-        root: _,
-        action,
-        moment,
-    } = line;
-    match action {
-        Action::Annotate(command) => Event::Run(command, moment),
-        Action::ConvertDep5 => Event::Run(Command::ConvertDep5, moment),
-        Action::Download { folder: _, ids } => Event::Run(Command::Download { ids, texts }, moment),
-        Action::Undo => Event::Undo,
-        Action::Redo => Event::Redo,
-        Action::Log => Event::Log,
+    if wants_diff {
+        look(alloc, session, request)
+    } else {
+        (session.into_store(), Ok(Vec::new(alloc)))
     }
 }
 
-// Prints a reply; how many paths it tells.
-fn print<W: Write>(out: &mut W, reply: &Reply) -> Result<usize, Fault>
-    ensures ok { OnOk result (AppendsSome (W.contents out.old) (W.contents out.new) (IsReplyText reply.now)) }
-    ensures count { IfOk result (λ count. count ≡ path_count reply.now) }
-    ensures fault { IfErr result IsOfWriter }
+fn look<S: Store + Drop>(
+    alloc: Global,
+    session: Session<S>,
+    request: &Request,
+) -> (S, Result<Vec<u8>, Fault>)
+    ensures reads { OnlyReads S.Store (store_of session) result.0 }
+    ensures diff { IfErr result.1 IsOfDiff }
 {
-    match print_reply(out, reply) {
-        Ok(()) => Ok(path_count(reply)),
-        Err(error) => Err(Fault::from(error)),
+    let mut session = session;
+    match foresee(alloc, &mut session, request) {
+        Ok(foreseen) => draw_from(alloc, session.into_store(), &foreseen),
+        Err(refusal) => (session.into_store(), Err(Fault::NoDiff(refusal))),
     }
+}
+
+fn draw_from<S: Store + Drop>(
+    alloc: Global,
+    store: S,
+    foreseen: &Foreseen,
+) -> (S, Result<Vec<u8>, Fault>)
+    ensures reads { OnlyReads S.Store store result.0 }
+    ensures diff { IfErr result.1 IsOfDiff }
+{
+    let mut store = store;
+    let diff = draw(alloc, &mut store, foreseen);
+    (store, diff)
 }

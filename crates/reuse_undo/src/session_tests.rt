@@ -9,6 +9,7 @@ mod journals;
 mod openings;
 mod own_styles;
 mod places;
+mod reverts;
 mod scarce_memory;
 mod scarce_store;
 mod stops;

@@ -1,11 +1,14 @@
 //! Command lines from their words to what is printed, over a store in memory.
 // The tags below are data: REUSE-IgnoreStart
+mod looks;
 mod options;
 mod worked_lines;
 
 use crate::fault::Fault;
-use crate::line::{Line, LineFault};
-use crate::run_line::run_line;
+use crate::line::{Line, LineFault, Telling};
+use crate::output::Output;
+use crate::request::request_of;
+use crate::run_line::run_request;
 use crate::status::{exit_status, line_status};
 use crate::words::words_to_command;
 use reuse_session::{LicenceText, LicenceTexts, Moment, Refusal};
@@ -93,9 +96,11 @@ fn run_at(
 ) -> Result<(MemoryStore, Result<String, String>), Fail> {
     let line = read(alloc, words, second)?.or(Err("a line is wanted"))?;
     let texts = texts(alloc)?;
-    let mut out: Vec<u8> = Vec::new(alloc);
-    let (store, outcome) = run_line(alloc, line, store, texts, &mut out);
-    let told = told(alloc, outcome, out)?;
+    let mut out = Output::new(Vec::new(alloc));
+    let telling = line.telling;
+    let request = request_of(line, texts);
+    let (store, outcome) = run_request(alloc, &request, telling, store, &mut out);
+    let told = told(alloc, outcome, out.into_inner())?;
     Ok((store, told))
 }
 
@@ -179,6 +184,11 @@ fn refuses_words(rt: HostRuntime) -> Result<(), Fail> {
         "annotate|-l|MIT|-s|none|a.py",
         "annotate|-l|MIT|--copyright-prefix|none|a.py",
         "download|MIT",
+        "undo|--diff",
+        "show",
+        "show|x",
+        "show|1|--diff|--json",
+        "revert|-1",
     ] {
         refuse(&rt, alloc, words, 2, "error: ")?;
     }
@@ -276,22 +286,6 @@ fn prints_what_downloads_change(rt: HostRuntime) -> Result<(), Fail> {
     Ok(())
 }
 
-/// The rows of a log, with the first and the last date that a moment can have.
-#[test]
-fn prints_rows(rt: HostRuntime) -> Result<(), Fail> {
-    let alloc = rt.alloc();
-    let store = store_of(alloc, "a.py", b"print(1)\n")?;
-    let store = prints(&rt, alloc, store, "log", "")?;
-    let (store, _) = run_at(alloc, store, "annotate|-l|MIT|a.py", 0)?;
-    let (store, _) = run_at(alloc, store, "annotate|-l|ISC|a.py", START_OF_2024)?;
-    let (store, _) = run_at(alloc, store, "download|--texts|x|MIT", 250_000_000_000)?;
-    let store = prints(&rt, alloc, store, "undo", "undone LICENSES/MIT.txt\n")?;
-    let wanted =
-        "1 1970-01-01 annotate 1 done\n2 2024-01-01 annotate 1 done\n3 9892-03-08 download 1 undone\n";
-    prints(&rt, alloc, store, "log", wanted)?;
-    Ok(())
-}
-
 /// A writer that fails.
 #[derive(Drop)]
 struct Full;
@@ -311,7 +305,14 @@ fn annotate_untold(alloc: Global) -> Result<(MemoryStore, Fault), Fail> {
     let line = read_line(alloc, "annotate|-c|Jane Doe|-l|MIT|a.py")?;
     let store = store_of(alloc, "a.py", b"print(1)\n")?;
     let texts = texts(alloc)?;
-    match run_line(alloc, line, store, texts, &mut Full) {
+    let request = request_of(line, texts);
+    match run_request(
+        alloc,
+        &request,
+        Telling::Lines,
+        store,
+        &mut Output::new(Full),
+    ) {
         (store, Err(fault)) => Ok((store, fault)),
         _ => Err("a fault is wanted")?,
     }

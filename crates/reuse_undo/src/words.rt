@@ -1,7 +1,7 @@
 //! From the words of a command line to what they ask for.
 use crate::arguments::whole;
 use crate::date::year_of;
-use crate::line::{Action, Line, LineFault};
+use crate::line::{Action, Deed, Line, LineFault, Telling};
 use crate::place_word::place_of_word;
 use crate::prefix_name::prefix_of_name;
 use clap::error::ErrorKind;
@@ -88,6 +88,7 @@ fn read_line(alloc: Global, matches: &ArgMatches<'_>, moment: Moment) -> Result<
         Some((name, inner)) => Ok(Line {
             root,
             action: read_action(alloc, name, inner, moment)?,
+            telling: read_telling(name, inner),
             moment,
         }),
         None => Err(LineFault::Usage(String::from_str(alloc, "no subcommand")?)),
@@ -101,15 +102,50 @@ fn read_action(
     moment: Moment,
 ) -> Result<Action, LineFault> {
     match name {
-        "annotate" => Ok(Action::Annotate(read_annotate(alloc, matches, moment)?)),
-        "convert-dep5" => Ok(Action::ConvertDep5),
-        "download" => Ok(Action::Download {
+        "log" => Ok(Action::Log),
+        "show" => Ok(Action::Show(read_number(matches))),
+        _ => {
+            let deed = read_deed(alloc, name, matches, moment)?;
+            Ok(Action::of(deed, matches.get_flag("dry-run")))
+        }
+    }
+}
+
+fn read_deed(
+    alloc: Global,
+    name: &str,
+    matches: &ArgMatches<'_>,
+    moment: Moment,
+) -> Result<Deed, LineFault> {
+    match name {
+        "annotate" => Ok(Deed::Annotate(read_annotate(alloc, matches, moment)?)),
+        "convert-dep5" => Ok(Deed::ConvertDep5),
+        "download" => Ok(Deed::Download {
             folder: String::from_str(alloc, matches.get_str("texts").unwrap_or("."))?,
             ids: read_ids(alloc, matches)?,
         }),
-        "undo" => Ok(Action::Undo),
-        "redo" => Ok(Action::Redo),
-        _ => Ok(Action::Log),
+        "undo" => Ok(Deed::Undo),
+        "redo" => Ok(Deed::Redo),
+        _ => Ok(Deed::Revert {
+            number: read_number(matches),
+            skip_moved: matches.get_flag("skip-moved"),
+        }),
+    }
+}
+
+/// The number of a step. The command line gives one that fits.
+fn read_number(matches: &ArgMatches<'_>) -> u32 {
+    matches.get_one("NUMBER").unwrap_or(0)
+}
+
+fn read_telling(name: &str, matches: &ArgMatches<'_>) -> Telling {
+    let has_json = name == "log" || name == "show";
+    if has_json && matches.get_flag("json") {
+        Telling::Json
+    } else if name != "log" && matches.get_flag("diff") {
+        Telling::Diff
+    } else {
+        Telling::Lines
     }
 }
 

@@ -3,7 +3,7 @@ ghost use Rattle.std.specs.Prelude.{◌≡◌, ◌≤◌, IfOk};
 ghost use Rattle.serde_json.specs.View.{view, items_view};
 ghost use Rattle.reuse_session.specs.Decoded.{Gives, GivesBy, IsAnswer};
 ghost use Rattle.reuse_session.specs.EntryText.{HavePaths, IsGoodEntry, IsJsonEntry};
-ghost use Rattle.reuse_session.specs.EntryReading.{change_in, changes_in, command_from, drop_in, entry_in, make_in, seal_of, splice_in};
+ghost use Rattle.reuse_session.specs.EntryReading.{change_in, changes_in, command_from, drop_in, entry_in, if_known, make_in, seal_of, splice_in};
 ghost use Rattle.reuse_session.specs.JsonReading.{read_items};
 ghost use Rattle.reuse_session.specs.Json.{IsJson};
 ghost use Rattle.reuse_session.specs.declared.journal.entry.Entry.{Entry};
@@ -56,6 +56,7 @@ fn entry_of(alloc: Global, value: &Value) -> Result<Entry, DecodeFault>
     let changes = field(&mut members, "changes")?;
     let command = command_of(text_of(field(&mut members, "command")?)?)?;
     let sealed = is_second_format(field(&mut members, "format")?)?;
+    expect_known(sealed, command)?;
     let when = moment_of(field(&mut members, "when")?)?;
     finish(members)?;
     let changes = changes_of(alloc, changes, sealed)?;
@@ -75,8 +76,20 @@ fn command_of(name: &str) -> Result<CommandName, DecodeFault>
         Ok(CommandName::ConvertDep5)
     } else if name == "download" {
         Ok(CommandName::Download)
+    } else if name == "revert" {
+        Ok(CommandName::Revert)
     } else {
         Err(DecodeFault::NotGood)
+    }
+}
+
+// The first format doesn't know each command.
+fn expect_known(sealed: bool, command: CommandName) -> Result<(), DecodeFault>
+    ensures { Gives result (if_known sealed command) }
+{
+    match command {
+        CommandName::Revert if !sealed => Err(DecodeFault::NotGood),
+        _ => Ok(()),
     }
 }
 

@@ -1,5 +1,5 @@
 // An entry as text.
-ghost use Rattle.std.specs.Prelude.{◌≡◌, ◌≤◌, Some, None, IfOk, OnOk, IsTrue, IsUtf8, length, map, string_bytes};
+ghost use Rattle.std.specs.Prelude.{◌≡◌, ◌≤◌, true, Some, None, IfOk, OnOk, IsTrue, IsUtf8, length, map, string_bytes};
 ghost use Rattle.std.specs.List.{All};
 ghost use Rattle.serde_json.specs.View.{view};
 ghost use Rattle.hex.specs.Hex.{encode_lower, IsBytes};
@@ -7,7 +7,7 @@ ghost use Rattle.reuse_tree.specs.Path.{is_path};
 ghost use Rattle.reuse_session.specs.Entry.{entry_size, IsEntry};
 ghost use Rattle.reuse_tree.specs.declared.change.Change.TheVariants.{Make, Drop, Splice};
 ghost use Rattle.reuse_session.specs.EntryText.{command_name, change_value, entry_text, entry_value, is_any_sealed, AreDigestBytes, IsChangeInMemory, IsGoodEntry};
-ghost use Rattle.reuse_session.specs.Format.{format_number};
+ghost use Rattle.reuse_session.specs.Format.{format_number, knows};
 ghost use Rattle.reuse_session.specs.Json.{array_of};
 
 use crate::CommandName;
@@ -20,7 +20,7 @@ use std::alloc::{AllocError, Global};
 /// The compact JSON text of an entry.
 pub fn encode_entry(alloc: Global, entry: &Entry) -> Result<Vec<u8>, AllocError>
     ensures text { IfOk result (λ text. text.items ≡ entry_text entry.now) }
-    ensures good { IsEntry entry.now.changes → IfOk result (λ text. IsGoodEntry text.items entry.now) }
+    ensures good { IsEntry entry.now.changes → knows (is_any_sealed entry.now.changes) entry.now.command ≡ true → IfOk result (λ text. IsGoodEntry text.items entry.now) }
     ensures bound { IsEntry entry.now.changes
         → IfOk result (λ text. length text.items ≤ entry_size entry.now.changes) }
 {
@@ -62,6 +62,7 @@ fn name_of(command: CommandName) -> &'static str
         CommandName::Annotate => "annotate",
         CommandName::ConvertDep5 => "convert-dep5",
         CommandName::Download => "download",
+        CommandName::Revert => "revert",
     }
 }
 

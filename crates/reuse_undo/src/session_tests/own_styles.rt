@@ -124,24 +124,27 @@ fn standing_of(alloc: Global, files: &[(&str, &[u8])]) -> Result<Vec<u8>, Fail> 
     Ok(text)
 }
 
+/// A call on a tree with these styles, which is refused for them.
+fn refused_call<'a>(alloc: Global, event: &'a Event, text: &[u8]) -> Result<Call<'a>, Fail> {
+    let files = [(FILE, text), ("a.py", OLD)];
+    Ok(Call {
+        start: tree(alloc, &files)?,
+        event,
+        answer: String::from_str(alloc, ".reuse/styles.toml: bad styles")?,
+        before: standing_of(alloc, &files)?,
+        after: standing_of(alloc, &files)?,
+        stops: false,
+    })
+}
+
 #[test]
 fn bad_styles_are_refused_in_scarce_memory(rt: HostRuntime) -> Result<(), Fail> {
     let alloc = rt.alloc();
     let memory = ScarceMemory::new(&rt, alloc)?;
-    let event = Event::Run(
-        licence(alloc, &["a.py"], "MIT", plain_scope(alloc))?,
-        moment()?,
-    );
+    let command = licence(alloc, &["a.py"], "MIT", plain_scope(alloc))?;
+    let event = Event::Run(command, moment()?);
     for (text, _) in BAD {
-        let files = [(FILE, text), ("a.py", OLD)];
-        let call = Call {
-            start: tree(alloc, &files)?,
-            event: &event,
-            answer: String::from_str(alloc, ".reuse/styles.toml: bad styles")?,
-            before: standing_of(alloc, &files)?,
-            after: standing_of(alloc, &files)?,
-            stops: false,
-        };
+        let call = refused_call(alloc, &event, text)?;
         refuse_growths(&rt, alloc, &memory, call)?;
     }
     Ok(())

@@ -1,10 +1,11 @@
 // Which place an annotation writes, and what stands there then.
 // The tags below are data: REUSE-IgnoreStart
 use crate::session_tests::trees::{
-    annotate, gives, has_just, licence, moment, plain_how, plain_scope, plays, runs, tree,
+    annotate, gives, has_just, licence, moment, path, plain_how, plain_scope, plays, runs, tree,
 };
+use reuse_dep5::Glob;
 use reuse_header::How;
-use reuse_session::{Event, HeaderFault, Refusal, Scope, Unknown, drive};
+use reuse_session::{Event, Globs, HeaderFault, PathList, Refusal, Scope, Unknown, drive};
 use reuse_tree::MemoryStore;
 use std::alloc::Global;
 use std::process::Abort;
@@ -58,6 +59,46 @@ fn unknown_names_are_refused_or_skipped(rt: HostRuntime) -> Result<(), Fail> {
         "opened\nchanged a.py\n",
         ("a.py", PYTHON_FILE),
     )
+}
+
+/// Of the files beneath folders those of a list that no glob matches.
+fn chosen(alloc: Global, listed: &[&str], excluded: &str) -> Result<Scope, Fail> {
+    let mut paths = Vec::new(alloc);
+    for name in listed {
+        paths.push(path(alloc, name)?)?;
+    }
+    let mut globs = Vec::new(alloc);
+    globs.push(Glob::read(alloc, excluded)?.ok_or("a glob")?)?;
+    Ok(Scope {
+        recursive: true,
+        listed: Some(PathList::new(paths)),
+        excluded: Globs::new(globs),
+        ..plain_scope(alloc)
+    })
+}
+
+#[test]
+fn lists_and_globs_choose_beneath_folders(rt: HostRuntime) -> Result<(), Fail> {
+    let alloc = rt.alloc();
+    let files: [(&str, &[u8]); 4] = [
+        ("a.py", b"x\n"),
+        ("s/b.py", b"x\n"),
+        ("s/c.py", b"x\n"),
+        ("s/d.py", b"x\n"),
+    ];
+    // The list may repeat, be in any order and name what isn't there; a file that is given itself is worked in any case.
+    let scope = chosen(alloc, &["s/d.py", "s/b.py", "gone", "s/d.py"], "s/b*")?;
+    let command = licence(alloc, &["s", "a.py"], "MIT", scope)?;
+    let lines = "opened\nchanged a.py s/d.py\n";
+    let mut store = runs(&rt, alloc, &files, command, lines)?;
+    let after: [(&str, &[u8]); 4] = [
+        ("a.py", PYTHON_FILE),
+        ("s/b.py", b"x\n"),
+        ("s/c.py", b"x\n"),
+        ("s/d.py", PYTHON_FILE),
+    ];
+    assert!(rt; has_just(alloc, &mut store, &after)?);
+    Ok(())
 }
 
 #[test]

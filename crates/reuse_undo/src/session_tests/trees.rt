@@ -196,6 +196,7 @@ pub fn push_answer(alloc: Global, lines: &mut String, answer: &Answer) -> Result
                 lines.push_str(format!(in alloc; " {} {word}", row.number)?.as_str())?;
             }
         }
+        Ok(Reply::Preview(_)) => lines.push_str("preview")?,
         Err(refusal) => lines.push_str(format!(in alloc; "{refusal}")?.as_str())?,
     }
     Ok(())

@@ -5,13 +5,13 @@ use std::alloc::Global;
 use std::test::Fail;
 
 /// The line of `annotate -l MIT a.py`, as it is shown.
-const PLAIN: &str = "Line { root: \".\", action: Annotate(Annotate { \
+const PLAIN: &str = "Line { root: \".\", action: Do(Annotate(Annotate { \
     places: Places { places: [Path(PathText { text: \"a.py\" })] }, \
     additions: Additions { notices: Texts { texts: [] }, contributors: Texts { texts: [] }, \
     licences: Texts { texts: [Bytes { bytes: [77, 73, 84] }] } }, \
     how: How { form: None, merge: false, replace: true }, \
     scope: Scope { recursive: false, style: None, force_dot_license: false, unknown: Refuse, \
-    skip_existing: false, listed: None, excluded: Globs { globs: [] } } }), moment: Moment { since_1970: 1704067200 } }";
+    skip_existing: false, listed: None, excluded: Globs { globs: [] } } })), telling: Lines, moment: Moment { since_1970: 1704067200 } }";
 
 /// Words behind `annotate -l MIT`, and which text of the plain line gives way to which.
 const SETTINGS: &[(&str, &str, &str)] = &[
@@ -45,6 +45,8 @@ const SETTINGS: &[(&str, &str, &str)] = &[
         "recursive: true, style: None, force_dot_license: false, unknown: Refuse, skip_existing: false, listed: None, \
          excluded: Globs { globs: [Glob { pieces: [AnyRun, Literal('a')] }, Glob { pieces: [RunInPart] }] }",
     ),
+    ("-n|a.py", "action: Do", "action: Foretell"),
+    ("--dry-run|a.py", "action: Do", "action: Foretell"),
     ("--style|python|a.py", "style: None", "style: Some(Python)"),
     ("-s|c|a.py", "style: None", "style: Some(C)"),
     ("-s|css|a.py", "style: None", "style: Some(Css)"),

@@ -1,3 +1,4 @@
+use Rattle.reuse_notice.specs.Adding.{additions_of}
 use Rattle.reuse_header.proofs.MergedLemmas.{Merges}
 use Rattle.reuse_header.proofs.LinesLemmas.{Known}
 use Rattle.reuse_header.proofs.RepeatLemmas.{Laws, file_again}
@@ -18,5 +19,6 @@ returns c =
     } in
     record {
       files = λ style how arguments file made replace plain ends e. file_again known laws style how arguments file made replace plain ends e;
-      neighbours = λ how arguments file made replace plain text e. neighbour_file_again known laws how arguments file made replace plain text e;
+      neighbours = λ how arguments file made replace plain utf8 e.
+          neighbour_file_again known laws how arguments file made replace plain (c.annotated_texts_are_texts.ensures.neighbours how (additions_of arguments) file made plain utf8 e).1 e;
     }

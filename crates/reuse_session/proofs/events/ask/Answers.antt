@@ -1,10 +1,14 @@
 use Rattle.std.proofs.Common.{◌+◌, Some, sym, subst, ◌∙◌}
 use Rattle.reuse_session.specs.Machine.{step}
-use Rattle.reuse_session.specs.Session.{Follows, StopsAfter, StopsAfterRun}
+use Rattle.reuse_tree.specs.Files.{Files}
+use Rattle.reuse_session.specs.JournalFiles.{IsFree}
+use Rattle.reuse_session.specs.Session.{Follows, StandsAt, StopsAfter, StopsAfterRun}
+use Rattle.reuse_session.specs.Tree.{undo_folder_of}
 use Rattle.reuse_session.specs.Stops.{AreLeft}
 use Rattle.reuse_session.specs.declared.events.Event.{Event}
 use Rattle.reuse_session.specs.declared.journal.head.PendingWay.TheVariants as pending
-use Rattle.reuse_session.proofs.Driving.{run_left, undo_left, redo_left, stays_at, on_same_state, run_is_no_log, undo_is_no_log, redo_is_no_log}
+use Rattle.reuse_session.proofs.Driving.{run_left, undo_left, redo_left, stays_at, on_same_state, run_is_no_log, undo_is_no_log, redo_is_no_log, preview_is_no_log, run_is_no_preview, undo_is_no_preview, redo_is_no_preview}
+use Rattle.reuse_session.proofs.Previewing.{looks_still, looks_cause, looks_no_clash, looks_no_stop, always}
 use Rattle.reuse_session.proofs.OnlyReading.{at_stop, early_files}
 use Rattle.reuse_session.proofs.StepAnswers.{run_no_clash, back_no_clash}
 use Rattle.reuse_session.proofs.events.ask.Goals as goal
@@ -20,6 +24,7 @@ returns-in-Run g c =
       stops = λ honest state stands cause is. subst (λ (e : Event). AreLeft (files new.store) state (Some (step state e).1)) (sym c.in-Run.is)
           (run_left stands.held state stands.holds (files new.store) (files old.store) c.in-Run.command c.in-Run.when stands.stands.standing (at_stop (StopsAfterRun c.in-Run.command c.in-Run.when stands.held (files new.store)) is (c.run.ensures.leaves.doubt honest stands.held stands.stands)));
       log = λ is. absurd (run_is_no_log c.in-Run.command c.in-Run.when (sym c.in-Run.is ∙ is));
+      preview = λ call is. absurd (run_is_no_preview c.in-Run.command c.in-Run.when call (sym c.in-Run.is ∙ is));
       clash = λ honest state stands free. run_no_clash (files old.store) stands.held stands.stands.standing free c.run.result (old.history.used + 1) (c.run.ensures.leaves.clash honest);
       free = c.run.ensures.leaves.free;
       fault = c.run.ensures.call.fault;
@@ -38,6 +43,7 @@ returns-in-Undo g c =
       stops = λ honest state stands cause is. subst (λ (e : Event). AreLeft (files new.store) state (Some (step state e).1)) (sym c.in-Undo.is)
           (undo_left stands.held state stands.holds (files new.store) (at_stop (StopsAfter pending.Undo stands.held (files new.store)) is (c.undo.ensures.leaves.doubt honest stands.held stands.stands)));
       log = λ is. absurd (undo_is_no_log (sym c.in-Undo.is ∙ is));
+      preview = λ call is. absurd (undo_is_no_preview call (sym c.in-Undo.is ∙ is));
       clash = λ honest state stands free. back_no_clash (files old.store) stands.held stands.stands.standing free c.undo.result (c.undo.ensures.leaves.clash honest);
       free = c.undo.ensures.leaves.free;
       fault = c.undo.ensures.call.fault;
@@ -56,9 +62,29 @@ returns-in-Redo g c =
       stops = λ honest state stands cause is. subst (λ (e : Event). AreLeft (files new.store) state (Some (step state e).1)) (sym c.in-Redo.is)
           (redo_left stands.held state stands.holds (files new.store) (at_stop (StopsAfter pending.Redo stands.held (files new.store)) is (c.redo.ensures.leaves.doubt honest stands.held stands.stands)));
       log = λ is. absurd (redo_is_no_log (sym c.in-Redo.is ∙ is));
+      preview = λ call is. absurd (redo_is_no_preview call (sym c.in-Redo.is ∙ is));
       clash = λ honest state stands free. back_no_clash (files old.store) stands.held stands.stands.standing free c.redo.result (c.redo.ensures.leaves.clash honest);
       free = c.redo.ensures.leaves.free;
       fault = c.redo.ensures.call.fault;
       failures = c.redo.ensures.call.later.failures;
       was_honest = c.redo.ensures.call.later.was_honest;
+    }
+
+pub returns-in-Preview : goal.returns-in-Preview
+returns-in-Preview g c =
+    let files = g.S.Store.files in
+    let new = c.previewed.new.session in
+    let old = c.args.session.now in
+    let looks = c.previewed.ensures.looks in
+    record {
+      follows = λ honest state stands told. subst (λ (e : Event). Follows files c.previewed.result new (step state e)) (sym c.in-Preview.is) (c.previewed.ensures.machine honest state stands told, looks_still g.S.Store c.previewed.result old new state looks honest stands);
+      stands = λ honest state stands. always c.previewed.result (StandsAt files new state) (looks_still g.S.Store c.previewed.result old new state looks honest stands);
+      stops = λ honest state stands cause is. absurd (looks_no_stop c.previewed.result cause c.previewed.ensures.refusal is);
+      log = λ is. absurd (preview_is_no_log c.in-Preview.call (sym c.in-Preview.is ∙ is));
+      preview = λ call is. c.previewed.ensures.refusal;
+      clash = λ honest state stands free. looks_no_clash g.S.Store old.store new.store c.previewed.result looks.fails honest c.previewed.ensures.refusal;
+      free = λ honest free. subst (λ (f : Files). IsFree (undo_folder_of f)) (sym (looks.reads.files honest)) free;
+      fault = looks_cause g.S.Store old.store new.store c.previewed.result looks.fails c.previewed.ensures.refusal;
+      failures = looks.reads.failures;
+      was_honest = looks.reads.was_honest;
     }

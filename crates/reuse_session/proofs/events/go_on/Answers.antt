@@ -15,7 +15,7 @@ returns-then-is_interrupted-clause-continues g c honest state stands =
     let same = c.into_store.ensures in
     let was = c.is_interrupted.ensures.0 c.if-is_interrupted.true in
     let left = c.ask-answer.ensures.stops (subst store.honest same honest) state stands was.0 was.1 in
-    closes store.files c.args.event.now c.ask-answer.result state c.into_store.result was.0 was.1 c.ask-answer.ensures.log
+    closes store.files c.args.event.now c.ask-answer.result state c.into_store.result was.0 was.1 c.ask-answer.ensures.log c.ask-answer.ensures.preview
     (subst (λ (f : Files). AreLeft f state (Some (step state c.args.event.now).1)) (sym (ap store.files same)) left)
 
 pub returns-then-is_interrupted-clause-clash : goal.returns-then-is_interrupted-clause-clash

@@ -5,10 +5,10 @@ use Rattle.reuse_session.proofs.Turning.{put_sets}
 use Rattle.reuse_session.proofs.journal_files.put_entry.Goals as goal
 
 pub returns-clause-ok : goal.returns-clause-ok
-returns-clause-ok g c honest entry =
+returns-clause-ok g c honest entry known =
     let files = g.S.Store.files in
     put_says (files c.args.store.now) (files c.put.new.self) c.in_ok-path.path c.as_slice.result.now c.in_ok-text.text.items c.args.number c.args.entry.now
-    c.in_ok-path.ensures c.as_slice.ensures.value (c.in_ok-put.ensures.puts.ok honest) (c.in_ok-text.ensures.good entry)
+    c.in_ok-path.ensures c.as_slice.ensures.value (c.in_ok-put.ensures.puts.ok honest) (c.in_ok-text.ensures.good entry known)
 
 pub returns-clause-text : goal.returns-clause-text
 returns-clause-text g c honest =

@@ -1,4 +1,7 @@
+use Rattle.reuse_session.specs.declared.command.Command.TheVariants.{Annotate}
+use Rattle.reuse_session.proofs.AnnotatedTexts.{stays_or_text}
 use Rattle.reuse_session.proofs.AnnotatedTrees.{annotates}
+use Rattle.reuse_session.proofs.LeftByRuns.{left_by_run}
 use Rattle.reuse_session.proofs.OneAnnotation.{one_tree}
 use Rattle.reuse_session.proofs.laws.annotations_change_chosen_places_alone.Goals as goal
 
@@ -8,4 +11,9 @@ returns c =
     record {
       made = λ places additions how scope tree after h. annotates kept.replaced kept.inserted kept.neighbour_replaced kept.neighbour_inserted places additions how scope tree after h;
       one = λ places additions how scope before after other this that. one_tree places additions how scope before after other this that;
+      left = λ places additions how scope when old new reply runs.
+          annotates kept.replaced kept.inserted kept.neighbour_replaced kept.neighbour_inserted places additions how scope old.tree new.tree
+          (left_by_run (Annotate places additions how scope) when old new reply runs);
+      texts = λ places additions how scope before after made plain utf8 path.
+          stays_or_text c.annotated_texts_are_texts.ensures.files c.annotated_texts_are_texts.ensures.neighbours additions how scope plain utf8 places before after made path;
     }

@@ -17,3 +17,7 @@ returns-in-Download-clause-edits g c honest =
     (subst (λ ids. AnswersEdits (tree_of (g.S.Store.files c.args.store.now)) (download_edits ids c.in-Download.texts (tree_of (g.S.Store.files c.args.store.now))) c.plan_download.result) c.as_slice-in-Download.ensures
     (subst (λ ts. AnswersEdits (tree_of (g.S.Store.files c.args.store.now)) (download_edits c.as_slice-in-Download.result.now ts (tree_of (g.S.Store.files c.args.store.now))) c.plan_download.result) c.as_slice-in-Download-2.ensures
     (c.plan_download.ensures.edits honest)))
+
+pub returns-in-Revert-clause-edits : goal.returns-in-Revert-clause-edits
+returns-in-Revert-clause-edits g c honest =
+    subst (λ k. AnswersEdits (tree_of (g.S.Store.files c.args.store.now)) (edits_of k (tree_of (g.S.Store.files c.args.store.now))) c.plan_revert.result) (sym c.in-Revert.is) (c.plan_revert.ensures.edits honest)

@@ -9,4 +9,4 @@ loop-row-preserved g c =
     let inside : c.loop-row.row-index < length c.args.rows.now = omega arith in
     let wrote : AppendsSome (contents c.loop-row.out) (contents c.print_row.new.out) (IsRowLine (get_or c.args.rows.now c.loop-row.row-index c.row-item.result)) =
     subst (λ r. AppendsSome (contents c.loop-row.out) (contents c.print_row.new.out) (IsRowLine r)) c.row-item.is c.in_ok-print_row.ensures in
-    AppendsSome-row _ _ _ c.args.rows.now c.loop-row.row-index c.row-item.result inside c.loop-row.invariant wrote
+    AppendsSome-row IsRowLine _ _ _ c.args.rows.now c.loop-row.row-index c.row-item.result inside c.loop-row.invariant wrote

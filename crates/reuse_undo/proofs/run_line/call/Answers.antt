@@ -1,35 +1,38 @@
-use Rattle.std.proofs.Common.{◌<◌, inl, IfErr, refl, sym, subst, arith}
-use Rattle.reuse_session.specs.Answer.{HasCause}
+use Rattle.std.proofs.Common.{◌<◌, inl, IfErr, refl, sym, subst, arith, ◌∙◌}
 use Rattle.reuse_session.specs.Session.{store_of}
 use Rattle.reuse_undo.specs.RunLine.{Carries, HasCallClash}
-use Rattle.reuse_undo.proofs.RunLemmas.{carried, found_again, caused, unclashed}
+use Rattle.reuse_undo.proofs.RunLemmas.{carried, found_again, caused, unclashed, unchanged_opening}
 use Rattle.reuse_undo.proofs.run_line.call.Goals as goal
 
 pub returns-in-Ok-clause-carries : goal.returns-in-Ok-clause-carries
 returns-in-Ok-clause-carries g c honest =
     let files = g.S.Store.files in
     let before = files c.args.store in
-    let event = c.args.event.now in
+    let request = c.args.request.now in
     let answer = c.ask-answer.result in
-    let left = c.ask-answer.new.session in
-    let back = c.into_store.ensures in
-    let is_honest = subst g.S.Store.honest back honest in
+    let is_honest = c.close-store.ensures.reads.was_honest honest in
     let was_honest = c.ask-answer.ensures.was_honest is_honest in
-    subst (λ s. Carries before event answer (files s)) (sym back)
-    (carried files before event c.in-Ok.opened answer (files (store_of left)) (c.in-Ok.ensures.opened was_honest) (λ first second doubt. c.in-Ok.ensures.settles first second doubt was_honest)
-    (c.ask-answer.ensures.calls is_honest))
+    subst (λ f. Carries before request answer f) (sym (c.close-store.ensures.reads.files honest))
+    (carried files before request c.in-Ok.opened answer (files (store_of c.ask-answer.new.session)) (c.in-Ok.ensures.opened was_honest)
+    (λ first second doubt. c.in-Ok.ensures.settles first second doubt was_honest) (c.ask-answer.ensures.meets is_honest))
+
+pub returns-in-Ok-clause-looks : goal.returns-in-Ok-clause-looks
+returns-in-Ok-clause-looks g c honest look held standing =
+    let files = g.S.Store.files in
+    let is_honest = c.close-store.ensures.reads.was_honest honest in
+    let was_honest = c.ask-answer.ensures.was_honest is_honest in
+    let found =
+    found_again files (files c.args.store) c.in-Ok.opened held standing (c.in-Ok.ensures.opened was_honest) (λ first second doubt. c.in-Ok.ensures.settles first second doubt was_honest) in
+    c.close-store.ensures.reads.files honest ∙ c.ask-answer.ensures.looks is_honest look ∙ found.1
 
 pub returns-in-Ok-clause-clash : goal.returns-in-Ok-clause-clash
 returns-in-Ok-clause-clash g c honest held standing =
     let files = g.S.Store.files in
-    let is_honest = subst g.S.Store.honest c.into_store.ensures honest in
+    let is_honest = c.close-store.ensures.reads.was_honest honest in
     let was_honest = c.ask-answer.ensures.was_honest is_honest in
     let found =
     found_again files (files c.args.store) c.in-Ok.opened held standing (c.in-Ok.ensures.opened was_honest) (λ first second doubt. c.in-Ok.ensures.settles first second doubt was_honest) in
-    subst (λ f. IfErr c.ask-answer.result (HasCallClash c.args.event.now held f)) found.1 (c.ask-answer.ensures.clash is_honest held found.0)
-
-pub returns-in-Err-clause-clash : goal.returns-in-Err-clause-clash
-returns-in-Err-clause-clash g c honest held standing = unclashed c.args.event.now held (g.S.Store.files c.args.store) c.in-Err.refusal (c.in-Err.ensures.clash honest)
+    subst (λ f. IfErr c.ask-answer.result (HasCallClash c.args.request.now held f)) found.1 (c.ask-answer.ensures.clash is_honest held found.0)
 
 pub returns-in-Ok-clause-fault : goal.returns-in-Ok-clause-fault
 returns-in-Ok-clause-fault g c =
@@ -37,8 +40,14 @@ returns-in-Ok-clause-fault g c =
     let opened = failures (store_of c.in-Ok.opened) in
     let left = failures (store_of c.ask-answer.new.session) in
     let first = failures c.args.store in
-    subst (λ s. IfErr c.ask-answer.result (HasCause (first < failures s))) (sym c.into_store.ensures)
-    (caused (opened < left) (first < left) (λ rose. omega (arith, rose, c.in-Ok.ensures.later.failures)) c.ask-answer.result c.ask-answer.ensures.fault)
+    let last = failures c.close-store.result.0 in
+    caused (opened < left) (first < last) (λ rose. omega (arith, rose, c.in-Ok.ensures.later.failures, c.close-store.ensures.reads.failures)) c.ask-answer.result c.ask-answer.ensures.fault
+
+pub returns-in-Ok-clause-failures : goal.returns-in-Ok-clause-failures
+returns-in-Ok-clause-failures g c = omega (arith, c.in-Ok.ensures.later.failures, c.ask-answer.ensures.failures, c.close-store.ensures.reads.failures)
+
+pub returns-in-Ok-clause-was_honest : goal.returns-in-Ok-clause-was_honest
+returns-in-Ok-clause-was_honest g c honest = c.in-Ok.ensures.later.was_honest (c.ask-answer.ensures.was_honest (c.close-store.ensures.reads.was_honest honest))
 
 pub returns-in-Err-clause-carries : goal.returns-in-Err-clause-carries
 returns-in-Err-clause-carries g c honest =
@@ -55,3 +64,11 @@ returns-in-Err-clause-carries g c honest =
         settles = λ first second doubt. c.in-Err.ensures.settles first second doubt honest;
       },
     )
+
+pub returns-in-Err-clause-looks : goal.returns-in-Err-clause-looks
+returns-in-Err-clause-looks g c honest look held standing =
+    unchanged_opening (g.S.Store.files c.args.store) (g.S.Store.files c.in-Err.store) held c.in-Err.refusal standing (λ early. (c.in-Err.ensures.early early).files honest)
+    (c.in-Err.ensures.interrupted honest)
+
+pub returns-in-Err-clause-clash : goal.returns-in-Err-clause-clash
+returns-in-Err-clause-clash g c honest held standing = unclashed c.args.request.now held (g.S.Store.files c.args.store) c.in-Err.refusal (c.in-Err.ensures.clash honest)

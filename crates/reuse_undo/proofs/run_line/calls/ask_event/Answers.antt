@@ -7,9 +7,11 @@ use Rattle.reuse_session.specs.declared.events.Event.{Event}
 use Rattle.reuse_session.specs.declared.events.Event.TheVariants as events
 use Rattle.reuse_session.specs.declared.reply.Reply.TheVariants as replies
 use Rattle.reuse_session.proofs.OnlyReading.{early_files}
+use Rattle.reuse_undo.specs.Requests.{IsLook}
 use Rattle.reuse_undo.specs.RunLine.{Calls, HasCallClash}
-use Rattle.reuse_undo.proofs.RunLemmas.{calls_by, stands_on, unclashed, log_tells_none}
-use Rattle.reuse_undo.proofs.run_line.ask.Goals as goal
+use Rattle.reuse_undo.specs.declared.request.Request.TheVariants as requests
+use Rattle.reuse_undo.proofs.RunLemmas.{calls_by, stands_on, unclashed, log_tells_none, peek_unclashed}
+use Rattle.reuse_undo.proofs.run_line.calls.ask_event.Goals as goal
 
 pub returns-in-Run-clause-calls : goal.returns-in-Run-clause-calls
 returns-in-Run-clause-calls g c honest held stands =
@@ -18,10 +20,13 @@ returns-in-Run-clause-calls g c honest held stands =
     subst (λ (e : Event). Calls e held c.run.result (files new.store)) (sym c.in-Run.is)
     (calls_by files (events.Run c.in-Run.command c.in-Run.when) held new c.run.result (c.run.ensures.exact honest held stands) (c.run.ensures.leaves.stands honest held stands) (c.run.ensures.leaves.doubt honest held stands))
 
+pub returns-in-Run-clause-looks : goal.returns-in-Run-clause-looks
+returns-in-Run-clause-looks g c honest look = absurd (subst (λ (e : Event). IsLook (requests.Call e)) c.in-Run.is look)
+
 pub returns-in-Run-clause-clash : goal.returns-in-Run-clause-clash
 returns-in-Run-clause-clash g c honest held stands =
     let files = g.S.Store.files (store_of c.args.session.now) in
-    subst (λ (e : Event). IfErr c.run.result (HasCallClash e held files)) (sym c.in-Run.is)
+    subst (λ (e : Event). IfErr c.run.result (HasCallClash (requests.Call e) held files)) (sym c.in-Run.is)
     (subst (λ n. IfErr c.run.result (HasClash (Clashes files (entry_path (n + 1))) (Clashes files head_path))) stands.remembers.used (c.run.ensures.leaves.clash honest))
 
 pub returns-in-Undo-clause-calls : goal.returns-in-Undo-clause-calls
@@ -32,9 +37,12 @@ returns-in-Undo-clause-calls g c honest held stands =
     subst (λ (e : Event). Calls e held c.undo.result (files new.store)) (sym c.in-Undo.is)
     (calls_by files events.Undo held new c.undo.result (c.undo.ensures.exact honest held stands) kept (c.undo.ensures.leaves.doubt honest held stands))
 
+pub returns-in-Undo-clause-looks : goal.returns-in-Undo-clause-looks
+returns-in-Undo-clause-looks g c honest look = absurd (subst (λ (e : Event). IsLook (requests.Call e)) c.in-Undo.is look)
+
 pub returns-in-Undo-clause-clash : goal.returns-in-Undo-clause-clash
 returns-in-Undo-clause-clash g c honest held stands =
-    subst (λ (e : Event). IfErr c.undo.result (HasCallClash e held (g.S.Store.files (store_of c.args.session.now)))) (sym c.in-Undo.is) (c.undo.ensures.leaves.clash honest)
+    subst (λ (e : Event). IfErr c.undo.result (HasCallClash (requests.Call e) held (g.S.Store.files (store_of c.args.session.now)))) (sym c.in-Undo.is) (c.undo.ensures.leaves.clash honest)
 
 pub returns-in-Redo-clause-calls : goal.returns-in-Redo-clause-calls
 returns-in-Redo-clause-calls g c honest held stands =
@@ -44,9 +52,12 @@ returns-in-Redo-clause-calls g c honest held stands =
     subst (λ (e : Event). Calls e held c.redo.result (files new.store)) (sym c.in-Redo.is)
     (calls_by files events.Redo held new c.redo.result (c.redo.ensures.exact honest held stands) kept (c.redo.ensures.leaves.doubt honest held stands))
 
+pub returns-in-Redo-clause-looks : goal.returns-in-Redo-clause-looks
+returns-in-Redo-clause-looks g c honest look = absurd (subst (λ (e : Event). IsLook (requests.Call e)) c.in-Redo.is look)
+
 pub returns-in-Redo-clause-clash : goal.returns-in-Redo-clause-clash
 returns-in-Redo-clause-clash g c honest held stands =
-    subst (λ (e : Event). IfErr c.redo.result (HasCallClash e held (g.S.Store.files (store_of c.args.session.now)))) (sym c.in-Redo.is) (c.redo.ensures.leaves.clash honest)
+    subst (λ (e : Event). IfErr c.redo.result (HasCallClash (requests.Call e) held (g.S.Store.files (store_of c.args.session.now)))) (sym c.in-Redo.is) (c.redo.ensures.leaves.clash honest)
 
 pub returns-in-Ok-clause-calls : goal.returns-in-Ok-clause-calls
 returns-in-Ok-clause-calls g c honest held stands =
@@ -55,7 +66,16 @@ returns-in-Ok-clause-calls g c honest held stands =
 
 pub returns-in-Err-clause-clash : goal.returns-in-Err-clause-clash
 returns-in-Err-clause-clash g c honest held stands =
-    unclashed c.args.event.now held (g.S.Store.files (store_of c.args.session.now)) c.in-Err.refusal (log_tells_none c.in-Err.refusal c.in-Err.ensures.refusal)
+    unclashed (requests.Call c.args.event.now) held (g.S.Store.files (store_of c.args.session.now)) c.in-Err.refusal (log_tells_none c.in-Err.refusal c.in-Err.ensures.refusal)
+
+pub returns-in-Preview-clause-calls : goal.returns-in-Preview-clause-calls
+returns-in-Preview-clause-calls g c honest held stands =
+    subst (λ (e : Event). Calls e held c.foretell.result (g.S.Store.files (store_of c.foretell.new.session))) (sym c.in-Preview.is) (c.foretell.ensures.calls honest held stands)
+
+pub returns-in-Preview-clause-clash : goal.returns-in-Preview-clause-clash
+returns-in-Preview-clause-clash g c honest held stands =
+    subst (λ (e : Event). IfErr c.foretell.result (HasCallClash (requests.Call e) held (g.S.Store.files (store_of c.args.session.now)))) (sym c.in-Preview.is)
+    (peek_unclashed g.S.Store c.foretell.result c.args.session.now c.foretell.new.session held c.foretell.ensures.peeks honest stands)
 
 pub returns-in-Reopen-clause-calls : goal.returns-in-Reopen-clause-calls
 returns-in-Reopen-clause-calls g c honest held stands =

@@ -1,0 +1,269 @@
+-- The planner of a revert: what takes a change back does what its edit says.
+use Rattle.std.proofs.Common.{◌≡◌, ◌≢◌, ◌⊎◌, inl, inr, ℕ, ◌+◌, ◌-◌, ◌≤◌, Bool, true, false, cond, not, ◌&&◌, ◌||◌, nat_eq, nat_le, List, [], ◌∷◌, ◌++◌, length, take, drop, Option, Some, None, IsSome, is_some, Result, Ok, Err, refl, sym, ap, ap₂, subst, ◌∙◌, arith, length-append, append_assoc, append-nil, le-leb, leb-true}
+use Rattle.std.specs.Option.{option_map, option_to_list}
+use Rattle.std.specs.Prelude.{filter_map}
+use Rattle.std.specs.List.{starts_with, cons_option}
+use Rattle.std.specs.Str.{bytes_eq}
+use Rattle.std.specs.FinMap.{get}
+use Rattle.std.proofs.lemmas.Bool.{false≢true}
+use Rattle.std.proofs.lemmas.Bool.Decides.{Decides-eqb}
+use Rattle.std.proofs.lemmas.List.{take-append-drop, length-take-le, drop-drop, length-drop, append_cancel_left, append_cancel_right}
+use Rattle.std.proofs.lemmas.Slice.Eq.{bytes_eq-Decides, starts_is}
+use Rattle.sha2.specs.Sha256.{sha256}
+use Rattle.reuse_text.specs.Text.{spliced}
+use Rattle.reuse_tree.specs.Files.{Files}
+use Rattle.reuse_tree.specs.Change.{path_of, sealed_make, sealed_drop, sealed_splice}
+use Rattle.reuse_tree.specs.declared.change.Change.{Change}
+use Rattle.reuse_tree.specs.declared.change.Change.TheVariants.{Make, Drop, Splice}
+use Rattle.reuse_tree.specs.declared.digest.Seal.{Seal}
+use Rattle.reuse_session.specs.Answer.{IsFailure, IsOfPlan, IsTestRefusal}
+use Rattle.reuse_session.specs.Clash.{is_clash}
+use Rattle.reuse_session.specs.Edit.{Edit, made, dropped}
+use Rattle.reuse_session.specs.Entry.{makes}
+use Rattle.reuse_session.specs.Plan.{IsRefusalOf, Makes, MakesEach, MakesEdit, MakesEdits}
+use Rattle.reuse_session.specs.Reverting.{stands_at, is_as_left, stands_as_written, is_short, put_back, taken_back, taken_back_on, stuck_on, unless_stuck, revert_edits}
+use Rattle.reuse_session.specs.declared.entry.Way.TheVariants.{Undo}
+use Rattle.reuse_session.specs.declared.reply.Refusal.{Refusal}
+use Rattle.reuse_session.specs.declared.reply.Refusal.TheVariants.{Fault, Interrupted, Memory, Moved}
+
+abbrev pub found : Option Edit → Result (Option Edit) Refusal
+found edit = Ok edit
+
+pub and_first : (a b : Bool) → (a && b) ≡ true → a ≡ true
+and_first true b e = refl
+and_first false b e = e
+
+pub and_second : (a b : Bool) → (a && b) ≡ true → b ≡ true
+and_second true b e = e
+and_second false b e = absurd (false≢true e)
+
+all_true : (a b c : Bool) → a ≡ true → b ≡ true → (a && b && c) ≡ c
+all_true a b c e f = ap₂ (λ x y. x && y && c) e f
+
+short_test : (n : ℕ) → n ≤ 16_777_216 → nat_le n 16_777_216 ≡ true
+short_test n h = le-leb n 16_777_216 h
+
+long_test : (n : ℕ) → (n ≤ 16_777_216 → ⊥) → nat_le n 16_777_216 ≡ false
+long_test n h = of_test (nat_le n 16_777_216) refl
+  where
+    of_test : (b : Bool) → nat_le n 16_777_216 ≡ b → nat_le n 16_777_216 ≡ false
+    of_test true e = absurd (h (leb-true n 16_777_216 e))
+    of_test false e = e
+
+-- ---- a file that was made
+
+module _ (tree : Files) (path file new : List ℕ) (after : Option (List ℕ)) where
+  pub drop_kept : bytes_eq file new ≡ false → MakesEdit tree (found (taken_back (Make path new after) (Some file))) None
+  drop_kept e = ap (λ b. found (cond b (Some (dropped path new)) None)) e
+
+  pub drop_makes : (clone : List ℕ) → clone ≡ path → get tree path ≡ Some file → length new ≤ 16_777_216 → bytes_eq file new ≡ true
+      → MakesEdit tree (found (taken_back (Make path new after) (Some file))) (Some (sealed_drop clone file))
+  drop_makes clone cloned here short same =
+      let is : file ≡ new = (bytes_eq-Decides file new).0 same in (
+        dropped path new,
+        ap (λ b. found (cond b (Some (dropped path new)) None)) same,
+        subst (λ p. Makes tree (sealed_drop p file) (dropped path new)) (sym cloned) (record {
+          path = refl;
+          removed = is;
+          written = refl;
+          proper = tt;
+          small = subst (λ (f : List ℕ). length f ≤ 16_777_216) (sym is) short;
+          turns = record { range = (here, refl); from = ap (option_map sha256) here; to = tt };
+          sealed = refl;
+        }),
+      )
+
+-- ---- a file that was removed
+
+pub make_makes : (tree : Files) (path old : List ℕ) (before : Option (List ℕ)) (clone bytes : List ℕ) → clone ≡ path → bytes ≡ old → get tree path ≡ None → length old ≤ 16_777_216
+    → MakesEdit tree (found (taken_back (Drop path old before) None)) (Some (sealed_make clone bytes))
+make_makes tree path old before clone bytes cloned same here short = (
+  made path old,
+  refl,
+  subst (λ p. Makes tree (sealed_make p bytes) (made path old)) (sym cloned) (subst (λ b. Makes tree (sealed_make path b) (made path old)) (sym same) (record {
+    path = refl;
+    removed = refl;
+    written = refl;
+    proper = tt;
+    small = short;
+    turns = record { range = (here, refl); from = tt; to = refl };
+    sealed = refl;
+  })),
+)
+
+-- ---- a file that was edited
+
+module _ (tree : Files) (path file old new : List ℕ) (at rest : ℕ) (seal : Option Seal) where
+  abbrev given_back : Option Edit
+  given_back = taken_back (Splice path at old new rest seal) (Some file)
+
+  pub splice_kept : stands_as_written file at old new rest seal ≡ false → MakesEdit tree (found given_back) None
+  splice_kept e = ap (λ b. found (cond (b && is_short file && is_short (spliced file at (length new) old)) (Some (put_back path file at old new)) None)) e
+
+  module _ (as_written : stands_as_written file at old new rest seal ≡ true) where
+    stands : stands_at file new at ≡ true
+    stands = and_first (stands_at file new at) (not (starts_with nat_eq old new) || is_as_left file at new rest seal) as_written
+
+    low : at ≤ length file
+    low = leb-true at (length file) (and_first (nat_le at (length file)) (starts_with nat_eq (drop at file) new) stands)
+
+    behind : drop at file ≡ new ++ drop (length new) (drop at file)
+    behind = (starts_is Decides-eqb (drop at file) new _ refl).0 (and_second (nat_le at (length file)) (starts_with nat_eq (drop at file) new) stands)
+
+    pub within : at + length new ≤ length file
+    within = omega (arith, low, length-drop at file, ap length behind, length-append new (drop (length new) (drop at file)))
+
+    whole : file ≡ take at file ++ new ++ drop (at + length new) file
+    whole =
+        sym (append_assoc (take at file) new (drop (at + length new) file)
+        ∙ ap (λ xs. take at file ++ (new ++ xs)) (sym (drop-drop (length new) at file))
+        ∙ ap (λ xs. take at file ++ xs) (sym behind) ∙ take-append-drop at file)
+
+    front_len : length (take at file) ≡ at
+    front_len = length-take-le at file low
+
+    rest_len : length (drop (at + length new) file) ≡ length file - at - length new
+    rest_len = omega (arith, length-drop (at + length new) file)
+
+    -- where the bytes differ that give way, the file changes
+    pub splice_differs : old ≢ new → file ≢ spliced file at (length new) old
+    splice_differs apart same =
+        apart (sym (append_cancel_left (take at file) new old
+        (append_cancel_right (take at file ++ new) (take at file ++ old) (drop (at + length new) file) (sym whole ∙ same))))
+
+    pub spliced_len : length (spliced file at (length new) old) ≡ length file - length new + length old
+    spliced_len = omega (arith, within, front_len, rest_len, length-append (take at file ++ old) (drop (at + length new) file), length-append (take at file) old)
+
+    pub splice_long : length file ≤ 16_777_216 → (length file - length new + length old ≤ 16_777_216 → ⊥) → MakesEdit tree (found given_back) None
+    splice_long short long =
+        ap (λ b. found (cond b (Some (put_back path file at old new)) None))
+        (all_true (stands_as_written file at old new rest seal) (is_short file) (is_short (spliced file at (length new) old)) as_written (short_test (length file) short)
+        ∙ long_test (length (spliced file at (length new) old)) (λ h. long (omega (arith, h, spliced_len))))
+
+    pub splice_makes : (clone removed written : List ℕ) → clone ≡ path → removed ≡ new → written ≡ old → old ≢ new → get tree path ≡ Some file → length file ≤ 16_777_216
+        → length file - length new + length old ≤ 16_777_216 → MakesEdit tree (found given_back) (Some (sealed_splice clone file at removed written))
+    splice_makes clone removed written cloned is_new is_old differ here short fits = (
+      put_back path file at old new,
+      ap (λ b. found (cond b (Some (put_back path file at old new)) None))
+          (all_true (stands_as_written file at old new rest seal) (is_short file) (is_short (spliced file at (length new) old)) as_written (short_test (length file) short)
+          ∙ short_test (length (spliced file at (length new) old)) (omega (arith, fits, spliced_len))),
+      subst (λ p. Makes tree (sealed_splice p file at removed written) (put_back path file at old new)) (sym cloned)
+          (subst (λ r. Makes tree (sealed_splice path file at r written) (put_back path file at old new)) (sym is_new)
+          (subst (λ w. Makes tree (sealed_splice path file at new w) (put_back path file at old new)) (sym is_old) (record {
+            path = refl;
+            removed = refl;
+            written = refl;
+            proper = λ e. differ (sym e);
+            small = (omega (arith, within, short), omega (arith, within, fits));
+            turns = record {
+              range = (
+                take at file,
+                drop (at + length new) file,
+                record { whole = here ∙ ap (λ b. Some b) whole; before = front_len; behind = rest_len },
+                record { whole = refl; before = front_len; behind = rest_len },
+              );
+              from = ap (option_map sha256) here;
+              to = refl;
+            };
+            sealed = refl;
+          }))),
+    )
+
+-- ---- on a tree
+
+pub stuck_by_clash : (tree : Files) (change : Change) → makes Undo change ≡ true → is_clash tree (path_of change) ≡ true → MakesEdit tree (found (taken_back_on tree change)) None
+stuck_by_clash tree change e f = ap₂ (λ a b. found (cond (a && b) None (taken_back change (get tree (path_of change))))) e f
+
+pub where_free : (tree : Files) (change : Change) → (makes Undo change && is_clash tree (path_of change)) ≡ false → taken_back_on tree change ≡ taken_back change (get tree (path_of change))
+where_free tree change e = ap (λ b. cond b None (taken_back change (get tree (path_of change)))) e
+
+-- ---- the changes, one after the other
+
+-- the changes so far do what the edits of the steps so far say, of which none is stuck unless such are skipped
+pub record SoFar (tree : Files) (skip : Bool) (all left : List Change) (taken : List Change) : Type 0 where
+  pub edits : List Edit
+  pub each : MakesEach tree taken edits
+  pub same : filter_map (taken_back_on tree) all ≡ edits ++ filter_map (taken_back_on tree) left
+  pub stuck : (skip ≡ true) ⊎ (stuck_on tree all ≡ stuck_on tree left)
+
+each_push : (tree : Files) (changes : List Change) (edits : List Edit) (c : Change) (e : Edit) → MakesEach tree changes edits → Makes tree c e → MakesEach tree (changes ++ c ∷ []) (edits ++ e ∷ [])
+each_push tree [] [] c e each makes = (makes, tt)
+each_push tree [] (f ∷ edits) c e each makes = absurd each
+each_push tree (b ∷ changes) [] c e each makes = absurd each
+each_push tree (b ∷ changes) (f ∷ edits) c e each makes = (each.0, each_push tree changes edits c e each.1 makes)
+
+same_found : (a b : Option Edit) → found a ≡ found b → a ≡ b
+same_found a b e = cc
+
+module _ (tree : Files) (skip : Bool) (all : List Change) where
+  pub at_start : SoFar tree skip all all []
+  at_start = record { edits = []; each = tt; same = refl; stuck = inr refl }
+
+  pub after_taken : (c : Change) (left taken : List Change) (back : Change) → SoFar tree skip all (c ∷ left) taken → MakesEdit tree (found (taken_back_on tree c)) (Some back) → SoFar tree skip all left (taken ++ back ∷ [])
+  after_taken c left taken back so makes = record {
+    edits = so.edits ++ makes.0 ∷ [];
+    each = each_push tree taken so.edits back makes.0 so.each makes.2;
+    same = so.same ∙ ap (λ o. so.edits ++ cons_option o (filter_map (taken_back_on tree) left)) is ∙ sym (append_assoc so.edits (makes.0 ∷ []) (filter_map (taken_back_on tree) left));
+    stuck = still so.stuck;
+  }
+    where
+      is : taken_back_on tree c ≡ Some makes.0
+      is = same_found (taken_back_on tree c) (Some makes.0) makes.1
+
+      still : (skip ≡ true) ⊎ (stuck_on tree all ≡ stuck_on tree (c ∷ left)) → (skip ≡ true) ⊎ (stuck_on tree all ≡ stuck_on tree left)
+      still (inl e) = inl e
+      still (inr e) = inr (e ∙ ap (λ o. cond (not (is_some o)) (c ∷ stuck_on tree left) (stuck_on tree left)) is)
+
+  pub after_skipped : (c : Change) (left taken : List Change) → skip ≡ true → SoFar tree skip all (c ∷ left) taken → MakesEdit tree (found (taken_back_on tree c)) None → SoFar tree skip all left taken
+  after_skipped c left taken skips so none = record {
+    edits = so.edits;
+    each = so.each;
+    same = so.same ∙ ap (λ o. so.edits ++ cons_option o (filter_map (taken_back_on tree) left)) (same_found (taken_back_on tree c) None none);
+    stuck = inl skips;
+  }
+
+  pub at_refusal : (c : Change) (left taken : List Change) → skip ≡ false → SoFar tree skip all (c ∷ left) taken → MakesEdit tree (found (taken_back_on tree c)) None → revert_edits all skip tree ≡ Err (Moved (path_of c))
+  at_refusal c left taken refuses so none =
+      ap (λ b. unless_stuck (cond b [] (stuck_on tree all)) (filter_map (taken_back_on tree) all)) refuses
+      ∙ ap (λ cs. unless_stuck cs (filter_map (taken_back_on tree) all)) (first so.stuck ∙ ap (λ o. cond (not (is_some o)) (c ∷ stuck_on tree left) (stuck_on tree left)) (same_found (taken_back_on tree c) None none))
+    where
+      first : (skip ≡ true) ⊎ (stuck_on tree all ≡ stuck_on tree (c ∷ left)) → stuck_on tree all ≡ stuck_on tree (c ∷ left)
+      first (inl e) = absurd (false≢true (sym refuses ∙ e))
+      first (inr e) = e
+
+  pub at_end : (taken : List Change) → SoFar tree skip all [] taken → MakesEdits tree (revert_edits all skip tree) taken
+  at_end taken so = (so.edits, ap₂ (λ cs es. unless_stuck cs es) (none so.stuck) (so.same ∙ append-nil so.edits), so.each)
+    where
+      skips_none : (b : Bool) → cond b [] (stuck_on tree []) ≡ []
+      skips_none true = refl
+      skips_none false = refl
+
+      none : (skip ≡ true) ⊎ (stuck_on tree all ≡ stuck_on tree []) → cond skip [] (stuck_on tree all) ≡ []
+      none (inl e) = ap (λ b. cond b [] (stuck_on tree all)) e
+      none (inr e) = ap (λ cs. cond skip [] cs) e ∙ skips_none skip
+
+  -- what takes the next change back is added, or it is skipped
+  pub after_back : (c : Change) (left taken : List Change) (back : Option Change) → SoFar tree skip all (c ∷ left) taken → MakesEdit tree (found (taken_back_on tree c)) back → (skip ≡ false → IsSome back) → SoFar tree skip all left (taken ++ option_to_list back)
+  after_back c left taken (Some back) so makes some = after_taken c left taken back so makes
+  after_back c left taken None so makes some = subst (SoFar tree skip all left) (sym (append-nil taken)) (after_skipped c left taken (skips skip refl) so makes)
+    where
+      skips : (b : Bool) → skip ≡ b → skip ≡ true
+      skips true e = e
+      skips false e = absurd (false≢true (some e))
+
+  -- a refusal of the next change is that of the revert
+  pub back_refused : (c : Change) (left taken : List Change) (back : Option Change) (refusal : Refusal) → SoFar tree skip all (c ∷ left) taken → MakesEdit tree (found (taken_back_on tree c)) back → IsTestRefusal refusal
+      → ((path : List ℕ) → refusal ≡ Moved path → (path ≡ path_of c) × (back ≡ None) × (skip ≡ false)) → IsRefusalOf (revert_edits all skip tree) refusal
+  back_refused c left taken given Memory so makes is moved = tt
+  back_refused c left taken given (Fault fault) so makes is moved = tt
+  back_refused c left taken given (Moved path) so makes is moved =
+      let m = moved path refl in
+      at_refusal c left taken m.2 so (subst (MakesEdit tree (found (taken_back_on tree c))) m.1 makes) ∙ ap (λ p. Err (Moved p)) (sym m.0)
+  back_refused c left taken given refusal so makes is moved = absurd is
+
+-- a failure of a reading is a refusal of any plan
+pub failure_refused : {A : Type 0} (given : Result A Refusal) (refusal : Refusal) → IsFailure refusal → IsOfPlan refusal → IsRefusalOf given refusal
+failure_refused given Memory is of = tt
+failure_refused given (Fault fault) is of = tt
+failure_refused given (Interrupted cause) is of = absurd of
+failure_refused given refusal is of = absurd is

@@ -1,0 +1,19 @@
+use Rattle.std.proofs.Common.{◌≡◌, Result, Ok, sym, ◌∙◌}
+use Rattle.reuse_tree.specs.Files.{Files}
+use Rattle.reuse_session.specs.declared.command.Command.TheVariants.{Revert}
+use Rattle.reuse_session.specs.declared.reply.Refusal.{Refusal}
+use Rattle.reuse_session.proofs.LeftByRuns.{left_by_run}
+use Rattle.reuse_session.proofs.RevertLaws.{put_back_below, once, reverts_as_undo}
+use Rattle.reuse_session.proofs.laws.reverts_take_steps_back.Goals as goal
+
+one_outcome : (one other : Files) → ◌≡◌ {A = Result Files Refusal} (Ok one) (Ok other) → one ≡ other
+one_outcome one other same = cc
+
+pub returns : goal.returns
+returns c = record {
+  undo = λ changes skip before after. reverts_as_undo before after changes skip;
+  left = λ changes skip before when old new reply entry sealed are leads runs.
+      one_outcome new.tree before (sym (left_by_run (Revert changes skip) when old new reply runs) ∙ reverts_as_undo before old.tree changes skip entry sealed are leads);
+  below = put_back_below;
+  once = once;
+}

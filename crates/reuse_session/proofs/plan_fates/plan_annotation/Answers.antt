@@ -1,0 +1,26 @@
+use Rattle.std.proofs.Common.{Ok, IfOk, sym, ap, subst}
+use Rattle.reuse_header.specs.Names.{lookup}
+use Rattle.reuse_tree.specs.Files.{tree_of}
+use Rattle.reuse_session.specs.Fates.{annotation_fates}
+use Rattle.reuse_session.specs.FatePlan.{Plans}
+use Rattle.reuse_session.specs.Outcome.{edits_by_names}
+use Rattle.reuse_session.specs.TreeStyles.{styles_in}
+use Rattle.reuse_session.proofs.FatePlans.{refused_as}
+use Rattle.reuse_session.proofs.plan_fates.plan_annotation.Goals as goal
+
+pub returns-in-Ok-clause-planned : goal.returns-in-Ok-clause-planned
+returns-in-Ok-clause-planned g c honest =
+    let before = c.plan_places.ensures.reads.was_honest honest in
+    let same = c.read_styles.ensures.reads.files before in
+    let tree = tree_of (g.S.Store.files c.args.store.now) in
+    subst (λ given. IfOk c.plan_places.result (Plans tree (annotation_fates c.args.places.now c.args.additions.now c.args.how.now c.args.scope.now tree given) (edits_by_names c.args.places.now c.args.additions.now c.args.how.now c.args.scope.now tree given)))
+    (sym (c.in-Ok.ensures.styles before))
+    (subst (λ f. IfOk c.plan_places.result (Plans (tree_of f) (annotation_fates c.args.places.now c.args.additions.now c.args.how.now c.args.scope.now (tree_of f) (Ok (lookup c.in-Ok.styles))) (edits_by_names c.args.places.now c.args.additions.now c.args.how.now c.args.scope.now (tree_of f) (Ok (lookup c.in-Ok.styles))))) same
+    (c.plan_places.ensures.planned honest))
+
+pub returns-in-Err-clause-planned : goal.returns-in-Err-clause-planned
+returns-in-Err-clause-planned g c honest =
+    let tree = tree_of (g.S.Store.files c.args.store.now) in
+    refused_as tree (annotation_fates c.args.places.now c.args.additions.now c.args.how.now c.args.scope.now tree (styles_in tree)) (edits_by_names c.args.places.now c.args.additions.now c.args.how.now c.args.scope.now tree (styles_in tree))
+    (styles_in tree) c.in-Err.refusal c.refused.result c.refused.ensures.alone (c.in-Err.ensures.refusal honest)
+    (λ e. ap (annotation_fates c.args.places.now c.args.additions.now c.args.how.now c.args.scope.now tree) e) (λ e. ap (edits_by_names c.args.places.now c.args.additions.now c.args.how.now c.args.scope.now tree) e)

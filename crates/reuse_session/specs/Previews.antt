@@ -1,0 +1,57 @@
+-- What a preview of a call answers and leaves.
+use Rattle.std.specs.Prelude.{◌≡◌, List, [], ◌∷◌, Result, Ok, Err, length, if◌then◌else◌}
+use Rattle.reuse_tree.specs.Asked.{OnlyReads}
+use Rattle.reuse_tree.specs.Files.{Files}
+use Rattle.reuse_tree.specs.declared.store.Store.{Ghosts}
+use Rattle.reuse_session.specs.Answer.{RefusedAsRead}
+use Rattle.reuse_session.specs.Fates.{AreFatesOf, fates_of}
+use Rattle.reuse_session.specs.Journal.{Recorded, State, end_of}
+use Rattle.reuse_session.specs.Machine.{is_full}
+use Rattle.reuse_session.specs.Session.{store_of, IsKept}
+use Rattle.reuse_session.specs.declared.command.Command.{Command}
+use Rattle.reuse_session.specs.declared.entry.Way.{Way}
+use Rattle.reuse_session.specs.declared.fate.Fate.{Fate}
+use Rattle.reuse_session.specs.declared.reply.Refusal.{Refusal}
+use Rattle.reuse_session.specs.declared.reply.Refusal.TheVariants.{Broken, JournalFull, NothingToUndo, NothingToRedo, BadJournal, Fault, Memory}
+use Rattle.reuse_session.specs.declared.session.Session.{Session}
+
+-- a preview of an undo or a redo: the fates of the next step's changes, or that there is no step
+abbrev pub Foresees : Way → List Recorded → Files → Result (List Fate) Refusal → Type 0
+Foresees way [] tree answer = answer ≡ Err (end_of way)
+Foresees way (step ∷ steps) tree (Ok fates) = AreFatesOf way tree step.changes fates
+Foresees way (step ∷ steps) tree (Err refusal) = ⊥
+
+-- the store is read alone, and what is remembered stays
+pub record OnlyLooks {S A : Type 0} (store : Ghosts S) (answer : Result A Refusal) (old new : Session S) : Type 0 where
+  pub reads : OnlyReads store (store_of old) (store_of new)
+  pub kept : IsKept old new
+  pub fails : RefusedAsRead store (store_of old) (store_of new) answer
+
+-- the refusals of looking at a tree
+abbrev pub IsLookRefusal : Refusal → Type 0
+IsLookRefusal Memory = Unit {0}
+IsLookRefusal (Fault fault) = Unit {0}
+IsLookRefusal refusal = ⊥
+
+-- the refusal tells neither a fault of the store nor want of memory
+abbrev pub IsTold : Refusal → Type 0
+IsTold Memory = ⊥
+IsTold (Fault fault) = ⊥
+IsTold refusal = Unit {0}
+
+-- the refusals of a preview of an entry that is listed
+abbrev pub IsListedPreviewRefusal : Refusal → Type 0
+IsListedPreviewRefusal (BadJournal path) = Unit {0}
+IsListedPreviewRefusal refusal = IsLookRefusal refusal
+
+-- the refusals of a preview
+abbrev pub IsPreviewRefusal : Refusal → Type 0
+IsPreviewRefusal Broken = Unit {0}
+IsPreviewRefusal JournalFull = Unit {0}
+IsPreviewRefusal NothingToUndo = Unit {0}
+IsPreviewRefusal NothingToRedo = Unit {0}
+IsPreviewRefusal refusal = IsListedPreviewRefusal refusal
+
+-- what a run of the command would do on a standing, path by path, or that the journal is full
+abbrev pub run_fates_on : State → Command → Result (List Fate) Refusal
+run_fates_on old command = if is_full (length old.journal.done) old.journal.used then Err JournalFull else Ok (fates_of command old.tree)

@@ -1,0 +1,68 @@
+// What a call would do, path by path.
+ghost use Rattle.std.specs.Prelude.{◌≡◌, IfOk, IfErr};
+ghost use Rattle.reuse_session.specs.Previews.{IsLookRefusal, IsTold};
+
+use crate::command::Command;
+use crate::reply::Refusal;
+use reuse_tree::PathText;
+use std::marker::Model;
+
+/// What a call would do at a path.
+#[derive(Debug, Drop)]
+pub enum Fate {
+    /// The path changes.
+    Changes(PathText),
+    /// The file is gone through and stays as it is.
+    Unchanged(PathText),
+    /// The file is skipped, as that was asked for.
+    Skipped(PathText),
+    /// The call is refused so.
+    Refused(Refusal),
+}
+
+/// The fates of the paths that a call goes through, in their order.
+#[derive(Debug, Drop)]
+pub struct Fates {
+    pub(crate) fates: Vec<Fate>,
+}
+
+impl Model for Fates {
+    ghost use Rattle.std.specs.Prelude.{List};
+    ghost use Rattle.reuse_session.specs.declared.fate.Fate.{Fate};
+
+    ghost Value = { List Fate };
+
+    ghost view = { λ f. f.fates.items };
+}
+
+impl Fates {
+    /// Lends the fates.
+    pub fn as_slice(&self) -> &[Fate]
+        ensures { result.now ≡ self.now }
+    {
+        self.fates.as_slice()
+    }
+}
+
+/// A call that can be looked at before it is made.
+#[derive(Debug, Drop)]
+pub enum Call {
+    /// A run of a command.
+    Run(Command),
+    /// An undo.
+    Undo,
+    /// A redo.
+    Redo,
+}
+
+/// The refusal, unless it tells a fault of the store or want of memory.
+pub(crate) fn told(refusal: Refusal) -> Result<Refusal, Refusal>
+    ensures told { IfOk result (λ told. (told ≡ refusal) × IsTold told) }
+    ensures fault { IfErr result (λ fault. (fault ≡ refusal) × IsLookRefusal fault) }
+{
+    match refusal {
+        Refusal::Memory => Err(Refusal::Memory),
+        Refusal::Fault(fault) => Err(Refusal::Fault(fault)),
+        refusal => Ok(refusal),
+    }
+}

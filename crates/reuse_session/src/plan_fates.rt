@@ -1,0 +1,242 @@
+// What a run of a command would do, path by path.
+ghost use Rattle.std.specs.Prelude.{◌≡◌, ◌++◌, ◌∷◌, [], Result, Ok, Err, Option, Some, None, List, IfOk, IfErr, OnOk, map, not, ◌&&◌, if◌then◌else◌};
+ghost use Rattle.std.specs.FinMap.{keys};
+ghost use Rattle.reuse_header.specs.Names.{lookup};
+ghost use Rattle.reuse_tree.specs.Asked.{OnlyReads};
+ghost use Rattle.reuse_tree.specs.Files.{Files, tree_of};
+ghost use Rattle.reuse_session.specs.Annotate.{annotated_at};
+ghost use Rattle.reuse_session.specs.Answer.{RefusedAsRead};
+ghost use Rattle.reuse_session.specs.Command.{has_root};
+ghost use Rattle.reuse_session.specs.Edit.{Edit};
+ghost use Rattle.reuse_session.specs.FatePlan.{MakesUnlessRefused, Plans, Adds};
+ghost use Rattle.reuse_session.specs.Fates.{fate_at, annotation_fates, path_fates, limit_fates, fates_of};
+ghost use Rattle.reuse_session.specs.Outcome.{edits_at, edits_by_names, edits_of};
+ghost use Rattle.reuse_session.specs.Previews.{IsLookRefusal};
+ghost use Rattle.reuse_session.specs.TreeStyles.{styles_in};
+ghost use Rattle.reuse_session.specs.Worked.{worked_paths};
+ghost use Rattle.reuse_session.specs.declared.fate.Fate.{Fate};
+ghost use Rattle.reuse_session.specs.declared.fate.Fate.TheVariants as fate;
+ghost use Rattle.reuse_session.specs.declared.reply.Refusal.{Refusal};
+ghost use Rattle.reuse_session.specs.declared.reply.Refusal.TheVariants.{TooMany};
+
+use crate::command::{Command, Place, Scope};
+use crate::download_fates::plan_download;
+use crate::fate::{Fate, Fates};
+use crate::listing::tree_paths;
+use crate::places::{has_root, worked_paths};
+use crate::plan::plan_path;
+use crate::plan_conversion::plan_conversion;
+use crate::plan_size::is_too_many;
+use crate::plan_styles::read_styles;
+use crate::planned::{Planned, of_changes, refused};
+use crate::reply::Refusal;
+use crate::revert_fates::plan_revert;
+use crate::skipped::is_skipped;
+use reuse_header::{How, StyleTable};
+use reuse_notice::Additions;
+use reuse_tree::{Change, PathText, Store};
+use std::alloc::{AllocError, Global};
+
+/// The fates of the paths that a run of the command goes through, on the tree that the store has.
+pub(crate) fn plan_fates<S: Store>(
+    alloc: Global,
+    store: &mut S,
+    command: &Command,
+) -> Result<Fates, Refusal>
+    ensures fates { S.honest store.new → IfOk result (λ fates. fates ≡ fates_of command.now (tree_of (S.files store.old))) }
+    ensures fails { RefusedAsRead S.Store store.old store.new result }
+    ensures reads { OnlyReads S.Store store.old store.new }
+    ensures refusal { IfErr result IsLookRefusal }
+{
+    let planned = plan_command(alloc, store, command)?;
+    Ok(with_limit(planned)?)
+}
+
+// What is found of a command, however many its changes are.
+fn plan_command<S: Store>(
+    alloc: Global,
+    store: &mut S,
+    command: &Command,
+) -> Result<Planned, Refusal>
+    ensures planned { S.honest store.new → IfOk result (Plans (tree_of (S.files store.old)) (path_fates command.now (tree_of (S.files store.old))) (edits_of command.now (tree_of (S.files store.old)))) }
+    ensures fails { RefusedAsRead S.Store store.old store.new result }
+    ensures reads { OnlyReads S.Store store.old store.new }
+    ensures refusal { IfErr result IsLookRefusal }
+{
+    match command {
+        Command::Annotate {
+            places,
+            additions,
+            how,
+            scope,
+        } => plan_annotation(alloc, store, places.as_slice(), additions, how, scope),
+        Command::ConvertDep5 => of_changes(alloc, plan_conversion(alloc, store)),
+        Command::Download { ids, texts } => {
+            plan_download(alloc, store, ids.as_slice(), texts.as_slice())
+        }
+        Command::Revert {
+            changes,
+            skip_moved,
+        } => plan_revert(alloc, store, changes, *skip_moved),
+    }
+}
+
+// The fates, and behind them that the changes are too many together.
+fn with_limit(planned: Planned) -> Result<Fates, AllocError>
+    ensures { (tree : Files) (told : List Fate) (edits : Result (List Edit) Refusal) → Plans tree told edits planned → IfOk result (λ fates. fates ≡ told ++ limit_fates edits) }
+{
+    let over = is_over(&planned.changes);
+    let mut fates = planned.fates;
+    if over {
+        fates.push(Fate::Refused(Refusal::TooMany))?;
+    }
+    Ok(Fates { fates })
+}
+
+// Whether there are changes, and they are more than an entry holds.
+fn is_over(changes: &Option<Vec<Change>>) -> bool
+    ensures { (tree : Files) (edits : Result (List Edit) Refusal) → MakesUnlessRefused tree edits changes.now → limit_fates edits ≡ (if result then fate.Refused TooMany ∷ [] else []) }
+{
+    match changes {
+        Some(changes) => is_too_many(changes),
+        None => false,
+    }
+}
+
+// What is found of an annotation.
+fn plan_annotation<S: Store>(
+    alloc: Global,
+    store: &mut S,
+    places: &[Place],
+    additions: &Additions,
+    how: &How,
+    scope: &Scope,
+) -> Result<Planned, Refusal>
+    ensures planned { S.honest store.new → IfOk result (Plans (tree_of (S.files store.old))
+        (annotation_fates places.now additions.now how.now scope.now (tree_of (S.files store.old)) (styles_in (tree_of (S.files store.old))))
+        (edits_by_names places.now additions.now how.now scope.now (tree_of (S.files store.old)) (styles_in (tree_of (S.files store.old))))) }
+    ensures fails { RefusedAsRead S.Store store.old store.new result }
+    ensures reads { OnlyReads S.Store store.old store.new }
+    ensures refusal { IfErr result IsLookRefusal }
+{
+    match read_styles(alloc, store) {
+        Ok(styles) => plan_places(alloc, store, places, additions, how, scope, &styles),
+        Err(refusal) => refused(alloc, refusal),
+    }
+}
+
+// What is found of an annotation by this table of styles.
+fn plan_places<S: Store>(
+    alloc: Global,
+    store: &mut S,
+    places: &[Place],
+    additions: &Additions,
+    how: &How,
+    scope: &Scope,
+    styles: &StyleTable,
+) -> Result<Planned, Refusal>
+    ensures planned { S.honest store.new → IfOk result (Plans (tree_of (S.files store.old))
+        (annotation_fates places.now additions.now how.now scope.now (tree_of (S.files store.old)) (Ok (lookup styles.now)))
+        (edits_by_names places.now additions.now how.now scope.now (tree_of (S.files store.old)) (Ok (lookup styles.now)))) }
+    ensures fails { RefusedAsRead S.Store store.old store.new result }
+    ensures reads { OnlyReads S.Store store.old store.new }
+    ensures refusal { IfErr result IsLookRefusal }
+{
+    if gives_root(places, scope) {
+        return refused(alloc, Refusal::IsFolder(Place::Root));
+    }
+    plan_listed(alloc, store, places, additions, how, scope, styles)
+}
+
+// Whether the root is given where folders aren't gone through.
+fn gives_root(places: &[Place], scope: &Scope) -> bool
+    ensures { result ≡ (not scope.now.recursive && has_root places.now) }
+{
+    !scope.recursive && has_root(places)
+}
+
+// What is found at the paths that are gone through.
+fn plan_listed<S: Store>(
+    alloc: Global,
+    store: &mut S,
+    places: &[Place],
+    additions: &Additions,
+    how: &How,
+    scope: &Scope,
+    styles: &StyleTable,
+) -> Result<Planned, Refusal>
+    ensures planned { S.honest store.new → IfOk result (Plans (tree_of (S.files store.old))
+        (map (fate_at how.now scope.now additions.now (lookup styles.now) (tree_of (S.files store.old))) (worked_paths scope.now places.now (tree_of (S.files store.old))))
+        (edits_at (annotated_at how.now scope.now additions.now (lookup styles.now) (tree_of (S.files store.old))) (worked_paths scope.now places.now (tree_of (S.files store.old))))) }
+    ensures fails { RefusedAsRead S.Store store.old store.new result }
+    ensures reads { OnlyReads S.Store store.old store.new }
+    ensures refusal { IfErr result IsLookRefusal }
+{
+    let paths = tree_paths(alloc, store)?;
+    let worked = worked_paths(alloc, &paths, places, scope)?;
+    plan_paths(alloc, store, &paths, &worked, additions, how, scope, styles)
+}
+
+// What is found at the worked paths. `paths` are those of the tree.
+fn plan_paths<S: Store>(
+    alloc: Global,
+    store: &mut S,
+    paths: &[PathText],
+    worked: &[PathText],
+    additions: &Additions,
+    how: &How,
+    scope: &Scope,
+    styles: &StyleTable,
+) -> Result<Planned, Refusal>
+    ensures planned { S.honest store.new → paths.now ≡ keys (tree_of (S.files store.old)) → IfOk result (Plans (tree_of (S.files store.old))
+        (map (fate_at how.now scope.now additions.now (lookup styles.now) (tree_of (S.files store.old))) worked.now)
+        (edits_at (annotated_at how.now scope.now additions.now (lookup styles.now) (tree_of (S.files store.old))) worked.now)) }
+    ensures fails { RefusedAsRead S.Store store.old store.new result }
+    ensures reads { OnlyReads S.Store store.old store.new }
+    ensures refusal { IfErr result IsLookRefusal }
+{
+    let mut planned = Planned::new(alloc);
+    for path in worked {
+        plan_next(
+            alloc,
+            store,
+            &mut planned,
+            paths,
+            path,
+            additions,
+            how,
+            scope,
+            styles,
+        )?;
+    }
+    Ok(planned)
+}
+
+// Adds what is found at a path. `paths` are those of the tree.
+fn plan_next<S: Store>(
+    alloc: Global,
+    store: &mut S,
+    planned: &mut Planned,
+    paths: &[PathText],
+    path: &PathText,
+    additions: &Additions,
+    how: &How,
+    scope: &Scope,
+    styles: &StyleTable,
+) -> Result<(), Refusal>
+    ensures adds { S.honest store.new → paths.now ≡ keys (tree_of (S.files store.old)) → OnOk result (Adds (tree_of (S.files store.old))
+        (annotated_at how.now scope.now additions.now (lookup styles.now) (tree_of (S.files store.old)) path.now)
+        (fate_at how.now scope.now additions.now (lookup styles.now) (tree_of (S.files store.old)) path.now) planned.old planned.new) }
+    ensures fails { RefusedAsRead S.Store store.old store.new result }
+    ensures reads { OnlyReads S.Store store.old store.new }
+    ensures refusal { IfErr result IsLookRefusal }
+{
+    match plan_path(alloc, store, paths, path, additions, how, scope, styles) {
+        Ok(Some(change)) => Ok(planned.push_change(alloc, change)?),
+        Ok(None) => {
+            let skipped = is_skipped(alloc, store, paths, path, scope, styles)?;
+            Ok(planned.push_idle(alloc, path, skipped)?)
+        }
+        Err(refusal) => planned.push_refusal(refusal),
+    }
+}

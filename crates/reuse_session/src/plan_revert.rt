@@ -1,0 +1,277 @@
+// Plans a revert: takes the changes of a step back on whatever the tree is now.
+ghost use Rattle.std.specs.Prelude.{◌≡◌, ◌≢◌, ◌↔◌, ◌+◌, ◌++◌, ◌≤◌, ℕ, IfOk, IfErr, OnOk, IsSome, IsTrue, List, Ok, Option, Some, None, false, true, length};
+ghost use Rattle.std.specs.Option.{option_to_list};
+ghost use Rattle.std.specs.FinMap.{get, keys};
+ghost use Rattle.std.specs.List.{list_any};
+ghost use Rattle.std.specs.Str.{bytes_eq};
+ghost use Rattle.reuse_tree.specs.Asked.{OnlyReads};
+ghost use Rattle.reuse_tree.specs.Change.{path_of, IsProper};
+ghost use Rattle.reuse_tree.specs.Files.{Files, tree_of};
+ghost use Rattle.reuse_tree.specs.Store.{reading_of};
+ghost use Rattle.reuse_tree.specs.declared.change.Change.TheVariants.{Make, Splice};
+ghost use Rattle.reuse_tree.specs.declared.fault.StoreFault.{StoreFault};
+ghost use Rattle.reuse_session.specs.Answer.{IsFailure, IsOfPlan, IsTestRefusal, RefusedAsRead};
+ghost use Rattle.reuse_session.specs.Entry.{makes, IsEntry, IsSmall};
+ghost use Rattle.reuse_session.specs.EntryText.{HavePaths};
+ghost use Rattle.reuse_session.specs.Plan.{AnswersEdits, MakesEdit};
+ghost use Rattle.reuse_session.specs.Reverting.{has_digest, is_as_left, revert_edits, stands_as_written, stands_at, taken_back, taken_back_on};
+ghost use Rattle.reuse_session.specs.Tree.{is_of_tree};
+ghost use Rattle.reuse_session.specs.declared.entry.Way.TheVariants.{Undo};
+
+use crate::clash::is_clash;
+use crate::entry::Way;
+use crate::entry_changes::EntryChanges;
+use crate::listing::tree_paths;
+use crate::perform::makes_any;
+use crate::reply::Refusal;
+use crate::turn::makes;
+use reuse_text::Bytes;
+use reuse_tree::{Change, Digest, PathText, Reading, Seal, Store};
+use std::alloc::{AllocError, Global};
+
+const LONGEST_FILE: usize = 16_777_216;
+
+/// The changes of a revert, or its first refusal.
+pub(crate) fn plan_revert<S: Store>(
+    alloc: Global,
+    store: &mut S,
+    changes: &EntryChanges,
+    skip_moved: bool,
+) -> Result<Vec<Change>, Refusal>
+    ensures edits { S.honest store.new → AnswersEdits (tree_of (S.files store.old)) (revert_edits changes.now skip_moved (tree_of (S.files store.old))) result }
+    ensures entry { IsEntry changes.now × HavePaths changes.now }
+    ensures fails { RefusedAsRead S.Store store.old store.new result }
+    ensures reads { OnlyReads S.Store store.old store.new }
+    ensures planned { IfErr result IsOfPlan }
+{
+    let changes = changes.as_slice();
+    match paths_to_heed(alloc, store, changes) {
+        Ok(paths) => take_all_back(alloc, store, &paths, changes, skip_moved),
+        Err(refusal) => Err(refusal),
+    }
+}
+
+// The paths of the tree where one of the changes makes a file as it is taken back, and else none.
+pub(crate) fn paths_to_heed<S: Store>(
+    alloc: Global,
+    store: &mut S,
+    changes: &[Change],
+) -> Result<Vec<PathText>, Refusal>
+    ensures paths { S.honest store.new → list_any (makes Undo) changes.now ≡ true → IfOk result (λ paths. paths.items ≡ keys (tree_of (S.files store.old))) }
+    ensures fails { RefusedAsRead S.Store store.old store.new result }
+    ensures reads { OnlyReads S.Store store.old store.new }
+    ensures planned { IfErr result IsOfPlan }
+    ensures kinds { IfErr result IsFailure }
+{
+    if makes_any(changes, Way::Undo) {
+        Ok(tree_paths(alloc, store)?)
+    } else {
+        Ok(Vec::new(alloc))
+    }
+}
+
+// The changes that take these of an entry back, or the first refusal. `paths` are those of the tree, where one of them makes a file.
+fn take_all_back<S: Store>(
+    alloc: Global,
+    store: &mut S,
+    paths: &[PathText],
+    changes: &[Change],
+    skip_moved: bool,
+) -> Result<Vec<Change>, Refusal>
+    ensures edits { S.honest store.new → IsEntry changes.now → (list_any (makes Undo) changes.now ≡ true → paths.now ≡ keys (tree_of (S.files store.old)))
+        → AnswersEdits (tree_of (S.files store.old)) (revert_edits changes.now skip_moved (tree_of (S.files store.old))) result }
+    ensures fails { RefusedAsRead S.Store store.old store.new result }
+    ensures reads { OnlyReads S.Store store.old store.new }
+    ensures planned { IfErr result IsOfPlan }
+{
+    let mut taken = Vec::new(alloc);
+    for change in changes {
+        let back = match take_back(alloc, store, paths, change) {
+            Ok(back) => back,
+            Err(refusal) => return Err(refusal),
+        };
+        match add_back(alloc, &mut taken, change, back, skip_moved) {
+            Ok(()) => {}
+            Err(refusal) => return Err(refusal),
+        }
+    }
+    Ok(taken)
+}
+
+// Adds what takes a change back. Where nothing does, the change is refused, unless such are skipped.
+fn add_back(
+    alloc: Global,
+    taken: &mut Vec<Change>,
+    change: &Change,
+    back: Option<Change>,
+    skip_moved: bool,
+) -> Result<(), Refusal>
+    ensures added { OnOk result (taken.new.items ≡ taken.old.items ++ option_to_list back) }
+    ensures some { skip_moved ≡ false → OnOk result (IsSome back) }
+    ensures moved { (path : List ℕ) → result ≡ Err (Refusal.Moved path) → (path ≡ path_of change.now) × (back ≡ None) × (skip_moved ≡ false) }
+    ensures kinds { IfErr result IsTestRefusal }
+    ensures fault { (fault : StoreFault) → result ≡ Err (Refusal.Fault fault) → ⊥ }
+{
+    match back {
+        Some(back) => Ok(taken.push(back)?),
+        None if skip_moved => Ok(()),
+        None => Err(Refusal::Moved(change.path().try_clone(alloc)?)),
+    }
+}
+
+// The change that takes a change back, if it can be taken back. `paths` are those of the tree, where it makes a file.
+pub(crate) fn take_back<S: Store>(
+    alloc: Global,
+    store: &mut S,
+    paths: &[PathText],
+    change: &Change,
+) -> Result<Option<Change>, Refusal>
+    ensures edit { S.honest store.new → IsProper change.now → IsSmall change.now → is_of_tree (path_of change.now) ≡ true
+        → (makes Undo change.now ≡ true → paths.now ≡ keys (tree_of (S.files store.old)))
+        → IfOk result (MakesEdit (tree_of (S.files store.old)) (Ok (taken_back_on (tree_of (S.files store.old)) change.now))) }
+    ensures fails { RefusedAsRead S.Store store.old store.new result }
+    ensures reads { OnlyReads S.Store store.old store.new }
+    ensures planned { IfErr result IsOfPlan }
+    ensures kinds { IfErr result IsFailure }
+{
+    if makes(change, Way::Undo) && is_clash(alloc, paths, change.path())? {
+        return Ok(None);
+    }
+    let reading = store.read(alloc, change.path(), LONGEST_FILE)?;
+    Ok(change_back(alloc, change, reading)?)
+}
+
+// The change that takes a change back where its path holds what was read.
+fn change_back(
+    alloc: Global,
+    change: &Change,
+    reading: Reading,
+) -> Result<Option<Change>, AllocError>
+    ensures { (tree : Files) → IsProper change.now → IsSmall change.now → reading ≡ reading_of (get tree (path_of change.now)) 16_777_216
+        → IfOk result (MakesEdit tree (Ok (taken_back change.now (get tree (path_of change.now))))) }
+{
+    match (change, reading) {
+        (Change::Make { path, new, .. }, Reading::Found(file)) => drop_made(alloc, path, file, new),
+        (Change::Drop { path, old, .. }, Reading::Absent) => Ok(Some(Change::sealed_make(
+            path.try_clone(alloc)?,
+            old.try_clone(alloc)?,
+        ))),
+        (
+            Change::Splice {
+                path,
+                at,
+                old,
+                new,
+                rest,
+                seal,
+            },
+            Reading::Found(file),
+        ) => put_back(alloc, path, file, *at, old, new, *rest, *seal),
+        _ => Ok(None),
+    }
+}
+
+// A file that was made is removed, where it is as it was made.
+fn drop_made(
+    alloc: Global,
+    path: &PathText,
+    file: Bytes,
+    new: &Bytes,
+) -> Result<Option<Change>, AllocError>
+    ensures { (tree : Files) (after : Option (List ℕ)) → get tree path.now ≡ Some file → length new.now ≤ 16_777_216
+        → IfOk result (MakesEdit tree (Ok (taken_back (Make path.now new.now after) (Some file)))) }
+{
+    if !is_same(file.as_slice(), new.as_slice()) {
+        return Ok(None);
+    }
+    Ok(Some(Change::sealed_drop(path.try_clone(alloc)?, file)))
+}
+
+// The old bytes are put back in the place of the new ones, where these stand there as they were written.
+fn put_back(
+    alloc: Global,
+    path: &PathText,
+    file: Bytes,
+    at: usize,
+    old: &Bytes,
+    new: &Bytes,
+    rest: usize,
+    seal: Option<Seal>,
+) -> Result<Option<Change>, AllocError>
+    ensures { (tree : Files) → old.now ≢ new.now → get tree path.now ≡ Some file → length file ≤ 16_777_216
+        → IfOk result (MakesEdit tree (Ok (taken_back (Splice path.now at old.now new.now rest seal) (Some file)))) }
+{
+    if !stands_as_written(
+        file.as_slice(),
+        at,
+        old.as_slice(),
+        new.as_slice(),
+        rest,
+        seal,
+    ) {
+        return Ok(None);
+    }
+    if !fits(file.len() - new.len(), old.len()) {
+        return Ok(None);
+    }
+    Ok(Some(Change::sealed_splice(
+        path.try_clone(alloc)?,
+        file.as_slice(),
+        at,
+        new.try_clone(alloc)?,
+        old.try_clone(alloc)?,
+    )))
+}
+
+fn is_same(file: &[u8], other: &[u8]) -> bool
+    ensures { result ≡ bytes_eq file.now other.now }
+{
+    file == other
+}
+
+// Whether the new bytes stand in the file at the place, as a step wrote them.
+fn stands_as_written(
+    file: &[u8],
+    at: usize,
+    old: &[u8],
+    new: &[u8],
+    rest: usize,
+    seal: Option<Seal>,
+) -> bool
+    ensures value { result ≡ stands_as_written file.now at old.now new.now rest seal }
+    ensures room { IsTrue result → at + length new.now ≤ length file.now }
+{
+    stands_at(file, new, at) && (!old.starts_with(new) || is_as_left(file, at, new, rest, seal))
+}
+
+// Whether a file that has the new bytes at the place is as a step left it.
+fn is_as_left(file: &[u8], at: usize, new: &[u8], rest: usize, seal: Option<Seal>) -> bool
+    requires { at + length new.now ≤ length file.now }
+    ensures { result ≡ is_as_left file.now at new.now rest seal }
+{
+    file.len() - at - new.len() == rest && has_digest(file, seal)
+}
+
+fn has_digest(file: &[u8], seal: Option<Seal>) -> bool
+    ensures { result ≡ has_digest file.now seal }
+{
+    match seal {
+        Some(seal) => Digest::of(file) == seal.after,
+        None => true,
+    }
+}
+
+// Whether the part stands in the file at the place.
+fn stands_at(file: &[u8], part: &[u8], at: usize) -> bool
+    ensures value { result ≡ stands_at file.now part.now at }
+    ensures room { IsTrue result → at + length part.now ≤ length file.now }
+{
+    at <= file.len() && file[at..].starts_with(part)
+}
+
+// Whether a file of so many bytes and so many more isn't too long.
+fn fits(kept: usize, more: usize) -> bool
+    ensures { IsTrue result ↔ (kept + more ≤ 16_777_216) }
+{
+    kept <= LONGEST_FILE && more <= LONGEST_FILE - kept
+}

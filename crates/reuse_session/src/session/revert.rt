@@ -1,0 +1,117 @@
+// A session takes a step back that need not be the last.
+ghost use Rattle.std.specs.Prelude.{◌≡◌, ◌↔◌, ◌⊎◌, not, IfOk, true, false};
+ghost use Rattle.reuse_session.specs.Answer.{IsRunAnswer};
+ghost use Rattle.reuse_session.specs.Listing.{ArePaths, is_among};
+ghost use Rattle.reuse_session.specs.RevertCalls.{as_run, left_of};
+
+use crate::command::Command;
+use crate::entry_changes::EntryChanges;
+use crate::journal_files::read_entry;
+use crate::listing::is_among;
+use crate::moment::Moment;
+use crate::perform::paths_of;
+use crate::reply::{Paths, Refusal, Reply, Reverted};
+use crate::session::Session;
+use reuse_tree::{PathText, Store};
+use std::alloc::Global;
+
+impl<S: Store + Drop> Session<S> {
+    ghost use Rattle.reuse_tree.specs.Asked.{OnlyReads};
+    ghost use Rattle.reuse_session.specs.Answer.{TellsNoFault, IsNoStep};
+    ghost use Rattle.reuse_session.specs.Calls.{IsCall};
+    ghost use Rattle.reuse_session.specs.Journal.{State};
+    ghost use Rattle.reuse_session.specs.Machine.{Snapshots};
+    ghost use Rattle.reuse_session.specs.RevertCalls.{as_run, Reverts, RevertFollows, LeavesRevert};
+    ghost use Rattle.reuse_session.specs.Session.{store_of, is_broken, memory_of, StandsOn, StandsAt};
+    ghost use Rattle.reuse_session.specs.Showing.{lists};
+
+    /// Takes the changes of a step back, on whatever the tree is now, as a new step. With `skip_moved` a change that can't be taken back is
+    /// left out. It answers the paths that changed, and those of the step that were left.
+    ///
+    /// It is refused as `Broken`, as `NoSuchStep` where no step that is done has the number, as `BadJournal` where the step's entry has
+    /// changed since the journal was opened, as `JournalFull`, as `Moved` at the first path at which the step can't be taken back, as
+    /// `TooMany`, or for a fault of the store or want of memory, before the new step is pending. Where it stops later it is `Interrupted`.
+    pub fn revert(
+        &mut self,
+        alloc: Global,
+        number: u32,
+        skip_moved: bool,
+        when: Moment,
+    ) -> Result<Reverted, Refusal>
+        ensures broken { (result ≡ Err Refusal.Broken) ↔ (is_broken self.old ≡ true) }
+        ensures absent { (result ≡ Err (Refusal.NoSuchStep number)) ↔ ((is_broken self.old ≡ false) × (lists (memory_of self.old).done number ≡ false)) }
+        ensures stays { (result ≡ Err Refusal.Broken) ⊎ (result ≡ Err (Refusal.NoSuchStep number)) → self.new ≡ self.old }
+
+        // Unless the answer tells a fault of the store or want of memory, the files and the session go on as a run of the command that
+        // takes the step's changes back: from any standing, and as the machine.
+        ensures exact { S.honest (store_of self.new) → (held : State) → StandsOn S.files self.old held
+            → TellsNoFault result → (left : State) × StandsOn S.files self.new left × Reverts number skip_moved when held result left }
+        ensures machine { S.honest (store_of self.new) → (state : Snapshots) → StandsAt S.files self.old state
+            → TellsNoFault result → RevertFollows S.files number skip_moved when state result self.new }
+
+        // Where no step is made and none was begun, it only reads.
+        ensures idle { IsNoStep (as_run result) → OnlyReads S.Store (store_of self.old) (store_of self.new) }
+
+        // What any call leaves, and what a revert leaves of the files, whatever it answers.
+        ensures call { IsCall S.Store result self.old self.new }
+        ensures leaves { LeavesRevert S.Store number skip_moved when result self.old self.new }
+    {
+        if self.broken {
+            return Err(Refusal::Broken);
+        }
+        if !self.history.is_done(number) {
+            return Err(Refusal::NoSuchStep(number));
+        }
+        let entry = read_entry(alloc, &mut self.store, number)?;
+        let paths = paths_of(alloc, entry.changes.as_slice())?;
+        let command = Command::Revert {
+            changes: EntryChanges::new(entry.changes),
+            skip_moved,
+        };
+        told(alloc, self.run(alloc, &command, when), paths)
+    }
+}
+
+// The answer of the run that takes back a step of these paths.
+fn told(alloc: Global, answer: Result<Reply, Refusal>, paths: Paths) -> Result<Reverted, Refusal>
+    ensures same { IsRunAnswer answer → as_run result ≡ answer }
+    ensures skipped { IfOk result (λ reverted. ArePaths reverted.changed → reverted.skipped ≡ left_of paths reverted.changed) }
+{
+    match answer {
+        Ok(Reply::Changed(changed)) => Ok(reverted(paths, changed)),
+        Ok(_) => Ok(reverted(
+            paths,
+            Paths {
+                paths: Vec::new(alloc),
+            },
+        )),
+        Err(refusal) => Err(refusal),
+    }
+}
+
+// What was done with a step of these paths where it changed those.
+fn reverted(paths: Paths, changed: Paths) -> Reverted
+    ensures changed { result.changed ≡ changed }
+    ensures skipped { ArePaths changed → result.skipped ≡ left_of paths changed }
+{
+    let left = left_of(paths.paths, changed.as_slice());
+    Reverted {
+        changed,
+        skipped: Paths { paths: left },
+    }
+}
+
+// The paths that are none of these, which are in byte order.
+fn left_of(paths: Vec<PathText>, changed: &[PathText]) -> Vec<PathText>
+    ensures { ArePaths changed.now → result.items ≡ left_of paths.items changed.now }
+{
+    let mut left = paths;
+    left.retain(|path| is_left(path, changed));
+    left
+}
+
+fn is_left(path: &PathText, changed: &[PathText]) -> bool
+    ensures { ArePaths changed.now → result ≡ not (is_among changed.now path.now) }
+{
+    !is_among(changed, path.as_bytes())
+}

@@ -1,0 +1,49 @@
+// A session shows what a step changed.
+ghost use Rattle.std.specs.Prelude.{◌≡◌, ◌↔◌, ◌||◌, true, false, IfOk};
+
+use crate::entry_changes::EntryChanges;
+use crate::journal_files::read_entry;
+use crate::reply::{Refusal, Shown};
+use crate::session::Session;
+use reuse_tree::Store;
+use std::alloc::Global;
+
+impl<S: Store + Drop> Session<S> {
+    ghost use Rattle.reuse_tree.specs.Asked.{OnlyReads};
+    ghost use Rattle.reuse_session.specs.Answer.{TellsNoFault, RefusedAsRead};
+    ghost use Rattle.reuse_session.specs.Calls.{IsCall};
+    ghost use Rattle.reuse_session.specs.Journal.{State};
+    ghost use Rattle.reuse_session.specs.Machine.{Snapshots};
+    ghost use Rattle.reuse_session.specs.Session.{store_of, is_broken, memory_of, IsKept, StandsOn, StandsAt};
+    ghost use Rattle.reuse_session.specs.Showing.{lists, ShowsIn, ShowsAt};
+
+    /// The step of this number, done or undone: its row of the log, and what it changed.
+    ///
+    /// It is refused as `Broken`, as `NoSuchStep` where no step has the number, as `BadJournal` where the step's entry has changed since
+    /// the journal was opened, or for a fault of the store or want of memory.
+    pub fn show(&mut self, alloc: Global, number: u32) -> Result<Shown, Refusal>
+        ensures broken { (result ≡ Err Refusal.Broken) ↔ (is_broken self.old ≡ true) }
+        ensures absent { (result ≡ Err (Refusal.NoSuchStep number))
+            ↔ ((is_broken self.old ≡ false) × ((lists (memory_of self.old).done number || lists (memory_of self.old).undone number) ≡ false)) }
+        // Unless it tells a fault of the store or want of memory, it shows a step of the number, or tells that there is none.
+        ensures exact { S.honest (store_of self.new) → (held : State) → StandsOn S.files self.old held → TellsNoFault result → ShowsIn held.journal number result }
+        ensures machine { S.honest (store_of self.new) → (state : Snapshots) → StandsAt S.files self.old state → IfOk result (ShowsAt state number) }
+        // It only reads, and what is remembered stays.
+        ensures reads { OnlyReads S.Store (store_of self.old) (store_of self.new) }
+        ensures kept { IsKept self.old self.new }
+        ensures fails { RefusedAsRead S.Store (store_of self.old) (store_of self.new) result }
+        ensures call { IsCall S.Store result self.old self.new }
+    {
+        if self.broken {
+            return Err(Refusal::Broken);
+        }
+        let Some(row) = self.history.row(number) else {
+            return Err(Refusal::NoSuchStep(number));
+        };
+        let entry = read_entry(alloc, &mut self.store, number)?;
+        Ok(Shown {
+            row,
+            changes: EntryChanges::new(entry.changes),
+        })
+    }
+}

@@ -1,0 +1,61 @@
+// What an undo or a redo would do, path by path.
+ghost use Rattle.std.specs.Prelude.{◌≡◌, IfOk, IfErr, true};
+ghost use Rattle.std.specs.FinMap as map;
+ghost use Rattle.reuse_tree.specs.Asked.{OnlyReads};
+ghost use Rattle.reuse_tree.specs.Change.{path_of, IsProper};
+ghost use Rattle.reuse_tree.specs.Files.{tree_of};
+ghost use Rattle.reuse_session.specs.Answer.{RefusedAsRead};
+ghost use Rattle.reuse_session.specs.Entry.{makes, IsEntry, IsSmall};
+ghost use Rattle.reuse_session.specs.Fates.{IsFateOf, AreFatesOf};
+ghost use Rattle.reuse_session.specs.Previews.{IsLookRefusal};
+ghost use Rattle.reuse_session.specs.Tree.{is_of_tree};
+
+use crate::entry::Way;
+use crate::fate::{Fate, Fates};
+use crate::perform::{can_be_made, paths_to_heed};
+use crate::reply::Refusal;
+use reuse_tree::{Change, PathText, Store};
+use std::alloc::Global;
+
+/// The fates of the changes of an entry, gone through this way: each path changes, or is refused as `Moved`.
+pub(crate) fn travel_fates<S: Store>(
+    alloc: Global,
+    store: &mut S,
+    changes: &[Change],
+    way: Way,
+) -> Result<Fates, Refusal>
+    ensures fates { S.honest store.new → IsEntry changes.now → IfOk result (AreFatesOf way (tree_of (S.files store.old)) changes.now) }
+    ensures fails { RefusedAsRead S.Store store.old store.new result }
+    ensures reads { OnlyReads S.Store store.old store.new }
+    ensures refusal { IfErr result IsLookRefusal }
+{
+    let paths = paths_to_heed(alloc, store, changes, way)?;
+    let mut fates = Vec::new(alloc);
+    for change in changes {
+        fates.push(change_fate(alloc, store, change, way, &paths)?)?;
+    }
+    Ok(Fates { fates })
+}
+
+// The fate of a change, beside files of these paths.
+fn change_fate<S: Store>(
+    alloc: Global,
+    store: &mut S,
+    change: &Change,
+    way: Way,
+    paths: &[PathText],
+) -> Result<Fate, Refusal>
+    ensures fate { S.honest store.new → IsProper change.now → IsSmall change.now → is_of_tree (path_of change.now) ≡ true
+        → (makes way change.now ≡ true → paths.now ≡ map.keys (S.files store.old))
+        → IfOk result (IsFateOf way (tree_of (S.files store.old)) change.now) }
+    ensures fails { RefusedAsRead S.Store store.old store.new result }
+    ensures reads { OnlyReads S.Store store.old store.new }
+    ensures refusal { IfErr result IsLookRefusal }
+{
+    let path = change.path().try_clone(alloc)?;
+    if can_be_made(alloc, store, change, way, paths)? {
+        Ok(Fate::Changes(path))
+    } else {
+        Ok(Fate::Refused(Refusal::Moved(path)))
+    }
+}

@@ -1,0 +1,32 @@
+use Rattle.std.proofs.Common.{Err, List, inl, inr, ap, sym, subst, ◌∙◌}
+use Rattle.reuse_session.specs.Answer.{TellsNoFault}
+use Rattle.reuse_session.specs.declared.command.Command.{Command}
+use Rattle.reuse_session.specs.declared.fate.Fate.{Fate}
+use Rattle.reuse_undo.specs.Peeks.{Peeks}
+use Rattle.reuse_session.specs.Previews.{run_fates_on}
+use Rattle.reuse_undo.specs.RunLine.{TakesBackStep}
+use Rattle.reuse_undo.proofs.RunLemmas.{peeks_on, peeks_err, preview_peeks, still_stands, told_again}
+use Rattle.reuse_undo.proofs.run_line.calls.preview_revert.Goals as goal
+
+pub returns-in-Ok-clause-right : goal.returns-in-Ok-clause-right
+returns-in-Ok-clause-right g c honest held stands told =
+    let was_honest = c.preview.ensures.looks.reads.was_honest honest in
+    let mid = c.revert_command.new.session in
+    let back = subst (TakesBackStep c.args.number c.args.skip_moved held) c.in-Ok.is (c.revert_command.ensures.right was_honest held stands (subst TellsNoFault (sym c.in-Ok.is) tt)) in
+    let still = still_stands g.S.Store c.revert_command.result c.args.session.now mid held c.revert_command.ensures.peeks was_honest stands in
+    inr (back.0, back.1, back.2, c.preview.ensures.answers honest held still told ∙ ap (run_fates_on held) back.3)
+
+pub returns-in-Ok-clause-peeks : goal.returns-in-Ok-clause-peeks
+returns-in-Ok-clause-peeks g c =
+    peeks_on g.S.Store c.revert_command.result c.preview.result c.args.session.now c.revert_command.new.session c.preview.new.self c.revert_command.ensures.peeks
+    (preview_peeks g.S.Store c.preview.result c.revert_command.new.session c.preview.new.self c.preview.ensures.looks c.preview.ensures.refusal)
+
+pub returns-in-Err-clause-right : goal.returns-in-Err-clause-right
+returns-in-Err-clause-right g c honest held stands told =
+    let none = subst (TakesBackStep c.args.number c.args.skip_moved held) c.in-Err.is (c.revert_command.ensures.right honest held stands (subst TellsNoFault (sym c.in-Err.is) (told_again (List Fate) Command c.in-Err.refusal told))) in
+    inl (ap (λ r. Err r) none.0, none.1)
+
+pub returns-in-Err-clause-peeks : goal.returns-in-Err-clause-peeks
+returns-in-Err-clause-peeks g c =
+    peeks_err g.S.Store c.in-Err.refusal c.args.session.now c.revert_command.new.session
+    (subst (λ r. Peeks g.S.Store r c.args.session.now c.revert_command.new.session) c.in-Err.is c.revert_command.ensures.peeks)

@@ -1,0 +1,99 @@
+-- What is told of an answer.
+use Rattle.std.specs.Prelude.{◌≡◌, ◌⊎◌, ℕ, Bool, List, [], ◌++◌, Option, Result, Ok, Err, length, true, false}
+use Rattle.std.specs.List.{list_any}
+use Rattle.std.specs.declared.vec.Vec.{Vec}
+use Rattle.reuse_session.specs.declared.fate.Fate.{Fate}
+use Rattle.reuse_session.specs.declared.fate.Fate.TheVariants.{Refused}
+use Rattle.reuse_session.specs.declared.reply.Refusal.{Refusal}
+use Rattle.reuse_session.specs.declared.reply.Reply.TheVariants.{Log, Preview}
+use Rattle.reuse_undo.specs.declared.fault.Fault.{Fault}
+use Rattle.reuse_undo.specs.declared.fault.Fault.TheVariants.{WouldRefuse, NoDiff, Write, Memory}
+use Rattle.reuse_undo.specs.declared.line.Telling.{Telling}
+use Rattle.reuse_undo.specs.declared.line.Telling.TheVariants.{Diff, Json}
+use Rattle.reuse_undo.specs.declared.request.Told.{Told}
+use Rattle.reuse_undo.specs.declared.request.Told.TheVariants.{Reply, Shown, Reverted}
+use Rattle.reuse_undo.specs.Lines.{IsReplyText, IsShownText, reverted_text, path_count}
+use Rattle.reuse_undo.specs.Objects.{AreRowObjects, IsShownObject}
+use Rattle.reuse_undo.specs.Outputs.{AppendsFront}
+use Rattle.reuse_undo.specs.RowLines.{AppendsSome}
+
+-- what an answer is printed as in lines
+abbrev pub IsLinesText : Told → List ℕ → Type 0
+IsLinesText (Reply reply) text = IsReplyText reply text
+IsLinesText (Shown shown) text = IsShownText shown text
+IsLinesText (Reverted reverted) text = text ≡ reverted_text reverted
+
+-- whether the call would be refused so
+abbrev pub is_refusal : Fate → Bool
+is_refusal (Refused refusal) = true
+is_refusal fate = false
+
+-- whether one of the fates is a refusal
+abbrev pub is_refused : List Fate → Bool
+is_refused fates = list_any is_refusal fates
+
+-- a call that was only looked at would be made
+abbrev pub WouldBeMade : Told → Type 0
+WouldBeMade (Reply (Preview fates)) = is_refused fates ≡ false
+WouldBeMade told = Unit {0}
+
+-- what an answer is printed as: in lines; in lines with some diff behind them, none where a call that was looked at would be refused; or rows and steps as
+-- objects, and all else in lines
+abbrev pub IsToldText : Telling → Told → List ℕ → Type 0
+IsToldText Json (Reply (Log rows)) text = AreRowObjects rows text
+IsToldText Json (Shown shown) text = IsShownObject shown text
+IsToldText Diff told text = (lines : List ℕ) × (diff : List ℕ) × IsLinesText told lines × ((diff ≡ []) ⊎ WouldBeMade told) × (text ≡ lines ++ diff)
+IsToldText telling told text = IsLinesText told text
+
+-- how many paths an answer tells that changed
+abbrev pub told_count : Told → ℕ
+told_count (Reply reply) = path_count reply
+told_count (Shown shown) = 0
+told_count (Reverted reverted) = length reverted.changed
+
+-- that a reply couldn't be written is told exactly where the writer failed
+abbrev pub TellsFailure : Bool → Bool → Result ℕ Fault → Type 0
+TellsFailure old new (Err Write) = new ≡ true
+TellsFailure old new result = new ≡ old
+
+-- what would be made of a call that was only looked at is wanted as a diff
+abbrev pub IsForeseen : Telling → Told → Type 0
+IsForeseen telling told = (telling ≡ Diff) × (fates : List Fate) × (told ≡ Reply (Preview fates)) × (is_refused fates ≡ false)
+
+-- ---- for private clauses
+
+-- there is no diff
+abbrev pub IsNoDiff : {A : Type 0} → Result (Vec ℕ A) Fault → Type 0
+IsNoDiff (Ok diff) = diff.items ≡ []
+IsNoDiff (Err fault) = ⊥
+
+-- the diff of an answer: where it is wanted, some, or it can't be had; else none
+abbrev pub IsDiffOf : {A : Type 0} → Telling → Told → Result (Vec ℕ A) Fault → Type 0
+IsDiffOf telling told (Ok diff) = (diff.items ≡ []) ⊎ IsForeseen telling told
+IsDiffOf telling told (Err (NoDiff refusal)) = IsForeseen telling told
+IsDiffOf telling told (Err fault) = fault ≡ Memory
+
+-- what stands behind an answer's lines: none behind a call that was looked at and would be refused; or it can't be had
+abbrev pub IsBehind : {A : Type 0} → Telling → Told → Result (Vec ℕ A) Fault → Type 0
+IsBehind telling told (Ok diff) = (diff.items ≡ []) ⊎ WouldBeMade told
+IsBehind telling told (Err (NoDiff refusal)) = IsForeseen telling told
+IsBehind telling told (Err fault) = fault ≡ Memory
+
+-- a diff is wanted of what the answer tells
+abbrev pub IsWanted : Telling → Result Told Refusal → Type 0
+IsWanted telling (Ok told) = IsForeseen telling told
+IsWanted telling (Err refusal) = ⊥
+
+-- a preview with a refusal is a fault; of every other answer the paths that changed are counted
+abbrev pub Accepts : Told → Result ℕ Fault → Type 0
+Accepts told (Ok count) = (count ≡ told_count told) × WouldBeMade told
+Accepts told (Err (WouldRefuse fates)) = (told ≡ Reply (Preview fates)) × (is_refused fates ≡ true)
+Accepts told (Err fault) = ⊥
+
+-- the answer is printed, if the writer tells its bytes, and accepted; or the writer failed behind some front part of its text; or nothing was printed, for
+-- want of a diff or of memory
+abbrev pub Finishes : Telling → Told → Option (List ℕ) → Option (List ℕ) → Result ℕ Fault → Type 0
+Finishes telling told old new (Err (NoDiff refusal)) = IsForeseen telling told × (new ≡ old)
+Finishes telling told old new (Err Memory) = new ≡ old
+Finishes telling told old new (Err Write) = (text : List ℕ) × IsToldText telling told text × AppendsFront old new text
+Finishes telling told old new result = AppendsSome old new (IsToldText telling told) × Accepts told result

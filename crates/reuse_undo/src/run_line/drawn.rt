@@ -1,0 +1,201 @@
+//! The diff of what a call would change.
+ghost use Rattle.std.specs.Prelude.{IfErr};
+ghost use Rattle.reuse_tree.specs.Asked.{OnlyReads};
+ghost use Rattle.reuse_session.specs.Session.{store_of};
+ghost use Rattle.reuse_undo.specs.WriterFaults.{IsOfDiff};
+
+use crate::diff::{Turn, print_diff};
+use crate::fault::{Fault, in_memory};
+use crate::request::Request;
+use crate::run_line::calls::revert_command;
+use reuse_session::{Call, Changes, EntryChanges, Event, Refusal, Row, Session};
+use reuse_text::splice;
+use reuse_tree::{Change, PathText, Reading, Store};
+use std::alloc::Global;
+
+/// The longest file that a step changes.
+const LONGEST: usize = 16_777_216;
+
+/// What a call would change.
+#[derive(Drop)]
+pub enum Foreseen {
+    /// Nothing.
+    Nothing,
+    /// The changes of a run.
+    Run(Changes),
+    /// A step made again.
+    Redo(EntryChanges),
+    /// A step taken back.
+    Undo(EntryChanges),
+}
+
+/// What a previewed call would change.
+pub fn foresee<S: Store + Drop>(
+    alloc: Global,
+    session: &mut Session<S>,
+    request: &Request,
+) -> Result<Foreseen, Refusal>
+    ensures { OnlyReads S.Store (store_of session.old) (store_of session.new) }
+{
+    match request {
+        Request::Call(Event::Preview(Call::Run(command))) => {
+            Ok(Foreseen::Run(session.changes(alloc, command)?))
+        }
+        Request::Call(Event::Preview(Call::Undo)) => foresee_step(alloc, session, true),
+        Request::Call(Event::Preview(Call::Redo)) => foresee_step(alloc, session, false),
+        Request::PreviewRevert { number, skip_moved } => {
+            let command = revert_command(alloc, session, *number, *skip_moved)?;
+            Ok(Foreseen::Run(session.changes(alloc, &command)?))
+        }
+        _ => Ok(Foreseen::Nothing),
+    }
+}
+
+// The step that an undo takes back, or that a redo makes again.
+fn foresee_step<S: Store + Drop>(
+    alloc: Global,
+    session: &mut Session<S>,
+    back: bool,
+) -> Result<Foreseen, Refusal>
+    ensures { OnlyReads S.Store (store_of session.old) (store_of session.new) }
+{
+    let rows = session.log(alloc)?;
+    let Some(number) = next_step(rows.as_slice(), back) else {
+        return Ok(Foreseen::Nothing);
+    };
+    let shown = session.show(alloc, number)?;
+    Ok(if back {
+        Foreseen::Undo(shown.changes)
+    } else {
+        Foreseen::Redo(shown.changes)
+    })
+}
+
+// The number of the last step done, or of the first one undone.
+fn next_step(rows: &[Row], back: bool) -> Option<u32> {
+    let row = if back {
+        rows.iter().rev().find(|row| row.done)
+    } else {
+        rows.iter().find(|row| !row.done)
+    };
+    Some(row?.number)
+}
+
+/// The diff of what would change. It only reads.
+pub fn draw<S: Store>(alloc: Global, store: &mut S, foreseen: &Foreseen) -> Result<Vec<u8>, Fault>
+    ensures reads { OnlyReads S.Store store.old store.new }
+    ensures fault { IfErr result IsOfDiff }
+{
+    match foreseen {
+        Foreseen::Nothing => Ok(Vec::new(alloc)),
+        Foreseen::Run(changes) => draw_all(alloc, store, changes.as_slice(), false),
+        Foreseen::Redo(changes) => draw_all(alloc, store, changes.as_slice(), false),
+        Foreseen::Undo(changes) => draw_all(alloc, store, changes.as_slice(), true),
+    }
+}
+
+fn draw_all<S: Store>(
+    alloc: Global,
+    store: &mut S,
+    changes: &[Change],
+    back: bool,
+) -> Result<Vec<u8>, Fault>
+    ensures reads { OnlyReads S.Store store.old store.new }
+    ensures fault { IfErr result IsOfDiff }
+{
+    let mut text = Vec::new(alloc);
+    for change in changes {
+        draw_one(alloc, store, &mut text, change, back)?;
+    }
+    Ok(text)
+}
+
+fn draw_one<S: Store>(
+    alloc: Global,
+    store: &mut S,
+    text: &mut Vec<u8>,
+    change: &Change,
+    back: bool,
+) -> Result<(), Fault>
+    ensures reads { OnlyReads S.Store store.old store.new }
+    ensures fault { IfErr result IsOfDiff }
+{
+    match change {
+        Change::Make { path, new, .. } => draw_whole(text, alloc, path, new.as_slice(), !back),
+        Change::Drop { path, old, .. } => draw_whole(text, alloc, path, old.as_slice(), back),
+        Change::Splice {
+            path,
+            at,
+            old,
+            new,
+            ..
+        } => {
+            let (old, new) = if back { (new, old) } else { (old, new) };
+            match store.read(alloc, path, LONGEST) {
+                Ok(Reading::Found(file)) => {
+                    draw_range(
+                        text,
+                        alloc,
+                        path,
+                        file.as_slice(),
+                        *at,
+                        old.len(),
+                        new.as_slice(),
+                    )
+                }
+                Ok(_) => Ok(()),
+                Err(fault) => Err(Fault::NoDiff(Refusal::from(fault))),
+            }
+        }
+    }
+}
+
+// A file that is made, or removed.
+fn draw_whole<'a>(
+    text: &mut Vec<u8>,
+    alloc: Global,
+    path: &'a PathText,
+    file: &'a [u8],
+    is_made: bool,
+) -> Result<(), Fault>
+    ensures { IfErr result IsOfDiff }
+{
+    let turn = if is_made {
+        Turn {
+            path,
+            before: None,
+            after: Some(file),
+        }
+    } else {
+        Turn {
+            path,
+            before: Some(file),
+            after: None,
+        }
+    };
+    in_memory(print_diff(text, alloc, turn))
+}
+
+// A file of which a range gives way. Where the range isn't within the file, it isn't as it was looked at, and nothing is told.
+fn draw_range<'a>(
+    text: &mut Vec<u8>,
+    alloc: Global,
+    path: &'a PathText,
+    file: &'a [u8],
+    at: usize,
+    length: usize,
+    new: &[u8],
+) -> Result<(), Fault>
+    ensures { IfErr result IsOfDiff }
+{
+    if at > file.len() || length > file.len() - at || new.len() > LONGEST {
+        return Ok(());
+    }
+    let after = splice(alloc, file, at, length, new)?;
+    let turn = Turn {
+        path,
+        before: Some(file),
+        after: Some(after.as_slice()),
+    };
+    in_memory(print_diff(text, alloc, turn))
+}

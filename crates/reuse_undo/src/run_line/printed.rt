@@ -1,0 +1,149 @@
+//! What is told of an answer.
+ghost use Rattle.std.specs.Prelude.{◌≡◌, ◌⊎◌, [], IfOk, IfErr, OnOk};
+ghost use Rattle.reuse_undo.specs.RowLines.{AppendsSome};
+ghost use Rattle.reuse_undo.specs.Told.{Accepts, Finishes, is_refusal, is_refused, IsBehind, IsDiffOf, IsLinesText, IsToldText, TellsFailure, WouldBeMade};
+ghost use Rattle.reuse_undo.specs.declared.fault.Fault.TheVariants as faults;
+
+use crate::diff::print_record;
+use crate::fault::{Fault, in_memory};
+use crate::line::Telling;
+use crate::lines::{path_count, print_reply, print_reverted, print_shown};
+use crate::objects::{print_row_objects, print_shown_object};
+use crate::output::Output;
+use crate::request::Told;
+use reuse_session::{Fate, Fates, Reply};
+use reuse_tree::Change;
+use std::alloc::Global;
+use std::io::{self, Write};
+
+/// Prints an answer, and behind it the diff where one is wanted; how many paths it tells that changed. A preview of a call that would be
+/// refused is a fault.
+pub fn finish<W: Write + Drop>(
+    out: &mut Output<W>,
+    alloc: Global,
+    told: Told,
+    telling: Telling,
+    diff: Result<Vec<u8>, Fault>,
+) -> Result<usize, Fault>
+    requires { IsDiffOf telling told diff }
+    ensures told { Finishes telling told (W.contents out.old.inner) (W.contents out.new.inner) result }
+    ensures failed { TellsFailure out.old.failed out.new.failed result }
+{
+    let diff = whole_diff(alloc, &told, telling, diff)?;
+    let text = text_of(alloc, &told, telling, diff.as_slice())?;
+    out.write_text(text.as_slice())?;
+    accept(told)
+}
+
+// What is told of an answer. No part of it is written before it is whole.
+fn text_of(alloc: Global, told: &Told, telling: Telling, diff: &[u8]) -> Result<Vec<u8>, Fault>
+    ensures text { (diff.now ≡ []) ⊎ WouldBeMade told.now → IfOk result (λ text. IsToldText telling told.now text.items) }
+    ensures fault { IfErr result (λ fault. fault ≡ faults.Memory) }
+{
+    let mut text = Vec::new(alloc);
+    in_memory(print_told(&mut text, alloc, told, telling, diff))?;
+    Ok(text)
+}
+
+// The diff of what would change, or that of a step that is shown.
+fn whole_diff(
+    alloc: Global,
+    told: &Told,
+    telling: Telling,
+    diff: Result<Vec<u8>, Fault>,
+) -> Result<Vec<u8>, Fault>
+    requires { IsDiffOf telling told.now diff }
+    ensures { IsBehind telling told.now result }
+{
+    match (telling, told) {
+        (Telling::Diff, Told::Shown(shown)) => records_of(alloc, shown.changes.as_slice()),
+        _ => diff,
+    }
+}
+
+// What the changes of a step have recorded.
+fn records_of(alloc: Global, changes: &[Change]) -> Result<Vec<u8>, Fault>
+    ensures { IfErr result (λ fault. fault ≡ faults.Memory) }
+{
+    let mut text = Vec::new(alloc);
+    for change in changes {
+        in_memory(print_record(&mut text, alloc, change))?;
+    }
+    Ok(text)
+}
+
+fn print_told<W: Write>(
+    out: &mut W,
+    alloc: Global,
+    told: &Told,
+    telling: Telling,
+    diff: &[u8],
+) -> io::Result<()>
+    ensures { (diff.now ≡ []) ⊎ WouldBeMade told.now → OnOk result (AppendsSome (W.contents out.old) (W.contents out.new) (IsToldText telling told.now)) }
+{
+    match telling {
+        Telling::Lines => print_lines(out, told),
+        Telling::Diff => {
+            print_lines(out, told)?;
+            out.write_all(diff)
+        }
+        Telling::Json => print_objects(out, alloc, told),
+    }
+}
+
+fn print_lines<W: Write>(out: &mut W, told: &Told) -> io::Result<()>
+    ensures { OnOk result (AppendsSome (W.contents out.old) (W.contents out.new) (IsLinesText told.now)) }
+{
+    match told {
+        Told::Reply(reply) => print_reply(out, reply),
+        Told::Shown(shown) => print_shown(out, shown),
+        Told::Reverted(reverted) => print_reverted(out, reverted),
+    }
+}
+
+// Rows and steps as objects, and all else in lines.
+fn print_objects<W: Write>(out: &mut W, alloc: Global, told: &Told) -> io::Result<()>
+    ensures { OnOk result (AppendsSome (W.contents out.old) (W.contents out.new) (IsToldText Telling.Json told.now)) }
+{
+    match told {
+        Told::Reply(Reply::Log(rows)) => print_row_objects(out, alloc, rows.as_slice()),
+        Told::Shown(shown) => print_shown_object(out, alloc, shown),
+        Told::Reply(reply) => print_reply(out, reply),
+        Told::Reverted(reverted) => print_reverted(out, reverted),
+    }
+}
+
+// How many paths an answer tells that changed, unless it is a preview with a refusal.
+fn accept(told: Told) -> Result<usize, Fault>
+    ensures { Accepts told result }
+{
+    match told {
+        Told::Reply(Reply::Preview(fates)) => accept_fates(fates),
+        Told::Reply(reply) => Ok(path_count(&reply)),
+        Told::Shown(_) => Ok(0),
+        Told::Reverted(reverted) => Ok(reverted.changed.as_slice().len()),
+    }
+}
+
+fn accept_fates(fates: Fates) -> Result<usize, Fault>
+    ensures { Accepts (Told.Reply (Reply.Preview fates)) result }
+{
+    if is_refused(fates.as_slice()) {
+        Err(Fault::WouldRefuse(fates))
+    } else {
+        Ok(0)
+    }
+}
+
+/// Whether one of the fates is a refusal.
+pub fn is_refused(fates: &[Fate]) -> bool
+    ensures { result ≡ is_refused fates.now }
+{
+    fates.iter().any(|fate| is_refusal(fate))
+}
+
+fn is_refusal(fate: &Fate) -> bool
+    ensures { result ≡ is_refusal fate.now }
+{
+    matches!(fate, Fate::Refused(_))
+}

@@ -1,0 +1,209 @@
+#!/usr/bin/env bash
+# Compares dry runs with the calls themselves: a dry run writes nothing, ends with the status of the call, tells the call's first refusal first, and
+# names the paths that the call changes. The diff of one, applied to a copy by `git apply` and by `patch -p1`, gives byte for byte the tree of the
+# call: for the examples of docs/USAGE.md, and for random trees, with real files of /usr among them. Prints what was compared; ends with status 1
+# at the first fault.
+# usage: tests/dry_run.sh PROGRAM [ROUNDS]      (300 rounds by default)
+# The tags below are data: REUSE-IgnoreStart
+set -euo pipefail
+. "$(dirname "$0")/common.sh"
+wants git git
+wants patch patch
+wants python3 python3
+rounds=${2:-300}
+here=$(realpath "$(dirname "$0")")
+tree=$room/tree
+
+# One checksum over all names, bits, times and bytes of a tree, the journal too
+whole() { tar -C "$tree" --sort=name -cf - . | sha256sum; }
+
+# Whether two trees have the same files, apart from empty folders
+alike() {
+  diff -r "$1" "$2" > "$room/differ" 2>&1 && return
+  # What is only on one side must be folders without files.
+  grep -vE '^Only in ' "$room/differ" && return 1
+  local line path
+  while IFS= read -r line; do
+    path=$(sed -E 's/^Only in (.*): (.*)$/\1\/\2/' <<< "$line")
+    [[ -d $path && -z $(find "$path" ! -type d -print -quit) ]] || return 1
+  done < "$room/differ"
+}
+
+compared=0 applied=0 refused=0
+# A call on `$tree`: looked at, made on a copy, and, where it is accepted, made from its diff on two more. The call stands in `call`.
+compare() {
+  local before status=0 looked=0
+  before=$(whole)
+  "$program" --root "$tree" "${call[@]}" -n --diff > "$room/diff" 2> "$room/looked_error" || looked=$?
+  "$program" --root "$tree" "${call[@]}" -n > "$room/looked" 2> "$room/error" || [[ $looked == "$?" ]] || fail "${call[*]}: --diff changes the status"
+  [[ $(whole) == "$before" ]] || fail "${call[*]}: a dry run writes"
+  cmp -s "$room/error" "$room/looked_error" || fail "${call[*]}: --diff changes what is refused"
+  rm -rf "$room/made"
+  cp -a "$tree" "$room/made"
+  "$program" --root "$room/made" "${call[@]}" > "$room/out" 2> "$room/error" || status=$?
+  [[ $looked == "$status" ]] || fail "${call[*]}: status $status, and of a dry run $looked"
+  ((status < 2)) || fail "${call[*]}: $(< "$room/error")"
+  compared=$((compared + 1))
+  if ((status)); then
+    [[ $(head -n 1 "$room/looked_error") == "$(< "$room/error")" ]] || fail "${call[*]}: refused otherwise: $(< "$room/error")"
+    cmp -s "$room/diff" "$room/looked" || fail "${call[*]}: the diff of a call that is refused"
+    refused=$((refused + 1))
+    return
+  fi
+  diff <(sed -nE 's/^(changed|undone|redone) //p' "$room/out" | sort) <(sed -n 's/^would change //p' "$room/looked" | sort) > "$room/differ" \
+    || fail "${call[*]}: other paths change: $(< "$room/differ")"
+  grep -q '^diff --git ' "$room/diff" || return 0
+  rm -rf "$room/made/.reuse/undo"
+  local tool
+  for tool in git patch; do
+    rm -rf "$room/$tool"
+    cp -a "$tree" "$room/$tool"
+    rm -rf "$room/$tool/.reuse/undo"
+    case $tool in
+      git) (cd "$room/git" && GIT_DIR=/nowhere git apply --whitespace=nowarn "$room/diff") > "$room/out" 2>&1 ;;
+      patch) patch -d "$room/patch" -p1 -s -f --no-backup-if-mismatch < "$room/diff" > "$room/out" 2>&1 ;;
+    esac || fail "${call[*]}: $tool refuses the diff: $(< "$room/out")"
+    alike "$room/made" "$room/$tool" || fail "${call[*]}: $tool makes another tree: $(< "$room/differ")"
+  done
+  applied=$((applied + 1))
+}
+
+# The examples of docs/USAGE.md, on a tree that has what they name
+example_tree() {
+  files a.py 'print(1)\n' script '#!/bin/sh\necho\n' main.c 'int main;' src/b.py 'x = 1\r\n' src/c.h 'int y;\n' src/odd 'x\n' data.csv '1,2\n'
+  make_dep5 "$tree"
+  mkdir -p "$room/texts"
+  echo 'text of MIT' > "$room/texts/MIT.txt"
+  printf 'text without an end' > "$room/texts/Apache-2.0.txt"
+  echo 'text of GPL' > "$room/texts/GPL-2.0-only.txt"
+}
+mapfile -t examples < <(sed -nE "s/^    reuse-undo ((annotate|convert-dep5|download).*)/\1/p" "$here/../docs/USAGE.md" | sed -E 's/ +#.*//; s/ +(--dry-run|-n)( --diff)?$//' | grep -vE -e '--files-from|--exclude ' | sort -u)
+((${#examples[@]} >= 12)) || fail "docs/USAGE.md has ${#examples[@]} examples"
+for example in "${examples[@]}"; do
+  example_tree
+  eval "call=(${example//~\/license-list-data\/text/$room/texts})"
+  call=("${call[@]//#texts/$room/texts}")
+  compare
+  "$program" --root "$tree" "${call[@]}" > "$room/out" 2> "$room/error" || continue
+  for call in undo 'revert 1' 'revert 1 --skip-moved'; do
+    read -ra call <<< "$call"
+    compare
+  done
+  "$program" --root "$tree" undo > "$room/out"
+  call=(redo)
+  compare
+done
+in_examples=$applied
+
+# What is told, line by line
+tells() {
+  local wanted=$1 errors=$2 status=0
+  "$program" --root "$tree" "${call[@]}" > "$room/out" 2> "$room/error" || status=$?
+  [[ $(< "$room/out") == "$wanted" ]] || fail "${call[*]}: it tells $(< "$room/out")"
+  [[ $(< "$room/error") == "$errors" ]] || fail "${call[*]}: it refuses $(< "$room/error")"
+  [[ $status == $((${#errors} > 0)) ]] || fail "${call[*]}: status $status"
+}
+files a.py '# SPDX-License-Identifier: MIT\n\nx\n' b.py 'y\n' odd 'z\n' p.png '\x89' d.toml '' 'LICENSES/MIT.txt' 'text\n'
+call=(annotate -n -l MIT -r --skip-unrecognised .)
+tells $'unchanged a.py\nwould change b.py\nwould change d.toml\nskipped odd\nwould change p.png.license' ''
+call=(annotate -n -l ISC --skip-existing --skip-unrecognised a.py b.py odd)
+tells $'skipped a.py\nwould change b.py\nskipped odd' ''
+call=(annotate -n -l MIT a.py none odd LICENSES/MIT.txt b.py)
+tells $'unchanged a.py\nwould change b.py' $'reuse-undo: LICENSES/MIT.txt: not covered\nreuse-undo: none: no such path\nreuse-undo: odd: unrecognised'
+call=(annotate -n -l MIT .)
+tells '' 'reuse-undo: .: is a folder'
+call=(download -n --texts "$tree/LICENSES" 'a b' MIT None)
+tells '' $'reuse-undo: LICENSES/MIT.txt: exists\nreuse-undo: no text: None\nreuse-undo: bad id: a b'
+call=(convert-dep5 -n)
+tells '' 'reuse-undo: .reuse/dep5: absent'
+call=(undo -n)
+tells '' 'reuse-undo: nothing to undo'
+call=(revert -n 1)
+tells '' 'reuse-undo: no such step: 1'
+"$program" --root "$tree" annotate -l ISC -r --skip-unrecognised . > "$room/out"
+echo more >> "$tree/a.py"
+echo less > "$tree/p.png.license"
+call=(undo -n)
+tells $'would change b.py\nwould change d.toml' $'reuse-undo: a.py: moved\nreuse-undo: p.png.license: moved'
+call=(revert -n 1)
+tells $'would change a.py\nwould change b.py\nwould change d.toml' 'reuse-undo: p.png.license: moved'
+call=(revert -n --skip-moved 1)
+tells $'would change a.py\nwould change b.py\nwould change d.toml\nskipped p.png.license' ''
+# Words that are wrong
+for words in 'annotate --diff -l MIT a.py' 'log -n' 'show -n 1' 'show' 'revert' 'revert x' 'show --diff --json 1' 'log --diff'; do
+  status=0
+  "$program" --root "$tree" $words > "$room/out" 2>&1 || status=$?
+  ((status == 2)) || fail "$words: status $status"
+done
+# A binary in one line
+mkdir "$room/nul"
+printf 'a\0b' > "$room/nul/MIT-0.txt"
+call=(download -n --diff --texts "$room/nul" MIT-0)
+tells $'would change LICENSES/MIT-0.txt\ndiff --git a/LICENSES/MIT-0.txt b/LICENSES/MIT-0.txt\nnew file mode 100644\nBinary files /dev/null and b/LICENSES/MIT-0.txt differ' ''
+
+# Random trees
+python3 - "$rounds" "$room/rounds" << 'PYTHON'
+import os, random, sys
+
+rounds, folder = int(sys.argv[1]), sys.argv[2]
+random.seed()
+real = []
+for top in ('/usr/lib/python3', '/usr/share'):
+    for path, folders, names in os.walk(top):
+        folders[:] = [name for name in folders if name != '__pycache__']
+        real += [os.path.join(path, name) for name in names]
+real = [path for path in random.sample(real, min(len(real), 4000)) if os.path.isfile(path) and not os.path.islink(path) and os.path.getsize(path) < 60000]
+lines = ['x = 1', '', '# SPDX-License-Identifier: MIT', '# SPDX-FileCopyrightText: 2020 Jane Doe', '#', '/* SPDX-License-Identifier: ISC */', '// SPDX-FileCopyrightText: A',
+         '#!/bin/sh', '<?xml version="1.0"?>', '# -*- coding: utf-8 -*-', 'é', '--- a', '+++ b', '@@ -1 +1 @@', '\\ No newline', ' ', '/*', ' * SPDX-FileContributor: B', ' */', '\t']
+endings = ['.py', '.c', '.sh', '.html', '.css', '.tex', '.el', '.ml', '.json', '.png', '.vim', '.unknown', '']
+names = ['a', 'b c', 'é', 'q"q', 'b\\s', 't\tt', "a'b", '-x', 'z', 'deep/er/f', 'd/e', ' s ', '#h']
+
+def text():
+    end = random.choice(['\n', '\n', '\n', '\r\n', '\r'])
+    made = end.join(random.choice(lines) for _ in range(random.choice([0, 1, 2, 3, 5, 9, 40])))
+    made = random.choice(['', '', '', '\ufeff']) + made + random.choice(['', end])
+    return made.encode() if random.random() < .93 else made.encode() + bytes([255])
+
+for number in range(rounds):
+    tree = os.path.join(folder, str(number))
+    os.makedirs(tree)
+    for _ in range(random.randrange(1, 9)):
+        if real and random.random() < .5:
+            source = random.choice(real)
+            name, made = os.path.basename(source), open(source, 'rb').read()
+        else:
+            name, made = random.choice(names) + random.choice(endings), text()
+        path = os.path.join(tree, name)
+        try:
+            os.makedirs(os.path.dirname(path), exist_ok=True)
+            with open(path, 'wb') as file:
+                file.write(made)
+        except OSError:
+            pass
+PYTHON
+options=('-c|Jane Doe|-y|2024' '-l|MIT' '-c|Jane Doe|-l|ISC' '--contributor|B' '-c|A --> B|--exclude-year' '-l|GPL-2.0+|--multi-line' '-c|C|-y|2001|--merge-copyrights'
+  '-l|MIT|--no-replace' '-c|D|--single-line' '-l|MIT|--force-dot-license' '-c|E|--copyright-prefix|symbol' '-l|0BSD' '-c|F|-s|c')
+fallbacks=(--fallback-dot-license --fallback-dot-license --skip-unrecognised --skip-existing)
+for ((round = 0; round < rounds; round++)); do
+  tree=$room/rounds/$round
+  ((RANDOM % 4)) || make_dep5 "$tree"
+  for ((k = 0; k < 4; k++)); do
+    case $((RANDOM % 8)) in
+      0) call=(undo) ;;
+      1) call=(redo) ;;
+      2) call=(revert $((RANDOM % 3 + 1))) ;;
+      3) call=(revert --skip-moved $((RANDOM % 3 + 1))) ;;
+      4) call=(convert-dep5) ;;
+      *)
+        IFS='|' read -ra words <<< "${options[RANDOM % ${#options[@]}]}"
+        call=(annotate "${words[@]}" -r "${fallbacks[RANDOM % ${#fallbacks[@]}]}" .)
+        ;;
+    esac
+    compare
+    "$program" --root "$tree" "${call[@]}" > "$room/out" 2>&1 || true
+    if ((RANDOM % 3 == 0)); then find "$tree" -type f -not -path '*/.reuse/*' -print0 | shuf -z -n 1 | xargs -0 -r sh -c 'echo "more" >> "$1"' sh; fi
+  done
+  rm -rf "$tree"
+done
+echo "$compared dry runs on ${#examples[@]} examples and $rounds random trees: $refused refused as the calls were; $applied diffs gave the tree of the call," \
+  "$in_examples of them of examples"
