@@ -1,0 +1,59 @@
+-- The change at which a walk over the changes of an entry stands.
+use Rattle.std.proofs.Common.{◌≡◌, ℕ, ◌+◌, ◌<◌, true, List, length, take, drop, get_or, sym, ap, subst, ◌∙◌}
+use Rattle.std.specs.List.{All, list_any}
+use Rattle.std.specs.FinMap.{keys}
+use Rattle.std.proofs.Math.Seq.{take-length}
+use Rattle.std.proofs.lemmas.List.Elements.{All-more}
+use Rattle.std.proofs.lemmas.List.Folds.{list_any_at}
+use Rattle.reuse_tree.specs.Files.{Files}
+use Rattle.reuse_tree.specs.Change.{path_of, IsProper}
+use Rattle.reuse_tree.specs.declared.change.Change.{Change}
+use Rattle.reuse_session.specs.Entry.{makes, IsEntry, IsFirstWithout, IsSmall}
+use Rattle.reuse_session.specs.Tree.{is_of_tree}
+use Rattle.reuse_session.specs.declared.entry.Way.{Way}
+use Rattle.reuse_session.proofs.Testing.{parted}
+
+-- what an entry says of each of its changes
+pub record IsOfEntry (change : Change) : Type 0 where
+  pub proper : IsProper change
+  pub small : IsSmall change
+  pub of_tree : is_of_tree (path_of change) ≡ true
+
+module _ (changes : List Change) (i : ℕ) (lt : i < length changes) (change : Change) (is : change ≡ get_or changes i change) where
+  -- what holds of all changes holds of this one
+  pub at_change : (Holds : Change → Type 0) → All Holds changes → Holds change
+  at_change Holds all = subst Holds (sym is) (all i change lt)
+
+  pub of_entry : IsEntry changes → IsOfEntry change
+  of_entry good = record {
+    proper = at_change IsProper good.proper;
+    small = at_change IsSmall good.small;
+    of_tree = at_change (λ c. is_of_tree (path_of c) ≡ true) good.of_tree;
+  }
+
+  -- a test of it beside the paths that are to be heeded, after files were only read, holds of the files as they were
+  pub tested : (Holds : Files → Type 0) (way : Way) (old now : Files) (heeded paths : List (List ℕ)) → IsEntry changes → now ≡ old → heeded ≡ paths → (list_any (makes way) changes ≡ true → paths ≡ keys old)
+      → (IsProper change → IsSmall change → is_of_tree (path_of change) ≡ true → (makes way change ≡ true → heeded ≡ keys now) → Holds now) → Holds old
+  tested Holds way old now heeded paths good same passed heeds test =
+      let of = of_entry good in
+      subst Holds same (test of.proper of.small of.of_tree
+      (λ made. passed ∙ heeds (list_any_at (makes way) changes i change lt (subst (λ c. makes way c ≡ true) is made)) ∙ ap keys (sym same)))
+
+  -- one more passes, or it is the first that doesn't
+  pub passes : (Holds : Change → Type 0) → All Holds (take i changes) → Holds change → All Holds (take (i + 1) changes)
+  passes Holds passed here = All-more Holds changes i change lt passed (subst Holds is here)
+
+  pub first_without : (Holds : Change → Type 0) (path : List ℕ) → All Holds (take i changes) → (Holds change → ⊥) → path ≡ path_of change → IsFirstWithout Holds changes path
+  first_without Holds path passed stuck here = record {
+    before = take i changes;
+    change = change;
+    behind = drop (i + 1) changes;
+    list = parted changes i change lt is;
+    here = here;
+    passed = passed;
+    stuck = stuck;
+  }
+
+-- a walk that has come to the end has gone over all changes
+pub walked : (changes : List Change) (n : ℕ) → n ≡ length changes → take n changes ≡ changes
+walked changes n last = ap (λ k. take k changes) last ∙ take-length changes
