@@ -1,17 +1,19 @@
 -- The change at which a walk over the changes of an entry stands.
-use Rattle.std.proofs.Common.{◌≡◌, ℕ, ◌+◌, ◌<◌, true, List, length, take, drop, get_or, sym, ap, subst, ◌∙◌}
+use Rattle.std.proofs.Common.{◌≡◌, ℕ, ◌+◌, ◌<◌, ◌⊎◌, inl, inr, true, List, length, take, drop, get_or, sym, ap, subst, ◌∙◌}
 use Rattle.std.specs.List.{All, list_any}
 use Rattle.std.specs.FinMap.{keys}
 use Rattle.std.proofs.Math.Seq.{take-length}
 use Rattle.std.proofs.lemmas.List.Elements.{All-more}
 use Rattle.std.proofs.lemmas.List.Folds.{list_any_at}
-use Rattle.reuse_tree.specs.Files.{Files}
+use Rattle.reuse_tree.specs.Files.{Files, tree_of}
 use Rattle.reuse_tree.specs.Change.{path_of, IsProper}
 use Rattle.reuse_tree.specs.declared.change.Change.{Change}
-use Rattle.reuse_session.specs.Entry.{makes, IsEntry, IsFirstWithout, IsSmall}
-use Rattle.reuse_session.specs.Tree.{is_of_tree}
+use Rattle.reuse_session.specs.Entry.{makes, IsEntry, IsFirstWithout, IsSmall, LeadsBy, Steps}
+use Rattle.reuse_session.specs.Tree.{is_of_tree, undo_folder_of}
 use Rattle.reuse_session.specs.declared.entry.Way.{Way}
+use Rattle.reuse_session.proofs.OfTree.{folder_stays, step_of_tree}
 use Rattle.reuse_session.proofs.Testing.{parted}
+use Rattle.reuse_session.proofs.Walk.{leads_more}
 
 -- what an entry says of each of its changes
 pub record IsOfEntry (change : Change) : Type 0 where
@@ -57,3 +59,15 @@ module _ (changes : List Change) (i : ℕ) (lt : i < length changes) (change : C
 -- a walk that has come to the end has gone over all changes
 pub walked : (changes : List Change) (n : ℕ) → n ≡ length changes → take n changes ≡ changes
 walked changes n last = ap (λ k. take k changes) last ∙ take-length changes
+
+-- ---- a walk that stops at the change, before it is made or after it
+
+pub folder_at_stop : (way : Way) (change : Change) (now after : Files) → is_of_tree (path_of change) ≡ true → (after ≡ now) ⊎ Steps way change now after → undo_folder_of after ≡ undo_folder_of now
+folder_at_stop way change now after of_tree (inl same) = ap undo_folder_of same
+folder_at_stop way change now after of_tree (inr step) = folder_stays way change now after of_tree step
+
+pub leads_at_stop : (way : Way) (changes : List Change) (good : IsEntry changes) (i : ℕ) (lt : i < length changes) (change : Change) (is : change ≡ get_or changes i change) (start now after : Files)
+    → LeadsBy way (take i changes) start (tree_of now) → (after ≡ now) ⊎ Steps way change now after → (count : ℕ) × LeadsBy way (take count changes) start (tree_of after)
+leads_at_stop way changes good i lt change is start now after made (inl same) = (i, subst (λ files. LeadsBy way (take i changes) start (tree_of files)) (sym same) made)
+leads_at_stop way changes good i lt change is start now after made (inr step) =
+    (i + 1, leads_more way changes good i lt change is start (tree_of now) made (tree_of after) (step_of_tree way change now after (of_entry changes i lt change is good).of_tree step))
