@@ -1,8 +1,9 @@
 -- The change at which a walk over the changes of an entry stands.
-use Rattle.std.proofs.Common.{◌≡◌, ℕ, ◌+◌, ◌<◌, ◌⊎◌, inl, inr, true, List, length, take, drop, get_or, sym, ap, subst, ◌∙◌}
+use Rattle.std.proofs.Common.{◌≡◌, ℕ, ◌+◌, ◌<◌, ◌⊎◌, inl, inr, true, List, ◌∷◌, length, take, drop, get_or, sym, ap, subst, ◌∙◌}
 use Rattle.std.specs.List.{All, list_any}
 use Rattle.std.specs.FinMap.{keys}
 use Rattle.std.proofs.Math.Seq.{take-length}
+use Rattle.std.proofs.lemmas.List.{drop_more}
 use Rattle.std.proofs.lemmas.List.Elements.{All-more}
 use Rattle.std.proofs.lemmas.List.Folds.{list_any_at}
 use Rattle.reuse_tree.specs.Files.{Files, tree_of}
@@ -32,6 +33,10 @@ module _ (changes : List Change) (i : ℕ) (lt : i < length changes) (change : C
     small = at_change IsSmall good.small;
     of_tree = at_change (λ c. is_of_tree (path_of c) ≡ true) good.of_tree;
   }
+
+  -- it is the first of those that are left
+  pub left_here : drop i changes ≡ change ∷ drop (i + 1) changes
+  left_here = drop_more changes i change lt ∙ ap (λ c. c ∷ drop (i + 1) changes) (sym is)
 
   -- a test of it beside the paths that are to be heeded, after files were only read, holds of the files as they were
   pub tested : (Holds : Files → Type 0) (way : Way) (old now : Files) (heeded paths : List (List ℕ)) → IsEntry changes → now ≡ old → heeded ≡ paths → (list_any (makes way) changes ≡ true → paths ≡ keys old)
