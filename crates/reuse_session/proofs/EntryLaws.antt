@@ -19,7 +19,7 @@ use Rattle.serde_json.specs.Read.{read, of_json, of_items}
 use Rattle.serde_json.specs.View.{items_of}
 use Rattle.serde_json.specs.Written.{outline, items_outline, has_float, items_have_float}
 use Rattle.serde_json.proofs.Numbers.{number_of-decimal}
-use Rattle.reuse_session.specs.Entry.{change_size, entry_size, AreAllSealed, IsSmall}
+use Rattle.reuse_session.specs.Entry.{change_size, entry_size, AreAllSealed, IsSmall, fixed_size}
 use Rattle.reuse_session.specs.Format.{format_number}
 use Rattle.reuse_tree.specs.Change.{is_sealed}
 use Rattle.reuse_tree.specs.declared.digest.Seal.{Seal}
@@ -315,53 +315,38 @@ digest_length key (Some digest) short h =
     omega arith
 
 -- each change with its comma keeps to its size
+-- what a change counts for at least has room for its keys and its digests
+room_fits : (sealed : Bool) → 256 + 2 * digest_room sealed ≤ fixed_size sealed
+room_fits false = omega arith
+room_fits true = omega arith
+
+splice_fits : (sealed : Bool) (path : List ℕ) (at : ℕ) (old new : List ℕ) (rest : ℕ) (after before : List ℕ) → at < 2 ^ 64 → rest < 2 ^ 64 → IsBytes old → IsBytes new → length after ≤ digest_room sealed → length before ≤ digest_room sealed
+    → length (codes "{" ++ after ++ codes "\"at\":" ++ decimal at ++ codes "," ++ before ++ codes "\"kind\":\"splice\",\"new\":" ++ hex_text new ++ codes ",\"old\":" ++ hex_text old ++ codes ",\"path\":" ++ quoted path ++ codes ",\"rest\":" ++ decimal rest ++ codes "}") + 1
+    ≤ fixed_size sealed + 6 * length path + 2 * length old + 2 * length new
+splice_fits sealed path at old new rest after before low high old_bytes new_bytes a b =
+    omega (
+      arith,
+      room_fits sealed,
+      number_length at low,
+      number_length rest high,
+      length-hex new new_bytes,
+      length-hex old old_bytes,
+      length-quoted-le path,
+      splice_length after (decimal at) before (hex_text new) (hex_text old) (quoted path) (decimal rest),
+    )
+
 change_length : (c : Change) → IsWritable c → length (change_text c) + 1 ≤ change_size c
-change_length (Make path new None) h =
-    let n = length-hex new h.in_memory.written in
-    let p = length-quoted-le path in
-    let whole = make_length [] (hex_text new) (quoted path) in
-    omega arith
-change_length (Make path new (Some after)) h =
-    let n = length-hex new h.in_memory.written in
-    let p = length-quoted-le path in
-    let d = digest_length (codes "after") (Some after) (omega arith) h.in_memory.after in
-    let whole = make_length (digest_text (codes "after") (Some after)) (hex_text new) (quoted path) in
-    omega arith
-change_length (Drop path old None) h =
-    let o = length-hex old h.in_memory.removed in
-    let p = length-quoted-le path in
-    let whole = drop_length [] (hex_text old) (quoted path) in
-    omega arith
-change_length (Drop path old (Some before)) h =
-    let o = length-hex old h.in_memory.removed in
-    let p = length-quoted-le path in
-    let d = digest_length (codes "before") (Some before) (omega arith) h.in_memory.before in
-    let whole = drop_length (digest_text (codes "before") (Some before)) (hex_text old) (quoted path) in
-    omega arith
+change_length (Make path new after) h =
+    let digest = digest_length (codes "after") after (omega arith) h.in_memory.after in
+    omega (arith, room_fits (is_some after), digest, length-hex new h.in_memory.written, length-quoted-le path, make_length (digest_text (codes "after") after) (hex_text new) (quoted path))
+change_length (Drop path old before) h =
+    let digest = digest_length (codes "before") before (omega arith) h.in_memory.before in
+    omega (arith, room_fits (is_some before), digest, length-hex old h.in_memory.removed, length-quoted-le path, drop_length (digest_text (codes "before") before) (hex_text old) (quoted path))
 change_length (Splice path at old new rest None) h =
-    let low : at < 2 ^ 64 = omega (arith, h.small.0) in
-    let high : rest < 2 ^ 64 = omega (arith, h.small.0) in
-    let a = number_length at low in
-    let r = number_length rest high in
-    let n = length-hex new h.in_memory.written in
-    let o = length-hex old h.in_memory.removed in
-    let p = length-quoted-le path in
-    let whole = splice_length [] (decimal at) [] (hex_text new) (hex_text old) (quoted path) (decimal rest) in
-    omega arith
+    splice_fits false path at old new rest [] [] (omega (arith, h.small.0)) (omega (arith, h.small.0)) h.in_memory.removed h.in_memory.written (omega arith) (omega arith)
 change_length (Splice path at old new rest (Some seal)) h =
-    let low : at < 2 ^ 64 = omega (arith, h.small.0) in
-    let high : rest < 2 ^ 64 = omega (arith, h.small.0) in
-    let a = number_length at low in
-    let r = number_length rest high in
-    let n = length-hex new h.in_memory.written in
-    let o = length-hex old h.in_memory.removed in
-    let p = length-quoted-le path in
-    let after = digest_text (codes "after") (Some seal.after) in
-    let before = digest_text (codes "before") (Some seal.before) in
-    let d = digest_length (codes "after") (Some seal.after) (omega arith) h.in_memory.after in
-    let b = digest_length (codes "before") (Some seal.before) (omega arith) h.in_memory.before in
-    let whole = splice_length (digest_text (codes "after") (Some seal.after)) (decimal at) (digest_text (codes "before") (Some seal.before)) (hex_text new) (hex_text old) (quoted path) (decimal rest) in
-    omega arith
+    splice_fits true path at old new rest (digest_text (codes "after") (Some seal.after)) (digest_text (codes "before") (Some seal.before)) (omega (arith, h.small.0)) (omega (arith, h.small.0)) h.in_memory.removed h.in_memory.written
+    (digest_length (codes "after") (Some seal.after) (omega arith) h.in_memory.after) (digest_length (codes "before") (Some seal.before) (omega arith) h.in_memory.before)
 
 name_length : (w : CommandName) → length (command_name w) ≤ 12
 name_length Annotate = omega arith

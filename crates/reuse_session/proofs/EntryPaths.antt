@@ -6,7 +6,7 @@ use Rattle.std.specs.Ordering.{ordering_then, ordering_reverse, MatchOrdering, i
 use Rattle.std.specs.List.{AllByRecursion, starts_with}
 use Rattle.std.specs.List.Sorted.{IsStrictlySortedBy, IsPartitionPoint, IsPartitionedBy}
 use Rattle.std.specs.Str.{bytes_eq}
-use Rattle.std.proofs.lemmas.Bool.{false≢true, cases_lt, or_cases, or_parts, or_from}
+use Rattle.std.proofs.lemmas.Bool.{false≢true, cases_lt, or_cases, or_parts, or_from, or_right}
 use Rattle.std.proofs.lemmas.Bool.Decides.{Decides-eqb}
 use Rattle.std.proofs.lemmas.Cmp.{nat_list_cmp_total, nat_cmp_total, ranked, tied_itself}
 use Rattle.std.proofs.lemmas.List.{drop_more, take_all, length-map, length-drop, drop-map, get_or-map}
@@ -235,16 +235,12 @@ touched (c ∷ cs) path = ap (λ b. bytes_eq path (path_of c) || b) (touched cs 
 first_among : (p : List ℕ) (ps : List (List ℕ)) → is_among (p ∷ ps) p ≡ true
 first_among p ps = ap (λ b. b || is_among ps p) ((bytes_eq-Decides p p).1 refl)
 
-or_true : (a b : Bool) → b ≡ true → (a || b) ≡ true
-or_true true b e = refl
-or_true false b e = e
-
 or_swap : (a b : Bool) → (a || b) ≡ false → (b || a) ≡ false
 or_swap a b e = let parts = or_parts a b e in or_from b a parts.1 parts.0
 
 all_among : (P : List ℕ → Type 0) (ps : List (List ℕ)) → ((q : List ℕ) → is_among ps q ≡ true → P q) → AllByRecursion P ps
 all_among P [] f = tt
-all_among P (p ∷ ps) f = (f p (first_among p ps), all_among P ps (λ q m. f q (or_true (bytes_eq q p) (is_among ps q) m)))
+all_among P (p ∷ ps) f = (f p (first_among p ps), all_among P ps (λ q m. f q (or_right (bytes_eq q p) (is_among ps q) m)))
 
 one_among : (P : List ℕ → Type 0) (ps : List (List ℕ)) → AllByRecursion P ps → (q : List ℕ) → is_among ps q ≡ true → P q
 one_among P [] each q m = absurd (false≢true m)
@@ -273,8 +269,8 @@ apart_all (p ∷ ps) h path other a b = elim (or_cases (bytes_eq path p) (is_amo
 apart_from : (ps : List (List ℕ)) → ((path other : List ℕ) → is_among ps path ≡ true → is_among ps other ≡ true → IsApartFrom path other) → AreApart ps
 apart_from [] f = tt
 apart_from (p ∷ ps) f = (
-  all_among (IsApartFrom p) ps (λ q m. f p q (first_among p ps) (or_true (bytes_eq q p) (is_among ps q) m)),
-  apart_from ps (λ path other a b. f path other (or_true (bytes_eq path p) (is_among ps path) a) (or_true (bytes_eq other p) (is_among ps other) b)),
+  all_among (IsApartFrom p) ps (λ q m. f p q (first_among p ps) (or_right (bytes_eq q p) (is_among ps q) m)),
+  apart_from ps (λ path other a b. f path other (or_right (bytes_eq path p) (is_among ps path) a) (or_right (bytes_eq other p) (is_among ps other) b)),
 )
 
 pub entry_from_tests : (cs : List Change) → (sealed : Bool) × AreAllSealed sealed cs → Passes cs → IsEntry cs

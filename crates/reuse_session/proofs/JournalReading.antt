@@ -25,44 +25,6 @@ use Rattle.reuse_session.proofs.Turning.{put_sets, put_doubt}
 pub file_in_folder : (files : Files) (path place : List ℕ) → path ≡ place → lies_under place journal_folder ≡ true → get files path ≡ get (undo_folder_of files) place
 file_in_folder files path place is under = ap (get files) is ∙ sym (get-folder files place ∙ ap (λ b. cond b (get files place) None) under)
 
--- ---- heads
-
-pub head_found : (file : Option (List ℕ)) (limit : ℕ) (text : List ℕ) (head : Head) → Found text ≡ reading_of file limit → IsGoodHead text head → HeadSays file head
-head_found file limit text head read good = subst (λ f. HeadSays f head) (sym (found_is file limit text read).0) good
-
-pub head_absent : (file : Option (List ℕ)) (limit : ℕ) → Absent ≡ reading_of file limit → HeadSays file empty_head
-head_absent file limit read = subst (λ f. HeadSays f empty_head) (sym (absent_is file limit read)) refl
-
-pub no_head : (file : Option (List ℕ)) (limit : ℕ) (text : List ℕ) (result : Result Head DecodeFault) → Found text ≡ reading_of file limit → result ≡ Err NotGood
-    → ((head : Head) → IsGoodHead text head → IsAnswer result head) → (head : Head) → HeadSays file head → ⊥
-no_head file limit text result read bad only head says =
-    subst (λ r. IsAnswer r head) bad (only head (subst (λ f. HeadSays f head) (found_is file limit text read).0 says))
-
-pub long_head : (file : Option (List ℕ)) → TooLong ≡ reading_of file 16_777_216 → (head : Head) → HeadSays file head → ⊥
-long_head file read head says =
-    let long = long_is file 16_777_216 read in
-    let good : IsGoodHead long.0 head = subst (λ f. HeadSays f head) long.1 says in
-    omega (arith, good.short, long.2)
-
--- ---- entries
-
-pub entry_found : (file : Option (List ℕ)) (limit : ℕ) (text : List ℕ) (entry : Entry) → Found text ≡ reading_of file limit → IsGoodEntry text entry → EntrySays file entry
-entry_found file limit text entry read good = subst (λ f. EntrySays f entry) (sym (found_is file limit text read).0) good
-
-pub no_entry : (file : Option (List ℕ)) (limit : ℕ) (text : List ℕ) (result : Result Entry DecodeFault) → Found text ≡ reading_of file limit → result ≡ Err NotGood
-    → ((entry : Entry) → IsGoodEntry text entry → IsAnswer result entry) → (entry : Entry) → EntrySays file entry → ⊥
-no_entry file limit text result read bad only entry says =
-    subst (λ r. IsAnswer r entry) bad (only entry (subst (λ f. EntrySays f entry) (found_is file limit text read).0 says))
-
-pub absent_entry : (file : Option (List ℕ)) (limit : ℕ) → Absent ≡ reading_of file limit → (entry : Entry) → EntrySays file entry → ⊥
-absent_entry file limit read entry says = subst (λ f. EntrySays f entry) (absent_is file limit read) says
-
-pub long_entry : (file : Option (List ℕ)) → TooLong ≡ reading_of file 268_435_456 → (entry : Entry) → EntrySays file entry → ⊥
-long_entry file read entry says =
-    let long = long_is file 268_435_456 read in
-    let good : IsGoodEntry long.0 entry = subst (λ f. EntrySays f entry) long.1 says in
-    omega (arith, good.short, long.2)
-
 -- ---- puts
 
 pub put_says : (m n : Files) (path bytes text : List ℕ) (number : ℕ) (entry : Entry) → path ≡ entry_path number → bytes ≡ text → Puts path bytes m n

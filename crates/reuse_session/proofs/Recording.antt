@@ -41,7 +41,7 @@ use Rattle.reuse_session.proofs.OnlyReading.{early_is_no_stop}
 use Rattle.reuse_session.proofs.RunFollowing.{runs_step}
 use Rattle.reuse_session.proofs.Running.{full_alike, size_recorded}
 use Rattle.reuse_session.proofs.KnownCommands.{recorded_known}
-use Rattle.reuse_session.proofs.StepAnswers.{still_stands, stands_beside, kept_put, put_clash, clash_of, head_clash_before}
+use Rattle.reuse_session.proofs.StepAnswers.{still_stands, stands_beside, kept_put, fault_clash, clash_of, head_clash_before}
 use Rattle.reuse_session.proofs.Stepping.{step_of, second_of, run_step, is_run, remembers_run, sound_between, sound_second}
 use Rattle.reuse_session.proofs.Walk.{can_lead}
 
@@ -125,7 +125,7 @@ module _ {S : Type 0} {store : Ghosts S} {old : Session S} {command : Command} {
       folder = λ honest. folder_put (files_of store old) (store.files put) ((memory_of old).used + 1) (others honest);
       texts = λ honest paths e. absurd (cc);
       written = λ honest held stands. omega (arith, at_most_recorded honest held stands);
-      clash = λ honest. put_clash (Clashes (files_of store old) (next_path old)) (Clashes (files_of store old) head_path) refusal is
+      clash = λ honest. fault_clash (Clashes (files_of store old) (next_path old)) (Clashes (files_of store old) head_path) refusal (put_early refusal is)
           (λ e. subst (λ n. Clashes (files_of store old) (entry_path (n + 1))) p.is_number (clash honest e));
       free = λ honest. free_beside (files_of store old) (store.files put) ((memory_of old).used + 1) (others honest);
     }

@@ -6,7 +6,7 @@ use Rattle.std.specs.FinMap.{get}
 use Rattle.reuse_tree.specs.Path.{lies_under}
 use Rattle.reuse_tree.specs.Files.{Files, Clashes, tree_of}
 use Rattle.reuse_tree.specs.declared.fault.StoreFault.TheVariants as faults
-use Rattle.reuse_session.specs.Answer.{TellsNoFault, IsReadRefusal, IsPutRefusal, IsTestRefusal, IsFailure, HasClash, IsNoClash}
+use Rattle.reuse_session.specs.Answer.{IsEarly, TellsNoFault, IsReadRefusal, IsPutRefusal, IsFailure, HasClash, IsNoClash}
 use Rattle.reuse_session.specs.Head.{IsSoundHead}
 use Rattle.reuse_session.specs.History.{Memory}
 use Rattle.reuse_session.specs.Journal.{Recorded, Journal, State, ahead, moved_on}
@@ -79,28 +79,11 @@ kept_put files number entry says =
 -- ---- clashes
 
 module _ (entry head : Type 0) where
-  pub read_clash : (refusal : Refusal) → IsReadRefusal refusal → (refusal ≡ Fault faults.Clash → entry) → HasClash entry head refusal
-  read_clash OutOfMemory is clash = tt
-  read_clash (BadJournal path) is clash = tt
-  read_clash (Fault faults.Device) is clash = tt
-  read_clash (Fault faults.Clash) is clash = clash refl
-  read_clash (Fault faults.Memory) is clash = tt
-  read_clash refusal is clash = absurd is
-
-  pub test_clash : (refusal : Refusal) → IsTestRefusal refusal → (refusal ≡ Fault faults.Clash → entry) → HasClash entry head refusal
-  test_clash OutOfMemory is clash = tt
-  test_clash (Moved path) is clash = tt
-  test_clash (Fault faults.Device) is clash = tt
-  test_clash (Fault faults.Clash) is clash = clash refl
-  test_clash (Fault faults.Memory) is clash = tt
-  test_clash refusal is clash = absurd is
-
-  pub put_clash : (refusal : Refusal) → IsPutRefusal refusal → (refusal ≡ Fault faults.Clash → entry) → HasClash entry head refusal
-  put_clash OutOfMemory is clash = tt
-  put_clash (Fault faults.Device) is clash = tt
-  put_clash (Fault faults.Clash) is clash = clash refl
-  put_clash (Fault faults.Memory) is clash = tt
-  put_clash refusal is clash = absurd is
+  -- a refusal before a stop tells a clash as a fault of the store alone
+  pub fault_clash : (refusal : Refusal) → IsEarly refusal → (refusal ≡ Fault faults.Clash → entry) → HasClash entry head refusal
+  fault_clash (Fault faults.Clash) early clash = clash refl
+  fault_clash (Interrupted cause) early clash = absurd early
+  fault_clash refusal early clash = tt
 
   -- a clash that is told of some paths is told of others that clash then
   pub clash_of : (other more : Type 0) → (entry → other) → (head → more) → (refusal : Refusal) → HasClash entry head refusal → HasClash other more refusal
