@@ -16,6 +16,10 @@ use Rattle.reuse_session.proofs.OfTree.{folder_stays, step_of_tree}
 use Rattle.reuse_session.proofs.Testing.{parted}
 use Rattle.reuse_session.proofs.Walk.{leads_more}
 
+-- the item at which a walk stands is the first of those that are left
+pub left_here : {A : Type 0} (xs : List A) (i : ℕ) (lt : i < length xs) (x : A) (is : x ≡ get_or xs i x) → drop i xs ≡ x ∷ drop (i + 1) xs
+left_here xs i lt x is = drop_more xs i x lt ∙ ap (λ y. y ∷ drop (i + 1) xs) (sym is)
+
 -- what an entry says of each of its changes
 pub record IsOfEntry (change : Change) : Type 0 where
   pub proper : IsProper change
@@ -33,10 +37,6 @@ module _ (changes : List Change) (i : ℕ) (lt : i < length changes) (change : C
     small = at_change IsSmall good.small;
     of_tree = at_change (λ c. is_of_tree (path_of c) ≡ true) good.of_tree;
   }
-
-  -- it is the first of those that are left
-  pub left_here : drop i changes ≡ change ∷ drop (i + 1) changes
-  left_here = drop_more changes i change lt ∙ ap (λ c. c ∷ drop (i + 1) changes) (sym is)
 
   -- a test of it beside the paths that are to be heeded, after files were only read, holds of the files as they were
   pub tested : (Holds : Files → Type 0) (way : Way) (old now : Files) (heeded paths : List (List ℕ)) → IsEntry changes → now ≡ old → heeded ≡ paths → (list_any (makes way) changes ≡ true → paths ≡ keys old)
