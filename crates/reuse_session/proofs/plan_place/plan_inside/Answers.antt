@@ -2,6 +2,8 @@ use Rattle.std.proofs.Common.{◌≡◌, ◌∙◌, false, ◌&&◌, is_some, sy
 use Rattle.reuse_header.specs.Annotation.{annotation_of}
 use Rattle.reuse_header.specs.Found.{block_view}
 use Rattle.reuse_header.specs.Header.{header_of, span_in}
+use Rattle.reuse_session.specs.Annotate.{edit_by, edit_inside}
+use Rattle.reuse_session.specs.Annotations.{Fits}
 use Rattle.reuse_session.specs.Plan.{IsRefusalOf, MakesEdit}
 use Rattle.reuse_session.proofs.EditLemmas.{fits_by, same_some, inside_is}
 use Rattle.reuse_session.proofs.plan_place.plan_inside.Goals as goal

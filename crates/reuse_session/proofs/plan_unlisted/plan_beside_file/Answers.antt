@@ -1,6 +1,8 @@
-use Rattle.std.proofs.Common.{◌∙◌, true, Some, Ok, Err, IsSome, sym, ap, subst}
+use Rattle.std.proofs.Common.{◌≡◌, List, ℕ, ◌∙◌, true, Some, Ok, Err, IsSome, sym, ap, subst}
 use Rattle.std.specs.FinMap.{get}
 use Rattle.reuse_tree.specs.Files.{tree_of}
+use Rattle.reuse_session.specs.Annotate.{annotated_at, edit_neighbour, neighbour_of}
+use Rattle.reuse_session.specs.TreeStyles.{OwnNames}
 use Rattle.reuse_session.specs.Plan.{AnswersEdit}
 use Rattle.reuse_session.proofs.Annotating.{covered_of_tree}
 use Rattle.reuse_session.proofs.EditLemmas.{some_bytes, beside_is, covered_is}
@@ -12,7 +14,7 @@ use Rattle.reuse_session.proofs.plan_unlisted.plan_beside_file.Goals.{After-plan
 use Rattle.reuse_session.proofs.plan_unlisted.plan_beside_file.Goals as goal
 
 -- where the file is there, the edit is that of its neighbour
-at_neighbour : (g : Over) (c : After-plan_neighbour g) → g.S.Store.honest c.read.new.store → (own : OwnNames) (bytes : List ℕ) → get (tree_of (g.S.Store.files c.args.store.now)) (neighbour_of c.args.path.now) ≡ Some bytes
+at_neighbour : (g : Over) (c : After-plan_neighbour g) → g.S.Store.honest c.read.new.self → (own : OwnNames) (bytes : List ℕ) → get (tree_of (g.S.Store.files c.args.store.now)) (neighbour_of c.args.path.now) ≡ Some bytes
     → annotated_at c.args.how.now c.args.scope.now c.args.additions.now own (tree_of (g.S.Store.files c.args.store.now)) c.args.path.now
     ≡ edit_neighbour c.args.how.now c.args.scope.now c.args.additions.now (tree_of (g.S.Store.files c.args.store.now)) c.args.path.now (Some bytes)
 at_neighbour g c honest own bytes here =
