@@ -1,6 +1,6 @@
 use Rattle.std.proofs.Common.{◌≡◌, Bool, List, Result, ◌∙◌, ◌∷◌, [], cond, map, Ok, Err, IfOk, ap, sym, subst}
 use Rattle.reuse_header.specs.Names.{lookup}
-use Rattle.reuse_tree.specs.Files.{tree_of}
+use Rattle.reuse_tree.specs.Files.{Files, tree_of}
 use Rattle.reuse_session.specs.Annotate.{annotated_at}
 use Rattle.reuse_session.specs.FatePlan.{Plans}
 use Rattle.reuse_session.specs.Fates.{fate_at, annotation_fates}
@@ -8,8 +8,8 @@ use Rattle.reuse_session.specs.Outcome.{edits_at, edits_by_names}
 use Rattle.reuse_session.specs.Worked.{worked_paths}
 use Rattle.reuse_session.specs.Edit.{Edit}
 use Rattle.reuse_session.specs.TreeStyles.{OwnNames}
-use Rattle.reuse_header.specs.declared.how.How.{How}
-use Rattle.reuse_notice.specs.declared.additions.Additions.{Additions}
+use Rattle.reuse_header.specs.declared.annotation.How.{How}
+use Rattle.reuse_notice.specs.declared.adding.Additions.{Additions}
 use Rattle.reuse_session.specs.declared.command.Place.{Place}
 use Rattle.reuse_session.specs.declared.command.Place.TheVariants as place
 use Rattle.reuse_session.specs.declared.command.Scope.{Scope}
