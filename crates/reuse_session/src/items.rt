@@ -25,6 +25,13 @@ impl<T> Items<T> {
         Items { items }
     }
 
+    // The items themselves.
+    pub(crate) fn into_vec(self) -> Vec<T>
+        ensures { result.items ≡ self }
+    {
+        self.items
+    }
+
     /// Lends the items.
     pub fn as_slice(&self) -> &[T]
         ensures { result.now ≡ self.now }

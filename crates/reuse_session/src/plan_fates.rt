@@ -90,7 +90,7 @@ fn with_limit(planned: Planned) -> Result<Fates, AllocError>
     if over {
         fates.push(Fate::Refused(Refusal::TooMany))?;
     }
-    Ok(Fates { fates })
+    Ok(Fates::new(fates))
 }
 
 // Whether there are changes, and they are more than an entry holds.

@@ -34,7 +34,7 @@ pub(crate) fn travel_fates<S: Store>(
     for change in changes {
         fates.push(change_fate(alloc, store, change, way, &paths)?)?;
     }
-    Ok(Fates { fates })
+    Ok(Fates::new(fates))
 }
 
 // The fate of a change, beside files of these paths.
