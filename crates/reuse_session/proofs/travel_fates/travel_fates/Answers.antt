@@ -29,4 +29,5 @@ loop-change-preserved g c =
 pub returns-clause-fates : goal.returns-clause-fates
 returns-clause-fates g c honest good =
     let all = walked c.args.changes.now c.loop-change.change-index (omega (arith, c.loop-change-test.false, c.loop-change.auto.change-index-end)) in
-    subst (λ cs. AreFatesOf c.args.way (tree_of (g.S.Store.files c.args.store.now)) cs c.loop-change.fates.items) all (c.loop-change.invariant.told honest good)
+    subst (AreFatesOf c.args.way (tree_of (g.S.Store.files c.args.store.now)) c.args.changes.now) (sym c.new.ensures)
+    (subst (λ cs. AreFatesOf c.args.way (tree_of (g.S.Store.files c.args.store.now)) cs c.loop-change.fates.items) all (c.loop-change.invariant.told honest good))
