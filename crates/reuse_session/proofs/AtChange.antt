@@ -7,7 +7,10 @@ use Rattle.std.proofs.lemmas.List.{drop_more}
 use Rattle.std.proofs.lemmas.List.Elements.{All-more}
 use Rattle.std.proofs.lemmas.List.Folds.{list_any_at}
 use Rattle.reuse_tree.specs.Files.{Files, tree_of}
+use Rattle.reuse_tree.specs.Asked.{OnlyReads}
 use Rattle.reuse_tree.specs.Change.{path_of, IsProper}
+use Rattle.reuse_tree.specs.declared.store.Store.{Ghosts}
+use Rattle.reuse_tree.proofs.AskedLemmas.{reads_more}
 use Rattle.reuse_tree.specs.declared.change.Change.{Change}
 use Rattle.reuse_session.specs.Entry.{makes, IsEntry, IsFirstWithout, IsSmall, LeadsBy, Steps}
 use Rattle.reuse_session.specs.Tree.{is_of_tree, undo_folder_of}
@@ -19,6 +22,17 @@ use Rattle.reuse_session.proofs.Walk.{leads_more}
 -- the item at which a walk stands is the first of those that are left
 pub left_here : {A : Type 0} (xs : List A) (i : ℕ) (lt : i < length xs) (x : A) (is : x ≡ get_or xs i x) → drop i xs ≡ x ∷ drop (i + 1) xs
 left_here xs i lt x is = drop_more xs i x lt ∙ ap (λ y. y ∷ drop (i + 1) xs) (sym is)
+
+-- a walk that only read so far has the paths of the files where one of the changes makes a file this way
+pub record ReadsBeside {S : Type 0} (store : Ghosts S) (old now : S) (way : Way) (changes : List Change) (paths : List (List ℕ)) : Type 0 where
+  pub reads : OnlyReads store old now
+  pub heeded : store.honest now → list_any (makes way) changes ≡ true → paths ≡ keys (store.files old)
+
+pub reads_on : {S : Type 0} {store : Ghosts S} {old now next : S} {way : Way} {changes : List Change} {paths : List (List ℕ)} → ReadsBeside store old now way changes paths → OnlyReads store now next → ReadsBeside store old next way changes paths
+reads_on {S} {store} {old} {now} {next} beside more = record {
+  reads = reads_more store old now next beside.reads more;
+  heeded = λ honest. beside.heeded (more.was_honest honest);
+}
 
 -- what an entry says of each of its changes
 pub record IsOfEntry (change : Change) : Type 0 where
@@ -38,13 +52,17 @@ module _ (changes : List Change) (i : ℕ) (lt : i < length changes) (change : C
     of_tree = at_change (λ c. is_of_tree (path_of c) ≡ true) good.of_tree;
   }
 
-  -- a test of it beside the paths that are to be heeded, after files were only read, holds of the files as they were
-  pub tested : (Holds : Files → Type 0) (way : Way) (old now : Files) (heeded paths : List (List ℕ)) → IsEntry changes → now ≡ old → heeded ≡ paths → (list_any (makes way) changes ≡ true → paths ≡ keys old)
+  -- a test of it beside the paths that are to be heeded holds of the files with which the walk began
+  pub tested_from : (Holds : Files → Type 0) (way : Way) (old now : Files) (heeded paths : List (List ℕ)) → IsEntry changes → now ≡ old → heeded ≡ paths → (list_any (makes way) changes ≡ true → paths ≡ keys old)
       → (IsProper change → IsSmall change → is_of_tree (path_of change) ≡ true → (makes way change ≡ true → heeded ≡ keys now) → Holds now) → Holds old
-  tested Holds way old now heeded paths good same passed heeds test =
+  tested_from Holds way old now heeded paths good same passed heeds test =
       let of = of_entry good in
       subst Holds same (test of.proper of.small of.of_tree
       (λ made. passed ∙ heeds (list_any_at (makes way) changes i change lt (subst (λ c. makes way c ≡ true) is made)) ∙ ap keys (sym same)))
+
+  pub tested : {S : Type 0} {store : Ghosts S} {old now : S} {way : Way} {paths : List (List ℕ)} (heeded : List (List ℕ)) (Holds : Files → Type 0) → IsEntry changes → ReadsBeside store old now way changes paths → store.honest now → heeded ≡ paths
+      → (IsProper change → IsSmall change → is_of_tree (path_of change) ≡ true → (makes way change ≡ true → heeded ≡ keys (store.files now)) → Holds (store.files now)) → Holds (store.files old)
+  tested {S} {store} {old} {now} {way} {paths} heeded Holds good beside honest passed = tested_from Holds way (store.files old) (store.files now) heeded paths good (beside.reads.files honest) passed (beside.heeded honest)
 
   -- one more passes, or it is the first that doesn't
   pub passes : (Holds : Change → Type 0) → All Holds (take i changes) → Holds change → All Holds (take (i + 1) changes)

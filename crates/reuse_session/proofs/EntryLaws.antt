@@ -155,27 +155,16 @@ digest_utf8 key (Some digest) h =
 front_utf8 : (key : List ℕ) (digest : Option (List ℕ)) → IsUtf8 key → IsUtf8 (codes "{" ++ digest_text key digest)
 front_utf8 key digest h = IsUtf8-append (codes "{") (digest_text key digest) (ascii _ refl) (digest_utf8 key digest h)
 
+-- a change's text from its bytes on
+ended_utf8 : (front bytes path : List ℕ) → IsUtf8 front → IsUtf8 path → IsUtf8 (front ++ hex_text bytes ++ codes ",\"path\":" ++ quoted path ++ codes "}")
+ended_utf8 front bytes path h p =
+    IsUtf8-append _ (codes "}") (IsUtf8-append _ (quoted path) (IsUtf8-append _ (codes ",\"path\":") (IsUtf8-append front (hex_text bytes) h (hex_utf8 bytes)) (ascii _ refl)) (IsUtf8-quoted path p)) (ascii _ refl)
+
 change_utf8 : (c : Change) → IsWritable c → IsUtf8 (change_text c)
 change_utf8 (Make path new after) h =
-    IsUtf8-append _ (codes "}")
-    (IsUtf8-append _ (quoted path)
-    (IsUtf8-append _ (codes ",\"path\":")
-    (IsUtf8-append _ (hex_text new)
-    (IsUtf8-append (codes "{" ++ digest_text (codes "after") after) (codes "\"kind\":\"make\",\"new\":") (front_utf8 (codes "after") after (ascii _ refl)) (ascii _ refl))
-    (hex_utf8 new))
-    (ascii _ refl))
-    (IsUtf8-quoted path h.in_memory.utf8))
-    (ascii _ refl)
+    ended_utf8 _ new path (IsUtf8-append (codes "{" ++ digest_text (codes "after") after) (codes "\"kind\":\"make\",\"new\":") (front_utf8 (codes "after") after (ascii _ refl)) (ascii _ refl)) h.in_memory.utf8
 change_utf8 (Drop path old before) h =
-    IsUtf8-append _ (codes "}")
-    (IsUtf8-append _ (quoted path)
-    (IsUtf8-append _ (codes ",\"path\":")
-    (IsUtf8-append _ (hex_text old)
-    (IsUtf8-append (codes "{" ++ digest_text (codes "before") before) (codes "\"kind\":\"drop\",\"old\":") (front_utf8 (codes "before") before (ascii _ refl)) (ascii _ refl))
-    (hex_utf8 old))
-    (ascii _ refl))
-    (IsUtf8-quoted path h.in_memory.utf8))
-    (ascii _ refl)
+    ended_utf8 _ old path (IsUtf8-append (codes "{" ++ digest_text (codes "before") before) (codes "\"kind\":\"drop\",\"old\":") (front_utf8 (codes "before") before (ascii _ refl)) (ascii _ refl)) h.in_memory.utf8
 change_utf8 (Splice path at old new rest seal) h =
     let after = option_map (λ (s : Seal). s.after) seal in
     let before = option_map (λ (s : Seal). s.before) seal in

@@ -6,7 +6,7 @@ use Rattle.std.specs.Ordering.{ordering_then, ordering_reverse, MatchOrdering, i
 use Rattle.std.specs.List.{AllByRecursion, starts_with}
 use Rattle.std.specs.List.Sorted.{IsStrictlySortedBy, IsPartitionPoint, IsPartitionedBy}
 use Rattle.std.specs.Str.{bytes_eq}
-use Rattle.std.proofs.lemmas.Bool.{false≢true, cases_lt, or_cases, or_parts, or_from, or_right}
+use Rattle.std.proofs.lemmas.Bool.{false≢true, false_from_ne_true, cases_lt, or_cases, or_parts, or_from, or_right}
 use Rattle.std.proofs.lemmas.Bool.Decides.{Decides-eqb}
 use Rattle.std.proofs.lemmas.Cmp.{nat_list_cmp_total, nat_cmp_total, ranked, tied_itself}
 use Rattle.std.proofs.lemmas.List.{drop_more, take_all, length-map, length-drop, drop-map, get_or-map}
@@ -159,15 +159,11 @@ before_longer (a ∷ p) x rest = rw (same_number a) (before_longer p x rest)
 
 -- what is below another path does not lie under it
 not_under_later : (p q : List ℕ) → before p q ≡ Less → lies_under p q ≡ false
-not_under_later p q h = of_test (lies_under p q) refl
-  where
-    of_test : (b : Bool) → lies_under p q ≡ b → b ≡ false
-    of_test false e = refl
-    of_test true e =
-        let under = under_from_test p q e in
-        let back : before q p ≡ Less = ap (before q) under.1 ∙ before_longer q 47 under.0 in
-        let turned : before p q ≡ Greater = nat_list_cmp_total.antisymm p q ∙ ap ordering_reverse back in
-        absurd (cc)
+not_under_later p q h = false_from_ne_true (lies_under p q) (λ e.
+    let under = under_from_test p q e in
+    let back : before q p ≡ Less = ap (before q) under.1 ∙ before_longer q 47 under.0 in
+    let turned : before p q ≡ Greater = nat_list_cmp_total.antisymm p q ∙ ap ordering_reverse back in
+    absurd (cc))
 
 not_under_itself : (p : List ℕ) → lies_under p p ≡ false
 not_under_itself p = of_test (lies_under p p) refl

@@ -1,5 +1,5 @@
 -- What the functions of a step answer, from what they call.
-use Rattle.std.proofs.Common.{◌≡◌, ◌≢◌, inl, inr, ℕ, ◌+◌, ◌<◌, ◌≤◌, false, ◌||◌, List, [], ◌∷◌, ◌++◌, length, map, reverse, get_or, cond, None, is_some, Result, Ok, Err, IfErr, refl, sym, ap, subst, ◌∙◌, arith}
+use Rattle.std.proofs.Common.{◌≡◌, ◌≢◌, inl, inr, ℕ, ◌+◌, ◌<◌, ◌≤◌, false, ◌||◌, List, [], ◌∷◌, ◌++◌, length, map, reverse, get_or, cond, None, is_some, Result, Ok, Err, IfErr, refl, sym, ap, subst, ◌∙◌, arith, IsErrAnd}
 use Rattle.std.proofs.lemmas.Bool.{false≢true, or_from}
 use Rattle.std.proofs.lemmas.List.{length-append, length-map, length-reverse, get_or-append-add, append-nil}
 use Rattle.std.specs.FinMap.{get}
@@ -22,6 +22,7 @@ use Rattle.reuse_session.specs.declared.reply.Cause.TheVariants as causes
 use Rattle.reuse_session.specs.declared.reply.Reply.{Reply}
 use Rattle.reuse_session.specs.declared.reply.Refusal.{Refusal}
 use Rattle.reuse_session.specs.declared.reply.Refusal.TheVariants.{Memory as OutOfMemory, Moved, Fault, Interrupted, BadJournal}
+use Rattle.reuse_session.proofs.OnlyReading.{is_refused}
 use Rattle.reuse_session.proofs.JournalLemmas.{clash_beneath, entry_in_folder, paths_apart}
 use Rattle.reuse_session.proofs.OfTree.{get-folder}
 use Rattle.reuse_session.proofs.Standings.{after_entry}
@@ -58,11 +59,15 @@ read_told (Fault fault) is told never = told
 read_told (Interrupted cause) is told never = told
 read_told refusal is told never = is
 
-pub failure_told : (refusal : Refusal) → IsFailure refusal → TellsNoFault {A = Reply} (Err refusal) → ⊥
+failure_told : (refusal : Refusal) → IsFailure refusal → TellsNoFault {A = Reply} (Err refusal) → ⊥
 failure_told OutOfMemory is told = told
 failure_told (Fault fault) is told = told
 failure_told (Interrupted cause) is told = told
 failure_told refusal is told = is
+
+-- nor is a call that failed so
+pub failed_untold : (refusal : Refusal) (result : Result Reply Refusal) → IsErrAnd result (λ given. given ≡ refusal) → IsFailure refusal → TellsNoFault result → ⊥
+failed_untold refusal result is fails told = failure_told refusal fails (subst TellsNoFault (is_refused result is) told)
 
 pub put_fails : (refusal : Refusal) → IsPutRefusal refusal → IsFailure refusal
 put_fails OutOfMemory is = tt

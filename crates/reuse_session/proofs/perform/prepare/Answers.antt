@@ -3,9 +3,8 @@ use Rattle.std.specs.List.{All}
 use Rattle.std.proofs.lemmas.Bool.{false≢true}
 use Rattle.reuse_tree.specs.Files.{tree_of}
 use Rattle.reuse_tree.specs.Change.{path_of}
-use Rattle.reuse_tree.proofs.AskedLemmas.{reads_more}
 use Rattle.reuse_session.specs.Entry.{CanBeMade, IsEntry}
-use Rattle.reuse_session.proofs.AtChange.{tested, passes, first_without, walked}
+use Rattle.reuse_session.proofs.AtChange.{reads_on, tested, passes, first_without, walked}
 use Rattle.reuse_session.proofs.perform.prepare.Given.{Over}
 use Rattle.reuse_session.proofs.perform.prepare.Goals.{In_ok-can_be_made}
 use Rattle.reuse_session.proofs.perform.prepare.Goals as goal
@@ -16,9 +15,8 @@ test_tells : (g : Over) (c : In_ok-can_be_made g) → g.S.Store.honest c.can_be_
 test_tells g c honest good =
     let kept = c.loop-change.invariant in
     let before = c.can_be_made.ensures.reads.was_honest honest in
-    tested c.args.changes.now c.loop-change.change-index c.loop-change-test.true c.change-item.result c.change-item.is
-    (λ files. IsTrue c.in_ok-can_be_made.field-0 ↔ CanBeMade c.args.way (tree_of files) c.change-item.result) c.args.way (g.S.Store.files c.args.store.now) (g.S.Store.files c.loop-change.store)
-    c.deref.result.now c.in_ok-paths.paths.items good (kept.reads.files before) c.deref.ensures.value (kept.heeded before) (c.in_ok-can_be_made.ensures.ok honest)
+    tested c.args.changes.now c.loop-change.change-index c.loop-change-test.true c.change-item.result c.change-item.is c.deref.result.now
+    (λ files. IsTrue c.in_ok-can_be_made.field-0 ↔ CanBeMade c.args.way (tree_of files) c.change-item.result) good kept.walk before c.deref.ensures.value (c.in_ok-can_be_made.ensures.ok honest)
 
 pub returns-then-not-branch-clause-moved : goal.returns-then-not-branch-clause-moved
 returns-then-not-branch-clause-moved g c honest good path e =
@@ -32,8 +30,7 @@ loop-change-preserved g c =
     let kept = c.loop-change.invariant in
     let was_honest = c.can_be_made.ensures.reads.was_honest in
     record {
-      reads = reads_more g.S.Store _ _ _ kept.reads c.can_be_made.ensures.reads;
-      heeded = λ honest. kept.heeded (was_honest honest);
+      walk = reads_on kept.walk c.can_be_made.ensures.reads;
       ready = λ honest good. passes c.args.changes.now c.loop-change.change-index c.loop-change-test.true c.change-item.result c.change-item.is (CanBeMade c.args.way (tree_of (g.S.Store.files c.args.store.now)))
           (kept.ready (was_honest honest) good) ((test_tells g (goal.at.loop-change-preserved g c).In_ok-can_be_made honest good).0 c.if-not-branch.false);
     }

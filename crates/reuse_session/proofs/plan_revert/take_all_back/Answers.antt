@@ -7,7 +7,7 @@ use Rattle.reuse_session.specs.Entry.{makes, IsEntry}
 use Rattle.reuse_session.specs.Plan.{MakesEdit}
 use Rattle.reuse_session.specs.Reverting.{taken_back_on}
 use Rattle.reuse_session.specs.declared.entry.Way.TheVariants.{Undo}
-use Rattle.reuse_session.proofs.AtChange.{left_here, tested}
+use Rattle.reuse_session.proofs.AtChange.{left_here, tested_from}
 use Rattle.reuse_session.proofs.RevertPlanning.{found, SoFar, after_back, back_refused}
 use Rattle.reuse_session.proofs.plan_revert.take_all_back.Given.{Over}
 use Rattle.reuse_session.proofs.plan_revert.take_all_back.Goals.{In-Ok}
@@ -25,7 +25,7 @@ module _ (g : Over) (c : In-Ok g) (honest : g.S.Store.honest c.take_back.new.sto
 
   makes_it : MakesEdit (tree_of (g.S.Store.files c.args.store.now)) (found (taken_back_on (tree_of (g.S.Store.files c.args.store.now)) c.change-item.result)) c.in-Ok.back
   makes_it =
-      tested c.args.changes.now c.loop-change.change-index c.loop-change-test.true c.change-item.result c.change-item.is (λ tree. MakesEdit tree (found (taken_back_on tree c.change-item.result)) c.in-Ok.back) Undo
+      tested_from c.args.changes.now c.loop-change.change-index c.loop-change-test.true c.change-item.result c.change-item.is (λ tree. MakesEdit tree (found (taken_back_on tree c.change-item.result)) c.in-Ok.back) Undo
       (tree_of (g.S.Store.files c.args.store.now)) (tree_of (g.S.Store.files c.loop-change.store)) c.args.paths.now c.args.paths.now entry
       (ap tree_of (c.loop-change.invariant.reads.files (c.take_back.ensures.reads.was_honest honest))) refl heeds (c.in-Ok.ensures.edit honest)
 

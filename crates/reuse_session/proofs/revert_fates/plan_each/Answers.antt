@@ -5,7 +5,7 @@ use Rattle.reuse_tree.proofs.AskedLemmas.{reads_more}
 use Rattle.reuse_session.specs.FatePlan.{back_at, Adds}
 use Rattle.reuse_session.specs.Fates.{revert_fate}
 use Rattle.reuse_session.specs.declared.entry.Way.TheVariants.{Undo}
-use Rattle.reuse_session.proofs.AtChange.{left_here, tested}
+use Rattle.reuse_session.proofs.AtChange.{left_here, tested_from}
 use Rattle.reuse_session.proofs.RevertFates.{RevertSoFar, after_adds, at_last}
 use Rattle.reuse_session.proofs.revert_fates.plan_each.Goals as goal
 
@@ -19,7 +19,7 @@ loop-change-preserved g c = record {
       let changes = c.args.changes.now in
       let change = c.change-item.result in
       let index = c.loop-change.change-index in
-      let adds = tested changes index c.loop-change-test.true change c.change-item.is (λ t. Adds t (back_at skip t change) (revert_fate skip t change) c.loop-change.planned c.plan_next.new.planned) Undo
+      let adds = tested_from changes index c.loop-change-test.true change c.change-item.is (λ t. Adds t (back_at skip t change) (revert_fate skip t change) c.loop-change.planned c.plan_next.new.planned) Undo
       tree (tree_of (g.S.Store.files c.loop-change.store)) c.args.paths.now c.args.paths.now entry (ap tree_of (c.loop-change.invariant.reads.files before)) refl heeds (c.in_ok-plan_next.ensures.adds honest) in
       after_adds tree skip changes change (drop (index + 1) changes) c.loop-change.planned c.plan_next.new.planned
       (subst (λ left. RevertSoFar tree skip changes left c.loop-change.planned) (left_here changes index c.loop-change-test.true change c.change-item.is) (c.loop-change.invariant.so_far before entry heeds)) adds;

@@ -4,9 +4,8 @@ use Rattle.std.proofs.lemmas.Bool.{false≢true}
 use Rattle.std.proofs.lemmas.List.{length-take}
 use Rattle.reuse_tree.specs.Files.{tree_of}
 use Rattle.reuse_tree.specs.Change.{path_of}
-use Rattle.reuse_tree.proofs.AskedLemmas.{reads_more}
 use Rattle.reuse_session.specs.Entry.{CanBeSetBack, IsEntry, makes, opposite}
-use Rattle.reuse_session.proofs.AtChange.{tested, passes, first_without, walked}
+use Rattle.reuse_session.proofs.AtChange.{reads_on, tested, passes, first_without, walked}
 use Rattle.reuse_session.proofs.roll_back.test_setting_back.Given.{Over}
 use Rattle.reuse_session.proofs.roll_back.test_setting_back.Goals.{In_ok-can_be_set_back}
 use Rattle.reuse_session.proofs.roll_back.test_setting_back.Goals as goal
@@ -17,9 +16,8 @@ test_tells : (g : Over) (c : In_ok-can_be_set_back g) → g.S.Store.honest c.can
 test_tells g c honest good =
     let kept = c.loop-change.invariant in
     let before = c.can_be_set_back.ensures.reads.was_honest honest in
-    tested c.args.changes.now c.loop-change.change-index c.loop-change-test.true c.change-item.result c.change-item.is
-    (λ files. IsTrue c.in_ok-can_be_set_back.field-0 ↔ CanBeSetBack c.args.way (tree_of files) c.change-item.result) (opposite c.args.way) (g.S.Store.files c.args.store.now) (g.S.Store.files c.loop-change.store)
-    c.deref.result.now c.in_ok-paths.paths.items good (kept.reads.files before) c.deref.ensures.value (kept.heeded before) (c.in_ok-can_be_set_back.ensures.ok honest)
+    tested c.args.changes.now c.loop-change.change-index c.loop-change-test.true c.change-item.result c.change-item.is c.deref.result.now
+    (λ files. IsTrue c.in_ok-can_be_set_back.field-0 ↔ CanBeSetBack c.args.way (tree_of files) c.change-item.result) good kept.walk before c.deref.ensures.value (c.in_ok-can_be_set_back.ensures.ok honest)
 
 pub returns-then-not-branch-clause-moved : goal.returns-then-not-branch-clause-moved
 returns-then-not-branch-clause-moved g c honest good path e =
@@ -30,8 +28,10 @@ returns-then-not-branch-clause-moved g c honest good path e =
 
 pub loop-change-init : goal.loop-change-init
 loop-change-init g c = record {
-  reads = c.paths_to_heed.ensures.reads;
-  heeded = λ honest any. c.in_ok-paths.ensures.paths honest (subst (λ w. list_any (makes w) c.args.changes.now ≡ true) (sym c.opposite.ensures) any);
+  walk = record {
+    reads = c.paths_to_heed.ensures.reads;
+    heeded = λ honest any. c.in_ok-paths.ensures.paths honest (subst (λ w. list_any (makes w) c.args.changes.now ≡ true) (sym c.opposite.ensures) any);
+  };
   ready = λ honest good k d lt. absurd (omega (arith, lt, length-take 0 c.args.changes.now));
 }
 
@@ -40,8 +40,7 @@ loop-change-preserved g c =
     let kept = c.loop-change.invariant in
     let was_honest = c.can_be_set_back.ensures.reads.was_honest in
     record {
-      reads = reads_more g.S.Store _ _ _ kept.reads c.can_be_set_back.ensures.reads;
-      heeded = λ honest. kept.heeded (was_honest honest);
+      walk = reads_on kept.walk c.can_be_set_back.ensures.reads;
       ready = λ honest good. passes c.args.changes.now c.loop-change.change-index c.loop-change-test.true c.change-item.result c.change-item.is (CanBeSetBack c.args.way (tree_of (g.S.Store.files c.args.store.now)))
           (kept.ready (was_honest honest) good) ((test_tells g (goal.at.loop-change-preserved g c).In_ok-can_be_set_back honest good).0 c.if-not-branch.false);
     }

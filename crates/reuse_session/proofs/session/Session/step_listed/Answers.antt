@@ -13,7 +13,7 @@ use Rattle.reuse_session.proofs.Following.{names_path}
 use Rattle.reuse_tree.specs.Asked.{OnlyReads}
 use Rattle.reuse_tree.proofs.AskedLemmas.{reads_more}
 use Rattle.reuse_session.proofs.OnlyReading.{is_refused}
-use Rattle.reuse_session.proofs.StepAnswers.{still_stands, read_told, failure_told}
+use Rattle.reuse_session.proofs.StepAnswers.{still_stands, read_told, failed_untold}
 use Rattle.reuse_session.proofs.Travelling.{Prepared, same_way, next_of, next_says, next_changes, stuck, ready, step_leaves, stop_leaves}
 use Rattle.reuse_session.proofs.session.Session.step_listed.Given.{Over}
 use Rattle.reuse_session.proofs.session.Session.step_listed.Goals.{After-of_listed}
@@ -80,8 +80,7 @@ step-requires g c honest =
 -- the step is carried out
 pub returns-in_err-step-clause-exact : goal.returns-in_err-step-clause-exact
 returns-in_err-step-clause-exact g c honest held stands told =
-    let is = is_refused c.from_residual-in_err-step.result c.from_residual-in_err-step.ensures.1 in
-    absurd (failure_told c.in_err-step.field-0.0 c.in_err-step.ensures.kinds (subst TellsNoFault is told))
+    absurd (failed_untold c.in_err-step.field-0.0 c.from_residual-in_err-step.result c.from_residual-in_err-step.ensures.1 c.in_err-step.ensures.kinds told)
 
 pub returns-in_err-step-clause-leaves : goal.returns-in_err-step-clause-leaves
 returns-in_err-step-clause-leaves g c =

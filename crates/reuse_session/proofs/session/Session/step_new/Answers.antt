@@ -9,7 +9,7 @@ use Rattle.reuse_session.specs.declared.journal.entry.Entry.{Entry}
 use Rattle.reuse_session.specs.declared.reply.Reply.TheVariants.{Changed}
 use Rattle.reuse_session.proofs.OnlyReading.{is_refused}
 use Rattle.reuse_session.proofs.Recording.{EntryPut, EntryListed, can_go, unput_leaves, recording, record_leaves, halt_leaves}
-use Rattle.reuse_session.proofs.StepAnswers.{failure_told, put_fails}
+use Rattle.reuse_session.proofs.StepAnswers.{failed_untold, put_fails}
 use Rattle.reuse_session.proofs.session.Session.step_new.Given.{Over}
 use Rattle.reuse_session.proofs.session.Session.step_new.Goals.{After-put_entry, After-step}
 use Rattle.reuse_session.proofs.session.Session.step_new.Goals as goal
@@ -40,9 +40,7 @@ entry_listed g c =
 
 pub returns-in_err-put_entry-clause-exact : goal.returns-in_err-put_entry-clause-exact
 returns-in_err-put_entry-clause-exact g c honest held stands told =
-    let is = is_refused c.from_residual-in_err-put_entry.result c.from_residual-in_err-put_entry.ensures.1 in
-    let fails = put_fails c.in_err-put_entry.field-0.0 c.in_err-put_entry.ensures.refusal in
-    absurd (failure_told c.in_err-put_entry.field-0.0 fails (subst TellsNoFault is told))
+    absurd (failed_untold c.in_err-put_entry.field-0.0 c.from_residual-in_err-put_entry.result c.from_residual-in_err-put_entry.ensures.1 (put_fails c.in_err-put_entry.field-0.0 c.in_err-put_entry.ensures.refusal) told)
 
 pub returns-in_err-put_entry-clause-leaves : goal.returns-in_err-put_entry-clause-leaves
 returns-in_err-put_entry-clause-leaves g c =
@@ -58,8 +56,7 @@ step-requires g c honest = can_go (entry_put g (goal.at.step-requires g c).After
 
 pub returns-in_err-step-clause-exact : goal.returns-in_err-step-clause-exact
 returns-in_err-step-clause-exact g c honest held stands told =
-    let is = is_refused c.from_residual-in_err-step.result c.from_residual-in_err-step.ensures.1 in
-    absurd (failure_told c.in_err-step.field-0.0 c.in_err-step.ensures.kinds (subst TellsNoFault is told))
+    absurd (failed_untold c.in_err-step.field-0.0 c.from_residual-in_err-step.result c.from_residual-in_err-step.ensures.1 c.in_err-step.ensures.kinds told)
 
 pub returns-in_err-step-clause-leaves : goal.returns-in_err-step-clause-leaves
 returns-in_err-step-clause-leaves g c =
