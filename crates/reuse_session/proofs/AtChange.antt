@@ -1,5 +1,5 @@
 -- The change at which a walk over the changes of an entry stands.
-use Rattle.std.proofs.Common.{◌≡◌, ℕ, ◌+◌, ◌<◌, ◌⊎◌, inl, inr, true, List, ◌∷◌, length, take, drop, get_or, sym, ap, subst, ◌∙◌}
+use Rattle.std.proofs.Common.{◌≡◌, ℕ, ◌+◌, ◌<◌, ◌⊎◌, inl, inr, true, List, ◌∷◌, length, take, drop, get_or, refl, sym, ap, subst, ◌∙◌}
 use Rattle.std.specs.List.{All, list_any}
 use Rattle.std.specs.FinMap.{keys}
 use Rattle.std.proofs.Math.Seq.{take-length}
@@ -7,10 +7,10 @@ use Rattle.std.proofs.lemmas.List.{drop_more}
 use Rattle.std.proofs.lemmas.List.Elements.{All-more}
 use Rattle.std.proofs.lemmas.List.Folds.{list_any_at}
 use Rattle.reuse_tree.specs.Files.{Files, tree_of}
-use Rattle.reuse_tree.specs.Asked.{OnlyReads}
+use Rattle.reuse_tree.specs.Asked.{IsLater, OnlyReads}
 use Rattle.reuse_tree.specs.Change.{path_of, IsProper}
 use Rattle.reuse_tree.specs.declared.store.Store.{Ghosts}
-use Rattle.reuse_tree.proofs.AskedLemmas.{reads_more}
+use Rattle.reuse_tree.proofs.AskedLemmas.{later_none, later_more, reads_more}
 use Rattle.reuse_tree.specs.declared.change.Change.{Change}
 use Rattle.reuse_session.specs.Entry.{makes, IsEntry, IsFirstWithout, IsSmall, LeadsBy, Steps}
 use Rattle.reuse_session.specs.Tree.{is_of_tree, undo_folder_of}
@@ -32,6 +32,23 @@ pub reads_on : {S : Type 0} {store : Ghosts S} {old now next : S} {way : Way} {c
 reads_on {S} {store} {old} {now} {next} beside more = record {
   reads = reads_more store old now next beside.reads more;
   heeded = λ honest. beside.heeded (more.was_honest honest);
+}
+
+-- a walk over the changes of an entry counts no bytes and leaves the folder of the journal
+pub record StaysBeside {S : Type 0} (store : Ghosts S) (old now : S) (changes : List Change) : Type 0 where
+  pub written : IsEntry changes → store.written now ≡ store.written old
+  pub later : IsLater store old now
+  pub folder : store.honest now → IsEntry changes → undo_folder_of (store.files now) ≡ undo_folder_of (store.files old)
+
+pub stays_none : {S : Type 0} (store : Ghosts S) (old : S) (changes : List Change) → StaysBeside store old old changes
+stays_none store old changes = record { written = λ good. refl; later = later_none store old; folder = λ honest good. refl }
+
+pub stays_on : {S : Type 0} {store : Ghosts S} {old now next : S} {changes : List Change} → StaysBeside store old now changes → IsLater store now next → (IsEntry changes → store.written next ≡ store.written now)
+    → (store.honest next → IsEntry changes → undo_folder_of (store.files next) ≡ undo_folder_of (store.files now)) → StaysBeside store old next changes
+stays_on {S} {store} {old} {now} {next} beside later written folder = record {
+  written = λ good. written good ∙ beside.written good;
+  later = later_more store old now next beside.later later;
+  folder = λ honest good. folder honest good ∙ beside.folder (later.was_honest honest) good;
 }
 
 -- what an entry says of each of its changes

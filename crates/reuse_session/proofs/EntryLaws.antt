@@ -50,34 +50,27 @@ kept (Splice path at old new rest seal) = at + rest
 
 -- ---- no floats
 
-change_no_float : (c : Change) → has_float (change_value c) ≡ false
-change_no_float (Make path new None) = refl
-change_no_float (Make path new (Some after)) = refl
-change_no_float (Drop path old None) = refl
-change_no_float (Drop path old (Some before)) = refl
-change_no_float (Splice path at old new rest None) = refl
-change_no_float (Splice path at old new rest (Some seal)) = refl
+-- the value of a change has no float, and is not nested
+change_plain : (c : Change) → (has_float (change_value c) ≡ false) × (tree.depth (outline (change_value c)) ≡ 1)
+change_plain (Make path new None) = (refl, refl)
+change_plain (Make path new (Some after)) = (refl, refl)
+change_plain (Drop path old None) = (refl, refl)
+change_plain (Drop path old (Some before)) = (refl, refl)
+change_plain (Splice path at old new rest None) = (refl, refl)
+change_plain (Splice path at old new rest (Some seal)) = (refl, refl)
 
 changes_no_float : (cs : List Change) → items_have_float (items_of (map change_value cs)) ≡ false
 changes_no_float [] = refl
-changes_no_float (c ∷ cs) = rw (change_no_float c) (changes_no_float cs)
+changes_no_float (c ∷ cs) = rw ((change_plain c).0) (changes_no_float cs)
 
 pub entry_no_float : (e : Entry) → has_float (entry_value e) ≡ false
 entry_no_float e = rw (changes_no_float e.changes) refl
 
 -- ---- the value is read back from its text
 
-change_flat : (c : Change) → tree.depth (outline (change_value c)) ≡ 1
-change_flat (Make path new None) = refl
-change_flat (Make path new (Some after)) = refl
-change_flat (Drop path old None) = refl
-change_flat (Drop path old (Some before)) = refl
-change_flat (Splice path at old new rest None) = refl
-change_flat (Splice path at old new rest (Some seal)) = refl
-
 changes_flat : (cs : List Change) → tree.items_depth (items_outline (items_of (map change_value cs))) ≤ 1
 changes_flat [] = omega arith
-changes_flat (c ∷ cs) = omega (arith, change_flat c, changes_flat cs)
+changes_flat (c ∷ cs) = omega (arith, (change_plain c).1, changes_flat cs)
 
 change_numbers : (c : Change) → kept c < 2 ^ 64 → tree.HasNumbers (outline (change_value c))
 change_numbers (Make path new None) h = (tt, (tt, (tt, tt)))

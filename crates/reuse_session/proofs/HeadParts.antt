@@ -19,17 +19,14 @@ use Rattle.reuse_session.specs.declared.journal.head.Pending.{Pending}
 use Rattle.reuse_session.specs.declared.journal.head.PendingWay.{PendingWay}
 use Rattle.reuse_session.specs.declared.journal.head.PendingWay.TheVariants.{Do, Undo, Redo}
 use Rattle.reuse_session.proofs.JoinedTexts.{AllByRecursion-weaker}
-use Rattle.reuse_session.proofs.JsonParts.{either, bind_some, first_member_found, none_left_found, object_found, string_found, small_found, small_again, smalls_found, smalls_again, format_found, format_again, IfOk-from_gives, IsAnswer-from_gives, same_json}
-
-named : (name : List ℕ) (v w : PendingWay) → (bytes_eq name (way_name v) ≡ true) × (v ≡ w) → name ≡ way_name w
-named name v w h = (bytes_eq-Decides name (way_name v)).0 h.0 ∙ ap way_name h.1
+use Rattle.reuse_session.proofs.JsonParts.{either, named, bind_some, first_member_found, none_left_found, object_found, string_found, small_found, small_again, smalls_found, smalls_again, format_found, format_again, IfOk-from_gives, IsAnswer-from_gives, same_json}
 
 way_found : (name : List ℕ) (w : PendingWay) → way_from name ≡ Some w → name ≡ way_name w
 way_found name w e = elim (either (bytes_eq name (codes "do")) Do w _ e) [
-  | inl first ↦ named name Do w first
+  | inl first ↦ named way_name name Do w first
   | inr other ↦ elim (either (bytes_eq name (codes "undo")) Undo w _ other) [
-    | inl second ↦ named name Undo w second
-    | inr last ↦ named name Redo w (cond_some (bytes_eq name (codes "redo")) Redo w last)
+    | inl second ↦ named way_name name Undo w second
+    | inr last ↦ named way_name name Redo w (cond_some (bytes_eq name (codes "redo")) Redo w last)
   ]
 ]
 

@@ -4,7 +4,6 @@ ghost use Rattle.std.specs.Option.{option_copied};
 ghost use Rattle.std.specs.FinMap.{keys};
 ghost use Rattle.reuse_notice.specs.Sets.{set_of};
 ghost use Rattle.reuse_tree.specs.Files.{Files, tree_of};
-ghost use Rattle.reuse_tree.specs.declared.fault.StoreFault.TheVariants as faults;
 ghost use Rattle.reuse_session.specs.Answer.{IsOfPlan, RefusedAsRead};
 ghost use Rattle.reuse_session.specs.Refused.{IsNoFault, IsRefused};
 ghost use Rattle.reuse_session.specs.Licence.{licence_path};
@@ -18,6 +17,7 @@ use crate::licence::LicenceText;
 use crate::licence_file::{licence_id, licence_path, text_for};
 use crate::licence_id::as_id;
 use crate::listing::{is_among, tree_paths};
+use crate::places::sorted;
 use crate::reply::Refusal;
 use reuse_text::Bytes;
 use reuse_tree::{Change, PathText, Store};
@@ -53,7 +53,7 @@ pub(crate) fn download_changes(
 {
     let ids = sorted_ids(alloc, ids)?;
     match made_paths(alloc, paths, &ids, texts) {
-        Ok(made) => Ok(made_files(alloc, texts, sorted_paths(made))?),
+        Ok(made) => Ok(made_files(alloc, texts, sorted(made))?),
         Err(refusal) => Err(refusal),
     }
 }
@@ -76,16 +76,6 @@ fn copied_ids(alloc: Global, ids: &[Bytes]) -> Result<Vec<Bytes>, AllocError>
         copied.push(id.try_clone(alloc)?)?;
     }
     Ok(copied)
-}
-
-// The paths in byte order, without repeats.
-fn sorted_paths(paths: Vec<PathText>) -> Vec<PathText>
-    ensures { result.items ≡ set_of paths.items }
-{
-    let mut sorted = paths;
-    sorted.sort_unstable();
-    sorted.dedup();
-    sorted
 }
 
 // The paths of the files that are made of the ids' texts, or the first refusal. `paths` are those of the tree.

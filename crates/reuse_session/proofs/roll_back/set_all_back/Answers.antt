@@ -6,7 +6,6 @@ use Rattle.std.proofs.lemmas.Result.{err_from_is_err_and, on_ok_weaker, on_err_w
 use Rattle.reuse_tree.specs.Files.{Files, tree_of}
 use Rattle.reuse_tree.specs.Change.{path_of, IsProper}
 use Rattle.reuse_tree.specs.declared.change.Change.{Change}
-use Rattle.reuse_tree.proofs.AskedLemmas.{later_none, later_more}
 use Rattle.reuse_session.proofs.NotedMoves.{notes_none, notes_more, notes_last}
 use Rattle.reuse_session.specs.declared.entry.Way.{Way}
 use Rattle.reuse_session.specs.Carried.{IsRolledBack, StopsRollingBack}
@@ -14,7 +13,7 @@ use Rattle.reuse_session.specs.Tree.{is_of_tree, undo_folder_of, Sets}
 use Rattle.reuse_session.specs.Entry.{IsSmall, IsEntry, IsReady, CanBeSetBack, SomeMade, Steps, opposite}
 use Rattle.reuse_session.specs.JournalFiles.{head_path}
 use Rattle.reuse_session.specs.Session.{IsSameBut}
-use Rattle.reuse_session.proofs.AtChange.{IsOfEntry, at_change, folder_at_stop, of_entry, walked}
+use Rattle.reuse_session.proofs.AtChange.{IsOfEntry, at_change, folder_at_stop, of_entry, walked, stays_none, stays_on}
 use Rattle.reuse_session.proofs.OfTree.{tree_at, step_of_tree, folder_stays, clash_in_tree}
 use Rattle.reuse_session.proofs.MadeLemmas.{AreBack, back_none, back_more, still_made, still_free, set_back_of_tree, folder_stays_back, made_from_start, back_at_start}
 use Rattle.reuse_session.proofs.HeadPuts.{head_sets, head_keeps_tree, head_clashed}
@@ -39,10 +38,8 @@ some_at_stop way changes good i lt change is start old now after some ready back
 pub loop-change-init : goal.loop-change-init
 loop-change-init g c = record {
   notes = notes_none g.S.Store c.args.started.now c.args.store.now;
-  written = λ good. refl;
-  later = later_none g.S.Store c.args.store.now;
+  walk = stays_none g.S.Store c.args.store.now c.args.changes.now;
   back = λ honest good. back_none c.args.way c.args.changes.now _;
-  folder = λ honest good. refl;
 }
 
 pub loop-change-preserved : goal.loop-change-preserved
@@ -55,12 +52,10 @@ loop-change-preserved g c =
     let was_honest = c.set_back.ensures.later.was_honest in
     let set_back = λ (honest : g.S.Store.honest c.set_back.new.store) (good : IsEntry c.args.changes.now). c.in_ok-set_back.ensures.ok honest (of good).proper (of good).small in
     record {
-      notes = notes_more g.S.Store c.args.started.now c.loop-change.started c.set_back.new.started _ _ _ kept.notes kept.later c.set_back.ensures.notes c.set_back.ensures.later;
-      written = λ good. c.set_back.ensures.written (of good).of_tree ∙ kept.written good;
-      later = later_more g.S.Store _ _ _ kept.later c.set_back.ensures.later;
+      notes = notes_more g.S.Store c.args.started.now c.loop-change.started c.set_back.new.started _ _ _ kept.notes kept.walk.later c.set_back.ensures.notes c.set_back.ensures.later;
+      walk = stays_on kept.walk c.set_back.ensures.later (λ good. c.set_back.ensures.written (of good).of_tree) (λ honest good. folder_stays_back c.args.way change now after (of good).of_tree (set_back honest good));
       back = λ honest good. back_more c.args.way c.args.changes.now good c.loop-change.change-index c.loop-change-test.true change c.change-item.is _ (tree_of now) (kept.back (was_honest honest) good) (tree_of after)
           (set_back_of_tree c.args.way change now after (of good).of_tree (set_back honest good));
-      folder = λ honest good. folder_stays_back c.args.way change now after (of good).of_tree (set_back honest good) ∙ kept.folder (was_honest honest) good;
     }
 
 -- the folder of the journal stays where it stops at a change
@@ -69,7 +64,7 @@ folder_stopped : (g : Over) (c : After-set_back g) → g.S.Store.honest c.set_ba
     → undo_folder_of (g.S.Store.files c.set_back.new.store) ≡ undo_folder_of (g.S.Store.files c.args.store.now)
 folder_stopped g c honest good stops =
     folder_at_stop (opposite c.args.way) c.change-item.result (g.S.Store.files c.loop-change.store) (g.S.Store.files c.set_back.new.store) (of_entry c.args.changes.now c.loop-change.change-index c.loop-change-test.true c.change-item.result c.change-item.is good).of_tree stops
-    ∙ c.loop-change.invariant.folder (c.set_back.ensures.later.was_honest honest) good
+    ∙ c.loop-change.invariant.walk.folder (c.set_back.ensures.later.was_honest honest) good
 
 -- it stops before the change or after it
 pub returns-in_err-set_back-clause-stopped : goal.returns-in_err-set_back-clause-stopped
@@ -89,7 +84,7 @@ returns-in_err-set_back-clause-stopped g c honest good start some ready =
 pub returns-in_err-set_back-clause-written : goal.returns-in_err-set_back-clause-written
 returns-in_err-set_back-clause-written g c good =
     let a = c.set_back.ensures.written (here g (goal.at.returns-in_err-set_back-clause-written g c).After-change-item good).of_tree in
-    let b = c.loop-change.invariant.written good in
+    let b = c.loop-change.invariant.walk.written good in
     omega (arith, a, b)
 
 pub returns-in_err-set_back-clause-folder : goal.returns-in_err-set_back-clause-folder
@@ -102,13 +97,13 @@ returns-in_err-set_back-clause-folder g c honest good =
 pub returns-in_err-set_back-clause-notes : goal.returns-in_err-set_back-clause-notes
 returns-in_err-set_back-clause-notes g c =
     let kept = c.loop-change.invariant in
-    notes_more g.S.Store c.args.started.now c.loop-change.started c.set_back.new.started _ _ _ kept.notes kept.later c.set_back.ensures.notes c.set_back.ensures.later
+    notes_more g.S.Store c.args.started.now c.loop-change.started c.set_back.new.started _ _ _ kept.notes kept.walk.later c.set_back.ensures.notes c.set_back.ensures.later
 
 pub returns-clause-notes : goal.returns-clause-notes
 returns-clause-notes g c =
     let kept = c.loop-change.invariant in
     let moved = c.put_head.ensures.moves in
-    notes_last g.S.Store c.args.started.now c.loop-change.started c.args.store.now c.loop-change.store c.put_head.new.store kept.later (omega (arith, moved))
+    notes_last g.S.Store c.args.started.now c.loop-change.started c.args.store.now c.loop-change.store c.put_head.new.store kept.walk.later (omega (arith, moved))
 
 -- each change that could be set back can be
 pub returns-in_err-set_back-clause-cause : goal.returns-in_err-set_back-clause-cause
@@ -174,7 +169,7 @@ all_are_back g c honest good =
     let before = c.put_head.ensures.later.was_honest honest in
     let all = walked c.args.changes.now c.loop-change.change-index (omega (arith, c.loop-change-test.false, c.loop-change.auto.change-index-end)) in (
       subst (λ front. AreBack c.args.way front (tree_of (g.S.Store.files c.args.store.now)) (tree_of (g.S.Store.files c.loop-change.store))) all (c.loop-change.invariant.back before good),
-      c.loop-change.invariant.folder before good,
+      c.loop-change.invariant.walk.folder before good,
     )
 
 pub returns-clause-done : goal.returns-clause-done
@@ -201,10 +196,10 @@ returns-clause-folder g c honest good =
     let after = store.files c.put_head.new.store in
     let before = c.put_head.ensures.later.was_honest honest in
     let here = put_at c.args.settled.now c.put_head.result now after (c.put_head.ensures.ok honest) (c.put_head.ensures.err honest) in
-    λ other differs. here other differs ∙ ap (λ folder. get folder other) (c.loop-change.invariant.folder before good)
+    λ other differs. here other differs ∙ ap (λ folder. get folder other) (c.loop-change.invariant.walk.folder before good)
 
 pub returns-clause-written : goal.returns-clause-written
 returns-clause-written g c good =
     let a = c.put_head.ensures.written in
-    let b = c.loop-change.invariant.written good in
+    let b = c.loop-change.invariant.walk.written good in
     omega (arith, a, b)
