@@ -1,16 +1,13 @@
 // Plans a download: a file for each licence's text.
 ghost use Rattle.std.specs.Prelude.{◌≡◌, ◌<◌, ◌≤◌, IfOk, IfErr, map, None, unwrap_or, []};
 ghost use Rattle.std.specs.Option.{option_copied};
-ghost use Rattle.std.specs.FinMap.{keys};
+ghost use Rattle.reuse_session.specs.Reading.{keys, tree_of, Files, IsOfPlan, OnlyReads, RefusedAsRead};
 ghost use Rattle.reuse_notice.specs.Sets.{set_of};
-ghost use Rattle.reuse_tree.specs.Files.{Files, tree_of};
-ghost use Rattle.reuse_session.specs.Answer.{IsOfPlan, RefusedAsRead};
 ghost use Rattle.reuse_session.specs.Refused.{IsNoFault, IsRefused};
 ghost use Rattle.reuse_session.specs.Licence.{licence_path};
 ghost use Rattle.reuse_session.specs.Downloads.{text_for, refusal_of_found, id_refusal, ids_refusal, download_edits};
 ghost use Rattle.reuse_session.specs.DownloadPlan.{made_at};
 ghost use Rattle.reuse_session.specs.Plan.{AnswersEdits};
-ghost use Rattle.reuse_tree.specs.Asked.{OnlyReads};
 
 use crate::clash::is_clash;
 use crate::licence::LicenceText;

@@ -1,14 +1,11 @@
 // What annotate does at the place that was chosen.
 ghost use Rattle.std.specs.Prelude.{◌≡◌, ◌≤◌, ◌++◌, ℕ, List, false, true, length, IfOk, IfErr, IfSome, IfNone, Some, None, Ok, Err, nat_lt};
-ghost use Rattle.std.specs.FinMap.{get, keys};
+ghost use Rattle.reuse_session.specs.Reading.{get, keys, reading_of, Files, IsOfPlan};
 ghost use Rattle.reuse_header.specs.declared.annotation.How.{How};
 ghost use Rattle.reuse_header.specs.Names.{lookup};
 ghost use Rattle.reuse_session.specs.TreeStyles.{OwnNames};
 ghost use Rattle.reuse_notice.specs.declared.adding.Additions.{Additions};
-ghost use Rattle.reuse_tree.specs.Files.{Files};
-ghost use Rattle.reuse_tree.specs.Store.{reading_of};
 ghost use Rattle.reuse_tree.specs.declared.fault.StoreFault.{StoreFault};
-ghost use Rattle.reuse_session.specs.Answer.{IsOfPlan};
 ghost use Rattle.reuse_session.specs.Annotate.{neighbour_of, annotated_at, target_by_bytes, edit_target, edit_inside, edit_neighbour};
 ghost use Rattle.reuse_session.specs.Covered.{is_covered};
 ghost use Rattle.reuse_session.specs.Listing.{is_among};

@@ -1,11 +1,8 @@
 // The styles that a tree gives to its own names.
 ghost use Rattle.std.specs.Prelude.{◌≡◌, List, ℕ, Option, IfOk, IfErr, Ok, Err};
 ghost use Rattle.reuse_header.specs.Names.{lookup};
-ghost use Rattle.reuse_tree.specs.Asked.{OnlyReads};
-ghost use Rattle.reuse_tree.specs.Files.{tree_of};
-ghost use Rattle.reuse_tree.specs.Store.{reading_of};
+ghost use Rattle.reuse_session.specs.Reading.{reading_of, tree_of, IsOfPlan, OnlyReads, RefusedAsRead};
 ghost use Rattle.reuse_tree.specs.declared.fault.StoreFault.{StoreFault};
-ghost use Rattle.reuse_session.specs.Answer.{IsOfPlan, RefusedAsRead};
 ghost use Rattle.reuse_session.specs.Plan.{IsRefusalOf};
 ghost use Rattle.reuse_session.specs.TreeStyles.{styles_path, styles_where, styles_in, styles_refusal};
 
