@@ -9,14 +9,13 @@ ghost use Rattle.reuse_dep5.specs.Conversion.{converted};
 ghost use Rattle.reuse_session.specs.Plan.{AnswersEdits};
 
 use crate::clash::is_clash;
+use crate::limits::LONGEST_FILE;
 use crate::listing::{is_among, tree_paths};
 use crate::reply::Refusal;
 use reuse_dep5::{Dep5Refusal, convert_dep5};
 use reuse_text::Bytes;
 use reuse_tree::{Change, PathText, Reading, Store};
 use std::alloc::{AllocError, Global};
-
-const LONGEST_FILE: usize = 16_777_216;
 
 /// The changes of a conversion, or its first refusal.
 pub(crate) fn plan_conversion<S: Store>(

@@ -15,6 +15,7 @@ ghost use Rattle.reuse_session.specs.declared.command.Scope.{Scope};
 
 use crate::clash::is_clash;
 use crate::command::{Place, Scope};
+use crate::limits::LONGEST_FILE;
 use crate::listing::is_folder;
 use crate::plan_edit::{change_by, making_by};
 use crate::plan_target::{Target, neighbour_of, target_by_bytes};
@@ -26,8 +27,6 @@ use reuse_header::{
 use reuse_notice::Additions;
 use reuse_tree::{Change, PathError, PathText, Reading};
 use std::alloc::Global;
-
-const LONGEST_FILE: usize = 16_777_216;
 
 /// What is known of a file's change once the file was read.
 #[derive(Debug, Drop)]

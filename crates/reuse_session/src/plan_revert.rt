@@ -19,6 +19,7 @@ ghost use Rattle.reuse_session.specs.declared.entry.Way.TheVariants.{Undo};
 use crate::clash::is_clash;
 use crate::entry::Way;
 use crate::entry_changes::EntryChanges;
+use crate::limits::LONGEST_FILE;
 use crate::listing::tree_paths;
 use crate::perform::makes_any;
 use crate::reply::Refusal;
@@ -26,8 +27,6 @@ use crate::turn::makes;
 use reuse_text::Bytes;
 use reuse_tree::{Change, PathText, Reading, Store};
 use std::alloc::{AllocError, Global};
-
-const LONGEST_FILE: usize = 16_777_216;
 
 /// The changes of a revert, or its first refusal.
 pub(crate) fn plan_revert<S: Store>(

@@ -7,12 +7,11 @@ ghost use Rattle.reuse_session.specs.Plan.{IsRefusalOf};
 ghost use Rattle.reuse_session.specs.TreeStyles.{styles_path, styles_where, styles_in, styles_refusal};
 
 use crate::journal_files::path_of_text;
+use crate::limits::LONGEST_FILE;
 use crate::reply::Refusal;
 use reuse_header::{StyleTable, StylesRefusal};
 use reuse_tree::{PathText, Reading, Store};
 use std::alloc::Global;
-
-const LONGEST_FILE: usize = 16_777_216;
 
 /// The styles by the `.reuse/styles.toml` of the tree that the store has: those of every tree where it has no such file.
 pub(crate) fn read_styles<S: Store>(alloc: Global, store: &mut S) -> Result<StyleTable, Refusal>

@@ -10,6 +10,7 @@ ghost use Rattle.reuse_session.specs.Unlisted.{IfKnown};
 
 use crate::command::Scope;
 use crate::covered::is_covered;
+use crate::limits::LONGEST_FILE;
 use crate::plan_place::{Step, neighbour_path, plan_neighbour, plan_reading};
 use crate::plan_target::goes_beside_unread;
 use crate::reply::Refusal;
@@ -17,8 +18,6 @@ use reuse_header::{How, StyleTable};
 use reuse_notice::Additions;
 use reuse_tree::{Change, PathText, Reading, Store};
 use std::alloc::Global;
-
-const LONGEST_FILE: usize = 16_777_216;
 
 /// What is known without a listing of the tree.
 #[derive(Debug, Drop)]

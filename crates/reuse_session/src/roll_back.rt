@@ -17,9 +17,10 @@ ghost use Rattle.reuse_tree.specs.Asked.{OnlyReads, IsLater, FailsAsRead};
 
 use crate::entry::Way;
 use crate::journal_files::{HeadPath, put_head};
+use crate::limits::LONGEST_FILE;
 use crate::perform::{can_be_made, paths_to_heed};
 use crate::reply::{Cause, Refusal};
-use crate::turn::{LONGEST_FILE, can_turn, is_ready, put_turned, turned};
+use crate::turn::{can_turn, is_ready, put_turned, turned};
 use reuse_tree::{Change, PathText, Reading, Store, StoreFault};
 use std::alloc::Global;
 

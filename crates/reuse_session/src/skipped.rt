@@ -13,14 +13,13 @@ ghost use Rattle.reuse_session.specs.Previews.{IsLookRefusal};
 
 use crate::command::Scope;
 use crate::fate::told;
+use crate::limits::LONGEST_FILE;
 use crate::plan_place::neighbour_path;
 use crate::plan_target::{Target, goes_beside, target_by_bytes};
 use crate::reply::Refusal;
 use reuse_header::{Style, StyleTable, find, neighbour_has_tag};
 use reuse_tree::{PathText, Reading, Store};
 use std::alloc::Global;
-
-const LONGEST_FILE: usize = 16_777_216;
 
 /// Whether a file was skipped that annotate leaves as it is. `paths` are those of the tree.
 pub(crate) fn is_skipped<S: Store>(

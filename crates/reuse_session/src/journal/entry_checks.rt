@@ -12,10 +12,9 @@ ghost use Rattle.reuse_session.specs.EntryTests.{AreApart, IsSoundChange, Passes
 ghost use Rattle.reuse_session.specs.Listing.{is_folder_of};
 ghost use Rattle.reuse_session.specs.Tree.{is_of_tree};
 
+use crate::limits::LONGEST_FILE;
 use crate::plan_size::is_too_many;
 use reuse_tree::{Change, Digest, PathText};
-
-const LONGEST_FILE: usize = 16_777_216;
 
 /// Whether an entry may have these changes.
 pub(crate) fn are_sound(changes: &[Change]) -> bool
