@@ -1,24 +1,16 @@
 -- What was read and put of the journal's files.
-use Rattle.std.proofs.Common.{◌≡◌, ◌≢◌, ⊎_elim, ℕ, ◌<◌, ◌≤◌, Bool, true, false, cond, List, length, Option, Some, None, Result, Ok, Err, IfOk, IfErr, refl, sym, ap, ◌∙◌, subst, arith}
+use Rattle.std.proofs.Common.{◌≡◌, ⊎_elim, ℕ, ◌≤◌, Bool, true, false, cond, List, length, Some, None, sym, ap, ◌∙◌, subst, arith}
 use Rattle.std.specs.FinMap.{get}
 use Rattle.reuse_tree.specs.Files.{Files}
 use Rattle.reuse_tree.specs.Path.{lies_under, journal_folder}
-use Rattle.reuse_tree.specs.Store.{counted, reading_of, Puts, PutFails}
+use Rattle.reuse_tree.specs.Store.{counted, Puts, PutFails}
 use Rattle.reuse_tree.specs.declared.fault.StoreFault.{StoreFault}
-use Rattle.reuse_tree.specs.declared.store.Reading.{Reading}
-use Rattle.reuse_tree.specs.declared.store.Reading.TheVariants.{Absent, Found, TooLong}
-use Rattle.reuse_session.specs.Decoded.{IsAnswer}
 use Rattle.reuse_session.specs.EntryText.{IsGoodEntry}
-use Rattle.reuse_session.specs.Head.{IsGoodHead}
-use Rattle.reuse_session.specs.JournalFiles.{head_path, entry_path, empty_head, HeadSays, EntrySays}
+use Rattle.reuse_session.specs.JournalFiles.{head_path, entry_path, EntrySays}
 use Rattle.reuse_session.specs.Session.{IsSameBut}
 use Rattle.reuse_session.specs.Tree.{undo_folder_of}
 use Rattle.reuse_session.specs.declared.journal.entry.Entry.{Entry}
-use Rattle.reuse_session.specs.declared.journal.fault.DecodeFault.{DecodeFault}
-use Rattle.reuse_session.specs.declared.journal.fault.DecodeFault.TheVariants.{NotGood, Memory}
-use Rattle.reuse_session.specs.declared.journal.head.Head.{Head}
 use Rattle.reuse_session.proofs.OfTree.{get-folder}
-use Rattle.reuse_session.proofs.ReadingLemmas.{absent_is, long_is, found_is}
 use Rattle.reuse_session.proofs.Turning.{put_sets, put_doubt}
 
 -- a file of the folder, read at a path that is its

@@ -1,24 +1,17 @@
 -- How the standing of files changes when a step is carried out.
-use Rattle.std.proofs.Common.{◌≡◌, ◌≢◌, ◌⊎◌, inl, inr, ⊎_elim, ℕ, ◌+◌, ◌<◌, ◌≤◌, Bool, true, false, List, ◌∷◌, length, Some, None, codes, refl, sym, ap, subst, ◌∙◌, arith}
-use Rattle.std.specs.FinMap.{get}
-use Rattle.std.specs.List.{All}
+use Rattle.std.proofs.Common.{◌≡◌, ◌⊎◌, inl, inr, ⊎_elim, ℕ, ◌+◌, ◌<◌, List, Some, None, codes, refl, sym, subst, ◌∙◌}
 use Rattle.reuse_tree.specs.Path.{journal_folder}
 use Rattle.reuse_tree.specs.Files.{Files, AreFiles, tree_of}
-use Rattle.reuse_tree.specs.Change.{path_of}
 use Rattle.reuse_session.specs.Carried.{IsCarriedOut, IsStopped}
-use Rattle.reuse_session.specs.Entry.{touches, IsEntry, IsReady, LeadsBy, SomeMade}
+use Rattle.reuse_session.specs.Entry.{IsEntry, LeadsBy, SomeMade}
 use Rattle.reuse_session.specs.Head.{way_of, IsGoodHead}
-use Rattle.reuse_session.specs.Journal.{Recorded, Journal, State}
-use Rattle.reuse_session.specs.JournalFiles.{entry_path, head_of, number_of, IsKeptIn, KeepsJournal}
+use Rattle.reuse_session.specs.Journal.{Recorded, State}
+use Rattle.reuse_session.specs.JournalFiles.{entry_path, head_of, number_of, IsKeptIn}
 use Rattle.reuse_session.specs.Session.{IsSameBut}
-use Rattle.reuse_session.specs.Standing.{IsTree, IsStanding, IsStep, IsUnderWay, InDoubt, Moves}
-use Rattle.reuse_session.specs.Tree.{is_of_tree, undo_folder_of}
+use Rattle.reuse_session.specs.Standing.{IsTree, IsStanding, IsStep, InDoubt}
+use Rattle.reuse_session.specs.Tree.{undo_folder_of}
 use Rattle.reuse_session.specs.declared.journal.head.PendingWay.{PendingWay}
 use Rattle.reuse_tree.specs.declared.change.Change.{Change}
-use Rattle.std.proofs.lemmas.Bool.{false≢true}
-use Rattle.std.proofs.lemmas.List.Folds.{Any-from_list_any}
-use Rattle.std.proofs.lemmas.Slice.Eq.{bytes_eq-Decides}
-use Rattle.std.specs.Str.{bytes_eq}
 use Rattle.reuse_session.proofs.OfTree.{are_tree}
 use Rattle.reuse_session.proofs.Walk.{leads_once, none_outside}
 use Rattle.reuse_session.proofs.JournalLemmas.{entry_in_folder, same_but_in_folder, keeps_beside, keeps_pending, keeps_settled, kept_stays}

@@ -21,7 +21,7 @@ use Rattle.reuse_session.specs.declared.entry.Way.TheVariants.{Do, Undo}
 use Rattle.reuse_session.specs.declared.reply.Cause.TheVariants as causes
 use Rattle.reuse_session.specs.declared.reply.Reply.{Reply}
 use Rattle.reuse_session.specs.declared.reply.Refusal.{Refusal}
-use Rattle.reuse_session.specs.declared.reply.Refusal.TheVariants.{Memory as OutOfMemory, Moved, Fault, Interrupted, BadJournal}
+use Rattle.reuse_session.specs.declared.reply.Refusal.TheVariants.{Memory as OutOfMemory, Fault, Interrupted, BadJournal}
 use Rattle.reuse_session.proofs.OnlyReading.{is_refused}
 use Rattle.reuse_session.proofs.JournalLemmas.{clash_beneath, entry_in_folder, paths_apart}
 use Rattle.reuse_session.proofs.OfTree.{get-folder}

@@ -1,6 +1,6 @@
 -- What annotate makes of a tree, in other words: each file that is gone through and its neighbour become what the rules say of these two
 -- alone, and all else stays.
-use Rattle.std.specs.Prelude.{◌≡◌, ◌≢◌, ◌⊎◌, ℕ, Bool, true, false, List, [], ◌∷◌, ◌++◌, take, drop, Option, Some, None, IsSome, Ok, unwrap_or, if◌then◌else◌}
+use Rattle.std.specs.Prelude.{◌≡◌, ◌≢◌, ◌⊎◌, ℕ, true, false, List, [], ◌++◌, take, drop, Option, Some, None, IsSome, Ok, unwrap_or, if◌then◌else◌}
 use Rattle.std.specs.List.{Contains}
 use Rattle.std.specs.Option.{option_map}
 use Rattle.std.specs.FinMap.{get}
@@ -21,7 +21,6 @@ use Rattle.reuse_session.specs.TreeStyles.{OwnNames, styles_in}
 use Rattle.reuse_session.specs.Worked.{worked_paths}
 use Rattle.reuse_session.specs.declared.command.Place.{Place}
 use Rattle.reuse_session.specs.declared.command.Scope.{Scope}
-use Rattle.reuse_session.specs.declared.command.Unknown.{Unknown}
 use Rattle.reuse_session.specs.declared.command.Unknown.TheVariants as unknown
 
 -- ---- bytes that stay

@@ -2,7 +2,6 @@ use Rattle.std.proofs.Common.{◌≡◌, ◌∙◌, Bool, cond, List, ℕ, Some,
 use Rattle.std.specs.FinMap.{get, keys}
 use Rattle.reuse_header.specs.Names.{lookup}
 use Rattle.reuse_tree.specs.Files.{tree_of}
-use Rattle.reuse_tree.specs.Store.{reading_of}
 use Rattle.reuse_session.specs.declared.reply.Refusal.TheVariants as refusals
 use Rattle.reuse_session.specs.Annotate.{annotated_at, edit_beside, edit_target, target_by_bytes}
 use Rattle.reuse_session.specs.declared.plan_target.Target.TheVariants as target

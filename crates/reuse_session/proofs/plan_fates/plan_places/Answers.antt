@@ -1,4 +1,4 @@
-use Rattle.std.proofs.Common.{◌≡◌, Bool, List, Result, ◌∙◌, ◌∷◌, [], cond, map, Ok, Err, IfOk, ap, sym, subst}
+use Rattle.std.proofs.Common.{Bool, List, Result, ◌∙◌, ◌∷◌, [], cond, map, Ok, Err, IfOk, ap, sym, subst}
 use Rattle.reuse_header.specs.Names.{lookup}
 use Rattle.reuse_tree.specs.Files.{Files, tree_of}
 use Rattle.reuse_session.specs.Annotate.{annotated_at}

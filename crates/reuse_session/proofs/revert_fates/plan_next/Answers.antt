@@ -1,12 +1,11 @@
-use Rattle.std.proofs.Common.{◌≡◌, ◌∙◌, cond, None, Some, Ok, Err, sym, ap, subst}
+use Rattle.std.proofs.Common.{None, Ok, subst}
 use Rattle.reuse_tree.specs.Change.{path_of}
 use Rattle.reuse_tree.specs.Files.{tree_of}
 use Rattle.reuse_session.specs.FatePlan.{back_at, Adds}
-use Rattle.reuse_session.specs.Fates.{fate_by, revert_fate}
+use Rattle.reuse_session.specs.Fates.{revert_fate}
 use Rattle.reuse_session.specs.Plan.{MakesEdit}
 use Rattle.reuse_session.specs.Reverting.{taken_back_on}
 use Rattle.reuse_session.specs.declared.fate.Fate.TheVariants as fate
-use Rattle.reuse_session.specs.declared.reply.Refusal.TheVariants.{Moved}
 use Rattle.reuse_session.proofs.RevertFates.{adds_skipped, back_makes, back_told}
 use Rattle.reuse_session.proofs.RevertPlanning.{found}
 use Rattle.reuse_session.proofs.revert_fates.plan_next.Goals as goal

@@ -1,10 +1,10 @@
-use Rattle.std.proofs.Common.{◌≡◌, ◌↔◌, true, IsTrue, length, arith, sym, subst, ◌∙◌}
+use Rattle.std.proofs.Common.{◌≡◌, ◌↔◌, true, IsTrue, arith, sym, subst, ◌∙◌}
 use Rattle.std.specs.List.{All, list_any}
 use Rattle.std.proofs.lemmas.Bool.{false≢true}
 use Rattle.std.proofs.lemmas.List.{length-take}
 use Rattle.reuse_tree.specs.Files.{tree_of}
 use Rattle.reuse_tree.specs.Change.{path_of}
-use Rattle.reuse_session.specs.Entry.{CanBeSetBack, IsEntry, makes, opposite}
+use Rattle.reuse_session.specs.Entry.{CanBeSetBack, IsEntry, makes}
 use Rattle.reuse_session.proofs.AtChange.{reads_on, tested, passes, first_without, walked}
 use Rattle.reuse_session.proofs.roll_back.test_setting_back.Given.{Over}
 use Rattle.reuse_session.proofs.roll_back.test_setting_back.Goals.{In_ok-can_be_set_back}

@@ -108,9 +108,9 @@ returns-in_err-perform-clause-moved g c honest good all e =
 
 pub returns-in_err-perform-clause-clash : goal.returns-in_err-perform-clause-clash
 returns-in_err-perform-clause-clash g c honest good all e = absurd (
-  (no_cause g (goal.at.returns-in_err-perform-clause-clash g c).After-perform honest good all).1
-  (passed_on c.from_residual-in_err-perform.result c.perform.result c.from_residual-in_err-perform.ensures.1 c.in_err-perform.was e)
-)
+    (no_cause g (goal.at.returns-in_err-perform-clause-clash g c).After-perform honest good all).1
+    (passed_on c.from_residual-in_err-perform.result c.perform.result c.from_residual-in_err-perform.ensures.1 c.in_err-perform.was e)
+    )
 
 pub returns-clause-done : goal.returns-clause-done
 returns-clause-done g c honest good =

@@ -1,11 +1,7 @@
 use Rattle.std.proofs.Common.{◌≡◌, ◌+◌, Ok, Err, length, arith, ap, sym, subst, ◌∙◌}
-use Rattle.reuse_session.specs.Answer.{TellsNoFault}
 use Rattle.reuse_session.specs.Calls.{LeavesRun}
-use Rattle.reuse_session.specs.Command.{name_of}
 use Rattle.reuse_session.specs.Entry.{paths_of}
 use Rattle.reuse_session.specs.Session.{Runs}
-use Rattle.reuse_session.specs.declared.history.ListedEntry.{ListedEntry}
-use Rattle.reuse_session.specs.declared.journal.entry.Entry.{Entry}
 use Rattle.reuse_session.specs.declared.reply.Reply.TheVariants.{Changed}
 use Rattle.reuse_session.proofs.OnlyReading.{is_refused}
 use Rattle.reuse_session.proofs.Recording.{EntryPut, EntryListed, can_go, unput_leaves, recording, record_leaves, halt_leaves}
