@@ -1,13 +1,17 @@
-# Builds a measuring program in a temporary folder, over crates of this repository.
-# usage, in a script of this folder:  . build.sh NAME CRATE..   It sets `program`, and removes the folder at the end.
+# Builds a measuring program in a temporary folder, over crates of this repository and of the kit.
+# usage, in a script of this folder:  . build.sh NAME CRATE..   It sets `program`, and removes the folder at the end. Where `build` is set, it is
+# built in that folder, which stays.
 name=$1
 shift
 top=$(cd "$(dirname "${BASH_SOURCE[0]}")/.." && pwd)
-build=$(mktemp -d)
-trap 'rm -rf "$build"' EXIT
+if [[ -z ${build:-} ]]; then
+  build=$(mktemp -d)
+  trap 'rm -rf "$build"' EXIT
+fi
 mkdir -p "$build/crates/$name/src"
 cp "$top/HANDLES" "$build/"
 for crate in "$@"; do
+  [[ -d $top/crates/$crate ]] || continue
   cp -r "$top/crates/$crate" "$build/crates/"
   grep "^$crate:" "$top/crates.txt" >> "$build/crates.txt"
 done

@@ -1,8 +1,8 @@
-# make_tree FOLDER FILES: makes a tree of Python files, 100 a folder, of 0.4 to 7 kB.
+# make_tree FOLDER FILES [LINES]: makes a tree of Python files, 100 a folder, of 1 to 16 times so many lines (16 by default: 0.4 to 7 kB).
 make_tree() {
   local size line text= k folder texts=()
   for size in {1..16}; do
-    for line in {1..16}; do text+="line = $size  # number $line"$'\n'; done
+    for ((line = 1; line <= ${3:-16}; line++)); do text+="line = $size  # number $line"$'\n'; done
     texts[size]=$text
   done
   for ((k = 0; k < $2; k++)); do

@@ -1,8 +1,10 @@
 #!/usr/bin/env bash
-# Measures the program on a tmpfs, beside `cp -r` of the same tree, beside what a careful person does by hand (that copy and the SHA-256 of each file
-# before and after), and beside the floor: a C program that reads each file once, writes it aside with a header, and renames it. Measured are annotating a tree of Python files, undo and redo; an undo of the same step without seals, which hashes nothing; the opening of
-# a long history; and a step of very many changes. Prints seconds and those of the processor, the ratios, and the peak memory.
-# usage: bench/undo_speed.sh PROGRAM [FILES]      (20,000 files by default)
+# Measures annotate, undo and redo on a tmpfs, on three trees: 20,000 Python files of some 3 kB, as many of some 16 kB, and 100,000 of some bytes. Beside
+# them in the same run: `cp -r` of the same tree; the floor, a C program that reads each file once, writes it aside with a header, and renames it; and
+# the goal, half again of the floor and the time in which the kit's SHA-256 hashes each file twice, as the seals of a step ask for (without seals, for
+# a journal of version 1.0, half again of the floor alone). Then histories: a log of 500 MB in 61 entries, and of 1,000 entries; one file of the 100,000;
+# and help. Prints the least of three: seconds, those of the processor, the ratio to `cp -r` and to the goal, and the peak memory.
+# usage: bench/undo_speed.sh PROGRAM [FILES]      (20,000 files by default in the first two trees)
 set -euo pipefail
 . "$(dirname "$0")/../tests/common.sh"
 . "$(dirname "$0")/python_tree.sh"
@@ -12,6 +14,12 @@ annotate=(annotate -c "Jane Doe" -l MIT -y 2024 -r .)
 header=$'# SPDX-FileCopyrightText: 2024 Jane Doe\n#\n# SPDX-License-Identifier: MIT\n\n'
 # REUSE-IgnoreEnd
 cc -O2 -o "$room/floor" "$(dirname "$0")/floor.c"
+undo=$program
+build=$room/build
+mkdir "$build"
+. "$(dirname "$0")/build.sh" hash_speed sha2
+hash_speed=$program
+program=$undo
 
 # Runs a command, and notes its times and its peak memory if it was never faster.
 declare -A best
@@ -23,31 +31,31 @@ measure() {
   if [[ -z ${best[$name]:-} ]] || awk -v one="${took%% *}" -v other="${best[$name]%% *}" 'BEGIN { exit !(one < other) }'; then best[$name]=$took; fi
 }
 
-# Prints what was noted of these commands, beside the first three.
-report() {
-  local name seconds user system kilobytes copy=${best[$1]%% *} by_hand=${best[${2:-$1}]%% *} floor=${best[${3:-$1}]%% *}
-  for name in "$@"; do
-    read -r seconds user system kilobytes <<< "${best[$name]}"
-    awk -v name="$name" -v time="$seconds" -v busy="$user" -v system_busy="$system" -v copy="$copy" -v hand="$by_hand" -v floor="$floor" -v memory="$kilobytes" 'BEGIN {
-      printf "  %-18s %6.2f s (processor %6.2f s)  %5.2f of cp -r  %5.2f of by hand  %5.2f of the floor  %5.0f MB\n", name, time, busy + system_busy,
-        copy ? time / copy : 0, hand ? time / hand : 0, floor ? time / floor : 0, memory / 1024
-    }'
-  done
-  best=()
+# The seconds in which each file of a tree is hashed twice: that many texts of their mean length
+hashing() {
+  local count bytes
+  count=$(find "$1" -type f | wc -l)
+  bytes=$(du -sb --apparent-size "$1" | cut -f1)
+  "$hash_speed" $((bytes / count)) $((2 * count)) | cut -d' ' -f1
 }
 
-# A copy of a tree, and the SHA-256 of each file of both
-copy_by_hand() {
-  local tree
-  cp -r "$1" "$2"
-  for tree in "$1" "$2"; do find "$tree" -type f -print0 | xargs -0 sha256sum; done
+# report GOAL NAME..: prints what was noted of these commands, beside `cp -r` and the goal in seconds.
+report() {
+  local goal=$1 name seconds user system kilobytes
+  shift
+  for name in "$@"; do
+    read -r seconds user system kilobytes <<< "${best[$name]}"
+    awk -v name="$name" -v time="$seconds" -v busy="$user" -v system_busy="$system" -v copy="${best[cp -r]:-0}" -v goal="$goal" -v memory="$kilobytes" 'BEGIN {
+      printf "  %-20s %6.2f s (processor %6.2f s) %6.0f MB", name, time, busy + system_busy, memory / 1024
+      if (copy > 0) printf "  %5.2f of cp -r", time / copy
+      if (goal > 0) printf "  %5.2f of the goal of %.2f s", time / goal, goal
+      print ""
+    }'
+  done
 }
-export -f copy_by_hand
 
 # Copies a tree, annotates the copy, and takes it back and forth.
 work_on() {
-  rm -rf "$room/tree"
-  measure "by hand" bash -c 'copy_by_hand "$@"' by_hand "$1" "$room/tree"
   rm -rf "$room/tree"
   measure "cp -r" cp -r "$1" "$room/tree"
   measure floor "$room/floor" "$room/tree" "$header"
@@ -61,30 +69,66 @@ work_on() {
   as_format_1 "$room/tree"
   measure "undo without seals" "$program" --root "$room/tree" undo
 }
-undo_on() { "$program" --root "$room/$1" "${@:2}"; }
+
+# Works on a tree three times, and prints the times.
+times_on() {
+  local hash floor
+  best=()
+  echo "$2, $(du -sm --apparent-size "$1" | cut -f1) MB (load $(cut -d' ' -f1 /proc/loadavg)):"
+  for _ in 1 2 3; do work_on "$1"; done
+  hash=$(hashing "$1")
+  floor=${best[floor]%% *}
+  report 0 "cp -r" floor
+  echo "  hashing each file twice: $hash s"
+  report "$(awk -v floor="$floor" -v hash="$hash" 'BEGIN { print 1.5 * floor + hash }')" annotate undo redo
+  report "$(awk -v floor="$floor" 'BEGIN { print 1.5 * floor }')" "undo without seals"
+  report 0 log
+}
+
+# Lists one entry so many times, each with a copy of it.
+list_often() {
+  local journal=$room/$1/.reuse/undo k
+  for ((k = 2; k <= $2; k++)); do cp "$journal/000001.json" "$journal/$(printf %06d "$k").json"; done
+  printf '{"done":[%s],"format":2,"next":%d,"pending":null,"undone":[]}' "$(seq -s, "$2")" $(($2 + 1)) > "$journal/head.json"
+  best=()
+  echo "a log of $2 entries of $3 files, $(du -sm --apparent-size "$journal" | cut -f1) MB:"
+  for _ in 1 2 3; do measure log "$program" --root "$room/$1" log; done
+  report 0 log
+  (($(wc -l < "$room/out") == $2)) || { echo "the log has not $2 lines" >&2; exit 1; }
+}
+
+# The milliseconds of a call, the mean of twenty
+milliseconds() {
+  local start=${EPOCHREALTIME/./} _
+  for _ in {1..20}; do "$@" > "$room/out"; done
+  awk -v took=$((${EPOCHREALTIME/./} - start)) 'BEGIN { printf "%.1f", took / 20000 }'
+}
 
 make_tree "$room/plain" "$files"
-echo "$files files, $(du -sm --apparent-size "$room/plain" | cut -f1) MB, the least of three (load $(cut -d' ' -f1 /proc/loadavg)):"
-for _ in 1 2 3; do work_on "$room/plain"; done
-report "cp -r" "by hand" floor annotate undo redo log "undo without seals"
-rm -rf "$room/plain" "$room/tree"
+times_on "$room/plain" "$files files"
+rm -rf "$room/plain"
 
-# One entry of 100 changes, listed a thousand times
-make_tree "$room/long" 100
-undo_on long "${annotate[@]}" > "$room/out"
-journal=$room/long/.reuse/undo
-for ((k = 2; k <= 1000; k++)); do cp "$journal/000001.json" "$journal/$(printf %06d "$k").json"; done
-printf '{"done":[%s],"format":2,"next":1001,"pending":null,"undone":[]}' "$(seq -s, 1000)" > "$journal/head.json"
-echo "1,000 entries of 100 changes, $(du -sm --apparent-size "$journal" | cut -f1) MB:"
-measure log "$program" --root "$room/long" log
-report log
-(($(wc -l < "$room/out") == 1000)) || { echo "the log has not 1,000 lines" >&2; exit 1; }
-rm -rf "$room/long"
+make_tree "$room/plain" "$files" 88
+times_on "$room/plain" "$files files"
+rm -rf "$room/plain"
 
 for folder in {1..100}; do
   mkdir -p "$room/wide/folder$folder"
   (cd "$room/wide/folder$folder" && seq 1000 | split -l 1 -a 3 --additional-suffix=.py)
 done
-echo "100,000 files of some bytes:"
-work_on "$room/wide"
-report "cp -r" "by hand" floor annotate undo redo log "undo without seals"
+times_on "$room/wide" "100,000 files"
+rm -rf "$room/tree"
+holders=0
+annotate_one() { "$program" --root "$room/wide" annotate -c "Holder $((++holders))" -l MIT -y 2024 folder50/xaab.py; }
+echo "one file of 100,000: $(milliseconds annotate_one) ms"
+rm -rf "$room/wide"
+
+make_tree "$room/large" 22000
+"$program" --root "$room/large" "${annotate[@]}" > "$room/out"
+list_often large 61 22000
+rm -rf "$room/large"
+make_tree "$room/long" 100
+"$program" --root "$room/long" "${annotate[@]}" > "$room/out"
+list_often long 1000 100
+rm -rf "$room/long"
+echo "help: $(milliseconds "$program" --help) ms; help of annotate: $(milliseconds "$program" annotate --help) ms"

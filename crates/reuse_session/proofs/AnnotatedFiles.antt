@@ -1,6 +1,6 @@
 -- Where annotate isn't refused at a path, its file and the neighbour become what the rules say of them.
-use Rattle.std.proofs.Common.{◌≡◌, ◌≢◌, ◌⊎◌, inl, inr, ℕ, ◌+◌, ◌≤◌, Bool, true, false, cond, not, ◌||◌, ◌&&◌, nat_lt, List, [], ◌∷◌, ◌++◌, codes, length, take, drop, Option, Some, None, IsSome, is_some, Result, Ok, Err, refl, sym, ap, ap₂, subst, ◌∙◌, arith, length-append}
-use Rattle.std.specs.Prelude.{is_none, unwrap_or}
+use Rattle.std.proofs.Common.{◌≡◌, ◌≢◌, ◌⊎◌, inl, inr, ℕ, Bool, true, false, cond, not, ◌&&◌, nat_lt, List, [], ◌∷◌, ◌++◌, codes, length, take, drop, Option, Some, None, is_some, Result, Ok, Err, refl, sym, ap, ap₂, subst, ◌∙◌, arith, length-append}
+use Rattle.std.specs.Prelude.{unwrap_or}
 use Rattle.std.specs.Option.{option_map}
 use Rattle.std.specs.Str.{bytes_eq}
 use Rattle.std.specs.FinMap.{get}
@@ -9,47 +9,34 @@ use Rattle.std.proofs.lemmas.Slice.Eq.{bytes_eq-Decides}
 use Rattle.reuse_text.specs.Text.{mark_len_of, file_lines}
 use Rattle.reuse_notice.specs.declared.adding.Additions.{Additions}
 use Rattle.reuse_header.specs.declared.style.Style.{Style}
-use Rattle.reuse_header.specs.declared.style.Kind.{Kind}
-use Rattle.reuse_header.specs.declared.style.Kind.TheVariants as kind
 use Rattle.reuse_header.specs.declared.annotation.How.{How}
-use Rattle.reuse_header.specs.declared.annotation.HeaderRefusal.{HeaderRefusal}
 use Rattle.reuse_header.specs.Annotation as header
 use Rattle.reuse_header.specs.Body.{body_lines, place_in}
 use Rattle.reuse_header.specs.Header.{Header, HeaderSpan, header_of, span_in}
 use Rattle.reuse_header.specs.Laws.{IsInsertion}
-use Rattle.reuse_header.specs.Names.{kind_in}
-use Rattle.reuse_header.specs.Neighbour.{is_text, neighbour_annotation_of, neighbour_annotated, neighbour_end}
+use Rattle.reuse_header.specs.Neighbour.{neighbour_annotation_of, neighbour_end}
 use Rattle.reuse_tree.specs.Files.{Files}
-use Rattle.reuse_session.specs.Annotate.{neighbour_of, neighbour_is_tagged, is_uncommentable, goes_beside, goes_beside_unread, target_of, target_of_unknown, target_by_name, target_by_style, target_by_bytes, edit_by, edit_inside, edit_neighbour, edit_beside, edit_target, annotated_where, annotated_at}
-use Rattle.reuse_session.specs.Annotated.{IsSameAround, KeepsOthers, block_replaced, part_replaced, Pair, pair_at, IsStyleOf, HasKind, TakesComment, TakesNeighbour, IsCommented, IsAccompanied, IsSkipped, IsAnnotated, file_written}
+use Rattle.reuse_session.specs.Annotate.{neighbour_of, neighbour_is_tagged, goes_beside, target_of, edit_by, edit_neighbour, edit_target, annotated_where, annotated_at}
+use Rattle.reuse_session.specs.Annotated.{IsSameAround, KeepsOthers, block_replaced, part_replaced, Pair, pair_at, TakesNeighbour, IsCommented, IsAccompanied, IsSkipped, IsAnnotated, file_written}
 use Rattle.reuse_session.specs.Annotations.{Due}
 use Rattle.reuse_session.specs.Clash.{is_clash}
 use Rattle.reuse_session.specs.Covered.{is_covered}
 use Rattle.reuse_session.specs.Edit.{Edit}
-use Rattle.reuse_session.specs.HeaderFaults.{refused_by}
 use Rattle.reuse_session.specs.Listing.{is_folder}
 use Rattle.reuse_session.specs.TreeStyles.{OwnNames}
 use Rattle.reuse_session.specs.declared.command.Place.TheVariants as place
 use Rattle.reuse_session.specs.declared.command.Scope.{Scope}
-use Rattle.reuse_session.specs.declared.command.Unknown.{Unknown}
-use Rattle.reuse_session.specs.declared.command.Unknown.TheVariants as unknown
-use Rattle.reuse_session.specs.declared.plan_target.Target.{Target}
-use Rattle.reuse_session.specs.declared.plan_target.Target.TheVariants.{Inside, Beside, Nowhere}
+use Rattle.reuse_session.specs.declared.target.Target.{Target}
+use Rattle.reuse_session.specs.declared.target.Target.TheVariants.{Inside, Beside, Nowhere}
 use Rattle.reuse_session.specs.declared.reply.Refusal.{Refusal}
 use Rattle.reuse_session.specs.declared.reply.Refusal.TheVariants as refusals
-use Rattle.reuse_session.proofs.AnnotationPlaces.{no_call, some_is_none, comment_not_skipped, beside_not_skipped}
+use Rattle.reuse_session.proofs.AnnotationPlaces.{some_is_none, comment_not_skipped, beside_not_skipped}
+use Rattle.reuse_session.proofs.TargetReasons.{err_or, both, Takes, takes}
 
 -- ---- tests
 
 abbrev done : Option Edit → Result (Option Edit) Refusal
 done given = Ok given
-
-abbrev aimed : Target → Result Target Refusal
-aimed target = Ok target
-
-err_or : {A : Type 0} (b : Bool) (r : Refusal) (rest : Result A Refusal) (x : A) → cond b (Err r) rest ≡ Ok x → (b ≡ false) × (rest ≡ Ok x)
-err_or true r rest x e = absurd (cc)
-err_or false r rest x e = (refl, e)
 
 both_err : {A : Type 0} (b : Bool) (r s : Refusal) (x : A) → cond b (Err r) (Err s) ≡ Ok x → ⊥
 both_err true r s x e = absurd (cc)
@@ -58,40 +45,12 @@ both_err false r s x e = absurd (cc)
 same_given : (one other : Option Edit) → done one ≡ done other → one ≡ other
 same_given one other e = cc
 
-same_target : (one other : Target) → aimed one ≡ aimed other → one ≡ other
-same_target one other e = cc
-
 is_true : (b : Bool) → not b ≡ false → b ≡ true
 is_true true e = refl
 is_true false e = absurd (false≢true (sym e))
 
-either : (a b : Bool) → (a || b) ≡ true → (a ≡ true) ⊎ (b ≡ true)
-either true b e = inl refl
-either false b e = inr e
-
-neither : (a b : Bool) → (a || b) ≡ false → (a ≡ false) × (b ≡ false)
-neither true b e = absurd (false≢true (sym e))
-neither false b e = (refl, e)
-
-both : (a b : Bool) → (a && b) ≡ true → (a ≡ true) × (b ≡ true)
-both true b e = (refl, e)
-both false b e = absurd (false≢true e)
-
-no_style : (style : Option Style) → is_none style ≡ true → style ≡ None
-no_style None e = refl
-no_style (Some style) e = absurd (false≢true e)
-
-no_file : (file : Option (List ℕ)) → is_some file ≡ false → file ≡ None
-no_file None e = refl
-no_file (Some bytes) e = absurd (false≢true (sym e))
-
 same_bytes : (bytes other : List ℕ) → Some bytes ≡ Some other → bytes ≡ other
 same_bytes bytes other e = cc
-
-uncommentable : (of_name : Kind) → is_uncommentable of_name ≡ true → of_name ≡ kind.Uncommentable
-uncommentable (kind.Style style) e = absurd (false≢true e)
-uncommentable kind.Uncommentable e = refl
-uncommentable kind.Unknown e = absurd (false≢true e)
 
 -- ---- what an edit leaves
 
@@ -198,63 +157,8 @@ module _ (replaces : ReplacesBlock) (inserts : InsertsBlock) (replaces_beside : 
     abbrev old : Pair
     old = pair_at tree path
 
-    -- why the information goes there
-    abbrev Takes : Target → Type 0
-    Takes (Inside style) = TakesComment scope own path bytes old style
-    Takes Beside = TakesNeighbour scope own path bytes old
-    Takes Nowhere = HasKind scope own path kind.Unknown × (scope.unknown ≡ unknown.Skip) × ¬ (TakesNeighbour scope own path bytes old)
-
-    beside_takes : goes_beside scope own tree path ≡ true → Takes Beside
-    beside_takes e = elim (either (is_some (get tree (neighbour_of path))) (goes_beside_unread scope own path) e) [
-      | inl there ↦ inl there
-      | inr unread ↦ elim (either scope.force_dot_license (is_none scope.style && is_uncommentable (kind_in own path)) unread) [
-        | inl forced ↦ inr (inl forced)
-        | inr plain ↦
-            let parts = both (is_none scope.style) (is_uncommentable (kind_in own path)) plain in
-            inr (inr (inr (inl (no_style scope.style parts.0, uncommentable (kind_in own path) parts.1))))
-      ]
-    ]
-
-    module _ (e : goes_beside scope own tree path ≡ false) (text : is_text bytes ≡ true) where
-      parts : (is_some (get tree (neighbour_of path)) ≡ false) × (goes_beside_unread scope own path ≡ false)
-      parts = neither (is_some (get tree (neighbour_of path))) (goes_beside_unread scope own path) e
-
-      comment_takes : (style : Style) → (scope.style ≡ Some style) ⊎ ((scope.style ≡ None) × (kind_in own path ≡ kind.Style style)) → Takes (Inside style)
-      comment_takes style of_style = record {
-        text = text;
-        alone = no_file (get tree (neighbour_of path)) parts.0;
-        unforced = (neither scope.force_dot_license (is_none scope.style && is_uncommentable (kind_in own path)) parts.1).0;
-        of_style = of_style;
-      }
-
-      -- nothing calls for a neighbour
-      no_neighbour : ((style : Style) × IsStyleOf scope own path style) ⊎ ((kind_in own path ≡ kind.Unknown) × (scope.unknown ≡ unknown.Skip)) → TakesNeighbour scope own path bytes old → ⊥
-      no_neighbour named why = no_call scope own path bytes old (no_file (get tree (neighbour_of path)) parts.0)
-          (neither scope.force_dot_license (is_none scope.style && is_uncommentable (kind_in own path)) parts.1).0 text named why
-
-      unknown_takes : (asked : Unknown) → scope.unknown ≡ asked → HasKind scope own path kind.Unknown → (target : Target) → target_of_unknown asked path ≡ Ok target → Takes target
-      unknown_takes unknown.Refuse is named target h = absurd (cc)
-      unknown_takes unknown.Neighbour is named target h = subst Takes (same_target Beside target h) (inr (inr (inr (inr (named, is)))))
-      unknown_takes unknown.Skip is named target h = subst Takes (same_target Nowhere target h) (named, is, no_neighbour (inr (named.1, is)))
-
-      name_takes : (of_name : Kind) → kind_in own path ≡ of_name → scope.style ≡ None → (target : Target) → target_by_name scope.unknown path of_name ≡ Ok target → Takes target
-      name_takes (kind.Style style) is none target h = subst Takes (same_target (Inside style) target h) (comment_takes style (inr (none, is)))
-      name_takes kind.Uncommentable is none target h = subst Takes (same_target Beside target h) (inr (inr (inr (inl (none, is)))))
-      name_takes kind.Unknown is none target h = unknown_takes scope.unknown refl (none, is) target h
-
-      style_takes : (style : Option Style) → scope.style ≡ style → (target : Target) → target_by_style scope own path style ≡ Ok target → Takes target
-      style_takes (Some style) is target h = subst Takes (same_target (Inside style) target h) (comment_takes style (inl is))
-      style_takes None is target h = name_takes (kind_in own path) refl is target h
-
-    bytes_take : goes_beside scope own tree path ≡ false → (b : Bool) → is_text bytes ≡ b → (target : Target) → cond (not b) (aimed Beside) (target_by_style scope own path scope.style) ≡ Ok target → Takes target
-    bytes_take e true text target h = style_takes e text scope.style refl target h
-    bytes_take e false text target h = subst Takes (same_target Beside target h) (inr (inr (inl text)))
-
-    takes : (b : Bool) → goes_beside scope own tree path ≡ b → (target : Target) → cond b (aimed Beside) (target_by_bytes scope own path bytes) ≡ Ok target → Takes target
-    takes true e target h = subst Takes (same_target Beside target h) (beside_takes e)
-    takes false e target h =
-        let short = err_or (nat_lt 16_777_216 (length bytes)) (refusals.TooLong path) (cond (not (is_text bytes)) (aimed Beside) (target_by_style scope own path scope.style)) target h in
-        bytes_take e (is_text bytes) refl target short.1
+    abbrev TakesTo : Target → Type 0
+    TakesTo = Takes scope own tree path bytes
 
     abbrev Becomes : Pair → Type 0
     Becomes new = (IsSkipped scope own path bytes old × (new ≡ old))
@@ -264,7 +168,7 @@ module _ (replaces : ReplacesBlock) (inserts : InsertsBlock) (replaces_beside : 
     skipped given none is = subst (λ x. Becomes (pair_then tree x path)) none (inl (is, refl))
 
     -- it is commented, unless it is skipped
-    commented : (style : Style) → Takes (Inside style) → (scope.skip_existing && is_some (header_of style bytes)) ≡ false → (given : Option Edit)
+    commented : (style : Style) → TakesTo (Inside style) → (scope.skip_existing && is_some (header_of style bytes)) ≡ false → (given : Option Edit)
         → edit_by path path bytes (header.annotation_of style how additions bytes) ≡ Ok given → Becomes (pair_then tree given path)
     commented style reason kept given h =
         let made = makes_by path path bytes (header.annotation_of style how additions bytes) given h in
@@ -281,7 +185,7 @@ module _ (replaces : ReplacesBlock) (inserts : InsertsBlock) (replaces_beside : 
           }),
         )
 
-    inside : (style : Style) → Takes (Inside style) → (b : Bool) → (scope.skip_existing && is_some (header_of style bytes)) ≡ b → (given : Option Edit)
+    inside : (style : Style) → TakesTo (Inside style) → (b : Bool) → (scope.skip_existing && is_some (header_of style bytes)) ≡ b → (given : Option Edit)
         → cond b (done None) (edit_by path path bytes (header.annotation_of style how additions bytes)) ≡ Ok given → Becomes (pair_then tree given path)
     inside style reason true e given h =
         let tests = both scope.skip_existing (is_some (header_of style bytes)) e in
@@ -292,7 +196,7 @@ module _ (replaces : ReplacesBlock) (inserts : InsertsBlock) (replaces_beside : 
     abbrev IsBeside : Option (List ℕ) → Pair → Type 0
     IsBeside file new = IsAccompanied additions how scope own path bytes (pair (get tree path) file) new
 
-    accompanied : (file : Option (List ℕ)) → get tree (neighbour_of path) ≡ file → Takes Beside → ¬ (IsSkipped scope own path bytes old) → (given : Option Edit) (edit : header.Edit)
+    accompanied : (file : Option (List ℕ)) → get tree (neighbour_of path) ≡ file → TakesTo Beside → ¬ (IsSkipped scope own path bytes old) → (given : Option Edit) (edit : header.Edit)
         → neighbour_annotation_of how additions (unwrap_or file []) ≡ Ok edit → Makes (neighbour_of path) (unwrap_or file []) (header.edited (unwrap_or file []) edit) given
         → file_then tree given (neighbour_of path) ≡ file_written file (header.edited (unwrap_or file []) edit) → Becomes (pair_then tree given path)
     accompanied file is reason unskipped given edit due makes written = inr (
@@ -306,7 +210,7 @@ module _ (replaces : ReplacesBlock) (inserts : InsertsBlock) (replaces_beside : 
       })),
     )
 
-    beside_there : (beside : List ℕ) → get tree (neighbour_of path) ≡ Some beside → Takes Beside → (b : Bool) → (scope.skip_existing && neighbour_is_tagged beside) ≡ b → (given : Option Edit)
+    beside_there : (beside : List ℕ) → get tree (neighbour_of path) ≡ Some beside → TakesTo Beside → (b : Bool) → (scope.skip_existing && neighbour_is_tagged beside) ≡ b → (given : Option Edit)
         → cond b (done None) (edit_by path (neighbour_of path) beside (neighbour_annotation_of how additions beside)) ≡ Ok given → Becomes (pair_then tree given path)
     beside_there beside is reason true e given h =
         let tests = both scope.skip_existing (neighbour_is_tagged beside) e in
@@ -316,7 +220,7 @@ module _ (replaces : ReplacesBlock) (inserts : InsertsBlock) (replaces_beside : 
         let kept = λ (other : List ℕ) (there : get tree (neighbour_of path) ≡ Some other). subst (λ f. (scope.skip_existing && neighbour_is_tagged f) ≡ false) (same_bytes beside other (sym is ∙ there)) e in
         accompanied (Some beside) is reason (beside_not_skipped scope own path bytes old reason kept) given made.0 made.1 made.2 (then_here tree (neighbour_of path) beside (header.edited beside made.0) given made.2 is)
 
-    beside : (file : Option (List ℕ)) → get tree (neighbour_of path) ≡ file → Takes Beside → (given : Option Edit) → edit_neighbour how scope additions tree path file ≡ Ok given → Becomes (pair_then tree given path)
+    beside : (file : Option (List ℕ)) → get tree (neighbour_of path) ≡ file → TakesTo Beside → (given : Option Edit) → edit_neighbour how scope additions tree path file ≡ Ok given → Becomes (pair_then tree given path)
     beside None is reason given h =
         let free = err_or (is_clash tree (neighbour_of path)) (refusals.Clash (neighbour_of path)) (edit_by path (neighbour_of path) [] (neighbour_annotation_of how additions [])) given h in
         let made = makes_by path (neighbour_of path) [] (neighbour_annotation_of how additions []) given free.1 in
@@ -326,14 +230,14 @@ module _ (replaces : ReplacesBlock) (inserts : InsertsBlock) (replaces_beside : 
         let short = err_or (nat_lt 16_777_216 (length there)) (refusals.TooLong path) (cond (scope.skip_existing && neighbour_is_tagged there) (done None) (edit_by path (neighbour_of path) there (neighbour_annotation_of how additions there))) given h in
         beside_there there is reason (scope.skip_existing && neighbour_is_tagged there) refl given short.1
 
-    by_target : (target : Target) → Takes target → (given : Option Edit) → edit_target how scope additions tree path bytes (Ok target) ≡ Ok given → Becomes (pair_then tree given path)
+    by_target : (target : Target) → TakesTo target → (given : Option Edit) → edit_target how scope additions tree path bytes (Ok target) ≡ Ok given → Becomes (pair_then tree given path)
     by_target (Inside style) reason given h = inside style reason (scope.skip_existing && is_some (header_of style bytes)) refl given h
     by_target Beside reason given h =
         let short = err_or (nat_lt 4096 (length (neighbour_of path))) (refusals.TooLong path) (edit_neighbour how scope additions tree path (get tree (neighbour_of path))) given h in
         beside (get tree (neighbour_of path)) refl reason given short.1
     by_target Nowhere reason given h = skipped given (same_given None given h) (inl reason)
 
-    becomes : (aim : Result Target Refusal) → ((target : Target) → aim ≡ Ok target → Takes target) → (given : Option Edit) → edit_target how scope additions tree path bytes aim ≡ Ok given → Becomes (pair_then tree given path)
+    becomes : (aim : Result Target Refusal) → ((target : Target) → aim ≡ Ok target → TakesTo target) → (given : Option Edit) → edit_target how scope additions tree path bytes aim ≡ Ok given → Becomes (pair_then tree given path)
     becomes (Err refusal) reason given h = absurd (cc)
     becomes (Ok target) reason given h = by_target target (reason target refl) given h
 
@@ -351,5 +255,5 @@ module _ (replaces : ReplacesBlock) (inserts : InsertsBlock) (replaces_beside : 
             bytes = bytes;
             there = is;
             covered = is_true (is_covered path) covered.0;
-            becomes = becomes additions how scope own tree path bytes is (target_of scope own tree path bytes) (takes additions how scope own tree path bytes is (goes_beside scope own tree path) refl) given covered.1;
+            becomes = becomes additions how scope own tree path bytes is (target_of scope own tree path bytes) (takes scope own tree path bytes (goes_beside scope own tree path) refl) given covered.1;
           }

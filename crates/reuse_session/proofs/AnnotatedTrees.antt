@@ -1,9 +1,9 @@
 -- Where an annotate isn't refused, each file that is gone through is annotated, and all else stays.
-use Rattle.std.proofs.Common.{◌≡◌, ◌≢◌, ◌⊎◌, inl, inr, ℕ, Bool, true, false, cond, not, ◌&&◌, List, [], ◌∷◌, ◌++◌, codes, Less, Option, Some, None, IsSome, is_some, Result, Ok, Err, refl, sym, ap, ap₂, subst, ◌∙◌}
+use Rattle.std.proofs.Common.{◌≡◌, ◌≢◌, ◌⊎◌, inl, inr, ℕ, Bool, true, false, cond, not, ◌&&◌, List, [], ◌∷◌, Less, Option, Some, None, Result, Ok, Err, refl, sym, ap, ap₂, subst, ◌∙◌}
 use Rattle.std.specs.Prelude.{flat_map}
 use Rattle.std.specs.Ordering.{nat_cmp}
 use Rattle.std.specs.Cmp.Lexicographic.{slice_cmp, nat_list_cmp_total}
-use Rattle.std.specs.List.{AllByRecursion, Contains}
+use Rattle.std.specs.List.{AllByRecursion}
 use Rattle.std.specs.Str.{bytes_eq}
 use Rattle.std.specs.FinMap.{get}
 use Rattle.std.proofs.lemmas.Bool.{false≢true}
@@ -29,13 +29,13 @@ use Rattle.reuse_session.specs.declared.command.Place.TheVariants as place
 use Rattle.reuse_session.specs.declared.command.Scope.{Scope}
 use Rattle.reuse_session.specs.declared.reply.Refusal.{Refusal}
 use Rattle.reuse_session.specs.declared.reply.Refusal.TheVariants as refusals
-use Rattle.reuse_session.proofs.AnnotatedFiles.{ReplacesBlock, InsertsBlock, ReplacesNeighbour, InsertsNeighbour, file_then, pair_then, annotated_there}
+use Rattle.reuse_session.proofs.AnnotatedFiles.{ReplacesBlock, InsertsBlock, ReplacesNeighbour, InsertsNeighbour, file_then, annotated_there}
 use Rattle.reuse_session.proofs.Annotating.{first_is, no_edits, if_not}
-use Rattle.reuse_session.proofs.Fitting.{IsPlaced, is_placed, uncovered_neighbour, same_file}
+use Rattle.reuse_session.proofs.Fitting.{is_placed, uncovered_neighbour, same_file}
 use Rattle.reuse_session.proofs.Planning.{with_same, with_other}
 use Rattle.reuse_session.proofs.TextsPut.{edits_of_tree, pick}
 
-abbrev IsPlaceOf : List ℕ → List ℕ → Type 0
+abbrev pub IsPlaceOf : List ℕ → List ℕ → Type 0
 IsPlaceOf path place = (place ≡ path) ⊎ (place ≡ neighbour_of path)
 
 -- a place of one covered file is none of another
@@ -62,7 +62,7 @@ module _ (files tree : Files) (edit : Edit) (q : List ℕ) (same : get files q �
 
 module _ (replaces : ReplacesBlock) (inserts : InsertsBlock) (replaces_beside : ReplacesNeighbour) (inserts_beside : InsertsNeighbour)
     (additions : Additions) (how : How) (scope : Scope) (own : OwnNames) (tree : Files) where
-  abbrev at : List ℕ → Result (Option Edit) Refusal
+  abbrev pub at : List ℕ → Result (Option Edit) Refusal
   at = annotated_at how scope additions own tree
 
   placed : (path : List ℕ) (edit : Edit) → at path ≡ Ok (Some edit) → IsPlaceOf path edit.path × (is_covered path ≡ true)
@@ -81,7 +81,7 @@ module _ (replaces : ReplacesBlock) (inserts : InsertsBlock) (replaces_beside : 
   covered_of : (path : List ℕ) (given : Option Edit) → at path ≡ Ok given → is_covered path ≡ true
   covered_of path given h = (annotated_there replaces inserts replaces_beside inserts_beside additions how scope own tree path given h).covered
 
-  each_done : (paths : List (List ℕ)) (edits : List Edit) → edits_at at paths ≡ Ok edits → (path : List ℕ) → In path paths → (given : Option Edit) × (at path ≡ Ok given)
+  pub each_done : (paths : List (List ℕ)) (edits : List Edit) → edits_at at paths ≡ Ok edits → (path : List ℕ) → In path paths → (given : Option Edit) × (at path ≡ Ok given)
   each_done [] edits h path there = absurd there
   each_done (first ∷ paths) edits h path (inl same) = elim (first_is (at first) (edits_at at paths) edits h) [
     | inl nothing ↦ (None, ap at same ∙ nothing.0)
@@ -100,10 +100,10 @@ module _ (replaces : ReplacesBlock) (inserts : InsertsBlock) (replaces_beside : 
       not_above path other paths (sorted_head (slice_cmp nat_cmp) path paths sorted) there (one_file path other q (covered_of path given h) (covered_of other later.0 later.1) here too)
 
   -- what a path holds that is gone through, and its neighbour
-  abbrev HoldsDone : List Edit → List ℕ → Type 0
+  abbrev pub HoldsDone : List Edit → List ℕ → Type 0
   HoldsDone edits path = (given : Option Edit) × (at path ≡ Ok given) × ((q : List ℕ) → IsPlaceOf path q → get (edited tree edits) q ≡ file_then tree given q)
 
-  all_done : (paths : List (List ℕ)) (edits : List Edit) → edits_at at paths ≡ Ok edits → ArePaths paths → (path : List ℕ) → In path paths → HoldsDone edits path
+  pub all_done : (paths : List (List ℕ)) (edits : List Edit) → edits_at at paths ≡ Ok edits → ArePaths paths → (path : List ℕ) → In path paths → HoldsDone edits path
   all_done [] edits h sorted path there = absurd there
   all_done (first ∷ paths) edits h sorted path (inl same) = subst (HoldsDone edits) (sym same) (elim (first_is (at first) (edits_at at paths) edits h) [
     | inl nothing ↦ (None, nothing.0, λ q here. outside paths edits nothing.1 q (none_later first None nothing.0 paths edits nothing.1 sorted q here))

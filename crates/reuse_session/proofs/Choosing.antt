@@ -66,14 +66,18 @@ In-append [] ys t h = inr h
 In-append (x ∷ xs) ys t (inl e) = inl (inl e)
 In-append (x ∷ xs) ys t (inr h) = elim (In-append xs ys t h) [ inl k ↦ inl (inr k) | inr k ↦ inr k ]
 
+In-joined : (xs ys : List (List ℕ)) (t : List ℕ) → In t xs ⊎ In t ys → In t (xs ++ ys)
+In-joined [] ys t (inl h) = absurd h
+In-joined [] ys t (inr h) = h
+In-joined (x ∷ xs) ys t (inl (inl e)) = inl e
+In-joined (x ∷ xs) ys t (inl (inr h)) = inr (In-joined xs ys t (inl h))
+In-joined (x ∷ xs) ys t (inr h) = inr (In-joined xs ys t (inr h))
+
 append-left : (xs ys : List (List ℕ)) (t : List ℕ) → In t xs → In t (xs ++ ys)
-append-left [] ys t h = absurd h
-append-left (x ∷ xs) ys t (inl e) = inl e
-append-left (x ∷ xs) ys t (inr h) = inr (append-left xs ys t h)
+append-left xs ys t h = In-joined xs ys t (inl h)
 
 append-right : (xs ys : List (List ℕ)) (t : List ℕ) → In t ys → In t (xs ++ ys)
-append-right [] ys t h = h
-append-right (x ∷ xs) ys t h = inr (append-right xs ys t h)
+append-right xs ys t h = In-joined xs ys t (inr h)
 
 -- ---- what stands in the place of places
 
@@ -193,37 +197,22 @@ test_from_asked scope path h =
 
 -- ---- laws
 
+-- the root, or a folder of which this holds
+under_as : {Root : Type 0} {Under : List ℕ → Type 0} (Has Had : List ℕ → Type 0) → ((p : List ℕ) → Had p → Has p) → Root ⊎ ((p : List ℕ) × Had p × Under p) → Root ⊎ ((p : List ℕ) × Has p × Under p)
+under_as Has Had turn (inl root) = inl root
+under_as Has Had turn (inr under) = inr (under.0, turn under.0 under.1, under.2)
+
 module _ (scope : Scope) (places : List Place) (tree : Files) (path : List ℕ) (recursive : scope.recursive ≡ true) where
   worked_is : worked_paths scope places tree ≡ set_of (flat_map (expanded scope tree) places)
   worked_is = ap (λ b. set_of (cond b (flat_map (expanded scope tree) places) (paths_among places))) recursive
 
   found : Worked scope tree path places → IsNamed places tree path ⊎ (StandsBeneath places tree path × IsAskedFor scope path)
   found (inl named) = inl (Contains-from_in (paths_among places) path named.0, named.1)
-  found (inr (there, chosen)) =
-      inr (
-        (
-          Contains-from_in (keys tree) path there.0,
-          elim there.1 [
-            | inl root ↦ inl root
-            | inr under ↦ inr (under.0, Contains-from_in (paths_among places) under.0 under.1, under.2)
-          ],
-        ),
-        asked_from_test scope path chosen,
-      )
+  found (inr (there, chosen)) = inr ((Contains-from_in (keys tree) path there.0, under_as (λ p. Contains (paths_among places) p) (λ p. In p (paths_among places)) (λ p. Contains-from_in (paths_among places) p) there.1), asked_from_test scope path chosen)
 
   given : IsNamed places tree path ⊎ (StandsBeneath places tree path × IsAskedFor scope path) → Worked scope tree path places
   given (inl named) = inl (In-from_contains (paths_among places) path named.0, named.1)
-  given (inr (there, asked)) =
-      inr (
-        (
-          In-from_contains (keys tree) path there.0,
-          elim there.1 [
-            | inl root ↦ inl root
-            | inr under ↦ inr (under.0, In-from_contains (paths_among places) under.0 under.1, under.2)
-          ],
-        ),
-        test_from_asked scope path asked,
-      )
+  given (inr (there, asked)) = inr ((In-from_contains (keys tree) path there.0, under_as (λ p. In p (paths_among places)) (λ p. Contains (paths_among places) p) (λ p. In-from_contains (paths_among places) p) there.1), test_from_asked scope path asked)
 
   pub worked_exactly : Contains (worked_paths scope places tree) path ↔ (IsNamed places tree path ⊎ (StandsBeneath places tree path × IsAskedFor scope path))
   worked_exactly = (

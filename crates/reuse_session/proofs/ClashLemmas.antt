@@ -2,7 +2,7 @@
 use Rattle.std.proofs.Common.{◌≡◌, ℕ, ◌+◌, ◌<◌, Bool, true, false, ◌||◌, List, [], ◌∷◌, ◌++◌, length, take, drop, get_or, refl, sym, ap, ◌∙◌, subst, arith}
 use Rattle.std.specs.List.{list_any}
 use Rattle.std.specs.Str.{bytes_eq}
-use Rattle.std.proofs.lemmas.Bool.{false≢true}
+use Rattle.std.proofs.lemmas.Bool.{false≢true, or_parts, or_right}
 use Rattle.std.proofs.lemmas.List.{drop_more, take-append-drop}
 use Rattle.std.proofs.lemmas.Slice.Eq.{bytes_eq-Decides}
 use Rattle.std.proofs.Math.Seq.{take-append_seam}
@@ -10,10 +10,6 @@ use Rattle.reuse_tree.specs.Path.{lies_under}
 use Rattle.reuse_session.specs.Clash.{is_clash_of}
 use Rattle.reuse_session.specs.Listing.{is_among, is_folder_of}
 use Rattle.reuse_session.proofs.ListingLemmas.{under_from_test, test_from_under}
-
-or_parts : (a b : Bool) → (a || b) ≡ false → (a ≡ false) × (b ≡ false)
-or_parts true b e = absurd (false≢true (sym e))
-or_parts false b e = (refl, e)
 
 -- ---- the parts above a path
 
@@ -34,16 +30,12 @@ clash_kinds (other ∷ paths) path =
     ap (λ b. (lies_under other path || lies_under path other) || b) (clash_kinds paths path)
     ∙ or_swap (lies_under other path) (lies_under path other) (is_folder_of paths path) (is_below paths path)
 
-or_true : (b : Bool) → (b || true) ≡ true
-or_true true = refl
-or_true false = refl
-
 or_false : (b : Bool) → (b || false) ≡ b
 or_false true = refl
 or_false false = refl
 
 pub clash_below : (paths : List (List ℕ)) (path : List ℕ) → is_below paths path ≡ true → true ≡ is_clash_of paths path
-clash_below paths path e = sym (clash_kinds paths path ∙ ap (λ b. is_folder_of paths path || b) e ∙ or_true (is_folder_of paths path))
+clash_below paths path e = sym (clash_kinds paths path ∙ ap (λ b. is_folder_of paths path || b) e ∙ or_right (is_folder_of paths path) true refl)
 
 pub clash_folder : (paths : List (List ℕ)) (path : List ℕ) → is_below paths path ≡ false → is_folder_of paths path ≡ is_clash_of paths path
 clash_folder paths path e = sym (clash_kinds paths path ∙ ap (λ b. is_folder_of paths path || b) e ∙ or_false (is_folder_of paths path))
@@ -59,7 +51,7 @@ part_found (other ∷ paths) path k low slash among = of_test (bytes_eq (take k 
     of_test : (b : Bool) → bytes_eq (take k path) other ≡ b → (b || is_among paths (take k path)) ≡ true → (is_among paths (take k path) ≡ true → is_below paths path ≡ true) → (lies_under path other || is_below paths path) ≡ true
     of_test true e h rest =
         ap (λ b. b || is_below paths path) (subst (λ o. lies_under path o ≡ true) ((bytes_eq-Decides (take k path) other).0 e) (test_from_under path (take k path) (drop (k + 1) path, cut)))
-    of_test false e h rest = ap (λ b. lies_under path other || b) (rest h) ∙ or_true (lies_under path other)
+    of_test false e h rest = ap (λ b. lies_under path other || b) (rest h) ∙ or_right (lies_under path other) true refl
 
 length_of_front : (front rest : List ℕ) → length front < length (front ++ 47 ∷ rest)
 length_of_front [] rest = omega arith

@@ -1,5 +1,5 @@
 -- The change of a place, by what an annotation makes of its bytes.
-use Rattle.std.proofs.Common.{◌≡◌, ℕ, zero, suc, ◌+◌, ◌-◌, ◌≤◌, Bool, true, false, cond, not, ◌&&◌, List, [], ◌∷◌, ◌++◌, length, take, drop, Option, Some, None, IsSome, is_some, nat_lt, Result, Ok, Err, refl, sym, ap, ap₂, subst, ◌∙◌}
+use Rattle.std.proofs.Common.{◌≡◌, ℕ, zero, suc, ◌+◌, ◌≤◌, Bool, true, false, cond, not, ◌&&◌, List, [], ◌∷◌, ◌++◌, length, take, drop, Option, Some, None, IsSome, is_some, nat_lt, Result, Ok, Err, refl, sym, ap, ap₂, subst, ◌∙◌}
 use Rattle.std.specs.Option.{option_map}
 use Rattle.std.specs.Str.{bytes_eq}
 use Rattle.std.specs.FinMap.{get}
@@ -22,8 +22,8 @@ use Rattle.reuse_session.specs.Annotate.{neighbour_of, neighbour_is_tagged, goes
 use Rattle.reuse_session.specs.Clash.{is_clash}
 use Rattle.reuse_session.specs.Covered.{is_covered}
 use Rattle.reuse_session.specs.declared.reply.Refusal.TheVariants as refusals
-use Rattle.reuse_session.specs.declared.plan_target.Target.{Target}
-use Rattle.reuse_session.specs.declared.plan_target.Target.TheVariants.{Beside}
+use Rattle.reuse_session.specs.declared.target.Target.{Target}
+use Rattle.reuse_session.specs.declared.target.Target.TheVariants.{Beside}
 use Rattle.reuse_session.specs.Annotations.{Due, Fits}
 use Rattle.reuse_session.specs.Plan.{Makes, MakesEdit}
 use Rattle.reuse_session.specs.declared.command.Scope.{Scope}

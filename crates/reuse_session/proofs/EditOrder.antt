@@ -7,7 +7,7 @@ use Rattle.std.specs.List.{All, AllByRecursion, IsDistinct}
 use Rattle.std.specs.List.Sorted.{IsPermutation, IsSortedBy}
 use Rattle.std.specs.Str.{bytes_eq}
 use Rattle.std.specs.FinMap.{get}
-use Rattle.std.proofs.lemmas.Bool.{false≢true}
+use Rattle.std.proofs.lemmas.Bool.{false≢true, or_cases}
 use Rattle.std.proofs.lemmas.List.{length-map, get_or-map}
 use Rattle.std.proofs.lemmas.List.Elements.{All-cons, All-nil}
 use Rattle.std.proofs.lemmas.List.Sorted.{IsPermutation-map, All-permutation, Contains-permutation, length_permutation, sum_by-IsPermutation, list_any-IsPermutation}
@@ -129,13 +129,9 @@ has_at files [] each k e low is = absurd (omega arith)
 has_at files (x ∷ edits) each zero e low is = subst (λ (y : Edit). get files y.path ≡ y.file) is each.0
 has_at files (x ∷ edits) each (suc k) e low is = has_at files edits each.1 k e (omega arith) is
 
-or_parts : (a b : Bool) → (a || b) ≡ true → (a ≡ true) ⊎ (b ≡ true)
-or_parts true b e = inl refl
-or_parts false b e = inr e
-
 among_edit : (edits : List Edit) (q : List ℕ) → is_among (paths_at edits) q ≡ true → (e : Edit) × Contains edits e × (q ≡ e.path)
 among_edit [] q h = absurd (false≢true h)
-among_edit (x ∷ edits) q h = by_case (or_parts (bytes_eq q x.path) (is_among (paths_at edits) q) h) (among_edit edits q)
+among_edit (x ∷ edits) q h = by_case (or_cases (bytes_eq q x.path) (is_among (paths_at edits) q) h) (among_edit edits q)
   where
     by_case : (bytes_eq q x.path ≡ true) ⊎ (is_among (paths_at edits) q ≡ true) → (is_among (paths_at edits) q ≡ true → (e : Edit) × Contains edits e × (q ≡ e.path)) → (e : Edit) × Contains (x ∷ edits) e × (q ≡ e.path)
     by_case (inl same) rest = (x, (0, omega arith, refl), (bytes_eq-Decides q x.path).0 same)

@@ -1,9 +1,9 @@
 -- The text of a sound entry is good, and no longer than the entry size.
-use Rattle.std.proofs.Common.{◌≡◌, ℕ, zero, suc, ◌+◌, ◌*◌, ◌^◌, ◌/◌, ◌%◌, ◌<◌, ◌≤◌, ◌==◌, Bool, true, false, ◌&&◌, ◌||◌, List, [], ◌∷◌, ◌++◌, length, map, get_or, codes, decimal, Option, Some, None, is_some, refl, sym, ap, subst, ◌∙◌, arith, length-append, inl, inr, eqb-true, ltb-true}
+use Rattle.std.proofs.Common.{◌≡◌, ℕ, ◌+◌, ◌*◌, ◌^◌, ◌<◌, ◌≤◌, Bool, true, false, ◌||◌, List, [], ◌∷◌, ◌++◌, length, map, codes, decimal, Option, Some, None, is_some, refl, sym, ap, subst, ◌∙◌, arith, length-append, ltb-true}
 use Rattle.std.specs.Prelude.{IsUtf8}
 use Rattle.std.specs.List.{AllByRecursion, AllZip, join_with_byte}
 use Rattle.std.specs.Str.{IsAscii}
-use Rattle.std.proofs.lemmas.Bool.{and_parts, cases_lt}
+use Rattle.std.proofs.lemmas.Bool.{and_parts}
 use Rattle.std.proofs.lemmas.Fmt.{length-decimal-le, IsAscii-decimal}
 use Rattle.std.proofs.lemmas.Str.Ascii.{IsAscii-nil, IsAscii-cons}
 use Rattle.std.proofs.lemmas.Str.{IsUtf8-append, IsUtf8-from_ascii}
@@ -12,19 +12,19 @@ use Rattle.json.specs.Tree as tree
 use Rattle.json.specs.Print.{escape_byte, escape, quoted}
 use Rattle.json.proofs.Printed.Utf8.{IsUtf8-are_ascii, are_ascii, IsUtf8-quoted}
 use Rattle.json.proofs.Printed.Decimals.{IsNumber-decimal}
-use Rattle.hex.specs.Hex.{encode_lower, encode_with, lower_digits, IsBytes}
-use Rattle.hex.proofs.HexLemmas.{IsAscii-encode_with, decode_of-encode_lower}
+use Rattle.hex.specs.Hex.{encode_lower, lower_digits, IsBytes}
+use Rattle.hex.proofs.HexLemmas.{length-encode_with, IsAscii-encode_with, decode_of-encode_lower}
 use Rattle.serde_json.specs.Data.{string}
 use Rattle.serde_json.specs.Read.{read, of_json, of_items}
 use Rattle.serde_json.specs.View.{items_of}
 use Rattle.serde_json.specs.Written.{outline, items_outline, has_float, items_have_float}
 use Rattle.serde_json.proofs.Numbers.{number_of-decimal}
-use Rattle.reuse_session.specs.Entry.{change_size, entry_size, AreAllSealed, IsSmall}
+use Rattle.reuse_session.specs.Entry.{change_size, entry_size, AreAllSealed, IsSmall, fixed_size}
 use Rattle.reuse_session.specs.Format.{format_number}
 use Rattle.reuse_tree.specs.Change.{is_sealed}
 use Rattle.reuse_tree.specs.declared.digest.Seal.{Seal}
 use Rattle.std.specs.Option.{option_map}
-use Rattle.reuse_session.specs.EntryText.{command_name, hex_text, hex_value, digest_text, is_any_sealed, change_text, entry_text, change_value, entry_value, AreDigestBytes, IsHex, IsHexDigest, IsChangeValue, IsChangeInMemory, IsEntryInMemory, IsSoundEntry, IsGoodEntry}
+use Rattle.reuse_session.specs.EntryText.{command_name, hex_text, digest_text, is_any_sealed, change_text, entry_text, AreDigestBytes, IsHex, IsHexDigest, IsChangeValue, IsChangeInMemory, IsEntryInMemory, IsSoundEntry, IsGoodEntry}
 use Rattle.reuse_tree.specs.declared.change.Change.{Change}
 use Rattle.reuse_tree.specs.declared.change.Change.TheVariants.{Make, Drop, Splice}
 use Rattle.reuse_session.specs.declared.journal.entry.Entry.{Entry}
@@ -33,6 +33,8 @@ use Rattle.reuse_session.specs.declared.command.CommandName.TheVariants.{Annotat
 use Rattle.reuse_session.proofs.JsonPrinting.{IsReadable, read-compact_text}
 use Rattle.reuse_session.proofs.JoinedTexts.{length-join-le, IsUtf8-join, AllByRecursion-weaker}
 use Rattle.reuse_session.proofs.EntryTexts.{entry_compact}
+use Rattle.reuse_session.proofs.EntryValues.{hex_value, change_value, entry_value}
+use Rattle.reuse_session.proofs.PlainTexts.{escape_plain, plain_digits}
 
 -- what its text needs of a change
 record IsWritable (c : Change) : Type 0 where
@@ -50,34 +52,27 @@ kept (Splice path at old new rest seal) = at + rest
 
 -- ---- no floats
 
-change_no_float : (c : Change) → has_float (change_value c) ≡ false
-change_no_float (Make path new None) = refl
-change_no_float (Make path new (Some after)) = refl
-change_no_float (Drop path old None) = refl
-change_no_float (Drop path old (Some before)) = refl
-change_no_float (Splice path at old new rest None) = refl
-change_no_float (Splice path at old new rest (Some seal)) = refl
+-- the value of a change has no float, and is not nested
+change_plain : (c : Change) → (has_float (change_value c) ≡ false) × (tree.depth (outline (change_value c)) ≡ 1)
+change_plain (Make path new None) = (refl, refl)
+change_plain (Make path new (Some after)) = (refl, refl)
+change_plain (Drop path old None) = (refl, refl)
+change_plain (Drop path old (Some before)) = (refl, refl)
+change_plain (Splice path at old new rest None) = (refl, refl)
+change_plain (Splice path at old new rest (Some seal)) = (refl, refl)
 
 changes_no_float : (cs : List Change) → items_have_float (items_of (map change_value cs)) ≡ false
 changes_no_float [] = refl
-changes_no_float (c ∷ cs) = rw (change_no_float c) (changes_no_float cs)
+changes_no_float (c ∷ cs) = rw ((change_plain c).0) (changes_no_float cs)
 
 pub entry_no_float : (e : Entry) → has_float (entry_value e) ≡ false
 entry_no_float e = rw (changes_no_float e.changes) refl
 
 -- ---- the value is read back from its text
 
-change_flat : (c : Change) → tree.depth (outline (change_value c)) ≡ 1
-change_flat (Make path new None) = refl
-change_flat (Make path new (Some after)) = refl
-change_flat (Drop path old None) = refl
-change_flat (Drop path old (Some before)) = refl
-change_flat (Splice path at old new rest None) = refl
-change_flat (Splice path at old new rest (Some seal)) = refl
-
 changes_flat : (cs : List Change) → tree.items_depth (items_outline (items_of (map change_value cs))) ≤ 1
 changes_flat [] = omega arith
-changes_flat (c ∷ cs) = omega (arith, change_flat c, changes_flat cs)
+changes_flat (c ∷ cs) = omega (arith, (change_plain c).1, changes_flat cs)
 
 change_numbers : (c : Change) → kept c < 2 ^ 64 → tree.HasNumbers (outline (change_value c))
 change_numbers (Make path new None) h = (tt, (tt, (tt, tt)))
@@ -155,27 +150,16 @@ digest_utf8 key (Some digest) h =
 front_utf8 : (key : List ℕ) (digest : Option (List ℕ)) → IsUtf8 key → IsUtf8 (codes "{" ++ digest_text key digest)
 front_utf8 key digest h = IsUtf8-append (codes "{") (digest_text key digest) (ascii _ refl) (digest_utf8 key digest h)
 
+-- a change's text from its bytes on
+ended_utf8 : (front bytes path : List ℕ) → IsUtf8 front → IsUtf8 path → IsUtf8 (front ++ hex_text bytes ++ codes ",\"path\":" ++ quoted path ++ codes "}")
+ended_utf8 front bytes path h p =
+    IsUtf8-append _ (codes "}") (IsUtf8-append _ (quoted path) (IsUtf8-append _ (codes ",\"path\":") (IsUtf8-append front (hex_text bytes) h (hex_utf8 bytes)) (ascii _ refl)) (IsUtf8-quoted path p)) (ascii _ refl)
+
 change_utf8 : (c : Change) → IsWritable c → IsUtf8 (change_text c)
 change_utf8 (Make path new after) h =
-    IsUtf8-append _ (codes "}")
-    (IsUtf8-append _ (quoted path)
-    (IsUtf8-append _ (codes ",\"path\":")
-    (IsUtf8-append _ (hex_text new)
-    (IsUtf8-append (codes "{" ++ digest_text (codes "after") after) (codes "\"kind\":\"make\",\"new\":") (front_utf8 (codes "after") after (ascii _ refl)) (ascii _ refl))
-    (hex_utf8 new))
-    (ascii _ refl))
-    (IsUtf8-quoted path h.in_memory.utf8))
-    (ascii _ refl)
+    ended_utf8 _ new path (IsUtf8-append (codes "{" ++ digest_text (codes "after") after) (codes "\"kind\":\"make\",\"new\":") (front_utf8 (codes "after") after (ascii _ refl)) (ascii _ refl)) h.in_memory.utf8
 change_utf8 (Drop path old before) h =
-    IsUtf8-append _ (codes "}")
-    (IsUtf8-append _ (quoted path)
-    (IsUtf8-append _ (codes ",\"path\":")
-    (IsUtf8-append _ (hex_text old)
-    (IsUtf8-append (codes "{" ++ digest_text (codes "before") before) (codes "\"kind\":\"drop\",\"old\":") (front_utf8 (codes "before") before (ascii _ refl)) (ascii _ refl))
-    (hex_utf8 old))
-    (ascii _ refl))
-    (IsUtf8-quoted path h.in_memory.utf8))
-    (ascii _ refl)
+    ended_utf8 _ old path (IsUtf8-append (codes "{" ++ digest_text (codes "before") before) (codes "\"kind\":\"drop\",\"old\":") (front_utf8 (codes "before") before (ascii _ refl)) (ascii _ refl)) h.in_memory.utf8
 change_utf8 (Splice path at old new rest seal) h =
     let after = option_map (λ (s : Seal). s.after) seal in
     let before = option_map (λ (s : Seal). s.before) seal in
@@ -246,40 +230,8 @@ length-escape-le (x ∷ s) = omega (arith, length-append (escape_byte x) (escape
 length-quoted-le : (s : List ℕ) → length (quoted s) ≤ 6 * length s + 2
 length-quoted-le s = omega (arith, length-append (escape s) (34 ∷ []), length-escape-le s)
 
--- the test that a digit of the table stands for itself, at the first n
-abbrev are_plain : ℕ → Bool
-are_plain zero = true
-are_plain (suc n) = (length (escape_byte (get_or lower_digits n 0)) == 1) && are_plain n
-
-all_plain : are_plain 16 ≡ true
-unfolding escape_byte
-all_plain = refl
-
-plain_at : (n k : ℕ) → are_plain n ≡ true → k < n → length (escape_byte (get_or lower_digits k 0)) ≡ 1
-plain_at zero k h below = absurd (omega arith)
-plain_at (suc n) k h below =
-    let p = and_parts (length (escape_byte (get_or lower_digits n 0)) == 1) (are_plain n) h in
-    elim (cases_lt k n) [
-      | inl under ↦ plain_at n k p.1 under
-      | inr top ↦ let same : k ≡ n = omega arith in rw same (eqb-true _ 1 p.0)
-    ]
-
 length-escape-hex : (bytes : List ℕ) → IsBytes bytes → length (escape (encode_lower bytes)) ≡ 2 * length bytes
-unfolding encode_with
-length-escape-hex [] h = refl
-length-escape-hex (b ∷ bytes) h =
-    let byte : b < 256 = h 0 in
-    let high = get_or lower_digits (b / 16) 0 in
-    let low = get_or lower_digits (b % 16) 0 in
-    let rest = length-escape-hex bytes (λ i. h (suc i)) in
-    omega (
-      arith,
-      plain_at 16 (b / 16) all_plain (omega arith),
-      plain_at 16 (b % 16) all_plain (omega arith),
-      rest,
-      length-append (escape_byte high) (escape_byte low ++ escape (encode_lower bytes)),
-      length-append (escape_byte low) (escape (encode_lower bytes)),
-    )
+length-escape-hex bytes h = ap length (escape_plain (encode_lower bytes) (plain_digits bytes h)) ∙ length-encode_with lower_digits bytes
 
 length-hex : (bytes : List ℕ) → IsBytes bytes → length (hex_text bytes) ≡ 2 * length bytes + 2
 length-hex bytes h = omega (arith, length-append (escape (encode_lower bytes)) (34 ∷ []), length-escape-hex bytes h)
@@ -315,53 +267,38 @@ digest_length key (Some digest) short h =
     omega arith
 
 -- each change with its comma keeps to its size
+-- what a change counts for at least has room for its keys and its digests
+room_fits : (sealed : Bool) → 256 + 2 * digest_room sealed ≤ fixed_size sealed
+room_fits false = omega arith
+room_fits true = omega arith
+
+splice_fits : (sealed : Bool) (path : List ℕ) (at : ℕ) (old new : List ℕ) (rest : ℕ) (after before : List ℕ) → at < 2 ^ 64 → rest < 2 ^ 64 → IsBytes old → IsBytes new → length after ≤ digest_room sealed → length before ≤ digest_room sealed
+    → length (codes "{" ++ after ++ codes "\"at\":" ++ decimal at ++ codes "," ++ before ++ codes "\"kind\":\"splice\",\"new\":" ++ hex_text new ++ codes ",\"old\":" ++ hex_text old ++ codes ",\"path\":" ++ quoted path ++ codes ",\"rest\":" ++ decimal rest ++ codes "}") + 1
+    ≤ fixed_size sealed + 6 * length path + 2 * length old + 2 * length new
+splice_fits sealed path at old new rest after before low high old_bytes new_bytes a b =
+    omega (
+      arith,
+      room_fits sealed,
+      number_length at low,
+      number_length rest high,
+      length-hex new new_bytes,
+      length-hex old old_bytes,
+      length-quoted-le path,
+      splice_length after (decimal at) before (hex_text new) (hex_text old) (quoted path) (decimal rest),
+    )
+
 change_length : (c : Change) → IsWritable c → length (change_text c) + 1 ≤ change_size c
-change_length (Make path new None) h =
-    let n = length-hex new h.in_memory.written in
-    let p = length-quoted-le path in
-    let whole = make_length [] (hex_text new) (quoted path) in
-    omega arith
-change_length (Make path new (Some after)) h =
-    let n = length-hex new h.in_memory.written in
-    let p = length-quoted-le path in
-    let d = digest_length (codes "after") (Some after) (omega arith) h.in_memory.after in
-    let whole = make_length (digest_text (codes "after") (Some after)) (hex_text new) (quoted path) in
-    omega arith
-change_length (Drop path old None) h =
-    let o = length-hex old h.in_memory.removed in
-    let p = length-quoted-le path in
-    let whole = drop_length [] (hex_text old) (quoted path) in
-    omega arith
-change_length (Drop path old (Some before)) h =
-    let o = length-hex old h.in_memory.removed in
-    let p = length-quoted-le path in
-    let d = digest_length (codes "before") (Some before) (omega arith) h.in_memory.before in
-    let whole = drop_length (digest_text (codes "before") (Some before)) (hex_text old) (quoted path) in
-    omega arith
+change_length (Make path new after) h =
+    let digest = digest_length (codes "after") after (omega arith) h.in_memory.after in
+    omega (arith, room_fits (is_some after), digest, length-hex new h.in_memory.written, length-quoted-le path, make_length (digest_text (codes "after") after) (hex_text new) (quoted path))
+change_length (Drop path old before) h =
+    let digest = digest_length (codes "before") before (omega arith) h.in_memory.before in
+    omega (arith, room_fits (is_some before), digest, length-hex old h.in_memory.removed, length-quoted-le path, drop_length (digest_text (codes "before") before) (hex_text old) (quoted path))
 change_length (Splice path at old new rest None) h =
-    let low : at < 2 ^ 64 = omega (arith, h.small.0) in
-    let high : rest < 2 ^ 64 = omega (arith, h.small.0) in
-    let a = number_length at low in
-    let r = number_length rest high in
-    let n = length-hex new h.in_memory.written in
-    let o = length-hex old h.in_memory.removed in
-    let p = length-quoted-le path in
-    let whole = splice_length [] (decimal at) [] (hex_text new) (hex_text old) (quoted path) (decimal rest) in
-    omega arith
+    splice_fits false path at old new rest [] [] (omega (arith, h.small.0)) (omega (arith, h.small.0)) h.in_memory.removed h.in_memory.written (omega arith) (omega arith)
 change_length (Splice path at old new rest (Some seal)) h =
-    let low : at < 2 ^ 64 = omega (arith, h.small.0) in
-    let high : rest < 2 ^ 64 = omega (arith, h.small.0) in
-    let a = number_length at low in
-    let r = number_length rest high in
-    let n = length-hex new h.in_memory.written in
-    let o = length-hex old h.in_memory.removed in
-    let p = length-quoted-le path in
-    let after = digest_text (codes "after") (Some seal.after) in
-    let before = digest_text (codes "before") (Some seal.before) in
-    let d = digest_length (codes "after") (Some seal.after) (omega arith) h.in_memory.after in
-    let b = digest_length (codes "before") (Some seal.before) (omega arith) h.in_memory.before in
-    let whole = splice_length (digest_text (codes "after") (Some seal.after)) (decimal at) (digest_text (codes "before") (Some seal.before)) (hex_text new) (hex_text old) (quoted path) (decimal rest) in
-    omega arith
+    splice_fits true path at old new rest (digest_text (codes "after") (Some seal.after)) (digest_text (codes "before") (Some seal.before)) (omega (arith, h.small.0)) (omega (arith, h.small.0)) h.in_memory.removed h.in_memory.written
+    (digest_length (codes "after") (Some seal.after) (omega arith) h.in_memory.after) (digest_length (codes "before") (Some seal.before) (omega arith) h.in_memory.before)
 
 name_length : (w : CommandName) → length (command_name w) ≤ 12
 name_length Annotate = omega arith
@@ -419,7 +356,7 @@ none_sealed [] h = refl
 none_sealed (c ∷ cs) h = ap (λ b. b || is_any_sealed cs) h.0 ∙ none_sealed cs h.1
 
 -- changes that are sealed alike are as one of them is
-any_is : (c : Change) (cs : List Change) (sealed : Bool) → AllByRecursion (λ x. is_sealed x ≡ sealed) (c ∷ cs) → sealed ≡ is_any_sealed (c ∷ cs)
+pub any_is : (c : Change) (cs : List Change) (sealed : Bool) → AllByRecursion (λ x. is_sealed x ≡ sealed) (c ∷ cs) → sealed ≡ is_any_sealed (c ∷ cs)
 any_is c cs true h = sym (ap (λ b. b || is_any_sealed cs) h.0)
 any_is c cs false h = sym (none_sealed (c ∷ cs) h)
 

@@ -29,7 +29,7 @@ use Rattle.reuse_tree.specs.declared.change.Change.TheVariants.{Make, Drop, Spli
 use Rattle.reuse_session.specs.declared.journal.entry.Entry.{Entry}
 use Rattle.reuse_session.specs.declared.command.CommandName.{CommandName}
 use Rattle.reuse_session.specs.declared.command.CommandName.TheVariants.{Annotate, ConvertDep5, Download, Revert}
-use Rattle.reuse_session.proofs.JsonParts.{either, bind_some, first_member_found, none_left_found, object_found, array_found, string_found, number_found, format_found, format_again, IfOk-from_gives, IsAnswer-from_gives, same_json}
+use Rattle.reuse_session.proofs.JsonParts.{either, named, bind_some, first_member_found, none_left_found, object_found, array_found, string_found, number_found, format_found, format_again, IfOk-from_gives, IsAnswer-from_gives, same_json}
 
 -- ---- parts
 
@@ -70,17 +70,14 @@ moment_found d n e =
 moment_again : (n : ℕ) → n ≤ 250_000_000_000 → moment_in (count n) ≡ Some n
 moment_again n h = rw (le-leb n 250000000000 h) refl
 
-named : (name : List ℕ) (v w : CommandName) → (bytes_eq name (command_name v) ≡ true) × (v ≡ w) → name ≡ command_name w
-named name v w h = (bytes_eq-Decides name (command_name v)).0 h.0 ∙ ap command_name h.1
-
 command_found : (name : List ℕ) (w : CommandName) → command_from name ≡ Some w → name ≡ command_name w
 command_found name w e = elim (either (bytes_eq name (codes "annotate")) Annotate w _ e) [
-  | inl first ↦ named name Annotate w first
+  | inl first ↦ named command_name name Annotate w first
   | inr other ↦ elim (either (bytes_eq name (codes "convert-dep5")) ConvertDep5 w _ other) [
-    | inl second ↦ named name ConvertDep5 w second
+    | inl second ↦ named command_name name ConvertDep5 w second
     | inr third ↦ elim (either (bytes_eq name (codes "download")) Download w _ third) [
-      | inl is ↦ named name Download w is
-      | inr last ↦ named name Revert w (cond_some (bytes_eq name (codes "revert")) Revert w last)
+      | inl is ↦ named command_name name Download w is
+      | inr last ↦ named command_name name Revert w (cond_some (bytes_eq name (codes "revert")) Revert w last)
     ]
   ]
 ]

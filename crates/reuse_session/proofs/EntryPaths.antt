@@ -6,7 +6,7 @@ use Rattle.std.specs.Ordering.{ordering_then, ordering_reverse, MatchOrdering, i
 use Rattle.std.specs.List.{AllByRecursion, starts_with}
 use Rattle.std.specs.List.Sorted.{IsStrictlySortedBy, IsPartitionPoint, IsPartitionedBy}
 use Rattle.std.specs.Str.{bytes_eq}
-use Rattle.std.proofs.lemmas.Bool.{false≢true, cases_lt, or_cases, or_parts, or_from}
+use Rattle.std.proofs.lemmas.Bool.{false≢true, false_from_ne_true, cases_lt, or_cases, or_parts, or_from, or_right}
 use Rattle.std.proofs.lemmas.Bool.Decides.{Decides-eqb}
 use Rattle.std.proofs.lemmas.Cmp.{nat_list_cmp_total, nat_cmp_total, ranked, tied_itself}
 use Rattle.std.proofs.lemmas.List.{drop_more, take_all, length-map, length-drop, drop-map, get_or-map}
@@ -56,6 +56,14 @@ pub below_parts : (target : List ℕ) (cs : List Change) → ArePaths (map path_
 below_parts target cs sorted i j d low high e =
     ap (λ (p : List ℕ). is_lt (before p target)) (sym (get_or-map path_of cs i d [] (omega arith)))
     ∙ below_first target (map path_of cs) sorted i j [] low (omega (arith, length-map cs path_of)) (ap (λ (p : List ℕ). is_lt (before p target)) (get_or-map path_of cs j d [] high) ∙ e)
+
+-- where the first element doesn't pass the test, none does
+pub none_before : {X : Type 0} (p : X → Bool) (xs : List X) (x : X) → IsPartitionedBy p xs → x ≡ get_or xs 0 x → p x ≡ false → IsPartitionPoint (λ y. p y ≡ true) (λ y. p y ≡ false) xs 0
+none_before p [] x parted is fails = (λ k d low high. absurd (omega (arith, high)), λ k d low high. absurd (omega (arith, high)))
+none_before p (y ∷ ys) x parted is fails = (
+  λ k d low high. absurd (omega (arith, high)),
+  λ k d low high. false_from_ne_true (p (get_or (y ∷ ys) k d)) (λ passes. false≢true (sym fails ∙ ap p is ∙ parted 0 k d (omega arith) high passes)),
+)
 
 abbrev IsFirstInside : List ℕ → List Change → ℕ → Type 0
 IsFirstInside folder cs i = IsPartitionPoint (λ c. is_lt (before (path_of c) (folder ++ 47 ∷ [])) ≡ true) (λ c. is_lt (before (path_of c) (folder ++ 47 ∷ [])) ≡ false) cs i
@@ -159,15 +167,11 @@ before_longer (a ∷ p) x rest = rw (same_number a) (before_longer p x rest)
 
 -- what is below another path does not lie under it
 not_under_later : (p q : List ℕ) → before p q ≡ Less → lies_under p q ≡ false
-not_under_later p q h = of_test (lies_under p q) refl
-  where
-    of_test : (b : Bool) → lies_under p q ≡ b → b ≡ false
-    of_test false e = refl
-    of_test true e =
-        let under = under_from_test p q e in
-        let back : before q p ≡ Less = ap (before q) under.1 ∙ before_longer q 47 under.0 in
-        let turned : before p q ≡ Greater = nat_list_cmp_total.antisymm p q ∙ ap ordering_reverse back in
-        absurd (cc)
+not_under_later p q h = false_from_ne_true (lies_under p q) (λ e.
+    let under = under_from_test p q e in
+    let back : before q p ≡ Less = ap (before q) under.1 ∙ before_longer q 47 under.0 in
+    let turned : before p q ≡ Greater = nat_list_cmp_total.antisymm p q ∙ ap ordering_reverse back in
+    absurd (cc))
 
 not_under_itself : (p : List ℕ) → lies_under p p ≡ false
 not_under_itself p = of_test (lies_under p p) refl
@@ -235,16 +239,12 @@ touched (c ∷ cs) path = ap (λ b. bytes_eq path (path_of c) || b) (touched cs 
 first_among : (p : List ℕ) (ps : List (List ℕ)) → is_among (p ∷ ps) p ≡ true
 first_among p ps = ap (λ b. b || is_among ps p) ((bytes_eq-Decides p p).1 refl)
 
-or_true : (a b : Bool) → b ≡ true → (a || b) ≡ true
-or_true true b e = refl
-or_true false b e = e
-
 or_swap : (a b : Bool) → (a || b) ≡ false → (b || a) ≡ false
 or_swap a b e = let parts = or_parts a b e in or_from b a parts.1 parts.0
 
 all_among : (P : List ℕ → Type 0) (ps : List (List ℕ)) → ((q : List ℕ) → is_among ps q ≡ true → P q) → AllByRecursion P ps
 all_among P [] f = tt
-all_among P (p ∷ ps) f = (f p (first_among p ps), all_among P ps (λ q m. f q (or_true (bytes_eq q p) (is_among ps q) m)))
+all_among P (p ∷ ps) f = (f p (first_among p ps), all_among P ps (λ q m. f q (or_right (bytes_eq q p) (is_among ps q) m)))
 
 one_among : (P : List ℕ → Type 0) (ps : List (List ℕ)) → AllByRecursion P ps → (q : List ℕ) → is_among ps q ≡ true → P q
 one_among P [] each q m = absurd (false≢true m)
@@ -273,8 +273,8 @@ apart_all (p ∷ ps) h path other a b = elim (or_cases (bytes_eq path p) (is_amo
 apart_from : (ps : List (List ℕ)) → ((path other : List ℕ) → is_among ps path ≡ true → is_among ps other ≡ true → IsApartFrom path other) → AreApart ps
 apart_from [] f = tt
 apart_from (p ∷ ps) f = (
-  all_among (IsApartFrom p) ps (λ q m. f p q (first_among p ps) (or_true (bytes_eq q p) (is_among ps q) m)),
-  apart_from ps (λ path other a b. f path other (or_true (bytes_eq path p) (is_among ps path) a) (or_true (bytes_eq other p) (is_among ps other) b)),
+  all_among (IsApartFrom p) ps (λ q m. f p q (first_among p ps) (or_right (bytes_eq q p) (is_among ps q) m)),
+  apart_from ps (λ path other a b. f path other (or_right (bytes_eq path p) (is_among ps path) a) (or_right (bytes_eq other p) (is_among ps other) b)),
 )
 
 pub entry_from_tests : (cs : List Change) → (sealed : Bool) × AreAllSealed sealed cs → Passes cs → IsEntry cs

@@ -4,7 +4,8 @@ use Rattle.std.specs.List.{join_with_byte}
 use Rattle.json.specs.Print.{escape_byte, quoted}
 use Rattle.serde_json.specs.Written.{compact_text, items_text}
 use Rattle.serde_json.specs.View.{items_of}
-use Rattle.reuse_session.specs.EntryText.{command_name, hex_text, digest_text, is_any_sealed, change_text, entry_text, change_value, entry_value}
+use Rattle.reuse_session.specs.EntryText.{command_name, hex_text, digest_text, is_any_sealed, change_text, entry_text}
+use Rattle.reuse_session.proofs.EntryValues.{change_value, entry_value}
 use Rattle.reuse_session.specs.Format.{format_number}
 use Rattle.reuse_tree.specs.declared.change.Change.{Change}
 use Rattle.reuse_tree.specs.declared.change.Change.TheVariants.{Make, Drop, Splice}
@@ -52,22 +53,18 @@ digest_regroup : (key digest rest : List ℕ) → digest_front key (hex_text dig
 unfolding digest_front
 digest_regroup key digest rest = front_regroup (codes "\"") key (codes "\":") (hex_text digest) (codes ",") rest
 
+-- a text that begins with a digest, with that as it is written
+fronted : (text key digest rest : List ℕ) → text ≡ codes "{" ++ digest_front key (hex_text digest) rest → text ≡ codes "{" ++ (digest_text key (Some digest) ++ rest)
+fronted text key digest rest is = is ∙ ap (λ l. codes "{" ++ l) (digest_regroup key digest rest)
+
 pub change_compact : (c : Change) → compact_text (change_value c) ≡ change_text c
 unfolding escape_byte make_end drop_end splice_end at_end digest_front
-change_compact (Make path new None) =
-    let whole : compact_text (change_value (Make path new None)) ≡ codes "{" ++ ([] ++ make_end (hex_text new) (quoted path)) = refl in
-    whole ∙ make_regroup [] (hex_text new) (quoted path)
+change_compact (Make path new None) = make_regroup [] (hex_text new) (quoted path)
 change_compact (Make path new (Some after)) =
-    let end = make_end (hex_text new) (quoted path) in
-    let whole : compact_text (change_value (Make path new (Some after))) ≡ codes "{" ++ digest_front (codes "after") (hex_text after) end = refl in
-    whole ∙ ap (λ l. codes "{" ++ l) (digest_regroup (codes "after") after end) ∙ make_regroup (digest_text (codes "after") (Some after)) (hex_text new) (quoted path)
-change_compact (Drop path old None) =
-    let whole : compact_text (change_value (Drop path old None)) ≡ codes "{" ++ ([] ++ drop_end (hex_text old) (quoted path)) = refl in
-    whole ∙ drop_regroup [] (hex_text old) (quoted path)
+    fronted (compact_text (change_value (Make path new (Some after)))) (codes "after") after (make_end (hex_text new) (quoted path)) refl ∙ make_regroup (digest_text (codes "after") (Some after)) (hex_text new) (quoted path)
+change_compact (Drop path old None) = drop_regroup [] (hex_text old) (quoted path)
 change_compact (Drop path old (Some before)) =
-    let end = drop_end (hex_text old) (quoted path) in
-    let whole : compact_text (change_value (Drop path old (Some before))) ≡ codes "{" ++ digest_front (codes "before") (hex_text before) end = refl in
-    whole ∙ ap (λ l. codes "{" ++ l) (digest_regroup (codes "before") before end) ∙ drop_regroup (digest_text (codes "before") (Some before)) (hex_text old) (quoted path)
+    fronted (compact_text (change_value (Drop path old (Some before)))) (codes "before") before (drop_end (hex_text old) (quoted path)) refl ∙ drop_regroup (digest_text (codes "before") (Some before)) (hex_text old) (quoted path)
 change_compact (Splice path at old new rest None) =
     let end = splice_end (hex_text new) (hex_text old) (quoted path) (decimal rest) in
     let whole : compact_text (change_value (Splice path at old new rest None)) ≡ codes "{" ++ ([] ++ at_end (decimal at) [] end) = refl in

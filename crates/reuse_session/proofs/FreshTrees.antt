@@ -7,9 +7,9 @@ use Rattle.reuse_tree.specs.Path.{lies_under, journal_folder}
 use Rattle.reuse_tree.specs.Files.{Files, tree_of}
 use Rattle.reuse_tree.proofs.FileMaps.{same_files}
 use Rattle.reuse_session.specs.Fresh.{IsFresh, first_state}
-use Rattle.reuse_session.specs.Journal.{Journal, State}
+use Rattle.reuse_session.specs.Journal.{Journal}
 use Rattle.reuse_session.specs.JournalFiles.{head_path, IsFree, IsKeptIn, HeadSays, head_of}
-use Rattle.reuse_session.specs.Standing.{IsTree, IsStanding}
+use Rattle.reuse_session.specs.Standing.{IsStanding}
 use Rattle.reuse_session.specs.Stops.{HoldState}
 use Rattle.reuse_session.specs.Tree.{undo_folder_of}
 use Rattle.reuse_session.proofs.OfTree.{get-tree, get-folder}

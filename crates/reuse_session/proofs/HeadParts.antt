@@ -1,12 +1,11 @@
 -- What is read of a head's value is the head, and nothing else is.
-use Rattle.std.proofs.Common.{◌≡◌, ℕ, ◌^◌, ◌<◌, ◌≤◌, Bool, true, List, [], ◌∷◌, codes, Option, Some, None, option_map, refl, sym, ap, ap₂, ◌∙◌, subst, arith, inl, inr, length, ◌-◌, ◌++◌, Result}
+use Rattle.std.proofs.Common.{◌≡◌, ℕ, ◌^◌, ◌<◌, ◌≤◌, Bool, List, [], ◌∷◌, codes, Option, Some, None, option_map, refl, sym, ap, ap₂, ◌∙◌, subst, arith, inl, inr, length, ◌-◌, ◌++◌, Result}
 use Rattle.std.specs.Prelude.{⊤, IfOk}
 use Rattle.reuse_session.specs.declared.journal.fault.DecodeFault.{DecodeFault}
 use Rattle.reuse_session.specs.Decoded.{Gives, IsAnswer}
 use Rattle.std.specs.List.{AllByRecursion, All, slice_get}
 use Rattle.std.proofs.lemmas.List.Elements.{All-get_or, All-weaker, recursion_from_All, All-nil, All-cons, All-head, All-tail}
 use Rattle.std.proofs.lemmas.Option.{none-some, same_Some, cond_some, slice_get_within, get_or_from_slice_get}
-use Rattle.std.proofs.lemmas.Slice.Eq.{bytes_eq-Decides}
 use Rattle.std.specs.Str.{bytes_eq}
 use Rattle.serde_json.specs.Data.{Data, null, boolean, number, string, array, object, member}
 use Rattle.serde_json.specs.Find.{as_object, as_str}
@@ -19,17 +18,14 @@ use Rattle.reuse_session.specs.declared.journal.head.Pending.{Pending}
 use Rattle.reuse_session.specs.declared.journal.head.PendingWay.{PendingWay}
 use Rattle.reuse_session.specs.declared.journal.head.PendingWay.TheVariants.{Do, Undo, Redo}
 use Rattle.reuse_session.proofs.JoinedTexts.{AllByRecursion-weaker}
-use Rattle.reuse_session.proofs.JsonParts.{either, bind_some, first_member_found, none_left_found, object_found, string_found, small_found, small_again, smalls_found, smalls_again, format_found, format_again, IfOk-from_gives, IsAnswer-from_gives, same_json}
-
-named : (name : List ℕ) (v w : PendingWay) → (bytes_eq name (way_name v) ≡ true) × (v ≡ w) → name ≡ way_name w
-named name v w h = (bytes_eq-Decides name (way_name v)).0 h.0 ∙ ap way_name h.1
+use Rattle.reuse_session.proofs.JsonParts.{either, named, bind_some, first_member_found, none_left_found, object_found, string_found, small_found, small_again, smalls_found, smalls_again, format_found, format_again, IfOk-from_gives, IsAnswer-from_gives, same_json}
 
 way_found : (name : List ℕ) (w : PendingWay) → way_from name ≡ Some w → name ≡ way_name w
 way_found name w e = elim (either (bytes_eq name (codes "do")) Do w _ e) [
-  | inl first ↦ named name Do w first
+  | inl first ↦ named way_name name Do w first
   | inr other ↦ elim (either (bytes_eq name (codes "undo")) Undo w _ other) [
-    | inl second ↦ named name Undo w second
-    | inr last ↦ named name Redo w (cond_some (bytes_eq name (codes "redo")) Redo w last)
+    | inl second ↦ named way_name name Undo w second
+    | inr last ↦ named way_name name Redo w (cond_some (bytes_eq name (codes "redo")) Redo w last)
   ]
 ]
 

@@ -1,10 +1,12 @@
 -- Texts with commas between: their length, and that they are UTF-8.
-use Rattle.std.proofs.Common.{◌≡◌, ℕ, ◌+◌, ◌*◌, ◌≤◌, List, [], ◌∷◌, length, map, refl, arith, length-append}
+use Rattle.std.proofs.Common.{◌≡◌, ℕ, ◌+◌, ◌*◌, ◌<◌, ◌≤◌, List, [], ◌∷◌, ◌++◌, length, map, take, get_or, codes, refl, sym, ap, ◌∙◌, arith, append_assoc, length-append}
 use Rattle.std.specs.Prelude.{sum_by, IsUtf8}
 use Rattle.std.specs.List.{AllByRecursion, join_with_byte}
+use Rattle.std.proofs.lemmas.List.{length-map, length-take, map_more}
 use Rattle.std.proofs.lemmas.List.Sums.{sum_by-cons}
 use Rattle.std.proofs.lemmas.Str.{IsUtf8-append, IsUtf8-nil}
 use Rattle.json.proofs.Printed.Utf8.{IsUtf8-are_ascii}
+use Rattle.reuse_session.specs.EntryText.{comma_before}
 
 module _ {A : Type 0} (text : A → List ℕ) where
   -- each text with its comma is no longer than its size
@@ -26,3 +28,19 @@ sum_by-constant n (x ∷ xs) = omega (arith, sum_by-cons (λ _. n) x xs, sum_by-
 pub AllByRecursion-weaker : {A : Type 0} (P Q : A → Type 0) → ((x : A) → P x → Q x) → (xs : List A) → AllByRecursion P xs → AllByRecursion Q xs
 AllByRecursion-weaker P Q f [] h = tt
 AllByRecursion-weaker P Q f (x ∷ xs) h = (f x h.0, AllByRecursion-weaker P Q f xs h.1)
+
+-- one text more
+pub join-snoc : (pieces : List (List ℕ)) (x : List ℕ) → join_with_byte 44 (pieces ++ x ∷ []) ≡ join_with_byte 44 pieces ++ (comma_before (length pieces) ++ x)
+join-snoc [] x = refl
+join-snoc (y ∷ []) x = refl
+join-snoc (y ∷ z ∷ pieces) x =
+    ap (λ (l : List ℕ). y ++ (44 ∷ l)) (join-snoc (z ∷ pieces) x)
+    ∙ sym (append_assoc y (44 ∷ join_with_byte 44 (z ∷ pieces)) (codes "," ++ x))
+
+pub join-map-more : {A : Type 0} (text : A → List ℕ) (xs : List A) (i : ℕ) (d : A) → i < length xs
+    → join_with_byte 44 (map text (take (i + 1) xs)) ≡ join_with_byte 44 (map text (take i xs)) ++ (comma_before i ++ text (get_or xs i d))
+join-map-more text xs i d within =
+    let size : length (map text (take i xs)) ≡ i = omega (arith, length-map (take i xs) text, length-take i xs) in
+    ap (join_with_byte 44) (map_more text xs i d within)
+    ∙ join-snoc (map text (take i xs)) (text (get_or xs i d))
+    ∙ ap (λ (n : ℕ). join_with_byte 44 (map text (take i xs)) ++ (comma_before n ++ text (get_or xs i d))) size

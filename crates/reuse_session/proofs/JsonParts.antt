@@ -4,6 +4,7 @@ use Rattle.std.specs.Prelude.{IfOk}
 use Rattle.std.specs.List.{AllByRecursion}
 use Rattle.std.proofs.lemmas.List.{drop_more, drop_all}
 use Rattle.std.proofs.lemmas.Option.{none-some, same_Some, cond_some}
+use Rattle.std.specs.Str.{bytes_eq}
 use Rattle.std.proofs.lemmas.Slice.Eq.{bytes_eq-Decides}
 use Rattle.serde_json.specs.Data.{Num, unsigned, negative, float, Data, null, boolean, number, string, array, object, Items, no_items, item, Members, no_members, member}
 use Rattle.serde_json.specs.Find.{as_array, as_object, as_str, as_u64}
@@ -25,6 +26,10 @@ bind_some f (Some x) y e = (x, refl, e)
 pub either : {A : Type 0} (b : Bool) (x y : A) (rest : Option A) → cond b (Some x) rest ≡ Some y → ((b ≡ true) × (x ≡ y)) ⊎ (rest ≡ Some y)
 either true x y rest e = inl (refl, same_Some x y e)
 either false x y rest e = inr e
+
+-- a name that is that of a word
+pub named : {A : Type 0} (text : A → List ℕ) (name : List ℕ) (v w : A) → (bytes_eq name (text v) ≡ true) × (v ≡ w) → name ≡ text w
+named text name v w h = (bytes_eq-Decides name (text v)).0 h.0 ∙ ap text h.1
 
 pub first_member_found : (key : List ℕ) (ms : Members) (p : Data × Members) → first_member key ms ≡ Some p → ms ≡ member key p.0 p.1
 first_member_found key no_members p e = absurd (none-some p e)

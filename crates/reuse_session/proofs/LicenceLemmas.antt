@@ -1,10 +1,10 @@
 -- The paths of licences' files: good ones of the tree, and none a folder of another.
-use Rattle.std.proofs.Common.{◌≡◌, ◌⊎◌, inl, inr, ⊎_elim, ℕ, zero, suc, ◌+◌, ◌<◌, ◌≤◌, Bool, true, false, not, ◌&&◌, ◌||◌, ◌==◌, nat_eq, nat_lt, nat_le, List, [], ◌∷◌, ◌++◌, codes, length, length-append, take, drop, refl, sym, ap, ◌∙◌, subst, arith}
+use Rattle.std.proofs.Common.{◌≡◌, ⊎_elim, ℕ, zero, suc, ◌+◌, ◌<◌, ◌≤◌, Bool, true, false, not, ◌&&◌, ◌||◌, ◌==◌, nat_eq, nat_lt, nat_le, List, [], ◌∷◌, ◌++◌, codes, length, length-append, take, drop, refl, sym, ap, ◌∙◌, subst, arith}
 use Rattle.std.specs.Char.{is_ascii_alphanumeric}
 use Rattle.std.specs.Int.{is_in_range}
 use Rattle.std.specs.List.{list_all, slice_split, All}
 use Rattle.std.specs.Str.{bytes_eq, IsAscii, IsUtf8}
-use Rattle.std.proofs.lemmas.Bool.{false≢true}
+use Rattle.std.proofs.lemmas.Bool.{false≢true, and_parts, and_from, or_cases}
 use Rattle.std.proofs.lemmas.Bool.Decides.{nat_tests}
 use Rattle.std.proofs.lemmas.List.Elements.{All-nil, All-cons}
 use Rattle.std.proofs.lemmas.List.Folds.{list_all-append}
@@ -16,18 +16,6 @@ use Rattle.reuse_tree.specs.Path.{is_part, is_path, has_no_nul, has_good_parts, 
 use Rattle.reuse_session.specs.Tree.{is_of_tree}
 use Rattle.reuse_session.specs.Licence.{is_id_byte, is_id, licence_path, licence_id}
 use Rattle.reuse_session.proofs.ListingLemmas.{under_from_test}
-
-and_parts : (a b : Bool) → (a && b) ≡ true → (a ≡ true) × (b ≡ true)
-and_parts true b e = (refl, e)
-and_parts false b e = absurd (false≢true e)
-
-and_true : (a b : Bool) → a ≡ true → b ≡ true → (a && b) ≡ true
-and_true true b e f = f
-and_true false b e f = absurd (false≢true e)
-
-or_parts : (a b : Bool) → (a || b) ≡ true → (a ≡ true) ⊎ (b ≡ true)
-or_parts true b e = inl refl
-or_parts false b e = inr e
 
 -- ---- the bytes of an id
 
@@ -54,20 +42,20 @@ id_byte b h = ⊎_elim
     (λ (g : (is_in_range 48 57 b || is_in_range 65 90 b) ≡ true). ⊎_elim
     (λ (k : is_in_range 48 57 b ≡ true). from_range 48 57 b (omega arith) (omega arith) k)
     (λ (k : is_in_range 65 90 b ≡ true). from_range 65 90 b (omega arith) (omega arith) k)
-    (or_parts (is_in_range 48 57 b) (is_in_range 65 90 b) g))
+    (or_cases (is_in_range 48 57 b) (is_in_range 65 90 b) g))
     (λ (g : is_in_range 97 122 b ≡ true). from_range 97 122 b (omega arith) (omega arith) g)
-    (or_parts (is_in_range 48 57 b || is_in_range 65 90 b) (is_in_range 97 122 b) f))
+    (or_cases (is_in_range 48 57 b || is_in_range 65 90 b) (is_in_range 97 122 b) f))
     (λ (f : nat_eq b 46 ≡ true). from_number b 46 (omega arith, omega arith, refl) f)
-    (or_parts (is_ascii_alphanumeric b) (b == 46) e))
+    (or_cases (is_ascii_alphanumeric b) (b == 46) e))
     (λ (e : nat_eq b 45 ≡ true). from_number b 45 (omega arith, omega arith, refl) e)
-    (or_parts (is_ascii_alphanumeric b || b == 46) (b == 45) h)
+    (or_cases (is_ascii_alphanumeric b || b == 46) (b == 45) h)
 
 -- what holds of each byte of an id
 pub all_bytes : (test : ℕ → Bool) → ((b : ℕ) → IsPlainByte b → test b ≡ true) → (id : List ℕ) → list_all is_id_byte id ≡ true → list_all test id ≡ true
 all_bytes test each [] h = refl
 all_bytes test each (b ∷ id) h =
     let parts = and_parts (is_id_byte b) (list_all is_id_byte id) h in
-    and_true (test b) (list_all test id) (each b (id_byte b parts.0)) (all_bytes test each id parts.1)
+    and_from (test b) (list_all test id) (each b (id_byte b parts.0)) (all_bytes test each id parts.1)
 
 ascii_bytes : (id : List ℕ) → list_all is_id_byte id ≡ true → IsAscii id
 ascii_bytes [] h i = omega arith
@@ -105,7 +93,7 @@ id_of_path id =
     ap (λ k. take k (id ++ codes ".txt")) (omega (arith, n)) ∙ take-append_seam id (codes ".txt")
 
 name_bytes : (test : ℕ → Bool) → ((b : ℕ) → IsPlainByte b → test b ≡ true) → list_all test (codes ".txt") ≡ true → (id : List ℕ) → list_all is_id_byte id ≡ true → list_all test (id ++ codes ".txt") ≡ true
-name_bytes test each txt id h = list_all-append test id (codes ".txt") ∙ and_true (list_all test id) (list_all test (codes ".txt")) (all_bytes test each id h) txt
+name_bytes test each txt id h = list_all-append test id (codes ".txt") ∙ and_from (list_all test id) (list_all test (codes ".txt")) (all_bytes test each id h) txt
 
 not_zero : (b : ℕ) → IsPlainByte b → not (nat_eq b 0) ≡ true
 not_zero b plain = grind (arith, nat_tests)
@@ -139,7 +127,7 @@ some_bytes n h = grind (arith, nat_tests)
 name_is_part : (id : List ℕ) → is_part (id ++ codes ".txt") ≡ true
 name_is_part id =
     let n = name_length id in
-    and_true _ _ (and_true _ _ (some_bytes (length (id ++ codes ".txt")) (omega (arith, n)))
+    and_from _ _ (and_from _ _ (some_bytes (length (id ++ codes ".txt")) (omega (arith, n)))
     (other_length (id ++ codes ".txt") (codes ".") (omega (arith, n)))) (other_length (id ++ codes ".txt") (codes "..") (omega (arith, n)))
 
 at_most : (m n : ℕ) → m ≤ n → nat_le m n ≡ true
@@ -168,7 +156,7 @@ path_has_good_parts id h =
 -- an id makes a good path
 pub path_is_good : (id : List ℕ) → is_id id ≡ true → is_path (licence_path id) ≡ true
 path_is_good id h =
-    and_true _ _ (and_true _ _ (and_true _ _ (path_has_bytes id) (path_is_short id h)) (path_has_no_nul id (id_bytes id h))) (path_has_good_parts id (id_bytes id h))
+    and_from _ _ (and_from _ _ (and_from _ _ (path_has_bytes id) (path_is_short id h)) (path_has_no_nul id (id_bytes id h))) (path_has_good_parts id (id_bytes id h))
 
 pub path_of_tree : (id : List ℕ) → is_of_tree (licence_path id) ≡ true
 path_of_tree id = refl

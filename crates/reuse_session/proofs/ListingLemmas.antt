@@ -6,7 +6,7 @@ use Rattle.std.specs.List.{AllByRecursion, starts_with, list_any, take_while}
 use Rattle.std.proofs.lemmas.List.Sums.{take_while-cons}
 use Rattle.std.specs.List.Sorted.{IsPartitionPoint, IsPartitionedBy}
 use Rattle.std.specs.Str.{bytes_eq}
-use Rattle.std.proofs.lemmas.Bool.{false≢true}
+use Rattle.std.proofs.lemmas.Bool.{false≢true, false_from_ne_true, and_parts, and_from}
 use Rattle.std.proofs.lemmas.Bool.Decides.{nat_tests, Decides-eqb}
 use Rattle.std.proofs.lemmas.Cmp.{nat_list_cmp_total, nat_cmp_total, ranked, tied_itself}
 use Rattle.std.proofs.lemmas.List.{drop_more}
@@ -43,14 +43,6 @@ get_or_after : (p : List ℕ) (x : ℕ) (rest : List ℕ) → get_or (p ++ x ∷
 get_or_after [] x rest = refl
 get_or_after (a ∷ p) x rest = get_or_after p x rest
 
-and_parts : (a b : Bool) → (a && b) ≡ true → (a ≡ true) × (b ≡ true)
-and_parts true b e = (refl, e)
-and_parts false b e = absurd (false≢true e)
-
-and_true : (a b : Bool) → a ≡ true → b ≡ true → (a && b) ≡ true
-and_true true b e f = f
-and_true false b e f = absurd (false≢true e)
-
 slash_within : (path : List ℕ) (k : ℕ) → nat_eq (get_or path k 0) 47 ≡ true → k < length path
 slash_within [] k e = absurd (false≢true e)
 slash_within (x ∷ path) zero e = omega arith
@@ -67,7 +59,7 @@ under_from_test path folder h =
 
 pub test_from_under : (path folder : List ℕ) → LiesUnder folder path → lies_under path folder ≡ true
 test_from_under path folder h =
-    and_true _ _ ((starts_is Decides-eqb path folder (starts_with nat_eq path folder) refl).1 (47 ∷ h.0) h.1)
+    and_from _ _ ((starts_is Decides-eqb path folder (starts_with nat_eq path folder) refl).1 (47 ∷ h.0) h.1)
     (ap (λ (l : List ℕ). nat_eq (get_or l (length folder) 0) 47) h.1 ∙ ap (λ n. nat_eq n 47) (get_or_after folder 47 h.0))
 
 then_less_at : (r : Ordering) (a b : ℕ) (o : Ordering) → MatchOrdering r (a < b) (a ≡ b) (b < a) → ordering_then r o ≡ Less → (a < b) ⊎ ((a ≡ b) × (o ≡ Less))
@@ -118,14 +110,10 @@ before_nothing (x ∷ xs) e = absurd (cc)
 
 -- a path below the folder with its slash doesn't lie under it
 under_not_below : (folder path : List ℕ) → before path (folder ++ 47 ∷ []) ≡ Less → lies_under path folder ≡ false
-under_not_below folder path less = of_test (lies_under path folder) refl
-  where
-    of_test : (b : Bool) → lies_under path folder ≡ b → b ≡ false
-    of_test false e = refl
-    of_test true e =
-        let under = under_from_test path folder e in
-        let front : before (folder ++ 47 ∷ under.0) (folder ++ 47 ∷ []) ≡ before (47 ∷ under.0) (47 ∷ []) = before_front folder (47 ∷ under.0) (47 ∷ []) in
-        absurd (before_nothing under.0 (sym (front ∙ refl) ∙ ap (λ (l : List ℕ). before l (folder ++ 47 ∷ [])) (sym under.1) ∙ less))
+under_not_below folder path less = false_from_ne_true (lies_under path folder) (λ e.
+    let under = under_from_test path folder e in
+    let front : before (folder ++ 47 ∷ under.0) (folder ++ 47 ∷ []) ≡ before (47 ∷ under.0) (47 ∷ []) = before_front folder (47 ∷ under.0) (47 ∷ []) in
+    before_nothing under.0 (sym (front ∙ refl) ∙ ap (λ (l : List ℕ). before l (folder ++ 47 ∷ [])) (sym under.1) ∙ less))
 
 -- what isn't below the folder with its slash, and is below a path under it, lies under it
 under_between : (folder path q : List ℕ) → is_lt (before path (folder ++ 47 ∷ [])) ≡ false → before path q ≡ Less → lies_under q folder ≡ true → lies_under path folder ≡ true

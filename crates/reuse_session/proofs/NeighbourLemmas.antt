@@ -2,7 +2,7 @@
 use Rattle.std.proofs.Common.{◌≡◌, ℕ, ◌<◌, ◌≤◌, Bool, true, false, cond, not, ◌&&◌, ◌==◌, nat_lt, nat_le, List, [], ◌∷◌, ◌++◌, codes, length, refl, ap, ◌∙◌, arith, length-append}
 use Rattle.std.specs.List.{list_all, slice_split, onto_first}
 use Rattle.std.specs.Str.{bytes_eq}
-use Rattle.std.proofs.lemmas.Bool.{false≢true}
+use Rattle.std.proofs.lemmas.Bool.{and_parts, and_from}
 use Rattle.std.proofs.lemmas.Bool.Decides.{nat_tests}
 use Rattle.std.proofs.lemmas.List.Folds.{list_all-append}
 use Rattle.std.proofs.lemmas.Slice.Eq.{bytes_eq-Decides}
@@ -50,14 +50,6 @@ split_end end alone (x ∷ xs) =
     of_test true parts h = behind_with end parts h
     of_test false parts h = onto_with end x parts h
 
-and_parts : (a b : Bool) → (a && b) ≡ true → (a ≡ true) × (b ≡ true)
-and_parts true b e = (refl, e)
-and_parts false b e = absurd (false≢true e)
-
-and_true : (a b : Bool) → a ≡ true → b ≡ true → (a && b) ≡ true
-and_true true b e f = f
-and_true false b e f = absurd (false≢true e)
-
 not_equal : (xs ys : List ℕ) → length ys < length xs → bytes_eq xs ys ≡ false
 not_equal xs ys h = of_test (bytes_eq xs ys) refl
   where
@@ -71,14 +63,14 @@ not_zero n h = grind (arith, nat_tests)
 -- a part of more than two bytes
 long_part : (part : List ℕ) → 2 < length part → is_part part ≡ true
 long_part part h =
-    and_true _ _ (and_true _ _ (ap not (not_zero (length part) (omega (arith, h)))) (ap not (not_equal part (codes ".") (omega (arith, h))))) (ap not (not_equal part (codes "..") (omega (arith, h))))
+    and_from _ _ (and_from _ _ (ap not (not_zero (length part) (omega (arith, h)))) (ap not (not_equal part (codes ".") (omega (arith, h))))) (ap not (not_equal part (codes "..") (omega (arith, h))))
 
 good_end : (end : List ℕ) (parts : List (List ℕ)) → 2 < length end → list_all is_part parts ≡ true → list_all is_part (with_end end parts) ≡ true
 good_end end [] h all = refl
-good_end end (part ∷ []) h all = and_true _ _ (long_part (part ++ end) (omega (arith, h, length-append part end))) refl
+good_end end (part ∷ []) h all = and_from _ _ (long_part (part ++ end) (omega (arith, h, length-append part end))) refl
 good_end end (part ∷ next ∷ parts) h all =
     let both = and_parts (is_part part) (list_all is_part (next ∷ parts)) all in
-    and_true _ _ both.0 (good_end end (next ∷ parts) h both.1)
+    and_from _ _ both.0 (good_end end (next ∷ parts) h both.1)
 
 abbrev ending : List ℕ
 ending = codes ".license"
@@ -93,8 +85,8 @@ pub good_neighbour : (path : List ℕ) → is_path path ≡ true → length (pat
 good_neighbour path good short =
     let first = and_parts (nat_lt 0 (length path) && nat_le (length path) 4096 && has_no_nul path) (has_good_parts path) good in
     let second = and_parts (nat_lt 0 (length path) && nat_le (length path) 4096) (has_no_nul path) first.0 in
-    and_true _ _
-    (and_true _ _
-    (and_true _ _ (some_bytes (length (path ++ ending)) (omega (arith, length-append path ending))) (few_bytes (length (path ++ ending)) 4096 short))
-    (list_all-append (λ byte. not (byte == 0)) path ending ∙ and_true _ _ second.1 refl))
+    and_from _ _
+    (and_from _ _
+    (and_from _ _ (some_bytes (length (path ++ ending)) (omega (arith, length-append path ending))) (few_bytes (length (path ++ ending)) 4096 short))
+    (list_all-append (λ byte. not (byte == 0)) path ending ∙ and_from _ _ second.1 refl))
     (ap (list_all is_part) (split_end ending refl path) ∙ good_end ending (slice_split is_slash path) (omega arith) first.1)

@@ -1,5 +1,5 @@
 -- That puts and removals have started is noted over several calls.
-use Rattle.std.proofs.Common.{◌≡◌, ℕ, ◌<◌, Bool, true, false, arith, sym, ◌∙◌, refl}
+use Rattle.std.proofs.Common.{◌<◌, Bool, true, false, arith, sym, ◌∙◌, refl}
 use Rattle.std.proofs.lemmas.Bool.{false≢true}
 use Rattle.reuse_tree.specs.declared.store.Store.{Ghosts}
 use Rattle.reuse_tree.specs.Asked.{IsLater}

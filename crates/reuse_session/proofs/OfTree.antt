@@ -3,7 +3,7 @@ use Rattle.std.proofs.Common.{◌≡◌, ◌≢◌, ◌⊎◌, inl, inr, ⊎_eli
 use Rattle.std.specs.Str.{bytes_eq}
 use Rattle.std.specs.List.{list_any}
 use Rattle.std.specs.FinMap.{get, get-retain_keys, slice_cmp-IsAntisymmetric, nat_cmp-IsAntisymmetric}
-use Rattle.std.proofs.lemmas.Bool.{false≢true, eqb-true, eq-eqb}
+use Rattle.std.proofs.lemmas.Bool.{false≢true, eqb-true, eq-eqb, and_parts, and_from}
 use Rattle.std.proofs.lemmas.Bool.Decides.{Decides-eqb}
 use Rattle.std.proofs.lemmas.Slice.Eq.{starts_is, bytes_eq-Decides}
 use Rattle.std.proofs.lemmas.List.{get_or-append-add}
@@ -17,18 +17,6 @@ use Rattle.reuse_session.specs.Tree.{is_of_tree, undo_folder_of}
 use Rattle.reuse_session.specs.Entry.{TurnsBy, Steps}
 
 -- ---- tests
-
-and_first : (a b : Bool) → (a && b) ≡ true → a ≡ true
-and_first true b e = refl
-and_first false b e = e
-
-and_second : (a b : Bool) → (a && b) ≡ true → b ≡ true
-and_second true b e = e
-and_second false b e = absurd (false≢true e)
-
-and_both : (a b : Bool) → a ≡ true → b ≡ true → (a && b) ≡ true
-and_both true b e f = f
-and_both false b e f = e
 
 or_either : (a b : Bool) → (a || b) ≡ true → (a ≡ true) ⊎ (b ≡ true)
 or_either true b e = inl refl
@@ -53,14 +41,14 @@ slash_first (b ∷ x) e = (x, ap (λ c. c ∷ x) e)
 -- a path under a folder is the folder, a slash and more
 pub under_parts : (path folder : List ℕ) → lies_under path folder ≡ true → (x : List ℕ) × (path ≡ folder ++ 47 ∷ x)
 under_parts path folder e =
-    let front : path ≡ folder ++ drop (length folder) path = (starts_is Decides-eqb path folder _ refl).0 (and_first _ _ e) in
-    let slash : get_or path (length folder) 0 ≡ 47 = eqb-true _ _ (and_second _ _ e) in
+    let front : path ≡ folder ++ drop (length folder) path = (starts_is Decides-eqb path folder _ refl).0 (and_parts _ _ e).0 in
+    let slash : get_or path (length folder) 0 ≡ 47 = eqb-true _ _ (and_parts _ _ e).1 in
     let more = slash_first (drop (length folder) path) (sym (at_end folder (drop (length folder) path)) ∙ ap (λ p. get_or p (length folder) 0) (sym front) ∙ slash) in
     (more.0, front ∙ ap (λ r. folder ++ r) more.1)
 
 pub under_from_parts : (path folder x : List ℕ) → path ≡ folder ++ 47 ∷ x → lies_under path folder ≡ true
 under_from_parts path folder x e =
-    and_both _ _ ((starts_is Decides-eqb path folder _ refl).1 (47 ∷ x) e) (eq-eqb _ _ (ap (λ p. get_or p (length folder) 0) e ∙ at_end folder (47 ∷ x)))
+    and_from _ _ ((starts_is Decides-eqb path folder _ refl).1 (47 ∷ x) e) (eq-eqb _ _ (ap (λ p. get_or p (length folder) 0) e ∙ at_end folder (47 ∷ x)))
 
 -- of two fronts of a list that a slash follows, one lies under the other or they are one
 pub fronts : (f p x y : List ℕ) → f ++ 47 ∷ x ≡ p ++ 47 ∷ y → (p ≡ f) ⊎ ((z : List ℕ) × (p ≡ f ++ 47 ∷ z)) ⊎ ((z : List ℕ) × (f ≡ p ++ 47 ∷ z))
@@ -98,19 +86,19 @@ above_journal p z e =
 
 module _ (path : List ℕ) (here : is_of_tree path ≡ true) where
   is_neither : (not (bytes_eq path (codes ".reuse")) && not (bytes_eq path journal_folder)) ≡ true
-  is_neither = and_first (not (bytes_eq path (codes ".reuse")) && not (bytes_eq path journal_folder)) (not (lies_under path journal_folder)) here
+  is_neither = (and_parts (not (bytes_eq path (codes ".reuse")) && not (bytes_eq path journal_folder)) (not (lies_under path journal_folder)) here).0
 
   pub outside : lies_under path journal_folder ≡ false
-  outside = not_true (lies_under path journal_folder) (and_second (not (bytes_eq path (codes ".reuse")) && not (bytes_eq path journal_folder)) (not (lies_under path journal_folder)) here)
+  outside = not_true (lies_under path journal_folder) (and_parts (not (bytes_eq path (codes ".reuse")) && not (bytes_eq path journal_folder)) (not (lies_under path journal_folder)) here).1
 
   not_reuse : path ≢ codes ".reuse"
   not_reuse same =
-      false≢true (sym (not_true (bytes_eq path (codes ".reuse")) (and_first (not (bytes_eq path (codes ".reuse"))) (not (bytes_eq path journal_folder)) is_neither))
+      false≢true (sym (not_true (bytes_eq path (codes ".reuse")) (and_parts (not (bytes_eq path (codes ".reuse"))) (not (bytes_eq path journal_folder)) is_neither).0)
       ∙ (bytes_eq-Decides path (codes ".reuse")).1 same)
 
   not_journal : path ≢ journal_folder
   not_journal same =
-      false≢true (sym (not_true (bytes_eq path journal_folder) (and_second (not (bytes_eq path (codes ".reuse"))) (not (bytes_eq path journal_folder)) is_neither))
+      false≢true (sym (not_true (bytes_eq path journal_folder) (and_parts (not (bytes_eq path (codes ".reuse"))) (not (bytes_eq path journal_folder)) is_neither).1)
       ∙ (bytes_eq-Decides path journal_folder).1 same)
 
 -- a file of the journal's folder neither lies under a path of the tree nor has it beneath it

@@ -1,5 +1,5 @@
 -- Of any files one thing holds at most: a path is the first at fault, or the pending step is stuck at a path, or they open on a standing.
-use Rattle.std.proofs.Common.{◌≡◌, ◌⊎◌, inl, inr, ⊎_elim, ℕ, ◌<◌, ◌≤◌, List, [], ◌∷◌, ◌++◌, Some, None, Ok, Err, codes, refl, sym, ap, subst, ◌∙◌, arith}
+use Rattle.std.proofs.Common.{◌≡◌, inl, inr, ⊎_elim, ℕ, ◌<◌, ◌≤◌, List, [], ◌∷◌, ◌++◌, Some, None, Ok, Err, codes, refl, sym, ap, subst, ◌∙◌, arith}
 use Rattle.std.specs.List.{All}
 use Rattle.std.specs.FinMap.{get}
 use Rattle.std.proofs.lemmas.Bool.{false≢true, cases_lt}
@@ -98,7 +98,7 @@ first_once Holds (x ∷ before) (y ∷ other) a b behind more e holds holds_othe
     let rest : before ++ a ∷ behind ≡ other ++ b ∷ more = cc in
     first_once Holds before other a b behind more rest (All-tail Holds x before holds) (All-tail Holds y other holds_other) not_a not_b
 
-without_once : (Holds : Change → Type 0) (changes : List Change) (p q : List ℕ) → IsFirstWithout Holds changes p → IsFirstWithout Holds changes q → p ≡ q
+pub without_once : (Holds : Change → Type 0) (changes : List Change) (p q : List ℕ) → IsFirstWithout Holds changes p → IsFirstWithout Holds changes q → p ≡ q
 without_once Holds changes p q a b =
     a.here ∙ ap path_of (first_once Holds a.before b.before a.change b.change a.behind b.behind (sym a.list ∙ b.list) a.passed b.passed a.stuck b.stuck) ∙ sym b.here
 

@@ -18,6 +18,10 @@ early_is_no_stop refusal early stop = stop
 pub is_refused : {A : Type 0} {refusal : Refusal} (result : Result A Refusal) → IsErrAnd result (λ given. given ≡ refusal) → result ≡ Err refusal
 is_refused result is = let p = err_from_is_err_and result is in p.1 ∙ ap (λ given. Err given) p.2
 
+-- where it returns this one, the call was refused with it
+pub passed_on : {A B E : Type 0} {refusal given : E} (result : Result A E) (call : Result B E) → IsErrAnd result (λ told. told ≡ refusal) → call ≡ Err refusal → result ≡ Err given → call ≡ Err given
+passed_on result call is was e = let p = err_from_is_err_and result is in let from = p.1 in let same = p.2 in cc
+
 -- a cause stays one where more have failed
 pub still_caused : (refusal : Refusal) (few more : Type 0) → (few → more) → HasCause few refusal → HasCause more refusal
 still_caused (Fault faults.Device) few more rise cause = rise cause

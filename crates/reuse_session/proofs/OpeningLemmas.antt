@@ -1,6 +1,6 @@
 -- What is read of a journal: the entries of a head stand for one journal.
 use Rattle.std.proofs.Common.{◌≡◌, inl, inr, ℕ, ◌+◌, List, [], ◌∷◌, ◌++◌, length, map, reverse, Option, Some, None, IsSome, is_some, codes, refl, sym, ap, subst, ◌∙◌, arith}
-use Rattle.std.specs.List.{All, AllZip, Contains}
+use Rattle.std.specs.List.{All, AllZip}
 use Rattle.std.specs.FinMap.{get}
 use Rattle.std.proofs.lemmas.Bool.{false≢true}
 use Rattle.std.proofs.lemmas.List.{reverse-reverse, reverse-append, length-append, length-map, length-reverse}

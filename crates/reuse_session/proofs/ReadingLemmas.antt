@@ -1,8 +1,12 @@
 -- What was read of a path says what the path has.
-use Rattle.std.proofs.Common.{◌≡◌, ℕ, ◌<◌, ◌≤◌, Bool, true, false, cond, nat_le, List, length, Option, Some, None, IsSome, refl, ap, subst, arith}
+use Rattle.std.proofs.Common.{◌≡◌, ℕ, ◌<◌, ◌≤◌, Bool, true, false, cond, nat_le, List, length, Option, Some, None, IsSome, refl, sym, ap, subst, arith}
 use Rattle.std.proofs.lemmas.Bool.Decides.{nat_tests}
 use Rattle.reuse_tree.specs.declared.store.Reading.TheVariants.{Absent, Found, TooLong}
 use Rattle.reuse_tree.specs.Store.{reading_of}
+
+-- a fact of two things, at what they are
+pub given_as : {A B : Type 0} (Holds : A → B → Type 0) {x given : A} {y file : B} → x ≡ given → y ≡ file → Holds given file → Holds x y
+given_as Holds {x} {given} {y} {file} is same h = subst (Holds x) (sym same) (subst (λ a. Holds a file) (sym is) h)
 
 pub absent_is : (file : Option (List ℕ)) (limit : ℕ) → Absent ≡ reading_of file limit → file ≡ None
 absent_is None limit e = refl

@@ -1,5 +1,5 @@
 -- The fates of a revert's changes: those so far, and the changes beside them.
-use Rattle.std.proofs.Common.{◌≡◌, ℕ, Bool, true, false, cond, List, [], ◌∷◌, ◌++◌, map, Option, Some, None, IsSome, is_some, Result, Ok, Err, refl, sym, ap, subst, ◌∙◌, append_assoc}
+use Rattle.std.proofs.Common.{◌≡◌, ℕ, Bool, true, false, cond, List, [], ◌∷◌, ◌++◌, map, Option, Some, None, IsSome, is_some, Ok, Err, refl, sym, ap, subst, ◌∙◌, append_assoc}
 use Rattle.std.specs.declared.vec.Vec.{Vec}
 use Rattle.std.proofs.lemmas.Bool.{false≢true}
 use Rattle.std.proofs.lemmas.List.{append-nil}
@@ -62,6 +62,14 @@ stuck_at tree skip change none = ap (back_or_refused skip (path_of change)) (is 
   where
     is : MakesEdit tree (found (taken_back_on tree change)) None → taken_back_on tree change ≡ None
     is e = cc e
+
+-- where nothing takes it back and such are skipped, the path is skipped and no change is added
+pub adds_skipped : (tree : Files) (skip : Bool) (change : Change) (old new : Planned) → skip ≡ true → MakesEdit tree (found (taken_back_on tree change)) None → Adds tree (Ok None) (fate.Skipped (path_of change)) old new
+    → Adds tree (back_at skip tree change) (revert_fate skip tree change) old new
+adds_skipped tree skip change old new skips none adds =
+    let given = stuck_at tree skip change none ∙ ap (λ b. cond b (Ok None) (Err (Moved (path_of change)))) skips in
+    let told = stuck_told tree skip change none ∙ ap (λ b. cond b (fate.Skipped (path_of change)) (fate.Refused (Moved (path_of change)))) skips in
+    subst (λ e. Adds tree e (revert_fate skip tree change) old new) (sym given) (subst (λ t. Adds tree (Ok None) t old new) (sym told) adds)
 
 -- ---- one change after the other
 

@@ -154,7 +154,7 @@ pub record TakesTo (change : Change) (before after : Option (List ℕ)) : Type 0
   pub written : edit.written ≡ removed_by change
   pub file : edit.file ≡ before
 
-takes_to : (change : Change) (before after : Option (List ℕ)) → IsSmall change → TurnsByRange change before after → IsDigestOf (digest_after change) after → TakesTo change before after
+pub takes_to : (change : Change) (before after : Option (List ℕ)) → IsSmall change → TurnsByRange change before after → IsDigestOf (digest_after change) after → TakesTo change before after
 takes_to (Make path new digest) before after small t sealed = record {
   edit = dropped path new;
   is = ap (taken_back (Make path new digest)) t.1 ∙ ap (λ b. cond b (Some (dropped path new)) None) ((bytes_eq-Decides new new).1 refl);
@@ -191,7 +191,7 @@ takes_to (Splice path at old new rest seal) before after small t sealed =
 
 -- ---- all changes of a step
 
-not_both : (a b : Bool) → (a ≡ true → b ≡ true → ⊥) → (a && b) ≡ false
+pub not_both : (a b : Bool) → (a ≡ true → b ≡ true → ⊥) → (a && b) ≡ false
 not_both true true h = absurd (h refl refl)
 not_both true false h = refl
 not_both false b h = refl

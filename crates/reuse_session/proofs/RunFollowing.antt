@@ -1,17 +1,16 @@
 -- What a run answers and leaves from any standing, and that it follows the machine of whole trees.
-use Rattle.std.proofs.Common.{◌≡◌, ◌≢◌, ℕ, ◌+◌, true, false, List, [], ◌∷◌, length, Result, Ok, Err, refl, sym, ap, subst, ◌∙◌}
+use Rattle.std.proofs.Common.{◌≡◌, ℕ, ◌+◌, false, List, [], ◌∷◌, length, Result, Ok, Err, refl, sym, ap, subst, ◌∙◌}
 use Rattle.std.proofs.lemmas.List.Elements.{All-nil}
 use Rattle.reuse_tree.specs.Files.{Files, AreFiles}
 use Rattle.reuse_tree.specs.declared.change.Change.{Change}
 use Rattle.reuse_session.specs.Answer.{TellsNoFault, IsOfPlan}
 use Rattle.reuse_session.specs.Command.{name_of}
 use Rattle.reuse_session.specs.Entry.{paths_of, IsEntry, LeadsAll}
-use Rattle.reuse_session.specs.Journal.{Recorded, Journal, State}
+use Rattle.reuse_session.specs.Journal.{Journal, State}
 use Rattle.reuse_session.specs.Machine.{Snapshots, Step, is_full, ran_by}
 use Rattle.reuse_session.specs.Outcome.{outcome_of}
 use Rattle.reuse_session.specs.Plan.{IsRefusalOf}
 use Rattle.reuse_session.specs.Session.{Holds, StandsOn, StandsAt, Follows, IsRun, Runs}
-use Rattle.reuse_session.specs.Tree.{changed_paths}
 use Rattle.reuse_session.specs.declared.command.Command.{Command}
 use Rattle.reuse_session.specs.declared.entry.Way.TheVariants as way
 use Rattle.reuse_session.specs.declared.reply.Reply.{Reply}

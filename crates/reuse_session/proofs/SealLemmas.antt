@@ -1,5 +1,5 @@
 -- What the seals of a step tell of its files.
-use Rattle.std.proofs.Common.{◌≡◌, ℕ, true, List, length, get_or, Option, sym, subst}
+use Rattle.std.proofs.Common.{◌≡◌, ℕ, true, List, get_or, Option, sym, subst}
 use Rattle.std.specs.Prelude.{◌↔◌}
 use Rattle.std.specs.Option.{option_map}
 use Rattle.std.specs.List.{All}

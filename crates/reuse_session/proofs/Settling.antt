@@ -1,19 +1,15 @@
 -- What is pending in a journal is rolled back.
-use Rattle.std.proofs.Common.{◌≡◌, ◌⊎◌, inl, inr, ⊎_elim, ℕ, Bool, true, false, not, cond, List, [], get_or, Option, Some, None, IsSome, is_some, Result, Ok, Err, IfErr, OnOk, MatchResult, codes, refl, sym, ap, subst, ◌∙◌}
+use Rattle.std.proofs.Common.{◌≡◌, ◌⊎◌, inl, inr, ⊎_elim, ℕ, Bool, true, false, not, cond, List, [], Option, Some, None, IsSome, is_some, Result, Ok, Err, IfErr, OnOk, MatchResult, codes, refl, sym, ap, subst, ◌∙◌}
 use Rattle.std.specs.List.{All}
 use Rattle.std.specs.FinMap.{get}
-use Rattle.std.proofs.lemmas.Bool.{false≢true}
 use Rattle.std.proofs.lemmas.List.Elements.{All-head}
-use Rattle.std.proofs.lemmas.List.Folds.{Any-from_list_any}
-use Rattle.std.specs.Str.{bytes_eq}
-use Rattle.std.proofs.lemmas.Slice.Eq.{bytes_eq-Decides}
 use Rattle.reuse_tree.specs.Path.{lies_under, journal_folder}
 use Rattle.reuse_tree.specs.Files.{Files, AreFiles, Clashes, tree_of}
 use Rattle.reuse_tree.specs.Change.{path_of}
 use Rattle.reuse_tree.specs.declared.change.Change.{Change}
 use Rattle.reuse_session.specs.Answer.{IsEarly, IsFailure, IsReadRefusal, IsRollBackRefusal}
 use Rattle.reuse_session.specs.Carried.{SetsHead, IsRolledBack, StopsRollingBack}
-use Rattle.reuse_session.specs.Entry.{touches, IsEntry, IsReady, SomeMade, CanBeSetBack, IsFirstWithout}
+use Rattle.reuse_session.specs.Entry.{IsEntry, IsReady, SomeMade, CanBeSetBack, IsFirstWithout}
 use Rattle.reuse_session.specs.Head.{way_of, IsGoodHead, IsSoundHead}
 use Rattle.reuse_session.specs.History.{Memory, head_listing}
 use Rattle.reuse_session.specs.Journal.{Recorded, Journal, State}
@@ -35,6 +31,7 @@ use Rattle.reuse_session.proofs.MadeLemmas.{back_at_start}
 use Rattle.reuse_session.proofs.MemoryLemmas.{listing_of}
 use Rattle.reuse_session.proofs.OfTree.{get-tree, get-folder, are_tree}
 use Rattle.reuse_session.proofs.OpeningLemmas.{recorded, same_journal}
+use Rattle.reuse_session.proofs.Walk.{none_outside}
 
 -- ---- the folders above the journal
 
@@ -47,17 +44,6 @@ none_in_tree files path none = get-tree files path ∙ at_test (not (lies_under 
 
 pub none_in_files : (files : Files) (path : List ℕ) → lies_under path journal_folder ≡ false → get (tree_of files) path ≡ None → get files path ≡ None
 none_in_files files path outside none = ap (λ b. cond (not b) (get files path) None) (sym outside) ∙ sym (get-tree files path) ∙ none
-
--- an entry has no change of a path that isn't of the tree
-pub none_outside : (changes : List Change) (path : List ℕ) → IsEntry changes → is_of_tree path ≡ false → touches changes path ≡ false
-none_outside changes path good out = at_test (touches changes path) refl
-  where
-    at_test : (b : Bool) → touches changes path ≡ b → touches changes path ≡ false
-    at_test false e = e
-    at_test true e =
-        let found = Any-from_list_any (λ change. bytes_eq path (path_of change)) changes e in
-        let here : path ≡ path_of (get_or changes found.0 found.1) = (bytes_eq-Decides path (path_of found.1)).0 found.4 ∙ ap path_of (sym found.3) in
-        absurd (false≢true (sym out ∙ ap is_of_tree here ∙ good.of_tree found.0 found.1 found.2))
 
 -- files without those folders are a tree beside the journal
 pub is_tree : (files : Files) → AreFiles files → get files (codes ".reuse") ≡ None → get files journal_folder ≡ None → IsTree (tree_of files)

@@ -1,5 +1,5 @@
 -- Files that annotate leaves as they are: whether they were skipped.
-use Rattle.std.proofs.Common.{◌≡◌, ℕ, ◌<◌, ◌≤◌, Bool, true, false, cond, not, ◌&&◌, ◌||◌, List, length, Option, Some, None, is_some, nat_le, nat_lt, Result, Ok, Err, refl, sym, ap, ◌∙◌, arith}
+use Rattle.std.proofs.Common.{◌≡◌, ℕ, ◌<◌, Bool, true, false, cond, not, ◌&&◌, ◌||◌, List, length, Option, Some, None, is_some, nat_le, nat_lt, Result, Ok, Err, refl, sym, ap, ◌∙◌, arith}
 use Rattle.std.proofs.lemmas.Bool.Decides.{nat_tests}
 use Rattle.std.specs.FinMap.{get}
 use Rattle.reuse_notice.specs.declared.adding.Additions.{Additions}
@@ -7,17 +7,15 @@ use Rattle.reuse_header.specs.declared.annotation.How.{How}
 use Rattle.reuse_tree.specs.Files.{Files}
 use Rattle.reuse_tree.specs.Store.{reading_of}
 use Rattle.reuse_tree.specs.declared.store.Reading.TheVariants.{Found, TooLong}
-use Rattle.reuse_session.specs.Annotate.{neighbour_of, neighbour_is_tagged, goes_beside_unread, goes_beside, target_by_bytes, target_of, edit_neighbour, edit_beside, edit_target, annotated_where, annotated_at, edit_by}
+use Rattle.reuse_session.specs.Annotate.{neighbour_of, neighbour_is_tagged, goes_beside_unread, goes_beside, target_by_bytes, target_of, edit_neighbour, edit_beside, edit_target, annotated_where, annotated_at}
 use Rattle.reuse_session.specs.Covered.{is_covered}
 use Rattle.reuse_session.specs.Edit.{Edit}
 use Rattle.reuse_session.specs.Fates.{has_tagged, is_skipped_at, is_skipped_where, is_skipped}
 use Rattle.reuse_session.specs.Listing.{is_folder}
-use Rattle.reuse_session.specs.Plan.{IsRefusalOf}
-use Rattle.reuse_session.specs.Previews.{IsTold}
 use Rattle.reuse_session.specs.TreeStyles.{OwnNames}
 use Rattle.reuse_session.specs.declared.command.Scope.{Scope}
-use Rattle.reuse_session.specs.declared.plan_target.Target.{Target}
-use Rattle.reuse_session.specs.declared.plan_target.Target.TheVariants.{Beside}
+use Rattle.reuse_session.specs.declared.target.Target.{Target}
+use Rattle.reuse_session.specs.declared.target.Target.TheVariants.{Beside}
 use Rattle.reuse_session.specs.declared.reply.Refusal.{Refusal}
 use Rattle.reuse_session.specs.declared.reply.Refusal.TheVariants as refusals
 use Rattle.reuse_session.proofs.Annotating.{both_err, if_not}

@@ -1,26 +1,19 @@
 -- How the standing of files changes when a step is carried out.
-use Rattle.std.proofs.Common.{◌≡◌, ◌≢◌, ◌⊎◌, inl, inr, ⊎_elim, ℕ, ◌+◌, ◌<◌, ◌≤◌, Bool, true, false, List, ◌∷◌, length, Some, None, codes, refl, sym, ap, subst, ◌∙◌, arith}
-use Rattle.std.specs.FinMap.{get}
-use Rattle.std.specs.List.{All}
+use Rattle.std.proofs.Common.{◌≡◌, ◌⊎◌, inl, inr, ⊎_elim, ℕ, ◌+◌, ◌<◌, List, Some, None, codes, refl, sym, subst, ◌∙◌}
 use Rattle.reuse_tree.specs.Path.{journal_folder}
 use Rattle.reuse_tree.specs.Files.{Files, AreFiles, tree_of}
-use Rattle.reuse_tree.specs.Change.{path_of}
 use Rattle.reuse_session.specs.Carried.{IsCarriedOut, IsStopped}
-use Rattle.reuse_session.specs.Entry.{touches, IsEntry, IsReady, LeadsBy, SomeMade}
+use Rattle.reuse_session.specs.Entry.{IsEntry, LeadsBy, SomeMade}
 use Rattle.reuse_session.specs.Head.{way_of, IsGoodHead}
-use Rattle.reuse_session.specs.Journal.{Recorded, Journal, State}
-use Rattle.reuse_session.specs.JournalFiles.{entry_path, head_of, number_of, IsKeptIn, KeepsJournal}
+use Rattle.reuse_session.specs.Journal.{Recorded, State}
+use Rattle.reuse_session.specs.JournalFiles.{entry_path, head_of, number_of, IsKeptIn}
 use Rattle.reuse_session.specs.Session.{IsSameBut}
-use Rattle.reuse_session.specs.Standing.{IsTree, IsStanding, IsStep, IsUnderWay, InDoubt, Moves}
-use Rattle.reuse_session.specs.Tree.{is_of_tree, undo_folder_of}
+use Rattle.reuse_session.specs.Standing.{IsTree, IsStanding, IsStep, InDoubt}
+use Rattle.reuse_session.specs.Tree.{undo_folder_of}
 use Rattle.reuse_session.specs.declared.journal.head.PendingWay.{PendingWay}
 use Rattle.reuse_tree.specs.declared.change.Change.{Change}
-use Rattle.std.proofs.lemmas.Bool.{false≢true}
-use Rattle.std.proofs.lemmas.List.Folds.{Any-from_list_any}
-use Rattle.std.proofs.lemmas.Slice.Eq.{bytes_eq-Decides}
-use Rattle.std.specs.Str.{bytes_eq}
 use Rattle.reuse_session.proofs.OfTree.{are_tree}
-use Rattle.reuse_session.proofs.Walk.{leads_once}
+use Rattle.reuse_session.proofs.Walk.{leads_once, none_outside}
 use Rattle.reuse_session.proofs.JournalLemmas.{entry_in_folder, same_but_in_folder, keeps_beside, keeps_pending, keeps_settled, kept_stays}
 use Rattle.reuse_session.proofs.MadeLemmas.{reach_ready}
 
@@ -34,24 +27,12 @@ after_entry files after held standing room same =
       journal = keeps_beside (undo_folder_of files) (undo_folder_of after) held.journal standing.journal room sets.0;
     }
 
--- a path that is none of the tree's is touched by no entry
-untouched : (changes : List Change) (path : List ℕ) → IsEntry changes → is_of_tree path ≡ false → touches changes path ≡ false
-untouched changes path good none = at_test (touches changes path) refl
-  where
-    at_test : (b : Bool) → touches changes path ≡ b → touches changes path ≡ false
-    at_test false e = e
-    at_test true e =
-        let found = Any-from_list_any (λ change. bytes_eq path (path_of change)) changes e in
-        let here : path ≡ path_of found.1 = (bytes_eq-Decides path (path_of found.1)).0 found.4 in
-        let of_tree : is_of_tree (path_of found.1) ≡ true = subst (λ c. is_of_tree (path_of c) ≡ true) found.3 (good.of_tree found.0 found.1 found.2) in
-        absurd (false≢true (sym none ∙ ap is_of_tree here ∙ of_tree))
-
 -- a tree stays one where changes of an entry lead on from it
 pub still_tree : (way : PendingWay) (changes : List Change) (before after : Files) → IsEntry changes → LeadsBy (way_of way) changes before after → IsTree before → AreFiles after → IsTree after
 still_tree way changes before after good leads tree are = record {
   are_files = are;
-  no_reuse = leads.others (codes ".reuse") (untouched changes (codes ".reuse") good refl) ∙ tree.no_reuse;
-  no_undo = leads.others journal_folder (untouched changes journal_folder good refl) ∙ tree.no_undo;
+  no_reuse = leads.others (codes ".reuse") (none_outside changes (codes ".reuse") good refl) ∙ tree.no_reuse;
+  no_undo = leads.others journal_folder (none_outside changes journal_folder good refl) ∙ tree.no_undo;
 }
 
 module _ (files after : Files) (way : PendingWay) (step : Recorded) (first second : State) (standing : IsStanding files first) (kept : IsKeptIn (undo_folder_of files) step) (is_step : IsStep way step first second) (good : IsEntry step.changes) (are : AreFiles after) where

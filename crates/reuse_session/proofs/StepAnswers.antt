@@ -1,12 +1,12 @@
 -- What the functions of a step answer, from what they call.
-use Rattle.std.proofs.Common.{◌≡◌, ◌≢◌, inl, inr, ℕ, ◌+◌, ◌<◌, ◌≤◌, false, ◌||◌, List, [], ◌∷◌, ◌++◌, length, map, reverse, get_or, cond, None, is_some, Result, Ok, Err, IfErr, refl, sym, ap, subst, ◌∙◌, arith}
+use Rattle.std.proofs.Common.{◌≡◌, ◌≢◌, inl, inr, ℕ, ◌+◌, ◌<◌, ◌≤◌, false, ◌||◌, List, [], ◌∷◌, ◌++◌, length, map, reverse, get_or, cond, None, is_some, Result, Ok, Err, IfErr, refl, sym, ap, subst, ◌∙◌, arith, IsErrAnd}
 use Rattle.std.proofs.lemmas.Bool.{false≢true, or_from}
 use Rattle.std.proofs.lemmas.List.{length-append, length-map, length-reverse, get_or-append-add, append-nil}
 use Rattle.std.specs.FinMap.{get}
 use Rattle.reuse_tree.specs.Path.{lies_under}
 use Rattle.reuse_tree.specs.Files.{Files, Clashes, tree_of}
 use Rattle.reuse_tree.specs.declared.fault.StoreFault.TheVariants as faults
-use Rattle.reuse_session.specs.Answer.{TellsNoFault, IsReadRefusal, IsPutRefusal, IsTestRefusal, IsFailure, HasClash, IsNoClash}
+use Rattle.reuse_session.specs.Answer.{IsEarly, TellsNoFault, IsReadRefusal, IsPutRefusal, IsFailure, HasClash, IsNoClash}
 use Rattle.reuse_session.specs.Head.{IsSoundHead}
 use Rattle.reuse_session.specs.History.{Memory}
 use Rattle.reuse_session.specs.Journal.{Recorded, Journal, State, ahead, moved_on}
@@ -21,7 +21,8 @@ use Rattle.reuse_session.specs.declared.entry.Way.TheVariants.{Do, Undo}
 use Rattle.reuse_session.specs.declared.reply.Cause.TheVariants as causes
 use Rattle.reuse_session.specs.declared.reply.Reply.{Reply}
 use Rattle.reuse_session.specs.declared.reply.Refusal.{Refusal}
-use Rattle.reuse_session.specs.declared.reply.Refusal.TheVariants.{Memory as OutOfMemory, Moved, Fault, Interrupted, BadJournal}
+use Rattle.reuse_session.specs.declared.reply.Refusal.TheVariants.{Memory as OutOfMemory, Fault, Interrupted, BadJournal}
+use Rattle.reuse_session.proofs.OnlyReading.{is_refused}
 use Rattle.reuse_session.proofs.JournalLemmas.{clash_beneath, entry_in_folder, paths_apart}
 use Rattle.reuse_session.proofs.OfTree.{get-folder}
 use Rattle.reuse_session.proofs.Standings.{after_entry}
@@ -58,11 +59,15 @@ read_told (Fault fault) is told never = told
 read_told (Interrupted cause) is told never = told
 read_told refusal is told never = is
 
-pub failure_told : (refusal : Refusal) → IsFailure refusal → TellsNoFault {A = Reply} (Err refusal) → ⊥
+failure_told : (refusal : Refusal) → IsFailure refusal → TellsNoFault {A = Reply} (Err refusal) → ⊥
 failure_told OutOfMemory is told = told
 failure_told (Fault fault) is told = told
 failure_told (Interrupted cause) is told = told
 failure_told refusal is told = is
+
+-- nor is a call that failed so
+pub failed_untold : (refusal : Refusal) (result : Result Reply Refusal) → IsErrAnd result (λ given. given ≡ refusal) → IsFailure refusal → TellsNoFault result → ⊥
+failed_untold refusal result is fails told = failure_told refusal fails (subst TellsNoFault (is_refused result is) told)
 
 pub put_fails : (refusal : Refusal) → IsPutRefusal refusal → IsFailure refusal
 put_fails OutOfMemory is = tt
@@ -79,28 +84,11 @@ kept_put files number entry says =
 -- ---- clashes
 
 module _ (entry head : Type 0) where
-  pub read_clash : (refusal : Refusal) → IsReadRefusal refusal → (refusal ≡ Fault faults.Clash → entry) → HasClash entry head refusal
-  read_clash OutOfMemory is clash = tt
-  read_clash (BadJournal path) is clash = tt
-  read_clash (Fault faults.Device) is clash = tt
-  read_clash (Fault faults.Clash) is clash = clash refl
-  read_clash (Fault faults.Memory) is clash = tt
-  read_clash refusal is clash = absurd is
-
-  pub test_clash : (refusal : Refusal) → IsTestRefusal refusal → (refusal ≡ Fault faults.Clash → entry) → HasClash entry head refusal
-  test_clash OutOfMemory is clash = tt
-  test_clash (Moved path) is clash = tt
-  test_clash (Fault faults.Device) is clash = tt
-  test_clash (Fault faults.Clash) is clash = clash refl
-  test_clash (Fault faults.Memory) is clash = tt
-  test_clash refusal is clash = absurd is
-
-  pub put_clash : (refusal : Refusal) → IsPutRefusal refusal → (refusal ≡ Fault faults.Clash → entry) → HasClash entry head refusal
-  put_clash OutOfMemory is clash = tt
-  put_clash (Fault faults.Device) is clash = tt
-  put_clash (Fault faults.Clash) is clash = clash refl
-  put_clash (Fault faults.Memory) is clash = tt
-  put_clash refusal is clash = absurd is
+  -- a refusal before a stop tells a clash as a fault of the store alone
+  pub fault_clash : (refusal : Refusal) → IsEarly refusal → (refusal ≡ Fault faults.Clash → entry) → HasClash entry head refusal
+  fault_clash (Fault faults.Clash) early clash = clash refl
+  fault_clash (Interrupted cause) early clash = absurd early
+  fault_clash refusal early clash = tt
 
   -- a clash that is told of some paths is told of others that clash then
   pub clash_of : (other more : Type 0) → (entry → other) → (head → more) → (refusal : Refusal) → HasClash entry head refusal → HasClash other more refusal

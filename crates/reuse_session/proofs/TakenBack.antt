@@ -26,7 +26,8 @@ use Rattle.reuse_session.proofs.JournalLemmas.{entry_good}
 use Rattle.reuse_session.proofs.MadeLemmas.{AreBack, at_place, back_none, back_more, ready_once, step_with, still_free, stood, with_file}
 use Rattle.reuse_session.proofs.OfTree.{are_tree}
 use Rattle.reuse_session.proofs.OpeningLemmas.{recorded}
-use Rattle.reuse_session.proofs.Settling.{none_in_tree, none_outside}
+use Rattle.reuse_session.proofs.Settling.{none_in_tree}
+use Rattle.reuse_session.proofs.Walk.{none_outside}
 
 -- where a change leaves a file, it makes it or one was there
 there_or_made : (way : Way) (c : Change) (old new : Option (List ℕ)) → TurnsBy way c old new → IsSome new → (makes way c ≡ true) ⊎ IsSome old

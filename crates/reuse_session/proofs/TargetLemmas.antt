@@ -12,8 +12,8 @@ use Rattle.reuse_tree.specs.Files.{Files}
 use Rattle.reuse_header.specs.Neighbour.{is_text}
 use Rattle.reuse_session.specs.TreeStyles.{OwnNames}
 use Rattle.reuse_session.specs.declared.command.Scope.{Scope}
-use Rattle.reuse_session.specs.declared.plan_target.Target.{Target}
-use Rattle.reuse_session.specs.declared.plan_target.Target.TheVariants.{Beside}
+use Rattle.reuse_session.specs.declared.target.Target.{Target}
+use Rattle.reuse_session.specs.declared.target.Target.TheVariants.{Beside}
 use Rattle.reuse_session.specs.declared.reply.Refusal.{Refusal}
 use Rattle.reuse_session.specs.declared.reply.Refusal.TheVariants.{TooLong}
 use Rattle.reuse_session.specs.Listing.{is_among}

@@ -1,5 +1,5 @@
 -- A tree among the files of a store: its paths, and what they hold.
-use Rattle.std.proofs.Common.{◌≡◌, ℕ, Bool, true, false, cond, not, ◌&&◌, ◌||◌, List, [], ◌∷◌, Less, Equal, Ordering, refl, sym, ap, ◌∙◌, Option, None, is_some, IsSome, filter, map}
+use Rattle.std.proofs.Common.{◌≡◌, ℕ, Bool, Some, true, false, cond, not, ◌&&◌, ◌||◌, List, [], ◌∷◌, Less, Equal, Ordering, refl, sym, ap, ◌∙◌, Option, None, is_some, IsSome, filter, map}
 use lib.Dec.{T}
 use Rattle.std.specs.Ordering.{nat_cmp, is_lt, eq_by_cmp}
 use Rattle.std.specs.Cmp.Lexicographic.{slice_cmp}
@@ -13,6 +13,8 @@ use Rattle.std.proofs.lemmas.List.Kept.{IsStrictlySortedBy-filter}
 use Rattle.std.proofs.lemmas.Map.Text.{is_eq-slice_cmp}
 use Rattle.reuse_tree.specs.Path.{lies_under, journal_folder}
 use Rattle.reuse_tree.specs.Files.{Files, AreFiles, tree_of}
+use Rattle.reuse_tree.specs.Store.{reading_of}
+use Rattle.reuse_tree.specs.declared.store.Reading.{Reading}
 use Rattle.reuse_tree.proofs.FileMaps.{tied}
 use Rattle.reuse_session.specs.Listing.{ArePaths, is_among}
 use Rattle.reuse_session.proofs.Differ.{only_keys}
@@ -111,3 +113,7 @@ any_alike q (k ∷ ks) = ap (λ b. b || list_any (eq_by_cmp (slice_cmp nat_cmp) 
 -- a path is a file where it is among the paths
 pub among_keys : (files : Files) (q : List ℕ) → is_among (keys files) q ≡ is_some (get files q)
 among_keys files q = sym (contains_key-keys files q ∙ any_alike q (keys files))
+
+-- what was read of a file of the tree is read of what it holds there
+pub read_there : (files : Files) (path bytes : List ℕ) (limit : ℕ) (reading : Reading) → get (tree_of files) path ≡ Some bytes → reading ≡ reading_of (get files path) limit → reading ≡ reading_of (Some bytes) limit
+read_there files path bytes limit reading here read = read ∙ ap (λ f. reading_of f limit) (sym (of_store files path (ap is_some here)) ∙ here)

@@ -70,3 +70,7 @@ module _ (m : Files) (are : AreFiles m) where
   makes_where_clash Undo (Make path new digest) held turns some clash = absurd (nothing held turns.range.0 some)
   makes_where_clash Undo (Drop path old digest) held turns some clash = refl
   makes_where_clash Undo (Splice path at old new rest seal) held turns some clash = absurd (there path _ turns.range.3.whole clash)
+
+-- a fact of a path and what it holds then, at the names that the two had
+pub sets_as : {path given : List ℕ} {held file : Option (List ℕ)} (Holds : List ℕ → Option (List ℕ) → Type 0) → given ≡ path → held ≡ file → Holds given file → Holds path held
+sets_as {path} {given} {held} {file} Holds paths files h = subst (Holds path) (sym files) (subst (λ p. Holds p file) paths h)

@@ -1,5 +1,5 @@
--- What annotate does at each path of a tree (the reuse tool's manual page of `annotate`; which place is written: this
--- project's profile).
+-- What annotate does at each path of a tree: which place is written, and with what. The options are those of the reuse tool's manual page
+-- of `annotate`; what that page leaves open is decided here.
 use Rattle.std.specs.Prelude.{ℕ, Bool, true, false, not, ◌&&◌, ◌||◌, List, [], ◌++◌, length, take, drop, codes, nat_lt, Option, Some, None, is_some, is_none, Result, Ok, Err, if◌then◌else◌}
 use Rattle.std.specs.List.{list_any}
 use Rattle.std.specs.Str.{bytes_eq}
@@ -26,8 +26,8 @@ use Rattle.reuse_session.specs.declared.command.Scope.{Scope}
 use Rattle.reuse_session.specs.declared.command.Unknown.{Unknown}
 use Rattle.reuse_session.specs.declared.command.Unknown.TheVariants as unknown
 use Rattle.reuse_session.specs.declared.command.Place.TheVariants as place
-use Rattle.reuse_session.specs.declared.plan_target.Target.{Target}
-use Rattle.reuse_session.specs.declared.plan_target.Target.TheVariants.{Inside, Beside, Nowhere}
+use Rattle.reuse_session.specs.declared.target.Target.{Target}
+use Rattle.reuse_session.specs.declared.target.Target.TheVariants.{Inside, Beside, Nowhere}
 use Rattle.reuse_session.specs.declared.reply.Refusal.{Refusal}
 use Rattle.reuse_session.specs.declared.reply.Refusal.TheVariants.{NoSuchPath, IsFolder, NotCovered, TooLong, Unrecognised, Clash}
 

@@ -111,6 +111,10 @@ IsSkipped scope own path bytes pair =
     (HasKind scope own path kind.Unknown × (scope.unknown ≡ unknown.Skip) × ¬ (TakesNeighbour scope own path bytes pair))
     ⊎ ((scope.skip_existing ≡ true) × HasInformation scope own path bytes pair)
 
+-- the path has a file, which is skipped
+abbrev pub IsSkippedAt : Scope → OwnNames → Files → List ℕ → Type 0
+IsSkippedAt scope own tree path = (bytes : List ℕ) × (get tree path ≡ Some bytes) × IsSkipped scope own path bytes (pair_at tree path)
+
 -- the path has a covered file, which is skipped, and then both stay; or is commented; or accompanied
 pub record IsAnnotated (additions : Additions) (how : How) (scope : Scope) (own : OwnNames) (path : List ℕ) (old new : Pair) : Type 0 where
   pub bytes : List ℕ

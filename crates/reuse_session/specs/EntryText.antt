@@ -1,5 +1,5 @@
 -- An entry of the journal: its text.
-use Rattle.std.specs.Prelude.{◌≡◌, ℕ, ◌≤◌, Bool, true, List, [], ◌∷◌, ◌++◌, length, map, codes, decimal, Option, Some, None, Ok, IsUtf8, IsTrue}
+use Rattle.std.specs.Prelude.{◌≡◌, ℕ, zero, suc, ◌≤◌, Bool, true, List, [], ◌∷◌, ◌++◌, length, map, codes, decimal, Option, Some, None, Ok, IsUtf8, IsTrue}
 use Rattle.std.specs.Option.{option_map}
 use Rattle.std.specs.List.{All, join_with_byte, list_any, AllZip}
 use Rattle.json.specs.Print.{quoted}
@@ -144,26 +144,11 @@ pub record IsSoundEntry (entry : Entry) : Type 0 where
 
 -- ---- for private clauses
 
--- bytes in small hexadecimal digits
-abbrev pub hex_value : List ℕ → Data
-hex_value bytes = string (encode_lower bytes)
+-- the making or the removal of a whole file, of which the bytes follow its kind
+abbrev pub whole_text : (key : List ℕ) (digest : Option (List ℕ)) (kind bytes path : List ℕ) → List ℕ
+whole_text key digest kind bytes path = codes "{" ++ digest_text key digest ++ kind ++ hex_text bytes ++ codes ",\"path\":" ++ quoted path ++ codes "}"
 
--- a member whose value is a digest, where one is recorded
-abbrev pub digest_members : List ℕ → Option (List ℕ) → List (List ℕ × Data)
-digest_members key None = []
-digest_members key (Some digest) = (key, hex_value digest) ∷ []
-
--- the value that is written for a change, with small digits
-abbrev pub change_value : Change → Data
-change_value (Make path new after) = object_of (digest_members (codes "after") after ++ make_members path (hex_value new))
-change_value (Drop path old before) = object_of (digest_members (codes "before") before ++ drop_members path (hex_value old))
-change_value (Splice path at old new rest seal) = object_of (
-    digest_members (codes "after") (option_map (λ s. s.after) seal) ++ (codes "at", count at) ∷ digest_members (codes "before") (option_map (λ s. s.before) seal) ++ splice_members path (hex_value old) (hex_value new) rest)
-
--- the value that is written for an entry
-abbrev pub entry_value : Entry → Data
-entry_value e = object_of (
-    (codes "changes", array_of (map change_value e.changes)) ∷
-    (codes "command", string (command_name e.command)) ∷
-    (codes "format", count (format_number (is_any_sealed e.changes))) ∷
-    (codes "when", count e.when) ∷ [])
+-- what stands before the change with this number
+abbrev pub comma_before : ℕ → List ℕ
+comma_before zero = []
+comma_before (suc n) = codes ","

@@ -1,9 +1,9 @@
 -- The journal in files: a head, and a file for each entry, in the folder `.reuse/undo`.
-use Rattle.std.specs.Prelude.{◌≡◌, ◌≢◌, ◌⊎◌, ℕ, ◌+◌, ◌/◌, ◌%◌, List, [], ◌∷◌, ◌++◌, map, reverse, Option, Some, None, IsSome, IsTrue, codes}
+use Rattle.std.specs.Prelude.{◌≡◌, ◌⊎◌, ℕ, ◌+◌, ◌/◌, ◌%◌, List, [], ◌∷◌, ◌++◌, map, reverse, Option, Some, None, IsSome, IsTrue, codes}
 use Rattle.std.specs.List.{All}
 use Rattle.std.specs.FinMap.{get}
-use Rattle.reuse_tree.specs.Path.{lies_under, journal_folder}
-use Rattle.reuse_tree.specs.Files.{Files, AreFiles}
+use Rattle.reuse_tree.specs.Path.{lies_under}
+use Rattle.reuse_tree.specs.Files.{Files}
 use Rattle.reuse_session.specs.Head.{IsGoodHead}
 use Rattle.reuse_session.specs.EntryText.{IsGoodEntry}
 use Rattle.reuse_session.specs.Journal.{Recorded, Journal}

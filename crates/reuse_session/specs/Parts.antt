@@ -1,4 +1,4 @@
--- What a path holds, in three parts.
+-- For private clauses: what a path holds, in three parts.
 use Rattle.std.specs.Prelude.{ℕ, List, ◌++◌, Option, Some, None}
 use Rattle.reuse_session.specs.declared.turn.Parts.{Parts}
 

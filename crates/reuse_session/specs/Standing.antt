@@ -1,5 +1,5 @@
 -- Standings: a tree, and the journal beside it, without a pending entry. Files in doubt between two of them.
-use Rattle.std.specs.Prelude.{◌≡◌, ◌⊎◌, ℕ, ◌+◌, List, [], ◌∷◌, Option, Some, None, codes}
+use Rattle.std.specs.Prelude.{◌≡◌, ◌⊎◌, ◌+◌, List, [], ◌∷◌, Some, None, codes}
 use Rattle.std.specs.List.{All}
 use Rattle.std.specs.FinMap.{get}
 use Rattle.reuse_tree.specs.Path.{journal_folder}

@@ -1,4 +1,4 @@
--- What is known of a file's change once the file was read.
+-- For private clauses: what is known of a file's change once the file was read.
 use Rattle.std.specs.Prelude.{◌≡◌, ℕ, List, Option, Result, Ok, Err}
 use Rattle.reuse_session.specs.Edit.{Edit}
 use Rattle.reuse_notice.specs.declared.adding.Additions.{Additions}
@@ -8,7 +8,7 @@ use Rattle.reuse_tree.specs.Files.{Files}
 use Rattle.reuse_session.specs.Annotate.{target_by_bytes, edit_target}
 use Rattle.reuse_session.specs.Plan.{IsRefusalOf, MakesEdit}
 use Rattle.reuse_session.specs.declared.command.Scope.{Scope}
-use Rattle.reuse_session.specs.declared.plan_target.Target.TheVariants as target
+use Rattle.reuse_session.specs.declared.target.Target.TheVariants as target
 use Rattle.reuse_session.specs.declared.plan_place.Step.{Step}
 use Rattle.reuse_session.specs.declared.plan_place.Step.TheVariants.{Done, Beside}
 use Rattle.reuse_session.specs.declared.reply.Refusal.{Refusal}

@@ -1,4 +1,4 @@
--- What is known of a plan without a listing of the tree.
+-- For private clauses: what is known of a plan without a listing of the tree.
 use Rattle.std.specs.Prelude.{Result, Ok, Err}
 use Rattle.reuse_session.specs.declared.plan_unlisted.Unlisted.{Unlisted}
 use Rattle.reuse_session.specs.declared.plan_unlisted.Unlisted.TheVariants.{Known, Unknown}

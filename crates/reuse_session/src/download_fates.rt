@@ -1,10 +1,7 @@
 // What a download would do.
 ghost use Rattle.std.specs.Prelude.{◌≡◌, Result, Ok, Err, Option, Some, None, IfOk, IfErr};
-ghost use Rattle.std.specs.FinMap.{keys};
+ghost use Rattle.reuse_session.specs.Reading.{keys, tree_of, Files, OnlyReads, RefusedAsRead};
 ghost use Rattle.std.specs.Option.{option_map};
-ghost use Rattle.reuse_tree.specs.Asked.{OnlyReads};
-ghost use Rattle.reuse_tree.specs.Files.{Files, tree_of};
-ghost use Rattle.reuse_session.specs.Answer.{RefusedAsRead};
 ghost use Rattle.reuse_session.specs.Downloads.{id_refusal, download_edits};
 ghost use Rattle.reuse_session.specs.FatePlan.{Plans};
 ghost use Rattle.reuse_session.specs.Fates.{id_refusals, download_fates};

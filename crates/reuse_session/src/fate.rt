@@ -3,9 +3,9 @@ ghost use Rattle.std.specs.Prelude.{◌≡◌, IfOk, IfErr};
 ghost use Rattle.reuse_session.specs.Previews.{IsLookRefusal, IsTold};
 
 use crate::command::Command;
+use crate::items::Items;
 use crate::reply::Refusal;
 use reuse_tree::PathText;
-use std::marker::Model;
 
 /// What a call would do at a path.
 #[derive(Debug, Drop)]
@@ -21,28 +21,7 @@ pub enum Fate {
 }
 
 /// The fates of the paths that a call goes through, in their order.
-#[derive(Debug, Drop)]
-pub struct Fates {
-    pub(crate) fates: Vec<Fate>,
-}
-
-impl Model for Fates {
-    ghost use Rattle.std.specs.Prelude.{List};
-    ghost use Rattle.reuse_session.specs.declared.fate.Fate.{Fate};
-
-    ghost Value = { List Fate };
-
-    ghost view = { λ f. f.fates.items };
-}
-
-impl Fates {
-    /// Lends the fates.
-    pub fn as_slice(&self) -> &[Fate]
-        ensures { result.now ≡ self.now }
-    {
-        self.fates.as_slice()
-    }
-}
+pub type Fates = Items<Fate>;
 
 /// A call that can be looked at before it is made.
 #[derive(Debug, Drop)]

@@ -168,7 +168,7 @@ impl History {
         for entry in self.undone.iter().rev() {
             rows.push(row_of(entry, false))?;
         }
-        Ok(Rows { rows })
+        Ok(Rows::new(rows))
     }
 }
 

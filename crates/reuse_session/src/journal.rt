@@ -7,8 +7,13 @@ mod fault;
 mod fields;
 mod head;
 mod head_text;
+mod json_writing;
 pub mod laws;
 mod numbers;
+mod small_hex;
+mod unread;
+mod written_entry;
+mod written_text;
 
 pub use entry::{Changes, Entry};
 pub use entry_reading::decode_entry;

@@ -1,5 +1,5 @@
 //! Laws of the definitions that the contracts of a session cite.
-ghost use Rattle.std.specs.Prelude.{◌≡◌, ◌≢◌, ◌↔◌, ◌⊎◌, [], List, map, ℕ, nat_eq, true, false, Ok, None, ◌≤◌, ◌++◌, length, Bool, Option, Some, Err};
+ghost use Rattle.std.specs.Prelude.{◌≡◌, ◌≢◌, ◌↔◌, ◌⊎◌, [], List, map, ℕ, nat_eq, true, false, Ok, None, ◌≤◌, ◌++◌, length, Bool, Option, Some, Err, Result};
 ghost use Rattle.std.specs.Ordering.{nat_cmp};
 ghost use Rattle.std.specs.Cmp.Lexicographic.{slice_cmp};
 ghost use Rattle.std.specs.List.{All, Contains, starts_with};
@@ -8,25 +8,26 @@ ghost use Rattle.std.specs.FinMap.{get};
 ghost use Rattle.reuse_header.specs.declared.annotation.How.{How};
 ghost use Rattle.reuse_notice.specs.declared.adding.Additions.{Additions};
 ghost use Rattle.reuse_notice.specs.Plain.{ArePlain, AreUtf8};
-ghost use Rattle.reuse_tree.specs.Files.{Files, AreFiles};
+ghost use Rattle.reuse_tree.specs.Files.{Files, AreFiles, Clashes};
 ghost use Rattle.reuse_tree.specs.Change.{inverse_of};
 ghost use Rattle.reuse_tree.specs.declared.change.Change.{Change};
-ghost use Rattle.reuse_session.specs.Annotated.{Annotates, StaysOrIsText};
+ghost use Rattle.reuse_session.specs.Annotated.{Annotates, IsSkippedAt, StaysOrIsText, pair_at};
 ghost use Rattle.reuse_session.specs.Choice.{is_chosen};
 ghost use Rattle.reuse_session.specs.Chosen.{IsNamed, StandsBeneath, IsAskedFor};
 ghost use Rattle.reuse_session.specs.Command.{HoldsEntry};
 ghost use Rattle.reuse_session.specs.Covered.{is_covered};
 ghost use Rattle.reuse_session.specs.Edit.{Edit};
-ghost use Rattle.reuse_session.specs.Entry.{CanBeMade, IsEntry, LeadsAll, LeadsBy, AreAllSealed};
+ghost use Rattle.reuse_session.specs.Entry.{CanBeMade, IsEntry, IsFirstStuck, LeadsAll, LeadsBy, AreAllSealed};
 ghost use Rattle.reuse_session.specs.Fresh.{IsFresh, first_state};
 ghost use Rattle.reuse_tree.specs.declared.change.Change.TheVariants.{Splice};
 ghost use Rattle.reuse_tree.specs.declared.digest.Seal.{Seal};
-ghost use Rattle.reuse_session.specs.Fates.{first_refusal, fates_of};
+ghost use Rattle.reuse_session.specs.Fates.{first_refusal, fates_of, AreFatesOf};
 ghost use Rattle.reuse_session.specs.InTurn.{LeadsInTurn};
-ghost use Rattle.reuse_session.specs.Journal.{State};
+ghost use Rattle.reuse_session.specs.Journal.{Recorded, State, Travels};
 ghost use Rattle.reuse_session.specs.JournalFiles.{IsFree};
 ghost use Rattle.reuse_session.specs.Opening.{IsFirstBad, IsStuckAt, CanOpenOn};
 ghost use Rattle.reuse_session.specs.Outcome.{outcome_of};
+ghost use Rattle.reuse_session.specs.Previews.{Foresees};
 ghost use Rattle.reuse_session.specs.Reverting.{taken_back};
 ghost use Rattle.reuse_session.specs.Seals.{tree_for, IsAsLeft, IsToldApart, IsUntouched};
 ghost use Rattle.reuse_session.specs.Session.{IsRun, Runs};
@@ -34,6 +35,7 @@ ghost use Rattle.reuse_session.specs.Stops.{HoldState};
 ghost use Rattle.reuse_session.specs.TablePut.{PutsTable};
 ghost use Rattle.reuse_session.specs.TextsPut.{PutsTexts};
 ghost use Rattle.reuse_session.specs.Tree.{changed_paths, undo_folder_of};
+ghost use Rattle.reuse_session.specs.TreeStyles.{OwnNames, styles_in};
 ghost use Rattle.reuse_session.specs.Worked.{worked_paths};
 ghost use Rattle.reuse_session.specs.declared.command.Command.{Command};
 ghost use Rattle.reuse_session.specs.declared.command.Command.TheVariants.{Annotate, ConvertDep5, Download, Revert};
@@ -41,9 +43,11 @@ ghost use Rattle.reuse_session.specs.declared.command.Place.{Place};
 ghost use Rattle.reuse_session.specs.declared.command.Scope.{Scope};
 ghost use Rattle.reuse_session.specs.declared.entry.Way.{Way};
 ghost use Rattle.reuse_session.specs.declared.entry.Way.TheVariants.{Undo};
-ghost use Rattle.reuse_session.specs.declared.fate.Fate.TheVariants.{Changes};
+ghost use Rattle.reuse_session.specs.declared.fate.Fate.{Fate};
+ghost use Rattle.reuse_session.specs.declared.fate.Fate.TheVariants.{Changes, Skipped, Unchanged};
 ghost use Rattle.reuse_session.specs.declared.licence.LicenceText.{LicenceText};
 ghost use Rattle.reuse_session.specs.declared.reply.Refusal.{Refusal};
+ghost use Rattle.reuse_session.specs.declared.reply.Refusal.TheVariants.{Moved};
 ghost use Rattle.reuse_session.specs.declared.reply.Reply.{Reply};
 
 use reuse_header::{annotated_texts_are_texts, annotating_keeps_other_bytes};
@@ -132,13 +136,17 @@ pub fn worked_paths_are_asked_for()
 {}
 
 /// A revert of a sealed step that is the last leads back to the tree before it, as its undo does, and a run that isn't refused leaves that
-/// tree. Of a file that was edited below what a step wrote, that gives way to what was there before, whatever is below it, where that didn't
-/// begin with what was written. And bytes that a step took away come back once.
+/// tree. Of any step, and whatever else the tree is now: where the revert isn't refused, a path that is as the step left it holds what it
+/// held before the step; but where paths that have moved are left, one stays away while a folder or a file is in its way. Of a file that
+/// was edited below what a step wrote, that gives way to what was there before, whatever is below it, where that didn't begin with what was
+/// written. And bytes that a step took away come back once.
 pub fn reverts_take_steps_back()
     ensures undo { (changes : List Change) (skip_moved : Bool) (before after : Files) → IsEntry changes → AreAllSealed true changes → AreFiles before → LeadsAll changes before after
         → outcome_of (Revert changes skip_moved) after ≡ Ok before }
     ensures left { (changes : List Change) (skip_moved : Bool) (before : Files) (when : ℕ) (old new : State) (reply : Reply) → IsEntry changes → AreAllSealed true changes → AreFiles before
         → LeadsAll changes before old.tree → Runs (Revert changes skip_moved) when old (Ok reply) new → new.tree ≡ before }
+    ensures returned { (changes : List Change) (skip_moved : Bool) (before after now reverted : Files) (path : List ℕ) → IsEntry changes → LeadsAll changes before after
+        → outcome_of (Revert changes skip_moved) now ≡ Ok reverted → (skip_moved ≡ false) ⊎ ¬ (Clashes now path) → get now path ≡ get after path → get reverted path ≡ get before path }
     ensures below { (path front old new behind : List ℕ) (rest : ℕ) (seal : Option Seal) → starts_with nat_eq old new ≡ false → length (front ++ new ++ behind) ≤ 16_777_216 → length (front ++ old ++ behind) ≤ 16_777_216
         → taken_back (Splice path (length front) old new rest seal) (Some (front ++ new ++ behind)) ≡ Some (record { path = path; removed = new; written = old; file = Some (front ++ old ++ behind) }) }
     ensures once { (path old new file : List ℕ) (at rest : ℕ) (seal : Option Seal) (edit : Edit) → starts_with nat_eq old new ≡ true → old ≢ new
@@ -151,4 +159,33 @@ pub fn outcome_follows_fates()
     ensures refused { (command : Command) (tree : Files) (refusal : Refusal) → (outcome_of command tree ≡ Err refusal) ↔ (first_refusal (fates_of command tree) ≡ Some refusal) }
     ensures accepted { (command : Command) (tree : Files) → (first_refusal (fates_of command tree) ≡ None) ↔ ((after : Files) × (outcome_of command tree ≡ Ok after)) }
     ensures changed { (command : Command) (tree after : Files) (path : List ℕ) → HoldsEntry command → outcome_of command tree ≡ Ok after → Contains (fates_of command tree) (Changes path) ↔ (get tree path ≢ get after path) }
+{}
+
+/// The fates of an annotation, in the words of what it makes of a tree. A path that is told as skipped is gone through and has a file that is
+/// skipped, as was asked for; and where nothing is refused, each such path is told so. A path that is told as skipped or unchanged holds what
+/// it held then, and so does its neighbour. `own` are the kinds that the tree gives to its own names.
+pub fn annotations_follow_fates()
+    ensures skipped { (places : List Place) (additions : Additions) (how : How) (scope : Scope) (own : OwnNames) (tree : Files) (path : List ℕ) → styles_in tree ≡ Ok own
+        → Contains (fates_of (Annotate places additions how scope) tree) (Skipped path) → Contains (worked_paths scope places tree) path × IsSkippedAt scope own tree path }
+    ensures told { (places : List Place) (additions : Additions) (how : How) (scope : Scope) (own : OwnNames) (tree after : Files) (path : List ℕ) → styles_in tree ≡ Ok own
+        → outcome_of (Annotate places additions how scope) tree ≡ Ok after → Contains (worked_paths scope places tree) path → IsSkippedAt scope own tree path
+        → Contains (fates_of (Annotate places additions how scope) tree) (Skipped path) }
+    ensures stays { (places : List Place) (additions : Additions) (how : How) (scope : Scope) (own : OwnNames) (tree after : Files) (path : List ℕ) → styles_in tree ≡ Ok own
+        → outcome_of (Annotate places additions how scope) tree ≡ Ok after
+        → Contains (fates_of (Annotate places additions how scope) tree) (Unchanged path) ⊎ Contains (fates_of (Annotate places additions how scope) tree) (Skipped path)
+        → pair_at after path ≡ pair_at tree path }
+{
+    annotating_keeps_other_bytes();
+}
+
+/// An undo and a redo follow the fates of the changes that they go through. The first refusal among these names the first path whose change
+/// can't be made, which is what the call is refused by; there is none exactly where all changes can be made. So, where a preview tells
+/// fates, the call that then answers for the same tree is refused exactly by the first refusal among them, and goes through where there is
+/// none.
+pub fn steps_follow_fates()
+    ensures refused { (way : Way) (tree : Files) (changes : List Change) (fates : List Fate) (refusal : Refusal) → AreFatesOf way tree changes fates
+        → (first_refusal fates ≡ Some refusal) ↔ ((path : List ℕ) × (refusal ≡ Moved path) × IsFirstStuck way tree changes path) }
+    ensures accepted { (way : Way) (tree : Files) (changes : List Change) (fates : List Fate) → AreFatesOf way tree changes fates → (first_refusal fates ≡ None) ↔ All (CanBeMade way tree) changes }
+    ensures foretold { (way : Way) (steps : List Recorded) (old new : State) (fates : List Fate) (result : Result Reply Refusal) (refusal : Refusal) → Foresees way steps old.tree (Ok fates)
+        → Travels way steps old result new → (result ≡ Err refusal) ↔ (first_refusal fates ≡ Some refusal) }
 {}

@@ -3,7 +3,6 @@ ghost use Rattle.std.specs.Prelude.{◌≡◌, ◌≢◌, ◌⊎◌, ◌<◌, �
 ghost use Rattle.std.specs.FinMap as map;
 ghost use Rattle.std.specs.List.{All, AllZip};
 ghost use Rattle.reuse_tree.specs.Path.{journal_folder};
-ghost use Rattle.reuse_tree.specs.declared.fault.StoreFault.TheVariants as faults;
 ghost use Rattle.reuse_session.specs.Answer.{HasCause, IsEarly, IsNoClash, IsFailure, IsReadRefusal, IsOpenRefusal, RefusedAsRead};
 ghost use Rattle.reuse_session.specs.Head.{listed, IsSoundHead};
 ghost use Rattle.reuse_session.specs.declared.journal.head.Head.{Head};

@@ -1,27 +1,21 @@
 // Plans a conversion: a `REUSE.toml` in the place of `.reuse/dep5`.
 ghost use Rattle.std.specs.Prelude.{◌≡◌, ◌<◌, ◌≤◌, IfOk, IfErr, Ok, Some, false, length, [], ◌∷◌};
-ghost use Rattle.std.specs.FinMap.{get, keys};
-ghost use Rattle.reuse_tree.specs.Files.{Files, tree_of};
-ghost use Rattle.reuse_tree.specs.Store.{reading_of};
-ghost use Rattle.reuse_tree.specs.declared.fault.StoreFault.TheVariants as faults;
+ghost use Rattle.reuse_session.specs.Reading.{get, keys, reading_of, tree_of, Files, IsOfPlan, OnlyReads, RefusedAsRead};
 ghost use Rattle.reuse_tree.specs.Change.{sealed_drop, sealed_make};
-ghost use Rattle.reuse_session.specs.Answer.{IsOfPlan, RefusedAsRead};
 ghost use Rattle.reuse_session.specs.Refused.{IsNoFault, dep5_refusal};
 ghost use Rattle.reuse_session.specs.Listing.{is_among};
 ghost use Rattle.reuse_session.specs.Conversion.{dep5_path, toml_path, conversion_edits};
 ghost use Rattle.reuse_dep5.specs.Conversion.{converted};
 ghost use Rattle.reuse_session.specs.Plan.{AnswersEdits};
-ghost use Rattle.reuse_tree.specs.Asked.{OnlyReads};
 
 use crate::clash::is_clash;
+use crate::limits::LONGEST_FILE;
 use crate::listing::{is_among, tree_paths};
 use crate::reply::Refusal;
 use reuse_dep5::{Dep5Refusal, convert_dep5};
 use reuse_text::Bytes;
 use reuse_tree::{Change, PathText, Reading, Store};
 use std::alloc::{AllocError, Global};
-
-const LONGEST_FILE: usize = 16_777_216;
 
 /// The changes of a conversion, or its first refusal.
 pub(crate) fn plan_conversion<S: Store>(

@@ -1,29 +1,25 @@
 // Plans a download: a file for each licence's text.
 ghost use Rattle.std.specs.Prelude.{◌≡◌, ◌<◌, ◌≤◌, IfOk, IfErr, map, None, unwrap_or, []};
 ghost use Rattle.std.specs.Option.{option_copied};
-ghost use Rattle.std.specs.FinMap.{keys};
+ghost use Rattle.reuse_session.specs.Reading.{keys, tree_of, Files, IsOfPlan, OnlyReads, RefusedAsRead};
 ghost use Rattle.reuse_notice.specs.Sets.{set_of};
-ghost use Rattle.reuse_tree.specs.Files.{Files, tree_of};
-ghost use Rattle.reuse_tree.specs.declared.fault.StoreFault.TheVariants as faults;
-ghost use Rattle.reuse_session.specs.Answer.{IsOfPlan, RefusedAsRead};
 ghost use Rattle.reuse_session.specs.Refused.{IsNoFault, IsRefused};
 ghost use Rattle.reuse_session.specs.Licence.{licence_path};
 ghost use Rattle.reuse_session.specs.Downloads.{text_for, refusal_of_found, id_refusal, ids_refusal, download_edits};
 ghost use Rattle.reuse_session.specs.DownloadPlan.{made_at};
 ghost use Rattle.reuse_session.specs.Plan.{AnswersEdits};
-ghost use Rattle.reuse_tree.specs.Asked.{OnlyReads};
 
 use crate::clash::is_clash;
 use crate::licence::LicenceText;
 use crate::licence_file::{licence_id, licence_path, text_for};
 use crate::licence_id::as_id;
+use crate::limits::LONGEST_FILE;
 use crate::listing::{is_among, tree_paths};
+use crate::places::sorted;
 use crate::reply::Refusal;
 use reuse_text::Bytes;
 use reuse_tree::{Change, PathText, Store};
 use std::alloc::{AllocError, Global};
-
-const LONGEST_FILE: usize = 16_777_216;
 
 /// The changes of a download, or its first refusal.
 pub(crate) fn plan_download<S: Store>(
@@ -53,7 +49,7 @@ pub(crate) fn download_changes(
 {
     let ids = sorted_ids(alloc, ids)?;
     match made_paths(alloc, paths, &ids, texts) {
-        Ok(made) => Ok(made_files(alloc, texts, sorted_paths(made))?),
+        Ok(made) => Ok(made_files(alloc, texts, sorted(made))?),
         Err(refusal) => Err(refusal),
     }
 }
@@ -76,16 +72,6 @@ fn copied_ids(alloc: Global, ids: &[Bytes]) -> Result<Vec<Bytes>, AllocError>
         copied.push(id.try_clone(alloc)?)?;
     }
     Ok(copied)
-}
-
-// The paths in byte order, without repeats.
-fn sorted_paths(paths: Vec<PathText>) -> Vec<PathText>
-    ensures { result.items ≡ set_of paths.items }
-{
-    let mut sorted = paths;
-    sorted.sort_unstable();
-    sorted.dedup();
-    sorted
 }
 
 // The paths of the files that are made of the ids' texts, or the first refusal. `paths` are those of the tree.

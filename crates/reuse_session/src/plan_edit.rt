@@ -1,9 +1,7 @@
 // The change of a place, by what an annotation makes of its bytes.
 ghost use Rattle.std.specs.Prelude.{◌≡◌, ◌≤◌, [], IfOk, IfErr, Some, None, length};
-ghost use Rattle.std.specs.FinMap.{get};
+ghost use Rattle.reuse_session.specs.Reading.{get, Files, IsOfPlan};
 ghost use Rattle.reuse_header.specs.Splices.{IsDue, answer_of};
-ghost use Rattle.reuse_tree.specs.Files.{Files};
-ghost use Rattle.reuse_session.specs.Answer.{IsOfPlan};
 ghost use Rattle.reuse_session.specs.Annotate.{edit_by};
 ghost use Rattle.reuse_session.specs.HeaderFaults.{refused_by};
 ghost use Rattle.reuse_session.specs.Annotations.{Fits, Due};

@@ -1,11 +1,8 @@
 // What a run of a command would do, path by path.
 ghost use Rattle.std.specs.Prelude.{◌≡◌, ◌++◌, ◌∷◌, [], Result, Ok, Err, Option, Some, None, List, IfOk, IfErr, OnOk, map, not, ◌&&◌, if◌then◌else◌};
-ghost use Rattle.std.specs.FinMap.{keys};
+ghost use Rattle.reuse_session.specs.Reading.{keys, tree_of, Files, OnlyReads, RefusedAsRead};
 ghost use Rattle.reuse_header.specs.Names.{lookup};
-ghost use Rattle.reuse_tree.specs.Asked.{OnlyReads};
-ghost use Rattle.reuse_tree.specs.Files.{Files, tree_of};
 ghost use Rattle.reuse_session.specs.Annotate.{annotated_at};
-ghost use Rattle.reuse_session.specs.Answer.{RefusedAsRead};
 ghost use Rattle.reuse_session.specs.Command.{has_root};
 ghost use Rattle.reuse_session.specs.Edit.{Edit};
 ghost use Rattle.reuse_session.specs.FatePlan.{MakesUnlessRefused, Plans, Adds};
@@ -90,7 +87,7 @@ fn with_limit(planned: Planned) -> Result<Fates, AllocError>
     if over {
         fates.push(Fate::Refused(Refusal::TooMany))?;
     }
-    Ok(Fates { fates })
+    Ok(Fates::new(fates))
 }
 
 // Whether there are changes, and they are more than an entry holds.

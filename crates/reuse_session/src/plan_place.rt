@@ -1,16 +1,12 @@
 // What annotate does at the place that was chosen.
 ghost use Rattle.std.specs.Prelude.{◌≡◌, ◌≤◌, ◌++◌, ℕ, List, false, true, length, IfOk, IfErr, IfSome, IfNone, Some, None, Ok, Err, nat_lt};
-ghost use Rattle.std.specs.FinMap.{get, keys};
+ghost use Rattle.reuse_session.specs.Reading.{get, keys, reading_of, Files, IsOfPlan};
 ghost use Rattle.reuse_header.specs.declared.annotation.How.{How};
 ghost use Rattle.reuse_header.specs.Names.{lookup};
 ghost use Rattle.reuse_session.specs.TreeStyles.{OwnNames};
 ghost use Rattle.reuse_notice.specs.declared.adding.Additions.{Additions};
-ghost use Rattle.reuse_tree.specs.Files.{Files};
-ghost use Rattle.reuse_tree.specs.Store.{reading_of};
 ghost use Rattle.reuse_tree.specs.declared.fault.StoreFault.{StoreFault};
-ghost use Rattle.reuse_session.specs.Answer.{IsOfPlan};
-ghost use Rattle.reuse_session.specs.Annotate.{neighbour_of, annotated_at, target_by_bytes, edit_target, edit_inside, edit_neighbour};
-ghost use Rattle.reuse_session.specs.Covered.{is_covered};
+ghost use Rattle.reuse_session.specs.Annotate.{neighbour_of, annotated_at, target_by_bytes, edit_inside, edit_neighbour};
 ghost use Rattle.reuse_session.specs.Listing.{is_among};
 ghost use Rattle.reuse_session.specs.Plan.{AnswersEdit};
 ghost use Rattle.reuse_session.specs.Steps.{StepsTo, StepsBy};
@@ -18,10 +14,12 @@ ghost use Rattle.reuse_session.specs.declared.command.Scope.{Scope};
 
 use crate::clash::is_clash;
 use crate::command::{Place, Scope};
+use crate::limits::LONGEST_FILE;
 use crate::listing::is_folder;
 use crate::plan_edit::{change_by, making_by};
-use crate::plan_target::{Target, neighbour_of, target_by_bytes};
+use crate::plan_target::{neighbour_of, target_by_bytes};
 use crate::reply::Refusal;
+use crate::target::Target;
 use reuse_header::{
     How, Style, StyleTable, annotate_file, annotate_neighbour, annotations_fit, find,
     neighbour_has_tag,
@@ -29,8 +27,6 @@ use reuse_header::{
 use reuse_notice::Additions;
 use reuse_tree::{Change, PathError, PathText, Reading};
 use std::alloc::Global;
-
-const LONGEST_FILE: usize = 16_777_216;
 
 /// What is known of a file's change once the file was read.
 #[derive(Debug, Drop)]

@@ -1,16 +1,13 @@
 // Plans a revert: takes the changes of a step back on whatever the tree is now.
 ghost use Rattle.std.specs.Prelude.{◌≡◌, ◌≢◌, ◌↔◌, ◌+◌, ◌++◌, ◌≤◌, ℕ, IfOk, IfErr, OnOk, IsSome, IsTrue, List, Ok, Option, Some, None, false, true, length};
 ghost use Rattle.std.specs.Option.{option_to_list};
-ghost use Rattle.std.specs.FinMap.{get, keys};
+ghost use Rattle.reuse_session.specs.Reading.{get, keys, reading_of, tree_of, Files, IsOfPlan, OnlyReads, RefusedAsRead};
 ghost use Rattle.std.specs.List.{list_any};
 ghost use Rattle.std.specs.Str.{bytes_eq};
-ghost use Rattle.reuse_tree.specs.Asked.{OnlyReads};
 ghost use Rattle.reuse_tree.specs.Change.{path_of, IsProper};
-ghost use Rattle.reuse_tree.specs.Files.{Files, tree_of};
-ghost use Rattle.reuse_tree.specs.Store.{reading_of};
 ghost use Rattle.reuse_tree.specs.declared.change.Change.TheVariants.{Make, Splice};
 ghost use Rattle.reuse_tree.specs.declared.fault.StoreFault.{StoreFault};
-ghost use Rattle.reuse_session.specs.Answer.{IsFailure, IsOfPlan, IsTestRefusal, RefusedAsRead};
+ghost use Rattle.reuse_session.specs.Answer.{IsFailure, IsTestRefusal};
 ghost use Rattle.reuse_session.specs.Entry.{makes, IsEntry, IsSmall};
 ghost use Rattle.reuse_session.specs.EntryText.{HavePaths};
 ghost use Rattle.reuse_session.specs.Plan.{AnswersEdits, MakesEdit};
@@ -21,6 +18,7 @@ ghost use Rattle.reuse_session.specs.declared.entry.Way.TheVariants.{Undo};
 use crate::clash::is_clash;
 use crate::entry::Way;
 use crate::entry_changes::EntryChanges;
+use crate::limits::LONGEST_FILE;
 use crate::listing::tree_paths;
 use crate::perform::makes_any;
 use crate::reply::Refusal;
@@ -28,8 +26,6 @@ use crate::turn::makes;
 use reuse_text::Bytes;
 use reuse_tree::{Change, Digest, PathText, Reading, Seal, Store};
 use std::alloc::{AllocError, Global};
-
-const LONGEST_FILE: usize = 16_777_216;
 
 /// The changes of a revert, or its first refusal.
 pub(crate) fn plan_revert<S: Store>(

@@ -1,21 +1,17 @@
 // The styles that a tree gives to its own names.
 ghost use Rattle.std.specs.Prelude.{◌≡◌, List, ℕ, Option, IfOk, IfErr, Ok, Err};
 ghost use Rattle.reuse_header.specs.Names.{lookup};
-ghost use Rattle.reuse_tree.specs.Asked.{OnlyReads};
-ghost use Rattle.reuse_tree.specs.Files.{tree_of};
-ghost use Rattle.reuse_tree.specs.Store.{reading_of};
+ghost use Rattle.reuse_session.specs.Reading.{reading_of, tree_of, IsOfPlan, OnlyReads, RefusedAsRead};
 ghost use Rattle.reuse_tree.specs.declared.fault.StoreFault.{StoreFault};
-ghost use Rattle.reuse_session.specs.Answer.{IsOfPlan, RefusedAsRead};
 ghost use Rattle.reuse_session.specs.Plan.{IsRefusalOf};
 ghost use Rattle.reuse_session.specs.TreeStyles.{styles_path, styles_where, styles_in, styles_refusal};
 
 use crate::journal_files::path_of_text;
+use crate::limits::LONGEST_FILE;
 use crate::reply::Refusal;
 use reuse_header::{StyleTable, StylesRefusal};
 use reuse_tree::{PathText, Reading, Store};
 use std::alloc::Global;
-
-const LONGEST_FILE: usize = 16_777_216;
 
 /// The styles by the `.reuse/styles.toml` of the tree that the store has: those of every tree where it has no such file.
 pub(crate) fn read_styles<S: Store>(alloc: Global, store: &mut S) -> Result<StyleTable, Refusal>

@@ -1,4 +1,4 @@
-// Where the licensing information of a file goes.
+// The choice of where the licensing information of a file goes.
 ghost use Rattle.std.specs.Prelude.{◌≡◌, ◌≤◌, ◌++◌, IfOk, IfErr, length};
 ghost use Rattle.std.specs.FinMap.{keys};
 ghost use Rattle.reuse_header.specs.Names.{kind_in, lookup};
@@ -11,21 +11,11 @@ ghost use Rattle.reuse_tree.specs.declared.fault.StoreFault.{StoreFault};
 use crate::command::{Scope, Unknown};
 use crate::listing::is_among;
 use crate::reply::Refusal;
-use reuse_header::{Kind, Style, StyleTable};
+use crate::target::Target;
+use reuse_header::{Kind, StyleTable};
 use reuse_text::{Bytes, is_text};
 use reuse_tree::PathText;
 use std::alloc::{AllocError, Global};
-
-/// Where the licensing information of a file goes.
-#[derive(Clone, Copy, Debug)]
-pub(crate) enum Target {
-    /// Into a comment of the file, in this style.
-    Inside(Style),
-    /// Into its neighbour.
-    Beside,
-    /// Nowhere: the file is skipped.
-    Nowhere,
-}
 
 /// The bytes of a neighbour's path.
 pub(crate) fn neighbour_of(alloc: Global, path: &PathText) -> Result<Bytes, AllocError>

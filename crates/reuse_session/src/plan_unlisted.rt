@@ -1,12 +1,8 @@
 // What annotate does at a path, as far as that is known without a listing of the tree.
 ghost use Rattle.std.specs.Prelude.{◌≡◌, ℕ, List, true, false, length, nat_lt, IfErr, None, Some};
-ghost use Rattle.std.specs.FinMap.{get};
+ghost use Rattle.reuse_session.specs.Reading.{get, reading_of, tree_of, IsOfPlan, OnlyReads, RefusedAsRead};
 ghost use Rattle.reuse_header.specs.Names.{lookup};
 ghost use Rattle.reuse_session.specs.TreeStyles.{OwnNames};
-ghost use Rattle.reuse_tree.specs.Asked.{OnlyReads};
-ghost use Rattle.reuse_tree.specs.Files.{tree_of};
-ghost use Rattle.reuse_tree.specs.Store.{reading_of};
-ghost use Rattle.reuse_session.specs.Answer.{IsOfPlan, RefusedAsRead};
 ghost use Rattle.reuse_session.specs.Annotate.{annotated_at, neighbour_of};
 ghost use Rattle.reuse_session.specs.Covered.{is_covered};
 ghost use Rattle.reuse_session.specs.Plan.{AnswersEdit};
@@ -14,6 +10,7 @@ ghost use Rattle.reuse_session.specs.Unlisted.{IfKnown};
 
 use crate::command::Scope;
 use crate::covered::is_covered;
+use crate::limits::LONGEST_FILE;
 use crate::plan_place::{Step, neighbour_path, plan_neighbour, plan_reading};
 use crate::plan_target::goes_beside_unread;
 use crate::reply::Refusal;
@@ -21,8 +18,6 @@ use reuse_header::{How, StyleTable};
 use reuse_notice::Additions;
 use reuse_tree::{Change, PathText, Reading, Store};
 use std::alloc::Global;
-
-const LONGEST_FILE: usize = 16_777_216;
 
 /// What is known without a listing of the tree.
 #[derive(Debug, Drop)]

@@ -1,11 +1,8 @@
 // What a revert would do.
 ghost use Rattle.std.specs.Prelude.{◌≡◌, IfOk, IfErr, OnOk, map, true};
-ghost use Rattle.std.specs.FinMap.{keys};
+ghost use Rattle.reuse_session.specs.Reading.{keys, tree_of, OnlyReads, RefusedAsRead};
 ghost use Rattle.std.specs.List.{list_any};
-ghost use Rattle.reuse_tree.specs.Asked.{OnlyReads};
 ghost use Rattle.reuse_tree.specs.Change.{path_of, IsProper};
-ghost use Rattle.reuse_tree.specs.Files.{tree_of};
-ghost use Rattle.reuse_session.specs.Answer.{RefusedAsRead};
 ghost use Rattle.reuse_session.specs.Entry.{makes, IsEntry, IsSmall};
 ghost use Rattle.reuse_session.specs.FatePlan.{back_at, Adds, Plans};
 ghost use Rattle.reuse_session.specs.Fates.{revert_fate};

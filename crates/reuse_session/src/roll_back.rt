@@ -5,7 +5,6 @@ ghost use Rattle.std.specs.FinMap as map;
 ghost use Rattle.std.specs.List.{All};
 ghost use Rattle.reuse_tree.specs.Change.{path_of, IsProper};
 ghost use Rattle.reuse_tree.specs.Files.{Files, AreFiles, Clashes, tree_of};
-ghost use Rattle.reuse_tree.specs.declared.fault.StoreFault.TheVariants as faults;
 ghost use Rattle.reuse_session.specs.Answer.{told_of, HasCause, IsEarly, IsNoClash, IsTestRefusal, IsRollBackRefusal, RefusedAsRead};
 ghost use Rattle.reuse_session.specs.Carried.{IsSetBack, IsRolledBack, NotesMoves, StopsRollingBack};
 ghost use Rattle.reuse_session.specs.Entry.{makes, opposite, IsEntry, IsReady, IsSmall, SomeMade, Steps, CanBeSetBack, IsFirstWithout};
@@ -18,9 +17,10 @@ ghost use Rattle.reuse_tree.specs.Asked.{OnlyReads, IsLater, FailsAsRead};
 
 use crate::entry::Way;
 use crate::journal_files::{HeadPath, put_head};
+use crate::limits::LONGEST_FILE;
 use crate::perform::{can_be_made, paths_to_heed};
 use crate::reply::{Cause, Refusal};
-use crate::turn::{LONGEST_FILE, can_turn, is_ready, put_turned, turned};
+use crate::turn::{can_turn, is_ready, put_turned, turned};
 use reuse_tree::{Change, PathText, Reading, Store, StoreFault};
 use std::alloc::Global;
 

@@ -1,29 +1,26 @@
 // Which of the files that annotate leaves as they are were skipped.
 ghost use Rattle.std.specs.Prelude.{◌≡◌, ◌≤◌, ◌&&◌, Ok, Err, None, true, is_some, length, IfOk, IfErr};
-ghost use Rattle.std.specs.FinMap.{get, keys};
+ghost use Rattle.reuse_session.specs.Reading.{get, keys, tree_of, Files, OnlyReads, RefusedAsRead};
 ghost use Rattle.reuse_header.specs.Header.{header_of};
 ghost use Rattle.reuse_header.specs.Names.{lookup};
 ghost use Rattle.reuse_header.specs.declared.annotation.How.{How};
 ghost use Rattle.reuse_notice.specs.declared.adding.Additions.{Additions};
-ghost use Rattle.reuse_tree.specs.Asked.{OnlyReads};
-ghost use Rattle.reuse_tree.specs.Files.{Files, tree_of};
 ghost use Rattle.reuse_tree.specs.declared.fault.StoreFault.{StoreFault};
 ghost use Rattle.reuse_session.specs.Annotate.{neighbour_of, target_by_bytes, annotated_at, edit_beside};
-ghost use Rattle.reuse_session.specs.Answer.{RefusedAsRead};
 ghost use Rattle.reuse_session.specs.Covered.{is_covered};
 ghost use Rattle.reuse_session.specs.Fates.{has_tagged, is_skipped_at, is_skipped};
 ghost use Rattle.reuse_session.specs.Previews.{IsLookRefusal};
 
 use crate::command::Scope;
 use crate::fate::told;
+use crate::limits::LONGEST_FILE;
 use crate::plan_place::neighbour_path;
-use crate::plan_target::{Target, goes_beside, target_by_bytes};
+use crate::plan_target::{goes_beside, target_by_bytes};
 use crate::reply::Refusal;
+use crate::target::Target;
 use reuse_header::{Style, StyleTable, find, neighbour_has_tag};
 use reuse_tree::{PathText, Reading, Store};
 use std::alloc::Global;
-
-const LONGEST_FILE: usize = 16_777_216;
 
 /// Whether a file was skipped that annotate leaves as it is. `paths` are those of the tree.
 pub(crate) fn is_skipped<S: Store>(

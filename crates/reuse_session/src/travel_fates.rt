@@ -1,10 +1,8 @@
 // What an undo or a redo would do, path by path.
 ghost use Rattle.std.specs.Prelude.{◌≡◌, IfOk, IfErr, true};
 ghost use Rattle.std.specs.FinMap as map;
-ghost use Rattle.reuse_tree.specs.Asked.{OnlyReads};
+ghost use Rattle.reuse_session.specs.Reading.{tree_of, OnlyReads, RefusedAsRead};
 ghost use Rattle.reuse_tree.specs.Change.{path_of, IsProper};
-ghost use Rattle.reuse_tree.specs.Files.{tree_of};
-ghost use Rattle.reuse_session.specs.Answer.{RefusedAsRead};
 ghost use Rattle.reuse_session.specs.Entry.{makes, IsEntry, IsSmall};
 ghost use Rattle.reuse_session.specs.Fates.{IsFateOf, AreFatesOf};
 ghost use Rattle.reuse_session.specs.Previews.{IsLookRefusal};
@@ -34,7 +32,7 @@ pub(crate) fn travel_fates<S: Store>(
     for change in changes {
         fates.push(change_fate(alloc, store, change, way, &paths)?)?;
     }
-    Ok(Fates { fates })
+    Ok(Fates::new(fates))
 }
 
 // The fate of a change, beside files of these paths.

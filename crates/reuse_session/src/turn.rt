@@ -12,12 +12,10 @@ ghost use Rattle.reuse_session.specs.Entry.{makes, IsSmall, IsReady, Steps, Turn
 ghost use Rattle.reuse_tree.specs.Asked.{OnlyReads, IsLater, FailsAsRead};
 
 use crate::entry::Way;
+use crate::limits::LONGEST_FILE;
 use crate::reply::Cause;
 use reuse_tree::{Change, ChangeState, Reading, Store, StoreFault};
 use std::alloc::Global;
-
-/// The most bytes that a file of the tree has.
-pub const LONGEST_FILE: usize = 16_777_216;
 
 /// Whether the change, gone through this way, makes a file.
 pub fn makes(change: &Change, way: Way) -> bool

@@ -12,10 +12,9 @@ ghost use Rattle.reuse_session.specs.EntryTests.{AreApart, IsSoundChange, Passes
 ghost use Rattle.reuse_session.specs.Listing.{is_folder_of};
 ghost use Rattle.reuse_session.specs.Tree.{is_of_tree};
 
+use crate::limits::LONGEST_FILE;
 use crate::plan_size::is_too_many;
 use reuse_tree::{Change, Digest, PathText};
-
-const LONGEST_FILE: usize = 16_777_216;
 
 /// Whether an entry may have these changes.
 pub(crate) fn are_sound(changes: &[Change]) -> bool
@@ -147,7 +146,7 @@ fn has_file_under(folder: &PathText, later: &[Change]) -> bool
     later[start].path().lies_under(folder)
 }
 
-// How many changes are of paths below all that lie under a folder.
+// How many changes are of paths below all that lie under a folder: mostly none.
 fn first_inside(folder: &PathText, later: &[Change]) -> usize
     requires { IsStrictlySortedBy (slice_cmp nat_cmp) (paths_of later.now) }
     ensures bound { result ≤ length later.now }
@@ -156,6 +155,9 @@ fn first_inside(folder: &PathText, later: &[Change]) -> usize
         (λ change. is_lt (slice_cmp nat_cmp (path_of change) (folder.now ++ 47 ∷ [])) ≡ false)
         later.now result }
 {
+    if later.is_empty() || !precedes_inside(&later[0], folder) {
+        return 0;
+    }
     later.partition_point(|change| precedes_inside(change, folder))
 }
 

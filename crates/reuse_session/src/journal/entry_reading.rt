@@ -1,5 +1,5 @@
 // An entry's text, read.
-ghost use Rattle.std.specs.Prelude.{◌≡◌, ◌≤◌, IfOk};
+ghost use Rattle.std.specs.Prelude.{◌≡◌, ◌≤◌, IfOk, length};
 ghost use Rattle.serde_json.specs.View.{view, items_view};
 ghost use Rattle.reuse_session.specs.Decoded.{Gives, GivesBy, IsAnswer};
 ghost use Rattle.reuse_session.specs.EntryText.{HavePaths, IsGoodEntry, IsJsonEntry};
@@ -16,6 +16,8 @@ use crate::journal::fields::{
     bytes_of, expect_text, field, fields, finish, is_second_format, moment_of, next_digest,
     number_of, parse, path_of, text_of,
 };
+use crate::journal::unread::Unread;
+use crate::journal::written_entry::read_written;
 use reuse_tree::{Change, Digest, Seal};
 use serde_json::Value;
 use std::alloc::Global;
@@ -30,6 +32,19 @@ pub fn decode_entry(alloc: Global, text: &[u8]) -> Result<Entry, DecodeFault>
     if text.len() > LONGEST_TEXT {
         return Err(DecodeFault::NotGood);
     }
+    match read_written(alloc, text) {
+        Ok(entry) => Ok(entry),
+        Err(Unread::Memory) => Err(DecodeFault::Memory),
+        Err(Unread::Foreign) => judge(alloc, text),
+    }
+}
+
+// The same, however the text is spelled.
+fn judge(alloc: Global, text: &[u8]) -> Result<Entry, DecodeFault>
+    requires { length text.now ≤ 268_435_456 }
+    ensures ok { IfOk result (IsGoodEntry text.now) }
+    ensures only { (entry : Entry) → IsGoodEntry text.now entry → IsAnswer result entry }
+{
     let entry = read_entry(alloc, text)?;
     if are_sound(entry.changes.as_slice()) {
         Ok(entry)

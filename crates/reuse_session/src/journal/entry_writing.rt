@@ -1,20 +1,17 @@
 // An entry as text.
-ghost use Rattle.std.specs.Prelude.{◌≡◌, ◌≤◌, true, Some, None, IfOk, OnOk, IsTrue, IsUtf8, length, map, string_bytes};
-ghost use Rattle.std.specs.List.{All};
-ghost use Rattle.serde_json.specs.View.{view};
-ghost use Rattle.hex.specs.Hex.{encode_lower, IsBytes};
-ghost use Rattle.reuse_tree.specs.Path.{is_path};
+ghost use Rattle.std.specs.Prelude.{◌≡◌, ◌≤◌, ◌++◌, true, Some, None, IfOk, OnOk, length, map};
+ghost use Rattle.std.specs.List.{All, join_with_byte};
+ghost use Rattle.std.specs.Option.{option_map};
+ghost use Rattle.hex.specs.Hex.{IsBytes};
 ghost use Rattle.reuse_session.specs.Entry.{entry_size, IsEntry};
-ghost use Rattle.reuse_tree.specs.declared.change.Change.TheVariants.{Make, Drop, Splice};
-ghost use Rattle.reuse_session.specs.EntryText.{command_name, change_value, entry_text, entry_value, is_any_sealed, AreDigestBytes, IsChangeInMemory, IsGoodEntry};
+ghost use Rattle.reuse_tree.specs.declared.change.Change.TheVariants.{Splice};
+ghost use Rattle.reuse_session.specs.EntryText.{command_name, change_text, entry_text, comma_before, is_any_sealed, whole_text, AreDigestBytes, IsChangeInMemory, IsGoodEntry};
 ghost use Rattle.reuse_session.specs.Format.{format_number, knows};
-ghost use Rattle.reuse_session.specs.Json.{array_of};
 
 use crate::CommandName;
 use crate::journal::entry::Entry;
-use reuse_text::Bytes;
+use crate::journal::json_writing::{append_digest, append_hex, append_number, append_string};
 use reuse_tree::{Change, Digest, PathText, Seal};
-use serde_json::{Value, json};
 use std::alloc::{AllocError, Global};
 
 /// The compact JSON text of an entry.
@@ -24,24 +21,102 @@ pub fn encode_entry(alloc: Global, entry: &Entry) -> Result<Vec<u8>, AllocError>
     ensures bound { IsEntry entry.now.changes
         → IfOk result (λ text. length text.items ≤ entry_size entry.now.changes) }
 {
-    let value = entry_json(alloc, entry)?;
-    value.to_vec(alloc)
+    is_in_memory(entry);
+    let mut text = Vec::with_capacity(alloc, room_for(entry.changes.as_slice()))?;
+    append_entry(alloc, &mut text, entry)?;
+    Ok(text)
 }
 
-fn entry_json(alloc: Global, entry: &Entry) -> Result<Value, AllocError>
-    ensures value { IfOk result (λ value. view value ≡ entry_value entry.now) }
-    ensures changes { OnOk result (All IsChangeInMemory entry.now.changes) }
-    ensures when { OnOk result (entry.now.when ≤ 250_000_000_000) }
+// What the types of an entry's parts keep, for the proof alone.
+fn is_in_memory(entry: &Entry)
+    ensures changes { All IsChangeInMemory entry.now.changes }
+    ensures when { entry.now.when ≤ 250_000_000_000 }
 {
-    let changes = changes_json(alloc, entry.changes.as_slice())?;
-    let command = name_of(entry.command);
-    let when = entry.when.seconds();
-    let format = format_of(entry.changes.as_slice());
-    json!(in alloc; {"changes": changes, "command": command, "format": format, "when": when})
+    let _when = entry.when.seconds();
+    are_in_memory(entry.changes.as_slice());
+}
+
+fn are_in_memory(changes: &[Change])
+    ensures { All IsChangeInMemory changes.now }
+{
+    for change in changes {
+        is_change_in_memory(change);
+    }
+}
+
+fn is_change_in_memory(change: &Change)
+    ensures { IsChangeInMemory change.now }
+{
+    let _path = change.path().text();
+    match change {
+        Change::Make { new, after, .. } => {
+            are_bytes(new.as_slice());
+            is_digest(*after);
+        }
+        Change::Drop { old, before, .. } => {
+            are_bytes(old.as_slice());
+            is_digest(*before);
+        }
+        Change::Splice { old, new, seal, .. } => {
+            are_bytes(old.as_slice());
+            are_bytes(new.as_slice());
+            is_digest(before(*seal));
+            is_digest(after(*seal));
+        }
+    }
+}
+
+fn are_bytes(bytes: &[u8])
+    ensures { IsBytes bytes.now }
+{
+    let _len = bytes.len();
+}
+
+fn is_digest(digest: Option<Digest>)
+    ensures { AreDigestBytes digest }
+{
+    if let Some(digest) = digest {
+        let _digest = digest.as_slice();
+    }
+}
+
+// About how long the text is. It only spares the text from being moved as it grows.
+fn room_for(changes: &[Change]) -> usize {
+    let mut room: usize = 128;
+    for change in changes {
+        room = room.saturating_add(room_for_one(change));
+    }
+    room
+}
+
+fn room_for_one(change: &Change) -> usize {
+    let fixed: usize = if change.is_sealed() { 288 } else { 128 };
+    let bytes = match change {
+        Change::Make { new, .. } => new.len(),
+        Change::Drop { old, .. } => old.len(),
+        Change::Splice { old, new, .. } => old.len().saturating_add(new.len()),
+    };
+    fixed
+        .saturating_add(change.path().text().len())
+        .saturating_add(bytes.saturating_mul(2))
+}
+
+fn append_entry(alloc: Global, text: &mut Vec<u8>, entry: &Entry) -> Result<(), AllocError>
+    ensures { OnOk result (text.new.items ≡ text.old.items ++ entry_text entry.now) }
+{
+    text.extend_from_slice(b"{\"changes\":[")?;
+    append_changes(alloc, text, entry.changes.as_slice())?;
+    text.extend_from_slice(b"],\"command\":\"")?;
+    text.extend_from_slice(name_of(entry.command).as_bytes())?;
+    text.extend_from_slice(b"\",\"format\":")?;
+    append_number(text, format_of(entry.changes.as_slice()))?;
+    text.extend_from_slice(b",\"when\":")?;
+    append_number(text, entry.when.seconds())?;
+    text.extend_from_slice(b"}")
 }
 
 // The number of the format of these changes: the second where they are sealed.
-fn format_of(changes: &[Change]) -> u32
+fn format_of(changes: &[Change]) -> u64
     ensures { result ≡ format_number (is_any_sealed changes.now) }
 {
     if is_any_sealed(changes) { 2 } else { 1 }
@@ -66,142 +141,112 @@ fn name_of(command: CommandName) -> &'static str
     }
 }
 
-fn changes_json(alloc: Global, changes: &[Change]) -> Result<Value, AllocError>
-    ensures value { IfOk result (λ value. view value ≡ array_of (map change_value changes.now)) }
-    ensures changes { OnOk result (All IsChangeInMemory changes.now) }
+fn append_changes(alloc: Global, text: &mut Vec<u8>, changes: &[Change]) -> Result<(), AllocError>
+    ensures { OnOk result (text.new.items ≡ text.old.items ++ join_with_byte 44 (map change_text changes.now)) }
 {
-    let mut values = Vec::with_capacity(alloc, changes.len())?;
-    for change in changes {
-        values.push(change_json(alloc, change)?)?;
+    for (i, change) in changes.iter().enumerate() {
+        text.extend_from_slice(comma_before(i).as_bytes())?;
+        append_change(alloc, text, change)?;
     }
-    Ok(Value::Array(values))
+    Ok(())
 }
 
-fn change_json(alloc: Global, change: &Change) -> Result<Value, AllocError>
-    ensures value { IfOk result (λ value. view value ≡ change_value change.now) }
-    ensures change { OnOk result (IsChangeInMemory change.now) }
+fn comma_before(i: usize) -> &'static str
+    ensures { result.now ≡ comma_before i }
+{
+    if i == 0 { "" } else { "," }
+}
+
+fn append_change(alloc: Global, text: &mut Vec<u8>, change: &Change) -> Result<(), AllocError>
+    ensures { OnOk result (text.new.items ≡ text.old.items ++ change_text change.now) }
 {
     match change {
-        Change::Make { path, new, after } => make_json(alloc, path, new, *after),
-        Change::Drop { path, old, before } => drop_json(alloc, path, old, *before),
+        Change::Make { path, new, after } => {
+            let kind = b"\"kind\":\"make\",\"new\":";
+            append_whole(alloc, text, b"after", *after, kind, new.as_slice(), path)
+        }
+        Change::Drop { path, old, before } => {
+            let kind = b"\"kind\":\"drop\",\"old\":";
+            append_whole(alloc, text, b"before", *before, kind, old.as_slice(), path)
+        }
         Change::Splice {
             path,
             at,
             old,
             new,
             rest,
-            seal: None,
-        } => splice_json(alloc, path, *at, old, new, *rest),
-        Change::Splice {
+            seal,
+        } => append_splice(
+            alloc,
+            text,
             path,
-            at,
-            old,
-            new,
-            rest,
-            seal: Some(seal),
-        } => sealed_splice_json(alloc, path, *at, old, new, *rest, *seal),
+            *at,
+            old.as_slice(),
+            new.as_slice(),
+            *rest,
+            seal,
+        ),
     }
 }
 
-fn make_json(
+// The making or the removal of a whole file: `kind` is its kind and the key of its bytes.
+fn append_whole(
     alloc: Global,
+    text: &mut Vec<u8>,
+    digest_key: &[u8],
+    digest: Option<Digest>,
+    kind: &[u8],
+    bytes: &[u8],
     path: &PathText,
-    new: &Bytes,
-    after: Option<Digest>,
-) -> Result<Value, AllocError>
-    ensures value { IfOk result (λ value. view value ≡ change_value (Make path.now new.now after)) }
-    ensures change { OnOk result (IsChangeInMemory (Make path.now new.now after)) }
+) -> Result<(), AllocError>
+    ensures { OnOk result (text.new.items ≡ text.old.items ++ whole_text digest_key.now digest kind.now bytes.now path.now) }
 {
-    let new = hex_of(alloc, new.as_slice())?;
-    let path = text_of(path);
-    let Some(after) = after else {
-        return json!(in alloc; {"kind": "make", "new": new, "path": path});
-    };
-    let after = digest_hex(alloc, after)?;
-    json!(in alloc; {"after": after, "kind": "make", "new": new, "path": path})
+    text.extend_from_slice(b"{")?;
+    append_digest(text, digest_key, digest)?;
+    text.extend_from_slice(kind)?;
+    append_hex(text, bytes)?;
+    text.extend_from_slice(b",\"path\":")?;
+    append_string(alloc, text, path.text())?;
+    text.extend_from_slice(b"}")
 }
 
-fn drop_json(
+fn append_splice(
     alloc: Global,
-    path: &PathText,
-    old: &Bytes,
-    before: Option<Digest>,
-) -> Result<Value, AllocError>
-    ensures value { IfOk result (λ value. view value ≡ change_value (Drop path.now old.now before)) }
-    ensures change { OnOk result (IsChangeInMemory (Drop path.now old.now before)) }
-{
-    let old = hex_of(alloc, old.as_slice())?;
-    let path = text_of(path);
-    let Some(before) = before else {
-        return json!(in alloc; {"kind": "drop", "old": old, "path": path});
-    };
-    let before = digest_hex(alloc, before)?;
-    json!(in alloc; {"before": before, "kind": "drop", "old": old, "path": path})
-}
-
-fn splice_json(
-    alloc: Global,
+    text: &mut Vec<u8>,
     path: &PathText,
     at: usize,
-    old: &Bytes,
-    new: &Bytes,
+    old: &[u8],
+    new: &[u8],
     rest: usize,
-) -> Result<Value, AllocError>
-    ensures value { IfOk result (λ value. view value ≡ change_value (Splice path.now at old.now new.now rest None)) }
-    ensures change { OnOk result (IsChangeInMemory (Splice path.now at old.now new.now rest None)) }
+    seal: &Option<Seal>,
+) -> Result<(), AllocError>
+    ensures { OnOk result (text.new.items ≡ text.old.items ++ change_text (Splice path.now at old.now new.now rest seal.now)) }
 {
-    let new = hex_of(alloc, new.as_slice())?;
-    let old = hex_of(alloc, old.as_slice())?;
-    json!(in alloc; {
-        "at": at,
-        "kind": "splice",
-        "new": new,
-        "old": old,
-        "path": text_of(path),
-        "rest": rest
-    })
+    text.extend_from_slice(b"{")?;
+    append_digest(text, b"after", after(*seal))?;
+    text.extend_from_slice(b"\"at\":")?;
+    append_number(text, at as u64)?;
+    text.extend_from_slice(b",")?;
+    append_digest(text, b"before", before(*seal))?;
+    text.extend_from_slice(b"\"kind\":\"splice\",\"new\":")?;
+    append_hex(text, new)?;
+    text.extend_from_slice(b",\"old\":")?;
+    append_hex(text, old)?;
+    text.extend_from_slice(b",\"path\":")?;
+    append_string(alloc, text, path.text())?;
+    text.extend_from_slice(b",\"rest\":")?;
+    append_number(text, rest as u64)?;
+    text.extend_from_slice(b"}")
 }
 
-fn sealed_splice_json(
-    alloc: Global,
-    path: &PathText,
-    at: usize,
-    old: &Bytes,
-    new: &Bytes,
-    rest: usize,
-    seal: Seal,
-) -> Result<Value, AllocError>
-    ensures value { IfOk result (λ value. view value ≡ change_value (Splice path.now at old.now new.now rest (Some seal))) }
-    ensures change { OnOk result (IsChangeInMemory (Splice path.now at old.now new.now rest (Some seal))) }
+fn after(seal: Option<Seal>) -> Option<Digest>
+    ensures { result ≡ option_map (λ s. s.after) seal }
 {
-    let after = digest_hex(alloc, seal.after)?;
-    let before = digest_hex(alloc, seal.before)?;
-    let new = hex_of(alloc, new.as_slice())?;
-    let old = hex_of(alloc, old.as_slice())?;
-    json!(in alloc; {"after": after, "at": at, "before": before, "kind": "splice", "new": new, "old": old, "path": text_of(path), "rest": rest})
+    seal.map(|seal| seal.after)
 }
 
-// A digest in small hexadecimal digits.
-fn digest_hex(alloc: Global, digest: Digest) -> Result<String, AllocError>
-    ensures text { IfOk result (λ text. string_bytes text ≡ encode_lower digest) }
-    ensures digest { AreDigestBytes (Some digest) }
+fn before(seal: Option<Seal>) -> Option<Digest>
+    ensures { result ≡ option_map (λ s. s.before) seal }
 {
-    hex_of(alloc, digest.as_slice())
-}
-
-// Bytes in small hexadecimal digits.
-fn hex_of(alloc: Global, bytes: &[u8]) -> Result<String, AllocError>
-    ensures text { IfOk result (λ text. string_bytes text ≡ encode_lower bytes.now) }
-    ensures bytes { IsBytes bytes.now }
-{
-    hex::encode(alloc, bytes)
-}
-
-// The text of a path.
-fn text_of(path: &PathText) -> &str
-    ensures text { result.now ≡ path.now }
-    ensures path { IsTrue (is_path path.now) }
-    ensures utf8 { IsUtf8 path.now }
-{
-    path.text()
+    seal.map(|seal| seal.before)
 }

@@ -1,8 +1,6 @@
 // Previews: what a call would do, and the changes that a run would record. They only read.
 ghost use Rattle.std.specs.Prelude.{◌≡◌, ◌↔◌, ◌++◌, ◌∷◌, [], List, true, false, length, IfOk, IfErr};
-ghost use Rattle.reuse_tree.specs.Asked.{OnlyReads};
 ghost use Rattle.reuse_session.specs.Answer.{IsOfPlan, TellsNoFault};
-ghost use Rattle.reuse_session.specs.Entry.{IsEntry};
 ghost use Rattle.reuse_session.specs.Fates.{fates_of};
 ghost use Rattle.reuse_session.specs.History.{entries_ahead};
 ghost use Rattle.reuse_session.specs.Journal.{State, ahead, end_of};

@@ -79,12 +79,7 @@ fn told(alloc: Global, answer: Result<Reply, Refusal>, paths: Paths) -> Result<R
 {
     match answer {
         Ok(Reply::Changed(changed)) => Ok(reverted(paths, changed)),
-        Ok(_) => Ok(reverted(
-            paths,
-            Paths {
-                paths: Vec::new(alloc),
-            },
-        )),
+        Ok(_) => Ok(reverted(paths, Paths::new(Vec::new(alloc)))),
         Err(refusal) => Err(refusal),
     }
 }
@@ -94,10 +89,10 @@ fn reverted(paths: Paths, changed: Paths) -> Reverted
     ensures changed { result.changed ≡ changed }
     ensures skipped { ArePaths changed → result.skipped ≡ left_of paths changed }
 {
-    let left = left_of(paths.paths, changed.as_slice());
+    let left = left_of(paths.into_vec(), changed.as_slice());
     Reverted {
         changed,
-        skipped: Paths { paths: left },
+        skipped: Paths::new(left),
     }
 }
 

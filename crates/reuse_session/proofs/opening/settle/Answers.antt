@@ -1,26 +1,33 @@
-use Rattle.std.proofs.Common.{◌≡◌, ◌⊎◌, MatchResult, refl, arith, length, Some, None, Err, IfErr, OnOk, sym, ap, subst, ◌∙◌}
+use Rattle.std.proofs.Common.{◌≡◌, ◌⊎◌, MatchResult, List, refl, arith, length, Some, None, Err, IfErr, OnOk, sym, ap, subst, ◌∙◌}
 use Rattle.std.specs.FinMap.{get}
 use Rattle.std.specs.List.{All}
 use Rattle.std.proofs.lemmas.Result.{err_from_is_err_and, IfErr-weaker}
 use Rattle.reuse_tree.specs.Asked.{OnlyReads}
 use Rattle.reuse_tree.proofs.AskedLemmas.{reads_more}
 use Rattle.reuse_tree.specs.Change.{path_of}
-use Rattle.reuse_tree.specs.Files.{Clashes, tree_of}
+use Rattle.reuse_tree.specs.Files.{AreFiles, Clashes, Files, tree_of}
 use Rattle.reuse_session.specs.Answer.{IsEarly, IsFailure}
 use Rattle.reuse_session.specs.Carried.{IsRolledBack, StopsRollingBack}
 use Rattle.reuse_session.specs.Entry.{IsEntry, IsReady, SomeMade, CanBeSetBack, IsFirstWithout}
 use Rattle.reuse_session.specs.Head.{way_of, IsGoodHead}
 use Rattle.reuse_session.specs.History.{head_listing}
 use Rattle.reuse_session.specs.JournalFiles.{head_path}
-use Rattle.reuse_session.specs.Opening.{IsSettled}
+use Rattle.reuse_session.specs.Opening.{IsRead, IsSettled}
 use Rattle.reuse_session.specs.Session.{IsSameBut}
 use Rattle.reuse_session.specs.Standing.{IsStanding, IsUnderWay}
 use Rattle.reuse_session.specs.Tree.{undo_folder_of}
-use Rattle.reuse_session.specs.declared.reply.Refusal.TheVariants.{BadJournal, Memory}
+use Rattle.reuse_tree.specs.declared.change.Change.{Change}
+use Rattle.reuse_session.specs.declared.entry.Way.{Way}
+use Rattle.reuse_session.specs.declared.reply.Refusal.TheVariants.{Memory}
 use Rattle.reuse_session.proofs.Settling.{is_entry, is_settled, is_stuck, some_made, all_ready, settles, settled_good, settled_sound, head_fits, at_same, pending_readable, stays_under_way, read_failure}
 use Rattle.reuse_session.proofs.OpeningLemmas.{recorded}
 use Rattle.reuse_session.proofs.TakenBack.{was_under_way}
 use Rattle.reuse_session.proofs.Turning.{on_ok}
+use Rattle.reuse_session.specs.Journal.{Journal, Recorded, State}
+use Rattle.reuse_session.specs.JournalFiles.{entry_path, head_of, number_of, EntrySays}
+use Rattle.reuse_session.proofs.OnlyReading.{early_files, passed_on}
+use Rattle.reuse_session.proofs.opening.settle.Given.{Over}
+use Rattle.reuse_session.proofs.opening.settle.Goals.{After-roll_back}
 use Rattle.reuse_session.proofs.opening.settle.Goals as goal
 
 pub returns-in_err-entry-clause-settles : goal.returns-in_err-entry-clause-settles
@@ -34,11 +41,8 @@ returns-in_err-entry-clause-settles g c honest journal read step first number un
 
 pub returns-in_err-entry-clause-no_bad : goal.returns-in_err-entry-clause-no_bad
 returns-in_err-entry-clause-no_bad g c honest journal read path e =
-    let files = g.S.Store.files in
-    let p = err_from_is_err_and c.from_residual.result c.from_residual.ensures.1 in
-    let readable = pending_readable (files c.args.store.now) c.args.pending c.args.history.now journal read in
-    let given : p.0 ≡ BadJournal path = let x = sym p.1 ∙ e in cc in
-    (c.read_entry.ensures.bad honest path (c.in_err-entry.was ∙ ap (λ x. Err x) (sym p.2 ∙ given))).1 readable.0 readable.1
+    let readable = pending_readable (g.S.Store.files c.args.store.now) c.args.pending c.args.history.now journal read in
+    (c.read_entry.ensures.bad honest path (passed_on c.from_residual.result c.read_entry.result c.from_residual.ensures.1 c.in_err-entry.was e)).1 readable.0 readable.1
 
 pub returns-in_err-settled-clause-settles : goal.returns-in_err-settled-clause-settles
 returns-in_err-settled-clause-settles g c honest journal read step first number under =
@@ -52,68 +56,69 @@ returns-in_err-head-clause-settles g c honest journal read step first number und
     let p = err_from_is_err_and c.from_residual-in_err-head.result c.from_residual-in_err-head.ensures.1 in
     stays_under_way c.from_residual-in_err-head.result p.0 Memory c.args.pending.way step first (files c.args.store.now) (files c.read_entry.new.store) p.1 p.2 tt (c.read_entry.ensures.reads.files honest) under
 
+-- what is known once the pending step is rolled back, or isn't
+module _ (g : Over) (c : After-roll_back g) (honest : g.S.Store.honest c.roll_back.new.store) (journal : Journal) (read : IsRead (g.S.Store.files c.args.store.now) (Some c.args.pending) c.args.history.now journal) where
+  same : g.S.Store.files c.read_entry.new.store ≡ g.S.Store.files c.args.store.now
+  same = c.read_entry.ensures.reads.files (c.roll_back.ensures.later.was_honest honest)
+
+  says : EntrySays (get (undo_folder_of (g.S.Store.files c.args.store.now)) (entry_path c.args.pending.entry)) c.in_ok-entry.entry
+  says = c.in_ok-entry.ensures.ok (c.roll_back.ensures.later.was_honest honest)
+
+  good : IsEntry c.as_slice.result.now
+  good = subst IsEntry (sym c.as_slice.ensures) (is_entry (g.S.Store.files c.args.store.now) c.args.pending c.args.history.now journal read c.in_ok-entry.entry says)
+
+  are_files : AreFiles (g.S.Store.files c.args.store.now)
+  are_files = g.met.S.Store.are_files c.args.store.now (c.read_entry.ensures.reads.was_honest (c.roll_back.ensures.later.was_honest honest))
+
+  good_text : IsGoodHead c.as_slice-2.result.now (head_of journal None)
+  good_text =
+      settled_good (undo_folder_of (g.S.Store.files c.args.store.now)) journal (Some c.args.pending) c.args.history.now c.as_slice-2.result.now read.keeps read.remembers
+      (λ sound. subst (λ t. IsGoodHead t (head_listing c.args.history.now None)) (sym c.as_slice-2.ensures.value) (c.in_ok-settled.ensures.good sound))
+
+  -- what rolling back says of the files, the way and the changes that it was given is said of those of the step
+  of_step : (Says : Files → Way → List Change → Type 0) → Says (g.S.Store.files c.read_entry.new.store) c.way.result c.as_slice.result.now → Says (g.S.Store.files c.args.store.now) (way_of c.args.pending.way) c.in_ok-entry.entry.changes
+  of_step Says = at_same Says (g.S.Store.files c.read_entry.new.store) (g.S.Store.files c.args.store.now) c.way.result (way_of c.args.pending.way) c.as_slice.result.now c.in_ok-entry.entry.changes same c.way.ensures c.as_slice.ensures
+
+  given_to : (Says : Files → Way → List Change → Type 0) → Says (g.S.Store.files c.args.store.now) (way_of c.args.pending.way) c.in_ok-entry.entry.changes → Says (g.S.Store.files c.read_entry.new.store) c.way.result c.as_slice.result.now
+  given_to Says = at_same Says (g.S.Store.files c.args.store.now) (g.S.Store.files c.read_entry.new.store) (way_of c.args.pending.way) c.way.result c.in_ok-entry.entry.changes c.as_slice.result.now (sym same) (sym c.way.ensures) (sym c.as_slice.ensures)
+
+  -- a step that was under way is taken back, or stays under way where that fails
+  stands_or_stays : (step : Recorded) (first : State) → number_of step ≡ c.args.pending.entry → IsUnderWay c.args.pending.way step first (g.S.Store.files c.args.store.now)
+      → MatchResult c.roll_back.result (λ done. IsStanding (g.S.Store.files c.roll_back.new.store) first)
+      (λ refusal. IsFailure refusal × (IsStanding (g.S.Store.files c.roll_back.new.store) first ⊎ IsUnderWay c.args.pending.way step first (g.S.Store.files c.roll_back.new.store)))
+  stands_or_stays step first number under =
+      let old = g.S.Store.files c.args.store.now in
+      let new = g.S.Store.files c.roll_back.new.store in
+      let entry = c.in_ok-entry.entry in
+      let text = c.as_slice-2.result.now in
+      let result = c.roll_back.result in
+      let some = given_to (λ f w cs. SomeMade w cs first.tree (tree_of f)) (some_made old c.args.pending c.args.history.now journal read entry says step first number under) in
+      let ready = given_to (λ f w cs. All (λ change. IsReady w change (get first.tree (path_of change))) cs) (all_ready old c.args.pending c.args.history.now journal read entry says step first number under) in
+      settles old c.args.pending c.args.history.now journal read entry says step first number under result new text good_text
+      (of_step (λ f w cs. OnOk result (IsRolledBack w cs text f new)) (c.roll_back.ensures.done honest good))
+      (λ cause e. of_step (λ f w cs. StopsRollingBack w cs text first.tree f new) (c.roll_back.ensures.stopped honest good first.tree some ready cause e))
+      (subst (λ f. IfErr result (λ refusal. IsEarly refusal → new ≡ f)) same (early_files g.S.Store c.read_entry.new.store c.roll_back.new.store result c.roll_back.ensures.early honest))
+      (λ path e. c.roll_back.ensures.settles honest good first.tree under.good.are_files some ready path e)
+      c.roll_back.ensures.refusal
+
 pub returns-clause-done : goal.returns-clause-done
 returns-clause-done g c honest journal read =
-    let files = g.S.Store.files in
-    let old = files c.args.store.now in
-    let new = files c.roll_back.new.store in
-    let pending = c.args.pending in
-    let memory = c.args.history.now in
-    let entry = c.in_ok-entry.entry in
-    let reading = c.roll_back.ensures.later.was_honest honest in
-    let same = c.read_entry.ensures.reads.files reading in
-    let says = c.in_ok-entry.ensures.ok reading in
-    let changes = c.as_slice.ensures in
+    let at = (goal.at.returns-clause-done g c).After-roll_back in
+    let old = g.S.Store.files c.args.store.now in
+    let new = g.S.Store.files c.roll_back.new.store in
     let text = c.as_slice-2.result.now in
-    let good_text = settled_good (undo_folder_of old) journal (Some pending) memory text read.keeps read.remembers (λ sound. subst (λ t. IsGoodHead t (head_listing memory None)) (sym c.as_slice-2.ensures.value) (c.in_ok-settled.ensures.good sound)) in
-    let good = subst IsEntry (sym changes) (is_entry old pending memory journal read entry says) in
-    let rolled = at_same (λ f w cs. OnOk c.roll_back.result (IsRolledBack w cs text f new)) (files c.read_entry.new.store) old c.way.result (way_of pending.way) c.as_slice.result.now entry.changes same c.way.ensures changes (c.roll_back.ensures.done honest good) in
-    on_ok c.roll_back.result (IsRolledBack (way_of pending.way) entry.changes text old new) (IsSettled pending journal old new)
-    (is_settled old pending memory journal read entry says new text (g.met.S.Store.are_files c.roll_back.new.store honest) good_text) rolled
+    on_ok c.roll_back.result (IsRolledBack (way_of c.args.pending.way) c.in_ok-entry.entry.changes text old new) (IsSettled c.args.pending journal old new)
+    (is_settled old c.args.pending c.args.history.now journal read c.in_ok-entry.entry (says g at honest journal read) new text (g.met.S.Store.are_files c.roll_back.new.store honest) (good_text g at honest journal read))
+    (of_step g at honest journal read (λ f w cs. OnOk c.roll_back.result (IsRolledBack w cs text f new)) (c.roll_back.ensures.done honest (good g at honest journal read)))
 
 pub returns-clause-moved : goal.returns-clause-moved
 returns-clause-moved g c honest journal read path e =
-    let files = g.S.Store.files in
-    let old = files c.args.store.now in
-    let pending = c.args.pending in
-    let memory = c.args.history.now in
-    let entry = c.in_ok-entry.entry in
-    let reading = c.roll_back.ensures.later.was_honest honest in
-    let same = c.read_entry.ensures.reads.files reading in
-    let says = c.in_ok-entry.ensures.ok reading in
-    let changes = c.as_slice.ensures in
-    let good = subst IsEntry (sym changes) (is_entry old pending memory journal read entry says) in
-    is_stuck old pending memory journal read entry says path
-    (at_same (λ f w cs. IsFirstWithout (CanBeSetBack w (tree_of f)) cs path) (files c.read_entry.new.store) old c.way.result (way_of pending.way) c.as_slice.result.now entry.changes same c.way.ensures changes (c.roll_back.ensures.moved honest good path e))
+    let at = (goal.at.returns-clause-moved g c).After-roll_back in
+    is_stuck (g.S.Store.files c.args.store.now) c.args.pending c.args.history.now journal read c.in_ok-entry.entry (says g at honest journal read) path
+    (of_step g at honest journal read (λ f w cs. IsFirstWithout (CanBeSetBack w (tree_of f)) cs path) (c.roll_back.ensures.moved honest (good g at honest journal read) path e))
 
 pub returns-clause-settles : goal.returns-clause-settles
-returns-clause-settles g c honest journal read step first number under =
-    let files = g.S.Store.files in
-    let old = files c.args.store.now in
-    let mid = files c.read_entry.new.store in
-    let new = files c.roll_back.new.store in
-    let pending = c.args.pending in
-    let memory = c.args.history.now in
-    let entry = c.in_ok-entry.entry in
-    let result = c.roll_back.result in
-    let reading = c.roll_back.ensures.later.was_honest honest in
-    let same = c.read_entry.ensures.reads.files reading in
-    let says = c.in_ok-entry.ensures.ok reading in
-    let changes = c.as_slice.ensures in
-    let all = c.as_slice.result.now in
-    let way = c.way.ensures in
-    let text = c.as_slice-2.result.now in
-    let good_text = settled_good (undo_folder_of old) journal (Some pending) memory text read.keeps read.remembers (λ sound. subst (λ t. IsGoodHead t (head_listing memory None)) (sym c.as_slice-2.ensures.value) (c.in_ok-settled.ensures.good sound)) in
-    let good = subst IsEntry (sym changes) (is_entry old pending memory journal read entry says) in
-    let some = at_same (λ f w cs. SomeMade w cs first.tree (tree_of f)) old mid (way_of pending.way) c.way.result entry.changes all (sym same) (sym way) (sym changes) (some_made old pending memory journal read entry says step first number under) in
-    let ready = at_same (λ f w cs. All (λ change. IsReady w change (get first.tree (path_of change))) cs) old mid (way_of pending.way) c.way.result entry.changes all (sym same) (sym way) (sym changes) (all_ready old pending memory journal read entry says step first number under) in
-    settles old pending memory journal read entry says step first number under result new text good_text
-    (at_same (λ f w cs. OnOk result (IsRolledBack w cs text f new)) mid old c.way.result (way_of pending.way) all entry.changes same way changes (c.roll_back.ensures.done honest good))
-    (λ cause e. at_same (λ f w cs. StopsRollingBack w cs text first.tree f new) mid old c.way.result (way_of pending.way) all entry.changes same way changes (c.roll_back.ensures.stopped honest good first.tree some ready cause e))
-    (subst (λ f. IfErr result (λ refusal. IsEarly refusal → new ≡ f)) same
-    (IfErr-weaker result (λ refusal. IsEarly refusal → OnlyReads g.S.Store c.read_entry.new.store c.roll_back.new.store) (λ refusal. IsEarly refusal → new ≡ mid) (λ refusal reads early. (reads early).files honest) c.roll_back.ensures.early))
-    (λ path e. c.roll_back.ensures.settles honest good first.tree under.good.are_files some ready path e)
-    c.roll_back.ensures.refusal
+returns-clause-settles g c honest journal read = stands_or_stays g (goal.at.returns-clause-settles g c).After-roll_back honest journal read
 
 pub returns-clause-early : goal.returns-clause-early
 returns-clause-early g c =
@@ -126,51 +131,27 @@ returns-clause-early g c =
 
 pub returns-clause-interrupted : goal.returns-clause-interrupted
 returns-clause-interrupted g c honest journal read cause e =
-    let files = g.S.Store.files in
-    let old = files c.args.store.now in
-    let new = files c.roll_back.new.store in
-    let pending = c.args.pending in
-    let memory = c.args.history.now in
-    let entry = c.in_ok-entry.entry in
-    let reading = c.roll_back.ensures.later.was_honest honest in
-    let same = c.read_entry.ensures.reads.files reading in
-    let says = c.in_ok-entry.ensures.ok reading in
-    let changes = c.as_slice.ensures in
-    let good = subst IsEntry (sym changes) (is_entry old pending memory journal read entry says) in
-    let can = at_same (λ f w cs. All (CanBeSetBack w (tree_of f)) cs) (files c.read_entry.new.store) old c.way.result (way_of pending.way) c.as_slice.result.now entry.changes same c.way.ensures changes (c.roll_back.ensures.tested honest good cause e) in
-    let are = g.met.S.Store.are_files c.args.store.now (c.read_entry.ensures.reads.was_honest reading) in
-    let was = was_under_way old pending memory journal read entry says are can in
-    let left = returns-clause-settles g c honest journal read (recorded pending.entry entry) was.0 refl was.1 in
-    let stays = subst (λ r. MatchResult r (λ _. IsStanding new was.0) (λ refusal. IsFailure refusal × (IsStanding new was.0 ⊎ IsUnderWay pending.way (recorded pending.entry entry) was.0 new))) e left in
-    (was.0, pending.way, recorded pending.entry entry, was.1, stays.1)
+    let at = (goal.at.returns-clause-interrupted g c).After-roll_back in
+    let new = g.S.Store.files c.roll_back.new.store in
+    let step = recorded c.args.pending.entry c.in_ok-entry.entry in
+    let can = of_step g at honest journal read (λ f w cs. All (CanBeSetBack w (tree_of f)) cs) (c.roll_back.ensures.tested honest (good g at honest journal read) cause e) in
+    let was = was_under_way (g.S.Store.files c.args.store.now) c.args.pending c.args.history.now journal read c.in_ok-entry.entry (says g at honest journal read) (are_files g at honest journal read) can in
+    let left = stands_or_stays g at honest journal read step was.0 refl was.1 in
+    let stays = subst (λ r. MatchResult r (λ _. IsStanding new was.0) (λ refusal. IsFailure refusal × (IsStanding new was.0 ⊎ IsUnderWay c.args.pending.way step was.0 new))) e left in
+    (was.0, c.args.pending.way, step, was.1, stays.1)
 
 pub returns-clause-folder : goal.returns-clause-folder
 returns-clause-folder g c honest journal read =
-    let old = g.S.Store.files c.args.store.now in
-    let entry = c.in_ok-entry.entry in
-    let reading = c.roll_back.ensures.later.was_honest honest in
-    let same = c.read_entry.ensures.reads.files reading in
-    let says = c.in_ok-entry.ensures.ok reading in
-    let good = subst IsEntry (sym c.as_slice.ensures) (is_entry old c.args.pending c.args.history.now journal read entry says) in
-    subst (λ f. IsSameBut head_path (undo_folder_of f) (undo_folder_of (g.S.Store.files c.roll_back.new.store))) same (c.roll_back.ensures.folder honest good)
+    let at = (goal.at.returns-clause-folder g c).After-roll_back in
+    subst (λ f. IsSameBut head_path (undo_folder_of f) (undo_folder_of (g.S.Store.files c.roll_back.new.store))) (same g at honest journal read) (c.roll_back.ensures.folder honest (good g at honest journal read))
 
 pub returns-clause-clash : goal.returns-clause-clash
 returns-clause-clash g c honest journal read =
-    let files = g.S.Store.files in
-    let old = files c.args.store.now in
-    let reading = c.roll_back.ensures.later.was_honest honest in
-    let same = c.read_entry.ensures.reads.files reading in
-    let says = c.in_ok-entry.ensures.ok reading in
-    let good = subst IsEntry (sym c.as_slice.ensures) (is_entry old c.args.pending c.args.history.now journal read c.in_ok-entry.entry says) in
-    let are = g.met.S.Store.are_files c.args.store.now (c.read_entry.ensures.reads.was_honest reading) in
-    c.roll_back.ensures.clash honest good (λ clash. head_fits old journal c.args.pending are read.keeps (subst (λ f. Clashes f head_path) same clash))
+    let at = (goal.at.returns-clause-clash g c).After-roll_back in
+    c.roll_back.ensures.clash honest (good g at honest journal read)
+    (λ clash. head_fits (g.S.Store.files c.args.store.now) journal c.args.pending (are_files g at honest journal read) read.keeps (subst (λ f. Clashes f head_path) (same g at honest journal read) clash))
 
 pub returns-clause-written : goal.returns-clause-written
 returns-clause-written g c honest journal read =
-    let old = g.S.Store.files c.args.store.now in
-    let memory = c.args.history.now in
-    let entry = c.in_ok-entry.entry in
-    let says = c.in_ok-entry.ensures.ok (c.roll_back.ensures.later.was_honest honest) in
-    let good = subst IsEntry (sym c.as_slice.ensures) (is_entry old c.args.pending memory journal read entry says) in
-    let sound = settled_sound (undo_folder_of old) journal (Some c.args.pending) memory read.keeps read.remembers in
-    omega (arith, c.roll_back.ensures.written good, ap length c.as_slice-2.ensures.value, c.in_ok-settled.ensures.bound sound, c.read_entry.ensures.reads.written)
+    let sound = settled_sound (undo_folder_of (g.S.Store.files c.args.store.now)) journal (Some c.args.pending) c.args.history.now read.keeps read.remembers in
+    omega (arith, c.roll_back.ensures.written (good g (goal.at.returns-clause-written g c).After-roll_back honest journal read), ap length c.as_slice-2.ensures.value, c.in_ok-settled.ensures.bound sound, c.read_entry.ensures.reads.written)

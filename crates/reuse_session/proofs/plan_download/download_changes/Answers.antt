@@ -12,4 +12,4 @@ returns-in-Ok-clause-edits c tree are =
     let passed = c.in-Ok.ensures.made tree are in
     download_makes (set_of c.args.ids.now) c.args.texts.now tree c.in_ok-made_files-in-Ok.field-0.items
     (ap (ids_refusal tree c.args.texts.now) (sym worked) ∙ passed.1)
-    (c.in_ok-made_files-in-Ok.ensures ∙ ap (map (made_at c.args.texts.now)) (c.sorted_paths.ensures ∙ ap set_of (passed.0 ∙ ap (map licence_path) worked)))
+    (c.in_ok-made_files-in-Ok.ensures ∙ ap (map (made_at c.args.texts.now)) (c.sorted.ensures ∙ ap set_of (passed.0 ∙ ap (map licence_path) worked)))

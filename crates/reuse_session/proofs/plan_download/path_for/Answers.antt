@@ -1,31 +1,38 @@
-use Rattle.std.proofs.Common.{◌≤◌, ◌∙◌, refl, sym, ap, subst, length, arith}
+use Rattle.std.proofs.Common.{◌≡◌, ◌≤◌, ◌∙◌, refl, sym, ap, subst, length, arith}
+use Rattle.std.specs.FinMap.{keys}
 use Rattle.std.specs.Option.{option_copied}
+use Rattle.reuse_tree.specs.Files.{Files}
 use Rattle.reuse_session.specs.Listing.{ArePaths, is_among}
 use Rattle.reuse_session.proofs.TreeLemmas.{keys_ascend}
 use Rattle.reuse_session.proofs.Downloading.{exists_answer, clash_answer, made_answer}
+use Rattle.reuse_session.proofs.plan_download.path_for.Goals.{After-is_among}
 use Rattle.reuse_session.proofs.plan_download.path_for.Goals as goal
+
+module _ (c : After-is_among) (tree : Files) (are : c.args.paths.now ≡ keys tree) where
+  sorted : ArePaths c.args.paths.now
+  sorted = subst ArePaths (sym are) (keys_ascend tree)
+
+  among : c.is_among.result ≡ is_among c.args.paths.now c.args.path
+  among = c.is_among.ensures sorted ∙ ap (is_among c.args.paths.now) c.as_bytes.ensures.bytes
+
+  short : length c.in-Some.text.now ≤ 16_777_216
+  short = omega (arith, c.len.ensures, c.if-len-gt-LONGEST_FILE.false)
 
 pub returns-then-is_among-clause-refused : goal.returns-then-is_among-clause-refused
 returns-then-is_among-clause-refused c tree are here =
-    let sorted : ArePaths c.args.paths.now = subst ArePaths (sym are) (keys_ascend tree) in
-    let short : length c.in-Some.text.now ≤ 16_777_216 = omega (arith, c.len.ensures, c.if-len-gt-LONGEST_FILE.false) in
-    exists_answer tree c.args.id.now c.args.path c.in-Some.text.now c.args.paths.now (option_copied c.args.found) are here (ap option_copied c.in-Some.is) short
-    (sym (c.is_among.ensures sorted ∙ ap (is_among c.args.paths.now) c.as_bytes.ensures.bytes) ∙ c.if-is_among.true)
+    let at = (goal.at.returns-then-is_among-clause-refused c).After-is_among in
+    exists_answer tree c.args.id.now c.args.path c.in-Some.text.now c.args.paths.now (option_copied c.args.found) are here (ap option_copied c.in-Some.is) (short at tree are) (sym (among at tree are) ∙ c.if-is_among.true)
 
 pub returns-then-branch-clause-refused : goal.returns-then-branch-clause-refused
 returns-then-branch-clause-refused c tree are here =
-    let sorted : ArePaths c.args.paths.now = subst ArePaths (sym are) (keys_ascend tree) in
-    let short : length c.in-Some.text.now ≤ 16_777_216 = omega (arith, c.len.ensures, c.if-len-gt-LONGEST_FILE.false) in
-    clash_answer tree c.args.id.now c.args.path c.in-Some.text.now c.args.paths.now (option_copied c.args.found) are here (ap option_copied c.in-Some.is) short
-    (sym (c.is_among.ensures sorted ∙ ap (is_among c.args.paths.now) c.as_bytes.ensures.bytes) ∙ c.if-is_among.false)
-    (sym (c.in_ok-is_clash.ensures sorted) ∙ c.if-branch.true)
+    let at = (goal.at.returns-then-branch-clause-refused c).After-is_among in
+    clash_answer tree c.args.id.now c.args.path c.in-Some.text.now c.args.paths.now (option_copied c.args.found) are here (ap option_copied c.in-Some.is) (short at tree are) (sym (among at tree are) ∙ c.if-is_among.false)
+    (sym (c.in_ok-is_clash.ensures (sorted at tree are)) ∙ c.if-branch.true)
 
 pub returns-clause-made : goal.returns-clause-made
 returns-clause-made c tree are here =
-    let sorted : ArePaths c.args.paths.now = subst ArePaths (sym are) (keys_ascend tree) in
-    let short : length c.in-Some.text.now ≤ 16_777_216 = omega (arith, c.len.ensures, c.if-len-gt-LONGEST_FILE.false) in (
+    let at = (goal.at.returns-clause-made c).After-is_among in (
       refl,
-      made_answer tree c.args.id.now c.args.path c.in-Some.text.now c.args.paths.now (option_copied c.args.found) are here (ap option_copied c.in-Some.is) short
-          (sym (c.is_among.ensures sorted ∙ ap (is_among c.args.paths.now) c.as_bytes.ensures.bytes) ∙ c.if-is_among.false)
-          (sym (c.in_ok-is_clash.ensures sorted) ∙ c.if-branch.false),
+      made_answer tree c.args.id.now c.args.path c.in-Some.text.now c.args.paths.now (option_copied c.args.found) are here (ap option_copied c.in-Some.is) (short at tree are) (sym (among at tree are) ∙ c.if-is_among.false)
+          (sym (c.in_ok-is_clash.ensures (sorted at tree are)) ∙ c.if-branch.false),
     )

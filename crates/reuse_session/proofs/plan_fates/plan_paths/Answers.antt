@@ -1,12 +1,13 @@
-use Rattle.std.proofs.Common.{◌+◌, ◌∷◌, ◌∙◌, drop, sym, ap, subst}
+use Rattle.std.proofs.Common.{◌+◌, ◌∙◌, drop, sym, ap, subst}
 use Rattle.std.specs.FinMap.{keys}
-use Rattle.std.proofs.lemmas.List.{drop_more, drop_all}
+use Rattle.std.proofs.lemmas.List.{drop_all}
 use Rattle.reuse_header.specs.Names.{lookup}
 use Rattle.reuse_tree.specs.Files.{tree_of}
 use Rattle.reuse_tree.proofs.AskedLemmas.{reads_more}
 use Rattle.reuse_session.specs.Annotate.{annotated_at}
 use Rattle.reuse_session.specs.Fates.{fate_at}
 use Rattle.reuse_session.specs.FatePlan.{Adds}
+use Rattle.reuse_session.proofs.AtChange.{left_here}
 use Rattle.reuse_session.proofs.FatePlans.{FatesSoFar, after_adds, at_last}
 use Rattle.reuse_session.proofs.plan_fates.plan_paths.Goals as goal
 
@@ -15,15 +16,15 @@ loop-path-preserved g c = record {
   reads = reads_more g.S.Store _ _ _ c.loop-path.invariant.reads c.plan_next.ensures.reads;
   so_far = λ h are.
       let before = c.plan_next.ensures.reads.was_honest h in
-      let same = c.loop-path.invariant.reads.files before in
+      let at = annotated_at c.args.how.now c.args.scope.now c.args.additions.now (lookup c.args.styles.now) in
+      let tell = fate_at c.args.how.now c.args.scope.now c.args.additions.now (lookup c.args.styles.now) in
       let tree = tree_of (g.S.Store.files c.args.store.now) in
-      let at = annotated_at c.args.how.now c.args.scope.now c.args.additions.now (lookup c.args.styles.now) tree in
-      let tell = fate_at c.args.how.now c.args.scope.now c.args.additions.now (lookup c.args.styles.now) tree in
-      let next = drop_more c.args.worked.now c.loop-path.path-index c.path-item.result c.loop-path-test.true ∙ ap (λ p. p ∷ drop (c.loop-path.path-index + 1) c.args.worked.now) (sym c.path-item.is) in
-      let so = subst (λ left. FatesSoFar at tell tree c.args.worked.now left c.loop-path.planned) next (c.loop-path.invariant.so_far before are) in
-      let adds = subst (λ f. Adds (tree_of f) (annotated_at c.args.how.now c.args.scope.now c.args.additions.now (lookup c.args.styles.now) (tree_of f) c.path-item.result) (fate_at c.args.how.now c.args.scope.now c.args.additions.now (lookup c.args.styles.now) (tree_of f) c.path-item.result) c.loop-path.planned c.plan_next.new.planned) same
-      (c.in_ok-plan_next.ensures.adds h (are ∙ ap (λ f. keys (tree_of f)) (sym same))) in
-      after_adds at tell tree c.args.worked.now c.path-item.result (drop (c.loop-path.path-index + 1) c.args.worked.now) c.loop-path.planned c.plan_next.new.planned so adds;
+      let worked = c.args.worked.now in
+      let path = c.path-item.result in
+      let same = ap tree_of (c.loop-path.invariant.reads.files before) in
+      let adds = subst (λ t. Adds t (at t path) (tell t path) c.loop-path.planned c.plan_next.new.planned) same (c.in_ok-plan_next.ensures.adds h (are ∙ ap keys (sym same))) in
+      after_adds (at tree) (tell tree) tree worked path (drop (c.loop-path.path-index + 1) worked) c.loop-path.planned c.plan_next.new.planned
+      (subst (λ left. FatesSoFar (at tree) (tell tree) tree worked left c.loop-path.planned) (left_here worked c.loop-path.path-index c.loop-path-test.true path c.path-item.is) (c.loop-path.invariant.so_far before are)) adds;
 }
 
 pub returns-clause-planned : goal.returns-clause-planned

@@ -9,7 +9,7 @@ use Rattle.reuse_session.specs.Annotate.{target_by_bytes, edit_target, edit_insi
 use Rattle.reuse_session.specs.Plan.{IsRefusalOf, MakesEdit}
 use Rattle.reuse_session.specs.Steps.{StepsTo, StepsBy}
 use Rattle.reuse_session.specs.declared.command.Scope.{Scope}
-use Rattle.reuse_session.specs.declared.plan_target.Target.TheVariants.{Inside}
+use Rattle.reuse_session.specs.declared.target.Target.TheVariants.{Inside}
 use Rattle.reuse_session.specs.declared.plan_place.Step.{Step}
 use Rattle.reuse_session.specs.declared.plan_place.Step.TheVariants.{Done, Beside}
 use Rattle.reuse_session.specs.declared.reply.Refusal.{Refusal}

@@ -6,19 +6,15 @@ use Rattle.reuse_tree.specs.declared.change.Change.TheVariants.{Drop}
 use Rattle.reuse_session.specs.Entry.{IsSmall}
 use Rattle.reuse_session.specs.Plan.{MakesEdit}
 use Rattle.reuse_session.specs.Reverting.{taken_back}
-use Rattle.reuse_session.proofs.ReadingLemmas.{absent_is, found_is}
+use Rattle.reuse_session.proofs.ReadingLemmas.{absent_is, found_is, given_as}
 use Rattle.reuse_session.proofs.RevertPlanning.{found, make_makes}
 use Rattle.reuse_session.proofs.plan_revert.change_back.Goals as goal
 
 pub returns-in-Make-Found : goal.returns-in-Make-Found
 returns-in-Make-Found c tree proper small reading =
-    let at = c.in-Make-Found in
-    let change = c.args.change.now in
-    let file = found_is (get tree (path_of change)) 16_777_216 at.file (sym at.is-1 ∙ reading) in
-    let here = ap (λ (k : Change). get tree (path_of k)) (sym at.is-0) ∙ file.0 in
-    subst (λ f. IfOk c.drop_made.result (MakesEdit tree (found (taken_back c.args.change.now f)))) (sym file.0)
-    (subst (λ (k : Change). IfOk c.drop_made.result (MakesEdit tree (found (taken_back k (Some c.in-Make-Found.file))))) (sym at.is-0)
-    (c.drop_made.ensures tree at.after-0 here (subst IsSmall at.is-0 small)))
+    let file = found_is (get tree (path_of c.args.change.now)) 16_777_216 c.in-Make-Found.file (sym c.in-Make-Found.is-1 ∙ reading) in
+    given_as (λ (k : Change) f. IfOk c.drop_made.result (MakesEdit tree (found (taken_back k f)))) c.in-Make-Found.is-0 file.0
+    (c.drop_made.ensures tree c.in-Make-Found.after-0 (ap (λ (k : Change). get tree (path_of k)) (sym c.in-Make-Found.is-0) ∙ file.0) (subst IsSmall c.in-Make-Found.is-0 small))
 
 pub returns-in_ok-try_clone-in-Drop-Absent-2 : goal.returns-in_ok-try_clone-in-Drop-Absent-2
 returns-in_ok-try_clone-in-Drop-Absent-2 c tree proper small reading =
@@ -34,10 +30,6 @@ returns-in_ok-try_clone-in-Drop-Absent-2 c tree proper small reading =
 
 pub returns-in-Splice-Found : goal.returns-in-Splice-Found
 returns-in-Splice-Found c tree proper small reading =
-    let at = c.in-Splice-Found in
-    let change = c.args.change.now in
-    let file = found_is (get tree (path_of change)) 16_777_216 at.file (sym at.is-1 ∙ reading) in
-    let here = ap (λ (k : Change). get tree (path_of k)) (sym at.is-0) ∙ file.0 in
-    subst (λ f. IfOk c.put_back.result (MakesEdit tree (found (taken_back c.args.change.now f)))) (sym file.0)
-    (subst (λ (k : Change). IfOk c.put_back.result (MakesEdit tree (found (taken_back k (Some c.in-Splice-Found.file))))) (sym at.is-0)
-    (c.put_back.ensures tree (subst IsProper at.is-0 proper) here file.1))
+    let file = found_is (get tree (path_of c.args.change.now)) 16_777_216 c.in-Splice-Found.file (sym c.in-Splice-Found.is-1 ∙ reading) in
+    given_as (λ (k : Change) f. IfOk c.put_back.result (MakesEdit tree (found (taken_back k f)))) c.in-Splice-Found.is-0 file.0
+    (c.put_back.ensures tree (subst IsProper c.in-Splice-Found.is-0 proper) (ap (λ (k : Change). get tree (path_of k)) (sym c.in-Splice-Found.is-0) ∙ file.0) file.1)

@@ -1,4 +1,4 @@
-use Rattle.std.proofs.Common.{◌≡◌, ◌∙◌, true, None, IfSome, IsSome, sym, ap, subst}
+use Rattle.std.proofs.Common.{◌≡◌, ◌∙◌, true, IfSome, IsSome, sym, ap, subst}
 use Rattle.std.specs.FinMap.{get}
 use Rattle.reuse_header.specs.Names.{lookup}
 use Rattle.reuse_tree.specs.Files.{tree_of}
@@ -11,33 +11,37 @@ use Rattle.reuse_session.proofs.EditLemmas.{some_bytes}
 use Rattle.reuse_session.proofs.Fitting.{neighbour_of_tree}
 use Rattle.reuse_session.proofs.OfTree.{tree_at}
 use Rattle.reuse_session.proofs.ReadingLemmas.{absent_is, there_is}
+use Rattle.reuse_session.proofs.plan_unlisted.plan_unlisted.Given.{Over}
+use Rattle.reuse_session.proofs.plan_unlisted.plan_unlisted.Goals.{In_ok-reading}
 use Rattle.reuse_session.proofs.plan_unlisted.plan_unlisted.Goals as goal
+
+module _ (g : Over) (c : In_ok-reading g) where
+  neighbour : c.in-Some.neighbour ≡ neighbour_of c.args.path.now
+  neighbour = subst (λ o. IfSome o (λ n. n ≡ neighbour_of c.args.path.now)) c.in-Some.is c.in_ok-neighbour.ensures.path
+
+  -- the neighbour is a file of the tree, if it is one of the store
+  of_store : get (tree_of (g.S.Store.files c.args.store.now)) (neighbour_of c.args.path.now) ≡ get (g.S.Store.files c.args.store.now) c.in-Some.neighbour
+  of_store =
+      let covered : is_covered c.args.path.now ≡ true = ap is_covered (sym c.as_bytes.ensures.bytes) ∙ sym c.is_covered.ensures ∙ c.if-not-is_covered.false in
+      tree_at (g.S.Store.files c.args.store.now) (neighbour_of c.args.path.now) (neighbour_of_tree c.args.path.now covered) ∙ ap (get (g.S.Store.files c.args.store.now)) (sym neighbour)
 
 pub returns-in-Absent-clause-edit : goal.returns-in-Absent-clause-edit
 returns-in-Absent-clause-edit g c honest =
-    let files = g.S.Store.files c.args.store.now in
     let before = c.plan_alone.ensures.reads.was_honest honest in
     let same = c.in_ok-reading.ensures.reads.files before in
-    let covered : is_covered c.args.path.now ≡ true = ap is_covered (sym c.as_bytes.ensures.bytes) ∙ sym c.is_covered.ensures ∙ c.if-not-is_covered.false in
-    let is : c.in-Some.neighbour ≡ neighbour_of c.args.path.now = subst (λ o. IfSome o (λ n. n ≡ neighbour_of c.args.path.now)) c.in-Some.is c.in_ok-neighbour.ensures.path in
-    let read = c.in_ok-reading.ensures.reading before in
-    let none : get files c.in-Some.neighbour ≡ None = absent_is (get files c.in-Some.neighbour) 16_777_216 (sym c.in-Absent.is ∙ read) in
-    let absent : get (tree_of files) (neighbour_of c.args.path.now) ≡ None =
-    tree_at files (neighbour_of c.args.path.now) (neighbour_of_tree c.args.path.now covered) ∙ ap (get files) (sym is) ∙ none in
+    let none = absent_is (get (g.S.Store.files c.args.store.now) c.in-Some.neighbour) 16_777_216 (sym c.in-Absent.is ∙ c.in_ok-reading.ensures.reading before) in
     subst (λ f. IfKnown (AnswersEdit (tree_of f) (annotated_at c.args.how.now c.args.scope.now c.args.additions.now (lookup c.args.styles.now) (tree_of f) c.args.path.now)) c.plan_alone.result) same
-    (c.plan_alone.ensures.edit honest (ap (λ f. get (tree_of f) (neighbour_of c.args.path.now)) same ∙ absent))
+    (c.plan_alone.ensures.edit honest (ap (λ f. get (tree_of f) (neighbour_of c.args.path.now)) same ∙ of_store g (goal.at.returns-in-Absent-clause-edit g c).In_ok-reading ∙ none))
 
 pub returns-clause-edit : goal.returns-clause-edit
 returns-clause-edit g c honest =
     let files = g.S.Store.files c.args.store.now in
     let before = c.plan_beside_file.ensures.reads.was_honest honest in
-    let same = c.in_ok-reading.ensures.reads.files before in
-    let covered : is_covered c.args.path.now ≡ true = ap is_covered (sym c.as_bytes.ensures.bytes) ∙ sym c.is_covered.ensures ∙ c.if-not-is_covered.false in
-    let is : c.in-Some.neighbour ≡ neighbour_of c.args.path.now = subst (λ o. IfSome o (λ n. n ≡ neighbour_of c.args.path.now)) c.in-Some.is c.in_ok-neighbour.ensures.path in
     let read = c.in_ok-reading.ensures.reading before in
     let some = there_is (get files c.in-Some.neighbour) 16_777_216 (λ e. c.in_default-2.not-Absent (read ∙ e)) in
-    let kept = tree_at files (neighbour_of c.args.path.now) (neighbour_of_tree c.args.path.now covered) ∙ ap (get files) (sym is) in
+    let kept = of_store g (goal.at.returns-clause-edit g c).In_ok-reading in
     let found = some_bytes (get (tree_of files) (neighbour_of c.args.path.now)) (subst IsSome (sym kept) some) in
+    let same = c.in_ok-reading.ensures.reads.files before in
     subst (λ f. IfKnown (AnswersEdit (tree_of f) (annotated_at c.args.how.now c.args.scope.now c.args.additions.now (lookup c.args.styles.now) (tree_of f) c.args.path.now)) c.plan_beside_file.result) same
     (c.plan_beside_file.ensures.edit honest (lookup c.args.styles.now) found.0 (ap (λ f. get (tree_of f) (neighbour_of c.args.path.now)) same ∙ found.1)
     (read ∙ ap (λ f. reading_of f 16_777_216) (sym kept ∙ found.1)))

@@ -1,8 +1,7 @@
-use Rattle.std.proofs.Common.{◌≡◌, ◌∙◌, map, take_all, sym, ap, subst, IfOk, ◌∷◌, [], None, Err}
+use Rattle.std.proofs.Common.{◌∙◌, map, take_all, sym, ap, subst}
 use Rattle.reuse_tree.specs.Change.{path_of}
 use Rattle.reuse_tree.specs.declared.change.Change.{Change}
 use Rattle.reuse_session.specs.Fates.{edit_fates}
-use Rattle.reuse_session.specs.FatePlan.{Plans}
 use Rattle.reuse_session.specs.Plan.{AnswersEdits}
 use Rattle.reuse_session.specs.declared.fate.Fate.TheVariants as fate
 use Rattle.reuse_session.proofs.FatePlans.{changed_fates, refused_plan}

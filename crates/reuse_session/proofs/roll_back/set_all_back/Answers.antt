@@ -1,159 +1,131 @@
-use Rattle.std.proofs.Common.{◌≡◌, ◌⊎◌, inl, inr, ⊎_elim, ◌+◌, List, ℕ, Some, length, take, Result, Ok, Err, OnOk, OnErr, true, arith, ap, sym, refl, subst, ◌∙◌}
+use Rattle.std.proofs.Common.{◌≡◌, ◌⊎◌, inl, inr, ⊎_elim, ◌+◌, ◌<◌, get_or, List, ℕ, Some, length, take, Result, Ok, Err, OnOk, OnErr, arith, ap, sym, subst, ◌∙◌}
 use Rattle.std.specs.List.{All}
 use Rattle.std.specs.FinMap.{get}
 use Rattle.std.proofs.Math.Seq.{take-length}
 use Rattle.std.proofs.lemmas.Result.{err_from_is_err_and, on_ok_weaker, on_err_weaker}
 use Rattle.reuse_tree.specs.Files.{Files, tree_of}
-use Rattle.reuse_tree.specs.Change.{path_of, IsProper}
+use Rattle.reuse_tree.specs.Change.{path_of}
 use Rattle.reuse_tree.specs.declared.change.Change.{Change}
-use Rattle.reuse_tree.proofs.AskedLemmas.{later_none, later_more}
 use Rattle.reuse_session.proofs.NotedMoves.{notes_none, notes_more, notes_last}
 use Rattle.reuse_session.specs.declared.entry.Way.{Way}
 use Rattle.reuse_session.specs.Carried.{IsRolledBack, StopsRollingBack}
-use Rattle.reuse_session.specs.Tree.{is_of_tree, undo_folder_of, Sets}
-use Rattle.reuse_session.specs.Entry.{IsSmall, IsEntry, IsReady, CanBeSetBack, SomeMade, Steps, opposite}
+use Rattle.reuse_session.specs.Tree.{undo_folder_of, Sets}
+use Rattle.reuse_session.specs.Entry.{IsEntry, IsReady, CanBeSetBack, SomeMade, Steps, opposite}
 use Rattle.reuse_session.specs.JournalFiles.{head_path}
 use Rattle.reuse_session.specs.Session.{IsSameBut}
-use Rattle.reuse_session.proofs.OfTree.{tree_at, step_of_tree, folder_stays, clash_in_tree}
+use Rattle.reuse_session.proofs.AtChange.{IsOfEntry, at_change, folder_at_stop, of_entry, walked, stays_none, stays_on}
+use Rattle.reuse_session.proofs.OfTree.{tree_at, step_of_tree, clash_in_tree}
 use Rattle.reuse_session.proofs.MadeLemmas.{AreBack, back_none, back_more, still_made, still_free, set_back_of_tree, folder_stays_back, made_from_start, back_at_start}
 use Rattle.reuse_session.proofs.HeadPuts.{head_sets, head_keeps_tree, head_clashed}
+use Rattle.reuse_session.proofs.roll_back.set_all_back.Given.{Over}
+use Rattle.reuse_session.proofs.roll_back.set_all_back.Goals.{After-change-item, After-set_back, After-put_head}
 use Rattle.reuse_session.proofs.roll_back.set_all_back.Goals as goal
+
+-- what the entry says of the change whose turn it is
+here : (g : Over) (c : After-change-item g) → IsEntry c.args.changes.now → IsOfEntry c.change-item.result
+here g c = of_entry c.args.changes.now c.loop-change.change-index c.loop-change-test.true c.change-item.result c.change-item.is
+
+-- where it stops at a change, before that is set back or after it, some are still made
+some_at_stop : (way : Way) (changes : List Change) (good : IsEntry changes) (i : ℕ) (lt : i < length changes) (change : Change) (is : change ≡ get_or changes i change) (start old now after : Files)
+    → SomeMade way changes start (tree_of old) → All (λ change. IsReady way change (get start (path_of change))) changes → AreBack way (take i changes) (tree_of old) (tree_of now)
+    → (after ≡ now) ⊎ Steps (opposite way) change now after → SomeMade way changes start (tree_of after)
+some_at_stop way changes good i lt change is start old now after some ready back (inl same) =
+    subst (λ files. SomeMade way changes start (tree_of files)) (sym same) (made_from_start way changes good start (tree_of old) (tree_of now) some ready i back)
+some_at_stop way changes good i lt change is start old now after some ready back (inr step) =
+    made_from_start way changes good start (tree_of old) (tree_of after) some ready (i + 1)
+    (back_more way changes good i lt change is (tree_of old) (tree_of now) back (tree_of after) (inr (step_of_tree (opposite way) change now after (of_entry changes i lt change is good).of_tree step)))
 
 pub loop-change-init : goal.loop-change-init
 loop-change-init g c = record {
   notes = notes_none g.S.Store c.args.started.now c.args.store.now;
-  written = λ good. refl;
-  later = later_none g.S.Store c.args.store.now;
+  walk = stays_none g.S.Store c.args.store.now c.args.changes.now;
   back = λ honest good. back_none c.args.way c.args.changes.now _;
-  folder = λ honest good. refl;
 }
 
 pub loop-change-preserved : goal.loop-change-preserved
 loop-change-preserved g c =
-    let store = g.S.Store in
-    let i = c.loop-change.change-index in
-    let lt = c.loop-change-test.true in
+    let of = here g (goal.at.loop-change-preserved g c).After-change-item in
     let change = c.change-item.result in
-    let now = store.files c.loop-change.store in
-    let after = store.files c.set_back.new.store in
+    let now = g.S.Store.files c.loop-change.store in
+    let after = g.S.Store.files c.set_back.new.store in
     let kept = c.loop-change.invariant in
+    let was_honest = c.set_back.ensures.later.was_honest in
+    let set_back = λ (honest : g.S.Store.honest c.set_back.new.store) (good : IsEntry c.args.changes.now). c.in_ok-set_back.ensures.ok honest (of good).proper (of good).small in
     record {
-      notes = notes_more g.S.Store c.args.started.now c.loop-change.started c.set_back.new.started _ _ _ kept.notes kept.later c.set_back.ensures.notes c.set_back.ensures.later;
-      written = λ good.
-          let of_tree = subst (λ x. is_of_tree (path_of x) ≡ true) (sym c.change-item.is) (good.of_tree i change lt) in
-          c.set_back.ensures.written of_tree ∙ kept.written good;
-      later = later_more g.S.Store _ _ _ kept.later c.set_back.ensures.later;
-      back = λ honest good.
-          let before = c.set_back.ensures.later.was_honest honest in
-          let proper = subst IsProper (sym c.change-item.is) (good.proper i change lt) in
-          let small = subst IsSmall (sym c.change-item.is) (good.small i change lt) in
-          let of_tree = subst (λ x. is_of_tree (path_of x) ≡ true) (sym c.change-item.is) (good.of_tree i change lt) in
-          back_more c.args.way c.args.changes.now good i lt change c.change-item.is _ (tree_of now) (kept.back before good) (tree_of after)
-          (set_back_of_tree c.args.way change now after of_tree (c.in_ok-set_back.ensures.ok honest proper small));
-      folder = λ honest good.
-          let before = c.set_back.ensures.later.was_honest honest in
-          let proper = subst IsProper (sym c.change-item.is) (good.proper i change lt) in
-          let small = subst IsSmall (sym c.change-item.is) (good.small i change lt) in
-          let of_tree = subst (λ x. is_of_tree (path_of x) ≡ true) (sym c.change-item.is) (good.of_tree i change lt) in
-          folder_stays_back c.args.way change now after of_tree (c.in_ok-set_back.ensures.ok honest proper small) ∙ kept.folder before good;
+      notes = notes_more g.S.Store c.args.started.now c.loop-change.started c.set_back.new.started _ _ _ kept.notes kept.walk.later c.set_back.ensures.notes c.set_back.ensures.later;
+      walk = stays_on kept.walk c.set_back.ensures.later (λ good. c.set_back.ensures.written (of good).of_tree) (λ honest good. folder_stays_back c.args.way change now after (of good).of_tree (set_back honest good));
+      back = λ honest good. back_more c.args.way c.args.changes.now good c.loop-change.change-index c.loop-change-test.true change c.change-item.is _ (tree_of now) (kept.back (was_honest honest) good) (tree_of after)
+          (set_back_of_tree c.args.way change now after (of good).of_tree (set_back honest good));
     }
+
+-- the folder of the journal stays where it stops at a change
+folder_stopped : (g : Over) (c : After-set_back g) → g.S.Store.honest c.set_back.new.store → IsEntry c.args.changes.now
+    → (g.S.Store.files c.set_back.new.store ≡ g.S.Store.files c.loop-change.store) ⊎ Steps (opposite c.args.way) c.change-item.result (g.S.Store.files c.loop-change.store) (g.S.Store.files c.set_back.new.store)
+    → undo_folder_of (g.S.Store.files c.set_back.new.store) ≡ undo_folder_of (g.S.Store.files c.args.store.now)
+folder_stopped g c honest good stops =
+    folder_at_stop (opposite c.args.way) c.change-item.result (g.S.Store.files c.loop-change.store) (g.S.Store.files c.set_back.new.store) (of_entry c.args.changes.now c.loop-change.change-index c.loop-change-test.true c.change-item.result c.change-item.is good).of_tree stops
+    ∙ c.loop-change.invariant.walk.folder (c.set_back.ensures.later.was_honest honest) good
 
 -- it stops before the change or after it
 pub returns-in_err-set_back-clause-stopped : goal.returns-in_err-set_back-clause-stopped
 returns-in_err-set_back-clause-stopped g c honest good start some ready =
-    let store = g.S.Store in
-    let i = c.loop-change.change-index in
-    let lt = c.loop-change-test.true in
-    let change = c.change-item.result in
-    let way = c.args.way in
-    let changes = c.args.changes.now in
-    let old = store.files c.args.store.now in
-    let now = store.files c.loop-change.store in
-    let after = store.files c.set_back.new.store in
-    let kept = c.loop-change.invariant in
-    let before = c.set_back.ensures.later.was_honest honest in
+    let at = goal.at.returns-in_err-set_back-clause-stopped g c in
+    let of = here g at.After-change-item good in
+    let old = g.S.Store.files c.args.store.now in
+    let after = g.S.Store.files c.set_back.new.store in
     let p = err_from_is_err_and c.from_residual.result c.from_residual.ensures.1 in
-    let proper = subst IsProper (sym c.change-item.is) (good.proper i change lt) in
-    let small = subst IsSmall (sym c.change-item.is) (good.small i change lt) in
-    let of_tree = subst (λ x. is_of_tree (path_of x) ≡ true) (sym c.change-item.is) (good.of_tree i change lt) in
-    let back = kept.back before good in
-    let stops : SomeMade way changes start (tree_of after) × (undo_folder_of after ≡ undo_folder_of old) = ⊎_elim
-    (λ (same : after ≡ now). (
-      subst (λ files. SomeMade way changes start (tree_of files)) (sym same) (made_from_start way changes good start (tree_of old) (tree_of now) some ready i back),
-      ap undo_folder_of same ∙ kept.folder before good,
+    let stops = c.in_err-set_back.ensures.err honest of.proper of.small in
+    subst (λ r. OnErr r (StopsRollingBack c.args.way c.args.changes.now c.args.settled.now start old after)) (sym p.1) (inl (
+      some_at_stop c.args.way c.args.changes.now good c.loop-change.change-index c.loop-change-test.true c.change-item.result c.change-item.is start old (g.S.Store.files c.loop-change.store) after some ready
+          (c.loop-change.invariant.back (c.set_back.ensures.later.was_honest honest) good) stops,
+      folder_stopped g at.After-set_back honest good stops,
     ))
-    (λ (step : Steps (opposite way) change now after). (
-      made_from_start way changes good start (tree_of old) (tree_of after) some ready (i + 1)
-          (back_more way changes good i lt change c.change-item.is (tree_of old) (tree_of now) back (tree_of after) (inr (step_of_tree (opposite way) change now after of_tree step))),
-      folder_stays (opposite way) change now after of_tree step ∙ kept.folder before good,
-    ))
-    (c.in_err-set_back.ensures.err honest proper small) in
-    subst (λ r. OnErr r (StopsRollingBack way changes c.args.settled.now start old after)) (sym p.1) (inl stops)
 
 pub returns-in_err-set_back-clause-written : goal.returns-in_err-set_back-clause-written
 returns-in_err-set_back-clause-written g c good =
-    let of_tree = subst (λ x. is_of_tree (path_of x) ≡ true) (sym c.change-item.is) (good.of_tree c.loop-change.change-index c.change-item.result c.loop-change-test.true) in
-    let a = c.set_back.ensures.written of_tree in
-    let b = c.loop-change.invariant.written good in
+    let a = c.set_back.ensures.written (here g (goal.at.returns-in_err-set_back-clause-written g c).After-change-item good).of_tree in
+    let b = c.loop-change.invariant.walk.written good in
     omega (arith, a, b)
 
 pub returns-in_err-set_back-clause-folder : goal.returns-in_err-set_back-clause-folder
 returns-in_err-set_back-clause-folder g c honest good =
-    let store = g.S.Store in
-    let i = c.loop-change.change-index in
-    let lt = c.loop-change-test.true in
-    let change = c.change-item.result in
-    let way = c.args.way in
-    let old = store.files c.args.store.now in
-    let now = store.files c.loop-change.store in
-    let after = store.files c.set_back.new.store in
-    let before = c.set_back.ensures.later.was_honest honest in
-    let proper = subst IsProper (sym c.change-item.is) (good.proper i change lt) in
-    let small = subst IsSmall (sym c.change-item.is) (good.small i change lt) in
-    let of_tree = subst (λ x. is_of_tree (path_of x) ≡ true) (sym c.change-item.is) (good.of_tree i change lt) in
-    let here : undo_folder_of after ≡ undo_folder_of now = ⊎_elim
-    (λ (same : after ≡ now). ap undo_folder_of same)
-    (λ (step : Steps (opposite way) change now after). folder_stays (opposite way) change now after of_tree step)
-    (c.in_err-set_back.ensures.err honest proper small) in
-    λ other differs. ap (λ folder. get folder other) (here ∙ c.loop-change.invariant.folder before good)
+    let at = goal.at.returns-in_err-set_back-clause-folder g c in
+    let of = here g at.After-change-item good in
+    let stays = folder_stopped g at.After-set_back honest good (c.in_err-set_back.ensures.err honest of.proper of.small) in
+    λ other differs. ap (λ folder. get folder other) stays
 
 pub returns-in_err-set_back-clause-notes : goal.returns-in_err-set_back-clause-notes
 returns-in_err-set_back-clause-notes g c =
     let kept = c.loop-change.invariant in
-    notes_more g.S.Store c.args.started.now c.loop-change.started c.set_back.new.started _ _ _ kept.notes kept.later c.set_back.ensures.notes c.set_back.ensures.later
+    notes_more g.S.Store c.args.started.now c.loop-change.started c.set_back.new.started _ _ _ kept.notes kept.walk.later c.set_back.ensures.notes c.set_back.ensures.later
 
 pub returns-clause-notes : goal.returns-clause-notes
 returns-clause-notes g c =
     let kept = c.loop-change.invariant in
     let moved = c.put_head.ensures.moves in
-    notes_last g.S.Store c.args.started.now c.loop-change.started c.args.store.now c.loop-change.store c.put_head.new.store kept.later (omega (arith, moved))
+    notes_last g.S.Store c.args.started.now c.loop-change.started c.args.store.now c.loop-change.store c.put_head.new.store kept.walk.later (omega (arith, moved))
 
 -- each change that could be set back can be
 pub returns-in_err-set_back-clause-cause : goal.returns-in_err-set_back-clause-cause
 returns-in_err-set_back-clause-cause g c honest good all free =
-    let store = g.S.Store in
     let i = c.loop-change.change-index in
     let lt = c.loop-change-test.true in
     let change = c.change-item.result in
     let way = c.args.way in
     let changes = c.args.changes.now in
-    let old = store.files c.args.store.now in
-    let now = store.files c.loop-change.store in
-    let kept = c.loop-change.invariant in
-    let before = c.set_back.ensures.later.was_honest honest in
+    let old = tree_of (g.S.Store.files c.args.store.now) in
+    let now = g.S.Store.files c.loop-change.store in
+    let of = here g (goal.at.returns-in_err-set_back-clause-cause g c).After-change-item good in
     let p = err_from_is_err_and c.from_residual.result c.from_residual.ensures.1 in
-    let proper = subst IsProper (sym c.change-item.is) (good.proper i change lt) in
-    let small = subst IsSmall (sym c.change-item.is) (good.small i change lt) in
-    let of_tree = subst (λ x. is_of_tree (path_of x) ≡ true) (sym c.change-item.is) (good.of_tree i change lt) in
-    let can = subst (CanBeSetBack way (tree_of old)) (sym c.change-item.is) (all i change lt) in
-    let back = kept.back before good in
-    let at = tree_at now (path_of change) of_tree in (
+    let can = at_change changes i lt change c.change-item.is (CanBeSetBack way old) all in
+    let back = c.loop-change.invariant.back (c.set_back.ensures.later.was_honest honest) good in
+    let at = tree_at now (path_of change) of.of_tree in (
       λ e. let was = c.in_err-set_back.was in
-          let stuck = c.set_back.ensures.moved honest proper small (cc) in
-          stuck.0 (subst (IsReady (opposite way) change) at (still_made way changes good i lt change c.change-item.is (tree_of old) (tree_of now) back can (λ r. stuck.1 (subst (IsReady way change) at r)))),
+          let stuck = c.set_back.ensures.moved honest of.proper of.small (cc) in
+          stuck.0 (subst (IsReady (opposite way) change) at (still_made way changes good i lt change c.change-item.is old (tree_of now) back can (λ r. stuck.1 (subst (IsReady way change) at r)))),
       λ e. let was = c.in_err-set_back.was in
-          let clash = c.set_back.ensures.clash honest proper small (cc) in
-          still_free way changes good i lt change c.change-item.is (tree_of old) (tree_of now) back can (λ r. clash.0 (subst (IsReady way change) at r)) clash.1 (clash_in_tree now (path_of change) of_tree clash.2),
+          let clash = c.set_back.ensures.clash honest of.proper of.small (cc) in
+          still_free way changes good i lt change c.change-item.is old (tree_of now) back can (λ r. clash.0 (subst (IsReady way change) at r)) clash.1 (clash_in_tree now (path_of change) of.of_tree clash.2),
     )
 
 -- whatever a put of the head answers, the rest of the journal's folder stays
@@ -166,10 +138,7 @@ put_at text (Err e) now after done failed = ⊎_elim
     failed
 
 -- all are taken back, and the head is put
-module _ (way : Way) (changes : List Change) (settled : List ℕ) (good : IsEntry changes) (i : ℕ) (last : i ≡ length changes) (old now after : Files) (made : AreBack way (take i changes) (tree_of old) (tree_of now)) (folder : undo_folder_of now ≡ undo_folder_of old) where
-  all_back : AreBack way changes (tree_of old) (tree_of now)
-  all_back = subst (λ front. AreBack way front (tree_of old) (tree_of now)) (ap (λ n. take n changes) last ∙ take-length changes) made
-
+module _ (way : Way) (changes : List Change) (settled : List ℕ) (good : IsEntry changes) (old now after : Files) (back : AreBack way changes (tree_of old) (tree_of now)) (folder : undo_folder_of now ≡ undo_folder_of old) where
   head_set : Sets head_path (Some settled) now after → Sets head_path (Some settled) (undo_folder_of old) (undo_folder_of after)
   head_set sets = subst (λ f. Sets head_path (Some settled) f (undo_folder_of after)) folder (head_sets now after (Some settled) sets)
 
@@ -177,52 +146,47 @@ module _ (way : Way) (changes : List Change) (settled : List ℕ) (good : IsEntr
   rolled_back sets =
       let same : tree_of after ≡ tree_of now = head_keeps_tree now after (Some settled) sets in
       record {
-        tree = subst (λ t. SomeMade way changes t (tree_of old)) (sym same) all_back.made;
-        ready = subst (λ t. All (λ change. IsReady way change (get t (path_of change))) changes) (sym same) all_back.ready;
+        tree = subst (λ t. SomeMade way changes t (tree_of old)) (sym same) back.made;
+        ready = subst (λ t. All (λ change. IsReady way change (get t (path_of change))) changes) (sym same) back.ready;
         sets = head_set sets;
       }
 
   stops_at_head : (start : Files) → SomeMade way changes start (tree_of old) → All (λ change. IsReady way change (get start (path_of change))) changes
       → (after ≡ now) ⊎ Sets head_path (Some settled) now after → StopsRollingBack way changes settled start old after
   stops_at_head start some ready (inl same) = inl (
-    subst (λ files. SomeMade way changes start (tree_of files)) (sym same) (made_from_start way changes good start (tree_of old) (tree_of now) some ready i made),
+    subst (λ files. SomeMade way changes start (tree_of files)) (sym same) (made_from_start way changes good start (tree_of old) (tree_of now) some ready (length changes) (subst (λ front. AreBack way front (tree_of old) (tree_of now)) (sym (take-length changes)) back)),
     ap undo_folder_of same ∙ folder,
   )
   stops_at_head start some ready (inr sets) = inr (
-    head_keeps_tree now after (Some settled) sets ∙ back_at_start way changes good start (tree_of old) (tree_of now) some ready all_back,
+    head_keeps_tree now after (Some settled) sets ∙ back_at_start way changes good start (tree_of old) (tree_of now) some ready back,
     head_set sets,
   )
 
+-- all changes are back where the head is put
+all_are_back : (g : Over) (c : After-put_head g) → g.S.Store.honest c.put_head.new.store → IsEntry c.args.changes.now
+    → AreBack c.args.way c.args.changes.now (tree_of (g.S.Store.files c.args.store.now)) (tree_of (g.S.Store.files c.loop-change.store)) × (undo_folder_of (g.S.Store.files c.loop-change.store) ≡ undo_folder_of (g.S.Store.files c.args.store.now))
+all_are_back g c honest good =
+    let before = c.put_head.ensures.later.was_honest honest in
+    let all = walked c.args.changes.now c.loop-change.change-index (omega (arith, c.loop-change-test.false, c.loop-change.auto.change-index-end)) in (
+      subst (λ front. AreBack c.args.way front (tree_of (g.S.Store.files c.args.store.now)) (tree_of (g.S.Store.files c.loop-change.store))) all (c.loop-change.invariant.back before good),
+      c.loop-change.invariant.walk.folder before good,
+    )
+
 pub returns-clause-done : goal.returns-clause-done
 returns-clause-done g c honest good =
-    let store = g.S.Store in
-    let kept = c.loop-change.invariant in
-    let before = c.put_head.ensures.later.was_honest honest in
-    let last : c.loop-change.change-index ≡ length c.args.changes.now = omega (arith, c.loop-change-test.false, c.loop-change.auto.change-index-end) in
-    on_ok_weaker c.put_head.result
-    (rolled_back c.args.way c.args.changes.now c.args.settled.now good c.loop-change.change-index last (store.files c.args.store.now) (store.files c.loop-change.store) (store.files c.put_head.new.store) (kept.back before good) (kept.folder before good))
-    (c.put_head.ensures.ok honest)
+    let back = all_are_back g (goal.at.returns-clause-done g c).After-put_head honest good in
+    on_ok_weaker c.put_head.result (rolled_back c.args.way c.args.changes.now c.args.settled.now good _ _ (g.S.Store.files c.put_head.new.store) back.0 back.1) (c.put_head.ensures.ok honest)
 
 pub returns-clause-stopped : goal.returns-clause-stopped
 returns-clause-stopped g c honest good start some ready =
-    let store = g.S.Store in
-    let kept = c.loop-change.invariant in
-    let before = c.put_head.ensures.later.was_honest honest in
-    let last : c.loop-change.change-index ≡ length c.args.changes.now = omega (arith, c.loop-change-test.false, c.loop-change.auto.change-index-end) in
-    on_err_weaker c.put_head.result
-    (stops_at_head c.args.way c.args.changes.now c.args.settled.now good c.loop-change.change-index last (store.files c.args.store.now) (store.files c.loop-change.store) (store.files c.put_head.new.store) (kept.back before good) (kept.folder before good) start some ready)
-    (c.put_head.ensures.err honest)
+    let back = all_are_back g (goal.at.returns-clause-stopped g c).After-put_head honest good in
+    on_err_weaker c.put_head.result (stops_at_head c.args.way c.args.changes.now c.args.settled.now good _ _ (g.S.Store.files c.put_head.new.store) back.0 back.1 start some ready) (c.put_head.ensures.err honest)
 
 pub returns-clause-cause : goal.returns-clause-cause
 returns-clause-cause g c honest good all free =
-    let store = g.S.Store in
-    let kept = c.loop-change.invariant in
-    let before = c.put_head.ensures.later.was_honest honest in
-    let last : c.loop-change.change-index ≡ length c.args.changes.now = omega (arith, c.loop-change-test.false, c.loop-change.auto.change-index-end) in
-    let all_made : AreBack c.args.way c.args.changes.now (tree_of (store.files c.args.store.now)) (tree_of (store.files c.loop-change.store)) =
-    subst (λ front. AreBack c.args.way front (tree_of (store.files c.args.store.now)) (tree_of (store.files c.loop-change.store))) (ap (λ n. take n c.args.changes.now) last ∙ take-length c.args.changes.now) (kept.back before good) in (
+    let back = all_are_back g (goal.at.returns-clause-cause g c).After-put_head honest good in (
       c.put_head.ensures.moved,
-      λ e. free (head_clashed c.args.changes.now good (store.files c.args.store.now) (store.files c.loop-change.store) (λ path none. sym (all_made.made.others path none)) (kept.folder before good) (c.put_head.ensures.clash honest e)),
+      λ e. free (head_clashed c.args.changes.now good _ _ (λ path none. sym (back.0.made.others path none)) back.1 (c.put_head.ensures.clash honest e)),
     )
 
 pub returns-clause-folder : goal.returns-clause-folder
@@ -232,10 +196,10 @@ returns-clause-folder g c honest good =
     let after = store.files c.put_head.new.store in
     let before = c.put_head.ensures.later.was_honest honest in
     let here = put_at c.args.settled.now c.put_head.result now after (c.put_head.ensures.ok honest) (c.put_head.ensures.err honest) in
-    λ other differs. here other differs ∙ ap (λ folder. get folder other) (c.loop-change.invariant.folder before good)
+    λ other differs. here other differs ∙ ap (λ folder. get folder other) (c.loop-change.invariant.walk.folder before good)
 
 pub returns-clause-written : goal.returns-clause-written
 returns-clause-written g c good =
     let a = c.put_head.ensures.written in
-    let b = c.loop-change.invariant.written good in
+    let b = c.loop-change.invariant.walk.written good in
     omega (arith, a, b)

@@ -1,10 +1,9 @@
-use Rattle.std.proofs.Common.{◌≡◌, take}
-use Rattle.reuse_tree.specs.Asked.{IsLater}
+use Rattle.std.proofs.Common.{take}
 use Rattle.reuse_tree.specs.Files.{tree_of}
 use Rattle.reuse_session.specs.Carried.{NotesMoves}
-use Rattle.reuse_session.specs.Tree.{undo_folder_of}
 use Rattle.reuse_session.specs.Entry.{IsEntry}
 use Rattle.reuse_session.proofs.MadeLemmas.{AreBack}
+use Rattle.reuse_session.proofs.AtChange.{StaysBeside}
 use Rattle.reuse_session.proofs.roll_back.set_all_back.Given as goal
 
 -- the changes so far are taken back or weren't made, and the folder of the journal stays
@@ -13,8 +12,6 @@ invariant-loop-change g l =
     let store = g.S.Store in
     record {
       notes : NotesMoves g.S.Store l.fn.started l.started l.fn.store l.store;
-      written : IsEntry l.changes → store.written l.store ≡ store.written l.fn.store;
-      later : IsLater g.S.Store l.fn.store l.store;
+      walk : StaysBeside store l.fn.store l.store l.changes;
       back : store.honest l.store → IsEntry l.changes → AreBack l.way (take l.change-index l.changes) (tree_of (store.files l.fn.store)) (tree_of (store.files l.store));
-      folder : store.honest l.store → IsEntry l.changes → undo_folder_of (store.files l.store) ≡ undo_folder_of (store.files l.fn.store);
     }

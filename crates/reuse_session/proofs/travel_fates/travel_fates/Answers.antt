@@ -1,43 +1,31 @@
-use Rattle.std.proofs.Common.{◌≡◌, length, take, ◌+◌, ◌++◌, ◌∷◌, [], true, arith, ap, sym, subst, ◌∙◌}
-use Rattle.std.specs.FinMap.{keys}
-use Rattle.std.proofs.Math.Seq.{take-length}
+use Rattle.std.proofs.Common.{take, ◌+◌, ◌++◌, ◌∷◌, [], arith, ap, sym, subst, ◌∙◌}
 use Rattle.std.proofs.lemmas.List.{take_more}
-use Rattle.std.proofs.lemmas.List.Folds.{list_any_at}
 use Rattle.reuse_tree.specs.Files.{tree_of}
-use Rattle.reuse_tree.specs.Change.{path_of, IsProper}
-use Rattle.reuse_tree.proofs.AskedLemmas.{reads_more}
-use Rattle.reuse_session.specs.Tree.{is_of_tree}
-use Rattle.reuse_session.specs.Entry.{IsSmall, makes}
 use Rattle.reuse_session.specs.Fates.{IsFateOf, AreFatesOf}
+use Rattle.reuse_session.proofs.AtChange.{reads_on, tested, walked}
 use Rattle.reuse_session.proofs.Previewing.{fate_push}
 use Rattle.reuse_session.proofs.travel_fates.travel_fates.Goals as goal
 
 pub loop-change-preserved : goal.loop-change-preserved
 loop-change-preserved g c =
-    let store = g.S.Store in
     let i = c.loop-change.change-index in
-    let lt = c.loop-change-test.true in
     let change = c.change-item.result in
     let kept = c.loop-change.invariant in
+    let was_honest = c.change_fate.ensures.reads.was_honest in
+    let start = g.S.Store.files c.args.store.now in
     record {
-      reads = reads_more g.S.Store _ _ _ kept.reads c.change_fate.ensures.reads;
-      heeded = λ honest. kept.heeded (c.change_fate.ensures.reads.was_honest honest);
+      walk = reads_on kept.walk c.change_fate.ensures.reads;
       told = λ honest good.
-          let before = c.change_fate.ensures.reads.was_honest honest in
-          let start = tree_of (store.files c.args.store.now) in
-          let proper = subst IsProper (sym c.change-item.is) (good.proper i change lt) in
-          let small = subst IsSmall (sym c.change-item.is) (good.small i change lt) in
-          let of_tree = subst (λ x. is_of_tree (path_of x) ≡ true) (sym c.change-item.is) (good.of_tree i change lt) in
-          let here = subst (λ files. IsFateOf c.args.way (tree_of files) change c.in_ok-change_fate.field-0) (kept.reads.files before)
-          (c.in_ok-change_fate.ensures.fate honest proper small of_tree
-          (λ made. c.deref.ensures.value ∙ kept.heeded before (list_any_at (makes c.args.way) c.args.changes.now i change lt (subst (λ x. makes c.args.way x ≡ true) c.change-item.is made)) ∙ ap keys (sym (kept.reads.files before)))) in
-          subst (λ fs. AreFatesOf c.args.way start (take (i + 1) c.args.changes.now) fs) (sym c.in_ok-push.ensures.items)
-          (subst (λ cs. AreFatesOf c.args.way start cs (c.loop-change.fates.items ++ c.in_ok-change_fate.field-0 ∷ [])) (ap (λ x. take i c.args.changes.now ++ x ∷ []) c.change-item.is ∙ sym (take_more c.args.changes.now i change lt))
-          (fate_push c.args.way start (take i c.args.changes.now) c.loop-change.fates.items change c.in_ok-change_fate.field-0 (kept.told before good) here));
+          let before = was_honest honest in
+          let here = tested c.args.changes.now i c.loop-change-test.true change c.change-item.is c.deref.result.now (λ files. IsFateOf c.args.way (tree_of files) change c.in_ok-change_fate.field-0)
+          good kept.walk before c.deref.ensures.value (c.in_ok-change_fate.ensures.fate honest) in
+          subst (λ fs. AreFatesOf c.args.way (tree_of start) (take (i + 1) c.args.changes.now) fs) (sym c.in_ok-push.ensures.items)
+          (subst (λ cs. AreFatesOf c.args.way (tree_of start) cs (c.loop-change.fates.items ++ c.in_ok-change_fate.field-0 ∷ [])) (ap (λ x. take i c.args.changes.now ++ x ∷ []) c.change-item.is ∙ sym (take_more c.args.changes.now i change c.loop-change-test.true))
+          (fate_push c.args.way (tree_of start) (take i c.args.changes.now) c.loop-change.fates.items change c.in_ok-change_fate.field-0 (kept.told before good) here));
     }
 
 pub returns-clause-fates : goal.returns-clause-fates
 returns-clause-fates g c honest good =
-    let last : c.loop-change.change-index ≡ length c.args.changes.now = omega (arith, c.loop-change-test.false, c.loop-change.auto.change-index-end) in
-    let all : take c.loop-change.change-index c.args.changes.now ≡ c.args.changes.now = ap (λ n. take n c.args.changes.now) last ∙ take-length c.args.changes.now in
-    subst (λ cs. AreFatesOf c.args.way (tree_of (g.S.Store.files c.args.store.now)) cs c.loop-change.fates.items) all (c.loop-change.invariant.told honest good)
+    let all = walked c.args.changes.now c.loop-change.change-index (omega (arith, c.loop-change-test.false, c.loop-change.auto.change-index-end)) in
+    subst (AreFatesOf c.args.way (tree_of (g.S.Store.files c.args.store.now)) c.args.changes.now) (sym c.new.ensures)
+    (subst (λ cs. AreFatesOf c.args.way (tree_of (g.S.Store.files c.args.store.now)) cs c.loop-change.fates.items) all (c.loop-change.invariant.told honest good))

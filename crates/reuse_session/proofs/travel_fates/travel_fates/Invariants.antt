@@ -1,10 +1,8 @@
-use Rattle.std.proofs.Common.{◌≡◌, take, true}
-use Rattle.std.specs.List.{list_any}
-use Rattle.std.specs.FinMap.{keys}
+use Rattle.std.proofs.Common.{take}
 use Rattle.reuse_tree.specs.Files.{tree_of}
-use Rattle.reuse_tree.specs.Asked.{OnlyReads}
-use Rattle.reuse_session.specs.Entry.{IsEntry, makes}
+use Rattle.reuse_session.specs.Entry.{IsEntry}
 use Rattle.reuse_session.specs.Fates.{AreFatesOf}
+use Rattle.reuse_session.proofs.AtChange.{ReadsBeside}
 use Rattle.reuse_session.proofs.travel_fates.travel_fates.Given as goal
 
 -- the files stay, and the fates so far are those of the changes so far
@@ -12,7 +10,6 @@ abbrev pub invariant-loop-change : goal.invariant-loop-change
 invariant-loop-change g l =
     let store = g.S.Store in
     record {
-      reads : OnlyReads g.S.Store l.fn.store l.store;
-      heeded : store.honest l.store → list_any (makes l.way) l.changes ≡ true → l.paths.items ≡ keys (store.files l.fn.store);
+      walk : ReadsBeside store l.fn.store l.store l.way l.changes l.paths.items;
       told : store.honest l.store → IsEntry l.changes → AreFatesOf l.way (tree_of (store.files l.fn.store)) (take l.change-index l.changes) l.fates.items;
     }

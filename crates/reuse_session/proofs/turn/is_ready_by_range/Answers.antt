@@ -6,8 +6,6 @@ use Rattle.reuse_session.proofs.turn.is_ready_by_range.Goals as goal
 
 pub returns-in-Undo-clause-stuck : goal.returns-in-Undo-clause-stuck
 returns-in-Undo-clause-stuck c proper ready =
-    let file = option_copied c.args.file in
-    let back = subst (λ w. IsReadyByRange w c.args.change.now file) c.in-Undo.is ready in
-    let after = c.state_by_range-in-Undo.ensures.after.1 (back, λ before. not_both_by_range c.args.change.now file proper before back) in
-    let same = rw after at c.eq-in-Undo.ensures in
-    same
+    let back = subst (λ w. IsReadyByRange w c.args.change.now (option_copied c.args.file)) c.in-Undo.is ready in
+    let after = c.state_by_range-in-Undo.ensures.after.1 (back, λ before. not_both_by_range c.args.change.now (option_copied c.args.file) proper before back) in
+    rw after at c.eq-in-Undo.ensures

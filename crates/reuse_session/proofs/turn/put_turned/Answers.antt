@@ -1,58 +1,39 @@
-use Rattle.std.proofs.Common.{◌≡◌, ◌⊎◌, Some, None, OnErr, ap, sym, subst, ◌∙◌}
+use Rattle.std.proofs.Common.{◌≡◌, ◌⊎◌, OnErr, ap, sym, subst, ◌∙◌}
 use Rattle.std.proofs.lemmas.Result.{err_from_is_err_and}
 use Rattle.reuse_tree.specs.Change.{path_of}
 use Rattle.reuse_session.specs.Parts.{joined, held_in}
 use Rattle.reuse_session.specs.Tree.{is_of_tree, Sets}
-use Rattle.reuse_session.proofs.Turning.{counts_none, put_sets, removal_sets, put_doubt, removal_doubt}
+use Rattle.reuse_session.proofs.Turning.{counts_none, put_sets, removal_sets, put_doubt, removal_doubt, sets_as}
 use Rattle.reuse_session.proofs.turn.put_turned.Goals as goal
 
 pub returns-in_err-put_parts-in-Some-clause-err : goal.returns-in_err-put_parts-in-Some-clause-err
 returns-in_err-put_parts-in-Some-clause-err g c honest =
-    let store = g.S.Store in
-    let old = store.files c.args.store.now in
-    let new = store.files c.put_parts.new.self in
-    let path = path_of c.args.change.now in
+    let old = g.S.Store.files c.args.store.now in
+    let new = g.S.Store.files c.put_parts.new.self in
     let bytes = joined c.in-Some.parts in
-    let held : held_in c.args.after ≡ Some bytes = ap held_in c.in-Some.is in
     let p = err_from_is_err_and c.from_residual.result c.from_residual.ensures.1 in
-    subst (λ r. OnErr r ((new ≡ old) ⊎ Sets path (held_in c.args.after) old new)) (sym p.1)
-    (subst (λ f. (new ≡ old) ⊎ Sets path f old new) (sym held)
-    (subst (λ q. (new ≡ old) ⊎ Sets q (Some bytes) old new) c.path-path.ensures
-    (put_doubt c.in_err-put_parts-in-Some.field-0.0 old new c.path-path.result.now bytes (c.in_err-put_parts-in-Some.ensures.puts.err honest))))
+    subst (λ r. OnErr r ((new ≡ old) ⊎ Sets (path_of c.args.change.now) (held_in c.args.after) old new)) (sym p.1)
+    (sets_as (λ path held. (new ≡ old) ⊎ Sets path held old new) c.path-path.ensures (ap held_in c.in-Some.is)
+    (put_doubt c.in_err-put_parts-in-Some.field-0.0 old new c.path-path.result.now bytes (c.in_err-put_parts-in-Some.ensures.puts.err honest)))
 
 pub returns-in_err-remove-in-None-clause-err : goal.returns-in_err-remove-in-None-clause-err
 returns-in_err-remove-in-None-clause-err g c honest =
-    let store = g.S.Store in
-    let old = store.files c.args.store.now in
-    let new = store.files c.remove.new.self in
-    let path = path_of c.args.change.now in
-    let held : held_in c.args.after ≡ None = ap held_in c.in-None.is in
+    let old = g.S.Store.files c.args.store.now in
+    let new = g.S.Store.files c.remove.new.self in
     let p = err_from_is_err_and c.from_residual-in_err-remove-in-None.result c.from_residual-in_err-remove-in-None.ensures.1 in
-    subst (λ r. OnErr r ((new ≡ old) ⊎ Sets path (held_in c.args.after) old new)) (sym p.1)
-    (subst (λ f. (new ≡ old) ⊎ Sets path f old new) (sym held)
-    (subst (λ q. (new ≡ old) ⊎ Sets q None old new) c.path-path.ensures
-    (removal_doubt c.in_err-remove-in-None.field-0.0 old new c.path-path.result.now (c.in_err-remove-in-None.ensures.removes.err honest))))
+    subst (λ r. OnErr r ((new ≡ old) ⊎ Sets (path_of c.args.change.now) (held_in c.args.after) old new)) (sym p.1)
+    (sets_as (λ path held. (new ≡ old) ⊎ Sets path held old new) c.path-path.ensures (ap held_in c.in-None.is)
+    (removal_doubt c.in_err-remove-in-None.field-0.0 old new c.path-path.result.now (c.in_err-remove-in-None.ensures.removes.err honest)))
 
 pub returns-in_ok-put_parts-in-Some-clause-ok : goal.returns-in_ok-put_parts-in-Some-clause-ok
 returns-in_ok-put_parts-in-Some-clause-ok g c honest =
-    let store = g.S.Store in
-    let old = store.files c.args.store.now in
-    let new = store.files c.put_parts.new.self in
-    let path = path_of c.args.change.now in
-    let bytes = joined c.in-Some.parts in
-    let held : held_in c.args.after ≡ Some bytes = ap held_in c.in-Some.is in
-    subst (λ f. Sets path f old new) (sym held)
-    (subst (λ q. Sets q (Some bytes) old new) c.path-path.ensures (put_sets old new c.path-path.result.now bytes (c.in_ok-put_parts-in-Some.ensures.puts.ok honest)))
+    sets_as (λ path held. Sets path held (g.S.Store.files c.args.store.now) (g.S.Store.files c.put_parts.new.self)) c.path-path.ensures (ap held_in c.in-Some.is)
+    (put_sets _ _ c.path-path.result.now (joined c.in-Some.parts) (c.in_ok-put_parts-in-Some.ensures.puts.ok honest))
 
 pub returns-in_ok-remove-in-None-clause-ok : goal.returns-in_ok-remove-in-None-clause-ok
 returns-in_ok-remove-in-None-clause-ok g c honest =
-    let store = g.S.Store in
-    let old = store.files c.args.store.now in
-    let new = store.files c.remove.new.self in
-    let path = path_of c.args.change.now in
-    let held : held_in c.args.after ≡ None = ap held_in c.in-None.is in
-    subst (λ f. Sets path f old new) (sym held)
-    (subst (λ q. Sets q None old new) c.path-path.ensures (removal_sets old new c.path-path.result.now (c.in_ok-remove-in-None.ensures.removes.ok honest)))
+    sets_as (λ path held. Sets path held (g.S.Store.files c.args.store.now) (g.S.Store.files c.remove.new.self)) c.path-path.ensures (ap held_in c.in-None.is)
+    (removal_sets _ _ c.path-path.result.now (c.in_ok-remove-in-None.ensures.removes.ok honest))
 
 pub returns-in_err-put_parts-in-Some-clause-written : goal.returns-in_err-put_parts-in-Some-clause-written
 returns-in_err-put_parts-in-Some-clause-written g c of_tree =

@@ -1,10 +1,11 @@
-use Rattle.std.proofs.Common.{◌≡◌, ◌∙◌, ◌+◌, List, ℕ, map, drop, sym, subst, ap₂, true, false}
+use Rattle.std.proofs.Common.{◌≡◌, ◌∙◌, ◌+◌, List, ℕ, map, drop, sym, subst, ap₂}
 use Rattle.std.specs.List.Sorted.{IsStrictlySortedBy}
 use Rattle.std.proofs.lemmas.Bool.{false≢true}
 use Rattle.reuse_tree.specs.Change.{path_of}
 use Rattle.reuse_tree.specs.declared.change.Change.{Change}
 use Rattle.reuse_session.specs.Listing.{is_folder_of}
 use Rattle.reuse_session.proofs.EntryPaths.{before, sorted_later, apart_step, not_apart_from, part_from}
+use Rattle.reuse_session.proofs.journal.entry_checks.are_apart.Goals.{After-has_file_under}
 use Rattle.reuse_session.proofs.journal.entry_checks.are_apart.Goals as goal
 
 pub has_file_under-requires : goal.has_file_under-requires
@@ -14,19 +15,17 @@ has_file_under-requires c =
     subst (λ (l : List Change). IsStrictlySortedBy before (map path_of l)) (sym (part_from cs (i + 1)))
     (sorted_later cs i c.index-changes-i.result c.loop-i-test.true c.index-changes-i.is c.requires)
 
+-- the test tells whether a later change lies under the path of this one
+told : (c : After-has_file_under) → c.has_file_under.result ≡ is_folder_of (map path_of (drop (c.loop-i.i + 1) c.args.changes.now)) (path_of c.index-changes-i.result)
+told c = c.has_file_under.ensures ∙ ap₂ (λ (l : List Change) (p : List ℕ). is_folder_of (map path_of l) p) (part_from c.args.changes.now (c.loop-i.i + 1)) c.path.ensures
+
 pub returns-then-has_file_under : goal.returns-then-has_file_under
 returns-then-has_file_under c =
-    let cs = c.args.changes.now in
-    let i = c.loop-i.i in
-    let found : is_folder_of (map path_of (drop (i + 1) cs)) (path_of c.index-changes-i.result) ≡ true =
-    sym (ap₂ (λ (l : List Change) (p : List ℕ). is_folder_of (map path_of l) p) (part_from cs (i + 1)) c.path.ensures) ∙ sym c.has_file_under.ensures ∙ c.if-has_file_under.true in
-    (λ e. absurd (false≢true e), λ apart. absurd (not_apart_from cs i c.index-changes-i.result c.loop-i-test.true c.index-changes-i.is found (c.loop-i.invariant.0 apart)))
+    let found = sym (told (goal.at.returns-then-has_file_under c).After-has_file_under) ∙ c.if-has_file_under.true in
+    (λ e. absurd (false≢true e), λ apart. absurd (not_apart_from c.args.changes.now c.loop-i.i c.index-changes-i.result c.loop-i-test.true c.index-changes-i.is found (c.loop-i.invariant.0 apart)))
 
 pub loop-i-preserved : goal.loop-i-preserved
 loop-i-preserved c =
-    let cs = c.args.changes.now in
-    let i = c.loop-i.i in
-    let none : is_folder_of (map path_of (drop (i + 1) cs)) (path_of c.index-changes-i.result) ≡ false =
-    sym (ap₂ (λ (l : List Change) (p : List ℕ). is_folder_of (map path_of l) p) (part_from cs (i + 1)) c.path.ensures) ∙ sym c.has_file_under.ensures ∙ c.if-has_file_under.false in
-    let step = apart_step cs i c.index-changes-i.result c.loop-i-test.true c.index-changes-i.is c.requires none in
+    let none = sym (told (goal.at.loop-i-preserved c).After-has_file_under) ∙ c.if-has_file_under.false in
+    let step = apart_step c.args.changes.now c.loop-i.i c.index-changes-i.result c.loop-i-test.true c.index-changes-i.is c.requires none in
     (λ h. step.0 (c.loop-i.invariant.0 h), λ h. c.loop-i.invariant.1 (step.1 h))

@@ -1,4 +1,4 @@
-use Rattle.std.proofs.Common.{◌≡◌, ◌∙◌}
+use Rattle.std.proofs.Common.{◌∙◌}
 use Rattle.reuse_session.specs.Session.{memory_of}
 use Rattle.reuse_session.proofs.Following.{log_follows}
 use Rattle.reuse_session.proofs.MemoryLemmas.{rows_of_memory}

@@ -1,10 +1,8 @@
 use Rattle.std.proofs.Common.{◌≡◌, ◌∙◌, List, Err, ap, refl, sym, subst}
 use Rattle.reuse_tree.specs.Files.{tree_of}
-use Rattle.reuse_tree.proofs.AskedLemmas.{reads_more}
 use Rattle.reuse_session.specs.Answer.{TellsNoFault}
 use Rattle.reuse_session.specs.Entry.{IsEntry}
 use Rattle.reuse_session.specs.History.{remember_moved}
-use Rattle.reuse_session.specs.Journal.{ahead}
 use Rattle.reuse_session.specs.JournalFiles.{entry_in}
 use Rattle.reuse_session.specs.Previews.{Foresees}
 use Rattle.reuse_session.specs.Session.{memory_of}

@@ -1,5 +1,4 @@
 use Rattle.std.proofs.Common.{Err, ap, sym, subst}
-use Rattle.reuse_session.specs.Journal.{ahead}
 use Rattle.reuse_session.specs.Previews.{Foresees}
 use Rattle.reuse_session.specs.Session.{memory_of}
 use Rattle.reuse_session.proofs.MemoryLemmas.{none_ahead}

@@ -5,16 +5,18 @@ use Rattle.reuse_session.specs.Answer.{TellsNoFault}
 use Rattle.reuse_session.specs.Calls.{LeavesTravel}
 use Rattle.reuse_session.specs.Entry.{IsEntry, CanBeMade, IsFirstStuck}
 use Rattle.reuse_session.specs.Head.{way_of}
-use Rattle.reuse_session.specs.Journal.{Travels, ahead, reply_of}
+use Rattle.reuse_session.specs.Journal.{State, Travels, ahead, reply_of}
 use Rattle.reuse_session.specs.JournalFiles.{entry_in}
-use Rattle.reuse_session.specs.Session.{store_of}
+use Rattle.reuse_session.specs.Session.{store_of, StandsOn}
 use Rattle.reuse_session.specs.declared.journal.head.Pending.{Pending}
 use Rattle.reuse_session.proofs.Following.{names_path}
 use Rattle.reuse_tree.specs.Asked.{OnlyReads}
 use Rattle.reuse_tree.proofs.AskedLemmas.{reads_more}
 use Rattle.reuse_session.proofs.OnlyReading.{is_refused}
-use Rattle.reuse_session.proofs.StepAnswers.{still_stands, read_told, failure_told}
-use Rattle.reuse_session.proofs.Travelling.{same_way, next_of, next_says, next_changes, stuck, ready, step_leaves, stop_leaves}
+use Rattle.reuse_session.proofs.StepAnswers.{still_stands, read_told, failed_untold}
+use Rattle.reuse_session.proofs.Travelling.{Prepared, same_way, next_of, next_says, next_changes, stuck, ready, step_leaves, stop_leaves}
+use Rattle.reuse_session.proofs.session.Session.step_listed.Given.{Over}
+use Rattle.reuse_session.proofs.session.Session.step_listed.Goals.{After-of_listed}
 use Rattle.reuse_session.proofs.session.Session.step_listed.Goals as goal
 
 -- the entry can't be read
@@ -46,78 +48,58 @@ returns-in_err-paths-clause-exact g c honest held stands told =
       subst (λ r. Travels way (ahead way held.journal) held r held) (sym (is ∙ ap (λ x. Err x) told_as.1)) (stuck next c.as_slice-changes.result.now told_as.0 changes first),
     )
 
--- each change was tested
+-- what is known once the changes of the entry were tested
+module _ (g : Over) (c : After-of_listed g) where
+  good : IsEntry c.as_slice-changes.result.now
+  good = subst IsEntry (sym c.as_slice-changes.ensures) c.in_ok-entry.ensures.good
+
+  abbrev pending_of : Pending
+  pending_of = record { entry = c.number-number.result; way = c.of_listed.result }
+
+  only_read : OnlyReads g.S.Store (store_of c.args.self.now) c.prepare.new.store
+  only_read = reads_more g.S.Store (store_of c.args.self.now) c.read_entry.new.store c.prepare.new.store c.read_entry.ensures.reads c.prepare.ensures.reads
+
+  can_be_made : g.S.Store.honest c.prepare.new.store → All (CanBeMade (way_of c.of_listed.result) (tree_of (g.S.Store.files c.prepare.new.store))) c.as_slice-changes.result.now
+  can_be_made honest =
+      subst (λ w. All (CanBeMade w (tree_of (g.S.Store.files c.prepare.new.store))) c.as_slice-changes.result.now) (sym (ap way_of c.of_listed.ensures ∙ same_way c.args.way))
+      (subst (λ f. All (CanBeMade c.args.way (tree_of f)) c.as_slice-changes.result.now) (sym (c.prepare.ensures.reads.files honest)) (c.in_ok-paths.ensures.ready honest good))
+
+  prepared_step : g.S.Store.honest c.prepare.new.store → (held : State) → StandsOn g.S.Store.files c.args.self.now held
+      → Prepared g.S.Store.files c.args.way (record c.args.self.now { store = c.prepare.new.store }) c.as_slice-changes.result.now pending_of c.in_ok-moved.moved held
+  prepared_step =
+      ready g.S.Store c.args.way c.args.self.now c.args.listed c.requires.0 c.requires.1 c.in_ok-moved.moved (c.in_ok-moved.ensures c.requires.0 c.requires.1)
+      c.read_entry.new.store c.prepare.new.store c.read_entry.ensures.reads c.prepare.ensures.reads c.number-number.result c.number-number.ensures
+      c.in_ok-entry.entry c.in_ok-entry.ensures.ok c.as_slice-changes.result.now c.as_slice-changes.ensures good c.in_ok-paths.ensures.ready
+      pending_of c.number-number.ensures c.of_listed.ensures
+
 pub step-requires : goal.step-requires
 step-requires g c honest =
-    let store = g.S.Store in
-    let way = c.args.way in
-    let made = c.as_slice-changes.result.now in
-    let good : IsEntry made = subst IsEntry (sym c.as_slice-changes.ensures) c.in_ok-entry.ensures.good in record {
-      entry = good;
-      each = subst (λ w. All (CanBeMade w (tree_of (store.files c.prepare.new.store))) made) (sym (ap way_of c.of_listed.ensures ∙ same_way way))
-          (subst (λ f. All (CanBeMade way (tree_of f)) made) (sym (c.prepare.ensures.reads.files honest)) (c.in_ok-paths.ensures.ready honest good));
-    }
+    let tested = (goal.at.step-requires g c).After-of_listed in
+    record { entry = good g tested; each = can_be_made g tested honest }
 
 -- the step is carried out
 pub returns-in_err-step-clause-exact : goal.returns-in_err-step-clause-exact
 returns-in_err-step-clause-exact g c honest held stands told =
-    let is = is_refused c.from_residual-in_err-step.result c.from_residual-in_err-step.ensures.1 in
-    absurd (failure_told c.in_err-step.field-0.0 c.in_err-step.ensures.kinds (subst TellsNoFault is told))
+    absurd (failed_untold c.in_err-step.field-0.0 c.from_residual-in_err-step.result c.from_residual-in_err-step.ensures.1 c.in_err-step.ensures.kinds told)
 
 pub returns-in_err-step-clause-leaves : goal.returns-in_err-step-clause-leaves
 returns-in_err-step-clause-leaves g c =
-    let store = g.S.Store in
-    let session = c.args.self.now in
-    let way = c.args.way in
-    let moved = c.in_ok-moved.moved in
-    let made = c.as_slice-changes.result.now in
-    let pending : Pending = record { entry = c.number-number.result; way = c.of_listed.result } in
-    let first : OnlyReads store (store_of session) c.read_entry.new.store =
-    c.read_entry.ensures.reads in
-    let then : OnlyReads store c.read_entry.new.store c.prepare.new.store =
-    c.prepare.ensures.reads in
-    let good : IsEntry made = subst IsEntry (sym c.as_slice-changes.ensures) c.in_ok-entry.ensures.good in
-    let at = ready store way session c.args.listed c.requires.0 c.requires.1 moved (c.in_ok-moved.ensures c.requires.0 c.requires.1) c.read_entry.new.store c.prepare.new.store first then c.number-number.result c.number-number.ensures
-    c.in_ok-entry.entry c.in_ok-entry.ensures.ok made c.as_slice-changes.ensures good c.in_ok-paths.ensures.ready pending c.number-number.ensures c.of_listed.ensures in
-    subst (λ r. LeavesTravel store way r session c.step.new.self) (sym (is_refused c.from_residual-in_err-step.result c.from_residual-in_err-step.ensures.1))
-    (stop_leaves store way session c.step.new.self c.prepare.new.store (reads_more store (store_of session) c.read_entry.new.store c.prepare.new.store first then) c.step.ensures.call.later.was_honest made pending moved good at c.step.ensures.folder c.step.ensures.written
+    let tested = (goal.at.returns-in_err-step-clause-leaves g c).After-of_listed in
+    let was_honest = c.step.ensures.call.later.was_honest in
+    subst (λ r. LeavesTravel g.S.Store c.args.way r c.args.self.now c.step.new.self) (sym (is_refused c.from_residual-in_err-step.result c.from_residual-in_err-step.ensures.1))
+    (stop_leaves g.S.Store c.args.way c.args.self.now c.step.new.self c.prepare.new.store (only_read g tested) was_honest c.as_slice-changes.result.now (pending_of g tested) c.in_ok-moved.moved
+    (good g tested) (prepared_step g tested) c.step.ensures.folder c.step.ensures.written
     c.in_err-step.field-0.0 c.in_err-step.ensures.refused c.in_err-step.ensures.moves c.in_err-step.ensures.late
-    (λ honest. let tested = c.step.ensures.call.later.was_honest honest in c.in_err-step.ensures.clash honest good
-    (subst (λ w. All (CanBeMade w (tree_of (store.files c.prepare.new.store))) made) (sym (ap way_of c.of_listed.ensures ∙ same_way way))
-    (subst (λ f. All (CanBeMade way (tree_of f)) made) (sym (c.prepare.ensures.reads.files tested)) (c.in_ok-paths.ensures.ready tested good)))))
+    (λ honest. c.in_err-step.ensures.clash honest (good g tested) (can_be_made g tested (was_honest honest))))
 
 pub returns-clause-exact : goal.returns-clause-exact
 returns-clause-exact g c honest held stands told =
-    let store = g.S.Store in
-    let session = c.args.self.now in
-    let way = c.args.way in
-    let moved = c.in_ok-moved.moved in
-    let made = c.as_slice-changes.result.now in
-    let pending : Pending = record { entry = c.number-number.result; way = c.of_listed.result } in
-    let first : OnlyReads store (store_of session) c.read_entry.new.store =
-    c.read_entry.ensures.reads in
-    let then : OnlyReads store c.read_entry.new.store c.prepare.new.store =
-    c.prepare.ensures.reads in
-    let good : IsEntry made = subst IsEntry (sym c.as_slice-changes.ensures) c.in_ok-entry.ensures.good in
-    let at = ready store way session c.args.listed c.requires.0 c.requires.1 moved (c.in_ok-moved.ensures c.requires.0 c.requires.1) c.read_entry.new.store c.prepare.new.store first then c.number-number.result c.number-number.ensures
-    c.in_ok-entry.entry c.in_ok-entry.ensures.ok made c.as_slice-changes.ensures good c.in_ok-paths.ensures.ready pending c.number-number.ensures c.of_listed.ensures in
-    let here = at (c.step.ensures.call.later.was_honest honest) held stands in
-    (here.second, c.in_ok-step.ensures.moves honest held here.second here.stands here.is, here.travels c.reply_of.result (c.reply_of.ensures ∙ ap (reply_of way) c.in_ok-paths.ensures.paths))
+    let here = prepared_step g (goal.at.returns-clause-exact g c).After-of_listed (c.step.ensures.call.later.was_honest honest) held stands in
+    (here.second, c.in_ok-step.ensures.moves honest held here.second here.stands here.is, here.travels c.reply_of.result (c.reply_of.ensures ∙ ap (reply_of c.args.way) c.in_ok-paths.ensures.paths))
 
 pub returns-clause-leaves : goal.returns-clause-leaves
 returns-clause-leaves g c =
-    let store = g.S.Store in
-    let session = c.args.self.now in
-    let way = c.args.way in
-    let moved = c.in_ok-moved.moved in
-    let made = c.as_slice-changes.result.now in
-    let pending : Pending = record { entry = c.number-number.result; way = c.of_listed.result } in
-    let first : OnlyReads store (store_of session) c.read_entry.new.store =
-    c.read_entry.ensures.reads in
-    let then : OnlyReads store c.read_entry.new.store c.prepare.new.store =
-    c.prepare.ensures.reads in
-    let good : IsEntry made = subst IsEntry (sym c.as_slice-changes.ensures) c.in_ok-entry.ensures.good in
-    let at = ready store way session c.args.listed c.requires.0 c.requires.1 moved (c.in_ok-moved.ensures c.requires.0 c.requires.1) c.read_entry.new.store c.prepare.new.store first then c.number-number.result c.number-number.ensures
-    c.in_ok-entry.entry c.in_ok-entry.ensures.ok made c.as_slice-changes.ensures good c.in_ok-paths.ensures.ready pending c.number-number.ensures c.of_listed.ensures in
-    step_leaves store way session c.step.new.self c.prepare.new.store (reads_more store (store_of session) c.read_entry.new.store c.prepare.new.store first then) c.step.ensures.call.later.was_honest made pending moved good at c.step.ensures.folder c.step.ensures.written
+    let tested = (goal.at.returns-clause-leaves g c).After-of_listed in
+    step_leaves g.S.Store c.args.way c.args.self.now c.step.new.self c.prepare.new.store (only_read g tested) c.step.ensures.call.later.was_honest c.as_slice-changes.result.now (pending_of g tested) c.in_ok-moved.moved
+    (good g tested) (prepared_step g tested) c.step.ensures.folder c.step.ensures.written
     c.reply_of.result c.in_ok-step.ensures.texts

@@ -1,0 +1,13 @@
+// Where the licensing information of a file goes.
+use reuse_header::Style;
+
+/// Where the licensing information of a file goes.
+#[derive(Clone, Copy, Debug)]
+pub enum Target {
+    /// Into a comment of the file, in this style.
+    Inside(Style),
+    /// Into its neighbour.
+    Beside,
+    /// Nowhere: the file is skipped.
+    Nowhere,
+}
