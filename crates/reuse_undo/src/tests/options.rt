@@ -6,12 +6,12 @@ use std::test::Fail;
 
 /// The line of `annotate -l MIT a.py`, as it is shown.
 const PLAIN: &str = "Line { root: \".\", action: Do(Annotate(Annotate { \
-    places: Places { places: [Path(PathText { text: \"a.py\" })] }, \
+    places: Items { items: [Path(PathText { text: \"a.py\" })] }, \
     additions: Additions { notices: Texts { texts: [] }, contributors: Texts { texts: [] }, \
     licences: Texts { texts: [Bytes { bytes: [77, 73, 84] }] } }, \
     how: How { form: None, merge: false, replace: true }, \
     scope: Scope { recursive: false, style: None, force_dot_license: false, unknown: Refuse, \
-    skip_existing: false, listed: None, excluded: Globs { globs: [] } } })), telling: Lines, moment: Moment { since_1970: 1704067200 } }";
+    skip_existing: false, listed: None, excluded: Items { items: [] } } })), telling: Lines, moment: Moment { since_1970: 1704067200 } }";
 
 /// Words behind `annotate -l MIT`, and which text of the plain line gives way to which.
 const SETTINGS: &[(&str, &str, &str)] = &[
@@ -41,9 +41,9 @@ const SETTINGS: &[(&str, &str, &str)] = &[
     (
         "--recursive|--exclude|**a|--exclude=*|a.py",
         "recursive: false, style: None, force_dot_license: false, unknown: Refuse, skip_existing: false, listed: None, \
-         excluded: Globs { globs: [] }",
+         excluded: Items { items: [] }",
         "recursive: true, style: None, force_dot_license: false, unknown: Refuse, skip_existing: false, listed: None, \
-         excluded: Globs { globs: [Glob { pieces: [AnyRun, Literal('a')] }, Glob { pieces: [RunInPart] }] }",
+         excluded: Items { items: [Glob { pieces: [AnyRun, Literal('a')] }, Glob { pieces: [RunInPart] }] }",
     ),
     ("-n|a.py", "action: Do", "action: Foretell"),
     ("--dry-run|a.py", "action: Do", "action: Foretell"),
