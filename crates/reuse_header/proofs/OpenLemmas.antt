@@ -32,7 +32,8 @@ use Rattle.reuse_header.proofs.SpanLemmas.{last-place, last-closed}
 use Rattle.reuse_header.proofs.AgainLemmas.{ended_lines, ended_lines-text, parts_again}
 use Rattle.reuse_header.proofs.WrittenLemmas.{error_is_ok}
 use Rattle.reuse_header.proofs.LawLemmas.{neighbour_ok, text_lines}
-use Rattle.reuse_header.proofs.ReadingLemmas.{neighbour_reader, reads_back}
+use Rattle.reuse_header.proofs.ContentsLemmas.{neighbour_reader}
+use Rattle.reuse_header.proofs.ReadingLemmas.{reads_back}
 use Rattle.reuse_header.proofs.LinesLemmas.{Known, neighbour_sayable}
 use Rattle.reuse_header.proofs.FeedLemmas.{Feedless}
 use Rattle.reuse_header.proofs.KindLemmas.{Begins, mark_plain, replacement_begins}
