@@ -1,6 +1,6 @@
 -- The contents that the lines of a written block are read as, and the tag of each.
 use Rattle.std.proofs.Common.{◌≡◌, ℕ, suc, Bool, true, false, List, [], ◌∷◌, ◌++◌, length, length-append, append_assoc, map, nat_eq, Option, None, Some, refl, sym, ap, subst, ◌∙◌, inl, inr, arith}
-use Rattle.std.specs.Prelude.{◌&&◌, ◌||◌, ◌==◌, MatchOption}
+use Rattle.std.specs.Prelude.{◌||◌, ◌==◌, MatchOption}
 use Rattle.std.specs.List.{list_all, list_any}
 use Rattle.std.specs.Option.{option_map_or, option_to_list}
 use Rattle.std.proofs.lemmas.Bool.{false≢true, eqb-true}
@@ -18,6 +18,7 @@ use Rattle.reuse_header.specs.Marks.{LineMarks, marks_of}
 use Rattle.reuse_header.specs.Blocks.{without_returns, without_star, between_marks, single_content, multi_content, contents_from, contents_of}
 use Rattle.reuse_header.specs.Writing.{neighbour_marks, separator_of, inner_lines, block_lines}
 use Rattle.std.proofs.lemmas.Bool.{cases_Bool as truth}
+use Rattle.reuse_notice.proofs.BlankLemmas.{drop_end-all, dropped_end}
 
 -- ---- bytes without those at their ends
 
@@ -43,25 +44,6 @@ module _ (test : ℕ → Bool) where
   drop_front-none (x ∷ xs) p = elim (truth (test x)) [
     | inl e ↦ (let h = rw e at p in rw e (drop_front-none xs h))
     | inr e ↦ (let h = rw e at p in absurd (false≢true h))
-  ]
-
-  all-behind : (xs ys : List ℕ) → list_all test ys ≡ true → list_all test (xs ++ ys) ≡ list_all test xs
-  all-behind [] ys q = q
-  all-behind (x ∷ xs) ys q = ap (λ (b : Bool). test x && b) (all-behind xs ys q)
-
-  drop_end-all : (xs ys : List ℕ) → list_all test ys ≡ true → drop_end test (xs ++ ys) ≡ drop_end test xs
-  unfolding drop_end
-  drop_end-all [] [] q = refl
-  drop_end-all [] (y ∷ ys) q = rw q refl
-  drop_end-all (x ∷ xs) ys q = let e = all-behind (x ∷ xs) ys q in rw (e, drop_end-all xs ys q) refl
-
-  -- what is dropped at the end
-  dropped_end : (xs : List ℕ) → (tail : List ℕ) × (xs ≡ drop_end test xs ++ tail) × (list_all test tail ≡ true)
-  unfolding drop_end
-  dropped_end [] = ([], refl, refl)
-  dropped_end (x ∷ xs) = elim (truth (list_all test (x ∷ xs))) [
-    | inl e ↦ (x ∷ xs, rw e refl, e)
-    | inr e ↦ (let rest = dropped_end xs in (rest.0, (rw e (ap (λ (ys : List ℕ). x ∷ ys) rest.1)), rest.2))
   ]
 
 all-weaker : (p q : ℕ → Bool) → ((b : ℕ) → p b ≡ true → q b ≡ true) → (xs : List ℕ) → list_all p xs ≡ true → list_all q xs ≡ true

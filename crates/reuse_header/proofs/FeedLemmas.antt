@@ -26,7 +26,7 @@ use Rattle.reuse_header.specs.Header.{Header, HeaderSpan, span_in, header_of, ne
 use Rattle.reuse_header.specs.Writing.{new_info}
 use Rattle.std.proofs.lemmas.Bool.{cases_Bool as truth}
 use Rattle.reuse_header.proofs.SplitLemmas.{split_found}
-use Rattle.reuse_header.proofs.SayableLemmas.{Each, each_of_all, each_both}
+use Rattle.reuse_header.proofs.SayableLemmas.{Each, each_of_all, each_both, of_picked}
 use Rattle.reuse_header.proofs.MergedLemmas.{Merges}
 use Rattle.reuse_header.proofs.InfoLemmas.{EachText, EachAdded, Spreads, each_new}
 
@@ -97,11 +97,7 @@ between_feedless comment is_first is_last content e = star _ (closed is_last _ (
     closed false bytes f = f
 
     star : (bytes : List ℕ) → Feedless bytes → Feedless (if is_first || not (list_any (λ b. b == 42) comment.middle) then bytes else without_star bytes)
-    star bytes f = by (is_first || not (list_any (λ b. b == 42) comment.middle))
-      where
-        by : (b : Bool) → Feedless (if b then bytes else without_star bytes)
-        by true = f
-        by false = star_feedless bytes f
+    star bytes f = of_picked Feedless (is_first || not (list_any (λ b. b == 42) comment.middle)) bytes (without_star bytes) f (star_feedless bytes f)
 
 returns_feedless : (content : List ℕ) → Feedless content → Feedless (without_returns content)
 returns_feedless content e = none_end is_feed is_return content e

@@ -65,6 +65,17 @@ written_text : (kind : LineKind) (contents : List (List ℕ)) (lines : List Text
 written_text kind contents lines =
     flat_map-append line_bytes (ended_lines kind contents) lines ∙ ap (λ (xs : List ℕ). xs ++ text_of lines) (ended_lines-text kind contents)
 
+-- no line that is written is a barrier, where the first barrier stands behind all of them
+written_clear : (made : List ℕ) (kind : LineKind) (c : List ℕ) (contents : List (List ℕ)) (lines : List TextLine) (start : ℕ)
+    → start + length (ended_by kind (c ∷ contents)) ≤ place_in made (closed_lines (placed start (ended_lines kind (c ∷ contents) ++ lines))) → is_barrier c ≡ true → ⊥
+unfolding ended_lines
+written_clear made kind c contents lines start place e =
+    let first = rw e at place in
+    let n = length-append (c ++ ending_bytes (Some kind)) (ended_by kind contents) in
+    let m = length-append c (ending_bytes (Some kind)) in
+    let some = ending_some kind in
+    omega (arith, first, n, m, some)
+
 -- the contents before the first barrier are those that are written, if the barrier stands right behind them
 open_written : (made : List ℕ) (kind : LineKind) (contents : List (List ℕ)) (lines : List TextLine) (start : ℕ) → AreLines lines → length made ≡ start + length (text_of (ended_lines kind contents ++ lines))
     → place_in made (closed_lines (placed start (ended_lines kind contents ++ lines))) ≡ start + length (ended_by kind contents)
@@ -81,11 +92,7 @@ open_written made kind [] (line ∷ lines) start are whole place = elim (truth (
       absurd (omega (arith, behind, last.0, some)))
 ]
 open_written made kind (c ∷ contents) lines start are whole place = elim (truth (is_barrier c)) [
-  | inl e ↦ (let first = rw e at place in
-      let n = length-append (c ++ ending_bytes (Some kind)) (ended_by kind contents) in
-      let m = length-append c (ending_bytes (Some kind)) in
-      let some = ending_some kind in
-      absurd (omega (arith, first, n, m, some)))
+  | inl e ↦ absurd (written_clear made kind c contents lines start (omega (arith, place)) e)
   | inr e ↦ (let behind = rw e at place in
       let n = length-append (c ++ ending_bytes (Some kind)) (ended_by kind contents) in
       let m = length-append (c ++ ending_bytes (Some kind)) (text_of (ended_lines kind contents ++ lines)) in
@@ -93,14 +100,19 @@ open_written made kind (c ∷ contents) lines start are whole place = elim (trut
       rw e (ap (λ (cs : List (List ℕ)). c ∷ cs) deep))
 ]
 
--- the lines of the neighbour that was made
+-- the lines of a neighbour that begins with what is written
+lines_made : Laws → (made rest : List ℕ) (kind : LineKind) (contents : List (List ℕ)) → after_mark made ≡ ended_by kind contents ++ rest → AreContents kind contents
+    → lines_of (after_mark made) ≡ ended_lines kind contents ++ lines_of rest
+lines_made laws made rest kind contents is good =
+    let lines = ended_lines kind contents ++ lines_of rest in
+    let text : text_of lines ≡ after_mark made = written_text kind contents (lines_of rest) ∙ ap (λ (xs : List ℕ). ended_by kind contents ++ xs) (laws.joined rest) ∙ sym is in
+    sym (laws.only (after_mark made) lines (written_are kind contents (lines_of rest) good (laws.well rest)) text)
+
+-- the contents of the neighbour that was made
 open_made : Laws → (made rest : List ℕ) (kind : LineKind) (contents : List (List ℕ)) → after_mark made ≡ ended_by kind contents ++ rest → AreContents kind contents
     → neighbour_end made ≡ mark_len_of made + length (ended_by kind contents) → open_contents (file_lines made) ≡ contents
 open_made laws made rest kind contents is good place =
-    let ls = ended_lines kind contents ++ lines_of rest in
-    let are = written_are kind contents (lines_of rest) good (laws.well rest) in
-    let text : text_of ls ≡ after_mark made = written_text kind contents (lines_of rest) ∙ ap (λ (xs : List ℕ). ended_by kind contents ++ xs) (laws.joined rest) ∙ sym is in
-    let same : lines_of (after_mark made) ≡ ls = sym (laws.only (after_mark made) ls are text) in
+    let same = lines_made laws made rest kind contents is good in
     let size = file_size made (laws.joined (after_mark made)) in
     let n = ap (λ (xs : List TextLine). length (text_of xs)) same in
     let at = ap (λ (xs : List TextLine). place_in made (closed_lines (placed (mark_len_of made) xs))) (sym same) in
@@ -114,25 +126,18 @@ open_inserted : (made : List ℕ) (kind : LineKind) (contents : List (List ℕ))
 unfolding ended_lines
 open_inserted made kind [] lines start place = (open_contents (placed start lines), refl)
 open_inserted made kind (c ∷ contents) lines start place = elim (truth (is_barrier c)) [
-  | inl e ↦ (let first = rw e at place in
-      let n = length-append (c ++ ending_bytes (Some kind)) (ended_by kind contents) in
-      let m = length-append c (ending_bytes (Some kind)) in
-      let some = ending_some kind in
-      absurd (omega (arith, first, n, m, some)))
+  | inl e ↦ absurd (written_clear made kind c contents lines start place e)
   | inr e ↦ (let behind = rw e at place in
       let n = length-append (c ++ ending_bytes (Some kind)) (ended_by kind contents) in
       let deep = open_inserted made kind contents lines (start + length (c ++ ending_bytes (Some kind))) (omega (arith, behind, n)) in
       rw e (deep.0, ap (λ (cs : List (List ℕ)). c ∷ cs) deep.1))
 ]
 
--- the lines of the neighbour that was made, behind which others may stand
+-- the same, where others may stand behind what is written
 open_begun : Laws → (made rest : List ℕ) (kind : LineKind) (contents : List (List ℕ)) → after_mark made ≡ ended_by kind contents ++ rest → AreContents kind contents
     → mark_len_of made + length (ended_by kind contents) ≤ neighbour_end made → (more : List (List ℕ)) × (open_contents (file_lines made) ≡ contents ++ more)
 open_begun laws made rest kind contents is good place =
-    let ls = ended_lines kind contents ++ lines_of rest in
-    let are = written_are kind contents (lines_of rest) good (laws.well rest) in
-    let text : text_of ls ≡ after_mark made = written_text kind contents (lines_of rest) ∙ ap (λ (xs : List ℕ). ended_by kind contents ++ xs) (laws.joined rest) ∙ sym is in
-    let same : lines_of (after_mark made) ≡ ls = sym (laws.only (after_mark made) ls are text) in
+    let same = lines_made laws made rest kind contents is good in
     let at = ap (λ (xs : List TextLine). place_in made (closed_lines (placed (mark_len_of made) xs))) same in
     let begun = open_inserted made kind contents (lines_of rest) (mark_len_of made) (omega (arith, at, place)) in
     (begun.0, ap (λ (xs : List TextLine). open_contents (placed (mark_len_of made) xs)) same ∙ begun.1)
