@@ -9,7 +9,7 @@ use Rattle.std.proofs.lemmas.Bool.Decides.{Decides-eqb}
 use Rattle.std.proofs.lemmas.List.{take-append-drop}
 use Rattle.std.proofs.lemmas.Slice.Eq.{starts_is}
 use Rattle.reuse_notice.specs.Tags.{is_blank, drop_front, drop_end}
-use Rattle.reuse_notice.proofs.SoundLemmas.{IsSound, is_low, is_nul, sound_low, sound_nil, sound_to_low, sound_after, sound_front, sound_end}
+use Rattle.reuse_notice.proofs.SoundLemmas.{IsSound, is_low, is_nul, sound_low, sound_to_low, sound_after, sound_front, sound_end}
 use Rattle.reuse_header.specs.declared.blocks.BlockSize.{BlockSize}
 use Rattle.reuse_header.specs.declared.style.Style.{Style}
 use Rattle.reuse_header.specs.declared.style.Style.TheVariants.{Python, C, Css, Html, Haskell, Tex, Lisp, Semicolon, Ml, Vim}
