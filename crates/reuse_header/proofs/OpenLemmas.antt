@@ -31,7 +31,7 @@ use Rattle.reuse_header.proofs.CutLemmas.{file_size, mark_within}
 use Rattle.reuse_header.proofs.SpanLemmas.{last-place, last-closed}
 use Rattle.reuse_header.proofs.AgainLemmas.{ended_lines, ended_lines-text, parts_again}
 use Rattle.reuse_header.proofs.WrittenLemmas.{error_is_ok}
-use Rattle.reuse_header.proofs.LawLemmas.{neighbour_ok, text_lines}
+use Rattle.reuse_header.proofs.LawLemmas.{NeighbourWritten, neighbour_ok, text_lines}
 use Rattle.reuse_header.proofs.ContentsLemmas.{neighbour_reader}
 use Rattle.reuse_header.proofs.ReadingLemmas.{reads_back}
 use Rattle.reuse_header.proofs.LinesLemmas.{Known, neighbour_sayable}
@@ -204,49 +204,55 @@ read_back laws info s =
     ap (λ (lines : List (List ℕ)). info_of [] (map without_returns lines)) (append-nil (inner_lines neighbour_marks info))
     ∙ reads_back laws.sets [] (λ line. without_returns line) neighbour_marks info neighbour_reader s
 
--- what is read of the neighbour that was made, where the block is replaced
-pub neighbour_opened : Known → Laws → (how : How) (arguments : Arguments) (file : List ℕ) (edit : Edit) → how.replace ≡ true → ArePlain (additions_of arguments)
-    → neighbour_annotation_of how (additions_of arguments) file ≡ Ok edit → info_of [] (neighbour_contents (edited file edit)) ≡ neighbour_info_written how (additions_of arguments) file
-neighbour_opened known laws how arguments file edit replace plain e =
-    let info = neighbour_info_written how (additions_of arguments) file in
-    let made = edited file edit in
-    let kind = kind_of_file file in
-    let lines = block_lines neighbour_marks info in
-    let w = neighbour_ok how (additions_of arguments) file edit e in
-    let written = neighbour_sayable known laws.well how arguments file kind plain in
-    let same = w.same ∙ is_replacement how.replace file (block_text neighbour_marks kind info) replace in
-    let text_is : edit.text ≡ ended_by kind lines = ap (λ (x : Edit). x.text) same ∙ text_lines neighbour_marks kind info in
-    let there = standing how.replace made (text_start edit) (text_end edit) replace w.stands in
-    let d = edit.back ++ drop (edit.start + edit.old_len) file in
-    let after = text_behind file made edit refl (ap (λ (x : Edit). x.start) same) (ap (λ (x : Edit). x.front) same) there.0 ∙ ap (λ (t : List ℕ). t ++ d) text_is in
-    let wide = ap length text_is in
-    ap (λ (cs : List (List ℕ)). info_of [] (map without_returns cs)) (open_made laws made d kind lines after written.1 (omega (arith, there.0, there.1, wide)))
-    ∙ read_back laws info written.0
+-- what is read of the neighbour that was made
+module _ (known : Known) (laws : Laws) (how : How) (arguments : Arguments) (file : List ℕ) (edit : Edit) (plain : ArePlain (additions_of arguments)) (ok : neighbour_annotation_of how (additions_of arguments) file ≡ Ok edit) where
+  abbrev info : Info
+  info = neighbour_info_written how (additions_of arguments) file
 
--- and where it is put in front of others
-pub neighbour_begun : Known → Laws → (how : How) (arguments : Arguments) (file : List ℕ) (edit : Edit) → how.replace ≡ false → ArePlain (additions_of arguments)
-    → neighbour_annotation_of how (additions_of arguments) file ≡ Ok edit
-    → (let info = neighbour_info_written how (additions_of arguments) file in info_of [] (take (length (block_lines neighbour_marks info)) (neighbour_contents (edited file edit))) ≡ info)
-neighbour_begun known laws how arguments file edit add plain e =
-    let info = neighbour_info_written how (additions_of arguments) file in
-    let made = edited file edit in
-    let kind = kind_of_file file in
-    let lines = block_lines neighbour_marks info in
-    let w = neighbour_ok how (additions_of arguments) file edit e in
-    let written = neighbour_sayable known laws.well how arguments file kind plain in
-    let is = is_insertion how.replace file (block_text neighbour_marks kind info) add in
-    let text_is : edit.text ≡ ended_by kind lines = ap (λ (x : Edit). x.text) w.same ∙ is.2 ∙ text_lines neighbour_marks kind info in
-    let there = standing_first how.replace made (text_start edit) (text_end edit) add w.stands in
-    let d = edit.back ++ drop (edit.start + edit.old_len) file in
-    let after = text_behind file made edit refl (ap (λ (x : Edit). x.start) w.same ∙ is.0) (ap (λ (x : Edit). x.front) w.same ∙ is.1) there.0 ∙ ap (λ (t : List ℕ). t ++ d) text_is in
-    let wide = ap length text_is in
-    let begun = open_begun laws made d kind lines after written.1 (omega (arith, there.0, there.1, wide)) in
-    let contents : neighbour_contents made ≡ map without_returns lines ++ map without_returns begun.0 = ap (map without_returns) begun.1 ∙ map-append without_returns lines begun.0 in
-    let n : length lines ≡ length (map without_returns lines) = sym (length-map lines without_returns) in
-    ap (λ (cs : List (List ℕ)). info_of [] (take (length lines) cs)) contents
-    ∙ ap (λ (k : ℕ). info_of [] (take k (map without_returns lines ++ map without_returns begun.0))) n
-    ∙ ap (info_of []) (take-append_seam (map without_returns lines) (map without_returns begun.0))
-    ∙ read_back laws info written.0
+  abbrev made : List ℕ
+  made = edited file edit
+
+  abbrev kind : LineKind
+  kind = kind_of_file file
+
+  abbrev lines : List (List ℕ)
+  lines = block_lines neighbour_marks info
+
+  abbrev behind : List ℕ
+  behind = edit.back ++ drop (edit.start + edit.old_len) file
+
+  written : NeighbourWritten how (additions_of arguments) file edit
+  written = neighbour_ok how (additions_of arguments) file edit ok
+
+  sayable : IsSayable [] info × AreContents kind lines
+  sayable = neighbour_sayable known laws.well how arguments file kind plain
+
+  -- where the block is replaced
+  pub neighbour_opened : how.replace ≡ true → info_of [] (neighbour_contents made) ≡ info
+  neighbour_opened replace =
+      let same = written.same ∙ is_replacement how.replace file (block_text neighbour_marks kind info) replace in
+      let text_is : edit.text ≡ ended_by kind lines = ap (λ (x : Edit). x.text) same ∙ text_lines neighbour_marks kind info in
+      let there = standing how.replace made (text_start edit) (text_end edit) replace written.stands in
+      let after = text_behind file made edit refl (ap (λ (x : Edit). x.start) same) (ap (λ (x : Edit). x.front) same) there.0 ∙ ap (λ (t : List ℕ). t ++ behind) text_is in
+      let wide = ap length text_is in
+      ap (λ (cs : List (List ℕ)). info_of [] (map without_returns cs)) (open_made laws made behind kind lines after sayable.1 (omega (arith, there.0, there.1, wide)))
+      ∙ read_back laws info sayable.0
+
+  -- and where it is put in front of others
+  pub neighbour_begun : how.replace ≡ false → info_of [] (take (length lines) (neighbour_contents made)) ≡ info
+  neighbour_begun add =
+      let is = is_insertion how.replace file (block_text neighbour_marks kind info) add in
+      let text_is : edit.text ≡ ended_by kind lines = ap (λ (x : Edit). x.text) written.same ∙ is.2 ∙ text_lines neighbour_marks kind info in
+      let there = standing_first how.replace made (text_start edit) (text_end edit) add written.stands in
+      let after = text_behind file made edit refl (ap (λ (x : Edit). x.start) written.same ∙ is.0) (ap (λ (x : Edit). x.front) written.same ∙ is.1) there.0 ∙ ap (λ (t : List ℕ). t ++ behind) text_is in
+      let wide = ap length text_is in
+      let begun = open_begun laws made behind kind lines after sayable.1 (omega (arith, there.0, there.1, wide)) in
+      let contents : neighbour_contents made ≡ map without_returns lines ++ map without_returns begun.0 = ap (map without_returns) begun.1 ∙ map-append without_returns lines begun.0 in
+      let n : length lines ≡ length (map without_returns lines) = sym (length-map lines without_returns) in
+      ap (λ (cs : List (List ℕ)). info_of [] (take (length lines) cs)) contents
+      ∙ ap (λ (k : ℕ). info_of [] (take k (map without_returns lines ++ map without_returns begun.0))) n
+      ∙ ap (info_of []) (take-append_seam (map without_returns lines) (map without_returns begun.0))
+      ∙ read_back laws info sayable.0
 
 quiet_edit : (made text : List ℕ) (start end : ℕ) → spliced made start (end - start) ([] ++ (text ++ [])) ≡ made
     → (let edit = replacement start end text in (edited made edit ≡ made) × (answer_of made (Ok edit) ≡ Ok None) × (text_start edit ≡ start) × (text_end edit ≡ start + length text))
@@ -273,7 +279,7 @@ edit_again known laws how arguments file edit replace plain is_text_too e =
     let size = length-append (take edit.start file) edit.front in
     let parts : made ≡ a ++ (edit.text ++ d) = parts_again (take edit.start file) edit.front edit.text edit.back (drop (edit.start + edit.old_len) file) in
     let at : mark_len_of made ≡ length a = omega (arith, there.0, n, size) in
-    let reads = ap (λ (r : Bool). info_of [] (replaced_contents r made)) replace ∙ neighbour_opened known laws how arguments file edit replace plain e in
+    let reads = ap (λ (r : Bool). info_of [] (replaced_contents r made)) replace ∙ neighbour_opened known laws how arguments file edit plain e replace in
     let says = same_info laws [] (replaced_contents how.replace file) (replaced_contents how.replace made) how.merge additions reads in
     let begins = subst (Begins kind) (sym front) (replacement_begins kind) in
     let plain_front : Feedless (take edit.start file) → ends_in_return (take edit.start file) ≡ false = λ f. ap (λ (k : ℕ). ends_in_return (take k file)) start ∙ (mark_plain file).1 in
