@@ -1,8 +1,8 @@
 -- The texts of contents and of additions hold no LF.
 use Rattle.std.proofs.Common.{◌≡◌, ℕ, zero, suc, ◌+◌, ◌/◌, ◌%◌, Bool, true, false, cond, List, [], ◌∷◌, ◌++◌, length, take, drop, map, Option, None, Some, refl, sym, ap, subst, ◌∙◌, inl, inr, arith}
-use Rattle.std.specs.Prelude.{not, ◌&&◌, ◌||◌, ◌==◌, if◌then◌else◌, Contains, filter, filter_map, codes, unwrap_or, nat_eq}
-use Rattle.std.specs.List.{list_any, starts_with, cons_option}
-use Rattle.std.specs.Option.{option_map, option_map_or, option_to_list, is_none}
+use Rattle.std.specs.Prelude.{not, ◌&&◌, ◌||◌, ◌==◌, if◌then◌else◌, Contains, codes, unwrap_or, nat_eq}
+use Rattle.std.specs.List.{list_any, starts_with}
+use Rattle.std.specs.Option.{option_map, option_map_or, option_to_list}
 use Rattle.std.proofs.lemmas.Bool.{false≢true, eqb-true, or_parts, false_from_ne_true}
 use Rattle.reuse_text.specs.Text.{TextLine, AreLines, line_bytes, lines_of, placed, file_lines, after_mark, mark_len_of}
 use Rattle.reuse_notice.specs.declared.prefixes.Prefix.{Prefix}
@@ -11,11 +11,9 @@ use Rattle.reuse_notice.specs.declared.tags.Years.{Years}
 use Rattle.reuse_notice.specs.declared.infos.Info.{Info}
 use Rattle.reuse_notice.specs.declared.adding.Additions.{Additions}
 use Rattle.reuse_notice.specs.Prefixes.{prefix_text}
-use Rattle.reuse_notice.specs.Tags.{NoticeText, is_blank, all_blank, is_filler, drop_front, drop_end, trimmed, stripped, value_after, licence_lead, contributor_lead, years_front, prefix_of, notice_behind, notice_of, tag_of}
-use Rattle.reuse_notice.specs.Contents.{notice_text, contributor_value, licence_value, is_blank_content}
+use Rattle.reuse_notice.specs.Tags.{NoticeText, is_blank, all_blank, is_filler, drop_front, drop_end, trimmed, stripped, value_after, licence_lead, contributor_lead, years_front, prefix_of, notice_behind, notice_of}
 use Rattle.reuse_notice.specs.Adding.{is_control, four_digits, years_text, notice_written}
 use Rattle.reuse_notice.specs.Plain.{IsPlain, ArePlain}
-use Rattle.reuse_notice.specs.Infos.{info_of, union_of, merged_of}
 use Rattle.reuse_notice.proofs.NoneLemmas.{or_none, none_append, none_drop, none_take, none_front, none_end, none_trimmed, none_weaker}
 use Rattle.reuse_header.specs.declared.style.Style.{Style}
 use Rattle.reuse_header.specs.declared.style.Form.{Form}
@@ -28,8 +26,9 @@ use Rattle.reuse_header.specs.Header.{Header, HeaderSpan, span_in, header_of, ne
 use Rattle.reuse_header.specs.Writing.{new_info}
 use Rattle.std.proofs.lemmas.Bool.{cases_Bool as truth}
 use Rattle.reuse_header.proofs.SplitLemmas.{split_found}
-use Rattle.reuse_header.proofs.SayableLemmas.{Each, all_of_each, each_of_all, each_both, each_front, each_end, each_set, notice_whole, contributor_is, licence_is}
-use Rattle.reuse_header.proofs.MergedLemmas.{Merges, merged_each}
+use Rattle.reuse_header.proofs.SayableLemmas.{Each, each_of_all, each_both, of_picked}
+use Rattle.reuse_header.proofs.MergedLemmas.{Merges}
+use Rattle.reuse_header.proofs.InfoLemmas.{EachText, EachAdded, Spreads, each_new}
 
 -- ---- no LF
 
@@ -98,11 +97,7 @@ between_feedless comment is_first is_last content e = star _ (closed is_last _ (
     closed false bytes f = f
 
     star : (bytes : List ℕ) → Feedless bytes → Feedless (if is_first || not (list_any (λ b. b == 42) comment.middle) then bytes else without_star bytes)
-    star bytes f = by (is_first || not (list_any (λ b. b == 42) comment.middle))
-      where
-        by : (b : Bool) → Feedless (if b then bytes else without_star bytes)
-        by true = f
-        by false = star_feedless bytes f
+    star bytes f = of_picked Feedless (is_first || not (list_any (λ b. b == 42) comment.middle)) bytes (without_star bytes) f (star_feedless bytes f)
 
 returns_feedless : (content : List ℕ) → Feedless content → Feedless (without_returns content)
 returns_feedless content e = none_end is_feed is_return content e
@@ -155,30 +150,11 @@ neighbour_feedless file are = mapped (open_contents (file_lines file)) (open_fee
 
 -- ---- information
 
-pub record HasNoFeed (info : Info) : Type 0 where
-  pub notices : Each Feedless info.notices
-  pub contributors : Each Feedless info.contributors
-  pub licences : Each Feedless info.licences
-  pub free : Each Feedless info.free
+abbrev pub HasNoFeed : Info → Type 0
+HasNoFeed info = EachText Feedless info
 
--- what texts of some kind say
-each_said_of : (f : List ℕ → Option (List ℕ)) (xs : List (List ℕ)) → ((x v : List ℕ) → Feedless x → f x ≡ Some v → Feedless v) → Each Feedless xs → Each Feedless (filter_map f xs)
-unfolding Each
-each_said_of f [] w h = tt
-each_said_of f (x ∷ xs) w h = by_value (f x) refl (each_said_of f xs w h.1)
-  where
-    by_value : (o : Option (List ℕ)) → f x ≡ o → Each Feedless (filter_map f xs) → Each Feedless (cons_option o (filter_map f xs))
-    by_value None e deep = deep
-    by_value (Some v) e deep = (w x v h.0 e, deep)
-
-each_filtered : (p : List ℕ → Bool) (xs : List (List ℕ)) → Each Feedless xs → Each Feedless (filter p xs)
-unfolding Each
-each_filtered p [] h = tt
-each_filtered p (x ∷ xs) h = by (p x) (each_filtered p xs h.1)
-  where
-    by : (b : Bool) → Each Feedless (filter p xs) → Each Feedless (cond b (x ∷ filter p xs) (filter p xs))
-    by true deep = (h.0, deep)
-    by false deep = deep
+abbrev pub AreFeedless : Additions → Type 0
+AreFeedless additions = EachAdded Feedless additions
 
 stripped_feedless : (punct content : List ℕ) → Feedless content → Feedless (stripped punct content)
 stripped_feedless punct content e = none_end is_feed is_blank _ (none_front is_feed (is_filler punct) content e)
@@ -189,22 +165,6 @@ value_feedless lead text v h e = by (starts_with nat_eq text lead && not (all_bl
     by : (b : Bool) → (if b then Some (trimmed is_blank (drop (length lead) text)) else None) ≡ Some v → Feedless v
     by true f = subst Feedless (let same : trimmed is_blank (drop (length lead) text) ≡ v = cc f in same) (none_trimmed is_feed is_blank (drop (length lead) text) (none_drop is_feed (length lead) text h))
     by false f = absurd (let none : ⊥ = cc f in none)
-
-info_feedless : (punct : List ℕ) (contents : List (List ℕ)) → Each Feedless contents → HasNoFeed (info_of punct contents)
-info_feedless punct contents h = record {
-  notices = each_set Feedless _ (each_said_of (λ c. notice_text (tag_of punct c)) contents (λ c t f e. subst Feedless (sym (notice_whole (stripped punct c) t e)) (stripped_feedless punct c f)) h);
-  contributors = each_set Feedless _ (each_said_of (λ c. contributor_value (tag_of punct c)) contents
-      (λ c v f e. value_feedless contributor_lead (stripped punct c) v (stripped_feedless punct c f) (contributor_is (stripped punct c) v e)) h);
-  licences = each_set Feedless _ (each_said_of (λ c. licence_value (tag_of punct c)) contents
-      (λ c v f e. value_feedless licence_lead (stripped punct c) v (stripped_feedless punct c f) (licence_is (stripped punct c) v e)) h);
-  free = each_end Feedless (is_blank_content punct) _ (each_front Feedless (is_blank_content punct) _ (each_filtered (λ c. is_none (tag_of punct c)) contents h));
-}
-
--- the texts of additions
-pub record AreFeedless (additions : Additions) : Type 0 where
-  pub notices : Each Feedless additions.notices
-  pub contributors : Each Feedless additions.contributors
-  pub licences : Each Feedless additions.licences
 
 plain_feedless : (text : List ℕ) → IsPlain text → Feedless text
 plain_feedless text plain = none_weaker is_control is_feed (λ b e. ap is_control (eqb-true b 10 e)) text plain.printable
@@ -219,14 +179,6 @@ additions_feedless additions plain = record {
   notices = each_plain additions.notices (each_of_all IsPlain additions.notices plain.notices);
   contributors = each_plain additions.contributors (each_of_all IsPlain additions.contributors plain.contributors);
   licences = each_plain additions.licences (each_of_all IsPlain additions.licences plain.licences);
-}
-
-union_feedless : (info : Info) (additions : Additions) → HasNoFeed info → AreFeedless additions → HasNoFeed (union_of info additions)
-union_feedless info additions h a = record {
-  notices = each_set Feedless _ (each_both Feedless info.notices additions.notices h.notices a.notices);
-  contributors = each_set Feedless _ (each_both Feedless info.contributors additions.contributors h.contributors a.contributors);
-  licences = each_set Feedless _ (each_both Feedless info.licences additions.licences h.licences a.licences);
-  free = h.free;
 }
 
 -- a notice that is written of a holder
@@ -273,16 +225,12 @@ holder_feedless text n e h = by (prefix_of text) e
         (none_trimmed is_feed is_blank (drop (years_front value).1 value)
         (none_drop is_feed (years_front value).1 value (none_front is_feed is_blank (drop (length (prefix_text p)) text) (none_drop is_feed (length (prefix_text p)) text h))))
 
-merged_feedless : Merges → (info : Info) (additions : Additions) → HasNoFeed info → HasNoFeed (merged_of info additions)
-merged_feedless merges info additions h = record {
-  notices = each_of_all Feedless _ (merged_each merges Feedless additions.notices info.notices (all_of_each Feedless info.notices h.notices)
-      (λ old text f w. subst Feedless (sym w.written) (written_feedless w.prefix w.years w.notice.holder (holder_feedless old w.notice w.read f))));
-  contributors = h.contributors;
-  licences = h.licences;
-  free = h.free;
-}
-
 pub new_feedless : Merges → (punct : List ℕ) (contents : List (List ℕ)) (merge : Bool) (additions : Additions) → Each Feedless contents → AreFeedless additions → HasNoFeed (new_info punct contents merge additions)
-unfolding new_info
-new_feedless merges punct contents false additions h a = union_feedless (info_of punct contents) additions (info_feedless punct contents h) a
-new_feedless merges punct contents true additions h a = merged_feedless merges (union_of (info_of punct contents) additions) additions (union_feedless (info_of punct contents) additions (info_feedless punct contents h) a)
+new_feedless merges punct contents merge additions h a =
+    let spreads : Spreads Feedless punct = record {
+      inner = stripped_feedless punct;
+      contributor = value_feedless contributor_lead;
+      licence = value_feedless licence_lead;
+      written = λ old text f w. subst Feedless (sym w.written) (written_feedless w.prefix w.years w.notice.holder (holder_feedless old w.notice w.read f));
+    } in
+    each_new Feedless punct spreads merges contents merge additions h a

@@ -30,12 +30,13 @@ use Rattle.reuse_header.specs.Neighbour.{replaced_contents}
 use Rattle.reuse_header.specs.Reading.{IsSayable}
 use Rattle.reuse_header.specs.Laws.{AreContents, info_written, neighbour_info_written}
 use Rattle.std.proofs.lemmas.Bool.{cases_Bool as truth}
-use Rattle.reuse_header.proofs.SayableLemmas.{Each, all_of_each, each_of_all, each_both, end_again, notice_whole, value_whole, contributor_read, licence_read, info_sayable, union_sayable, found_clean, neighbour_clean}
+use Rattle.reuse_header.proofs.SayableLemmas.{Each, all_of_each, each_of_all, each_both, notice_whole, value_whole, contributor_read, licence_read, info_sayable, union_sayable, found_clean, neighbour_clean}
 use Rattle.reuse_header.proofs.PlainLemmas.{NoFillers, letters, no_letters, additions_sayable}
 use Rattle.reuse_header.proofs.MergedLemmas.{Merges, merged_sayable}
 use Rattle.reuse_notice.proofs.NoneLemmas.{none_append}
 use Rattle.reuse_header.proofs.FeedLemmas.{is_feed, Feedless, feedless_holds, HasNoFeed, found_feedless, neighbour_feedless, additions_feedless, new_feedless}
 use Rattle.reuse_header.proofs.AgainLemmas.{each-joined, each-set_off}
+use Rattle.reuse_notice.proofs.BlankLemmas.{drop_end-twice}
 
 -- ---- no CR at an end
 
@@ -78,7 +79,7 @@ fit_notice : (punct text : List ℕ) → Feedless text → notice_text (tag_of p
 unfolding Fit
 fit_notice punct text f e =
     let whole = notice_whole (stripped punct text) text e in
-    (f, ends_kept is_blank refl text (ap (drop_end is_blank) whole ∙ end_again is_blank (drop_front (is_filler punct) text) ∙ sym whole))
+    (f, ends_kept is_blank refl text (ap (drop_end is_blank) whole ∙ drop_end-twice is_blank (drop_front (is_filler punct) text) ∙ sym whole))
 
 fit_contributor : (punct v : List ℕ) → Feedless v → contributor_value (tag_of punct (contributor_text v)) ≡ Some v → Fit (contributor_text v)
 unfolding Fit

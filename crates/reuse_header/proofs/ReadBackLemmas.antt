@@ -56,7 +56,7 @@ pub neighbour_read : Known → Laws → (how : How) (arguments : Arguments) (fil
     → made_by file (neighbour_annotation_of how (additions_of arguments) file) ≡ Ok made → info_of [] (neighbour_contents made) ≡ neighbour_info_written how (additions_of arguments) file
 neighbour_read known laws how arguments file made replace plain =
     of_edit file made (λ (m : List ℕ). info_of [] (neighbour_contents m) ≡ neighbour_info_written how (additions_of arguments) file) (neighbour_annotation_of how (additions_of arguments) file)
-    (λ edit e. neighbour_opened known laws how arguments file edit replace plain e)
+    (λ edit e. neighbour_opened known laws how arguments file edit plain e replace)
 
 pub neighbour_first_read : Known → Laws → (how : How) (arguments : Arguments) (file made : List ℕ) → how.replace ≡ false → ArePlain (additions_of arguments)
     → made_by file (neighbour_annotation_of how (additions_of arguments) file) ≡ Ok made
@@ -64,4 +64,4 @@ pub neighbour_first_read : Known → Laws → (how : How) (arguments : Arguments
 neighbour_first_read known laws how arguments file made add plain =
     let info = neighbour_info_written how (additions_of arguments) file in
     of_edit file made (λ (m : List ℕ). info_of [] (take (length (block_lines neighbour_marks info)) (neighbour_contents m)) ≡ info) (neighbour_annotation_of how (additions_of arguments) file)
-    (λ edit e. neighbour_begun known laws how arguments file edit add plain e)
+    (λ edit e. neighbour_begun known laws how arguments file edit plain e add)
