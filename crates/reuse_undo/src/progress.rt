@@ -1,7 +1,7 @@
 //! How far long work is, for a terminal.
 ghost use Rattle.std.specs.Prelude.{◌≡◌};
 
-use reuse_tree::{PathText, Reading, Store, StoreFault};
+use reuse_tree::{Parts, PathText, Reading, Store, StoreFault};
 use std::alloc::Global;
 use std::cell::Cell;
 use std::io::{self, Write};
@@ -160,16 +160,9 @@ impl<S: Store + Drop, R: Runtime> Store for WatchedStore<'_, S, R> {
         self.inner.read(alloc, path, limit)
     }
 
-    fn put_parts(
-        &mut self,
-        alloc: Global,
-        path: &PathText,
-        front: &[u8],
-        middle: &[u8],
-        back: &[u8],
-    ) -> Result<(), StoreFault> {
+    fn put_parts(&mut self, alloc: Global, path: &PathText, parts: Parts) -> Result<(), StoreFault> {
         self.progress.count(&self.progress.written);
-        self.inner.put_parts(alloc, path, front, middle, back)
+        self.inner.put_parts(alloc, path, parts)
     }
 
     fn put(&mut self, alloc: Global, path: &PathText, bytes: &[u8]) -> Result<(), StoreFault> {

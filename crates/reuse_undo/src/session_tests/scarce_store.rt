@@ -1,6 +1,6 @@
 //! A store before and after whose calls memory can get scarce.
 use crate::session_tests::scarce_memory::ScarceMemory;
-use reuse_tree::{PathText, Reading, Store, StoreFault};
+use reuse_tree::{Parts, PathText, Reading, Store, StoreFault};
 use std::alloc::Global;
 
 /// Passes each call on to the store inside. A point lies before each call, and one after each that succeeds.
@@ -52,16 +52,9 @@ impl<S: Store + Drop> Store for ScarceStore<'_, S> {
         Ok(reading)
     }
 
-    fn put_parts(
-        &mut self,
-        alloc: Global,
-        path: &PathText,
-        front: &[u8],
-        middle: &[u8],
-        back: &[u8],
-    ) -> Result<(), StoreFault> {
+    fn put_parts(&mut self, alloc: Global, path: &PathText, parts: Parts) -> Result<(), StoreFault> {
         self.memory.pass(alloc);
-        self.inner.put_parts(alloc, path, front, middle, back)?;
+        self.inner.put_parts(alloc, path, parts)?;
         self.memory.pass(alloc);
         Ok(())
     }
