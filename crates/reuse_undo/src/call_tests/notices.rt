@@ -80,23 +80,23 @@ fn fault(text: &str) -> Option<usize> {
 
 #[test]
 fn checks_expressions(rt: HostRuntime) {
-    let cases = [
-        ("(MIT OR ISC) AND GPL-2.0+ WITH x", None),
-        ("MIT AND", Some(7)),
-        ("MIT ISC", Some(4)),
-        ("MIT++", Some(4)),
-        ("", Some(0)),
-        ("MIT And ISC", Some(4)),
-        ("(MIT) WITH x", Some(6)),
-        ("MIT WITH x+", Some(9)),
-        ("(MIT", Some(4)),
-        ("MIT)", Some(3)),
-        ("a+b", Some(2)),
-        ("MIT ISC$", Some(4)),
-        ("MIT\tor ISC", Some(3)),
+    let cases: [(Option<usize>, &[&str]); 8] = [
+        (None, &["(MIT OR ISC) AND GPL-2.0+ WITH x"]),
+        (Some(0), &[""]),
+        (Some(2), &["a+b"]),
+        (Some(3), &["MIT)", "MIT\tor ISC"]),
+        (
+            Some(4),
+            &["MIT ISC", "MIT++", "MIT And ISC", "(MIT", "MIT ISC$"],
+        ),
+        (Some(6), &["(MIT) WITH x"]),
+        (Some(7), &["MIT AND"]),
+        (Some(9), &["MIT WITH x+"]),
     ];
-    for (text, place) in cases {
-        assert_eq!(rt; fault(text), place);
+    for (place, texts) in cases {
+        for text in texts {
+            assert_eq!(rt; fault(text), place, "{text}");
+        }
     }
 }
 

@@ -9,17 +9,17 @@ use std::test::Fail;
 const FIRST: &[(&str, &[u8])] = &[("a.py", ANNOTATED), ("b.py", PLAIN)];
 
 // The first file is annotated, by a step from before entries were sealed.
-const UNSEALED: Standing = ("opened\nlog 1 done\n", FIRST);
+const UNSEALED: Standing = Standing("opened\nlog 1 done\n", FIRST);
 
 // So is the second, by a step that is sealed.
-const SEALED: Standing = (
+const SEALED: Standing = Standing(
     "opened\nlog 1 done 2 done\n",
     &[("a.py", ANNOTATED), ("b.py", ANNOTATED)],
 );
 
-const ONE_BACK: Standing = ("opened\nlog 1 done 2 undone\n", FIRST);
+const ONE_BACK: Standing = Standing("opened\nlog 1 done 2 undone\n", FIRST);
 
-const BOTH_BACK: Standing = (
+const BOTH_BACK: Standing = Standing(
     "opened\nlog 1 undone 2 undone\n",
     &[("a.py", PLAIN), ("b.py", PLAIN)],
 );

@@ -31,15 +31,6 @@ fn notices_of_one_holder_are_merged(rt: HostRuntime) -> Result<(), Fail> {
 }
 
 #[test]
-fn a_mark_stays_in_front(rt: HostRuntime) -> Result<(), Fail> {
-    let alloc = rt.alloc();
-    let command = licence(alloc, &["m.py"], "MIT", plain_scope(alloc))?;
-    let old = [("m.py", b"\xEF\xBB\xBFx = 1".as_slice())];
-    let new = b"\xEF\xBB\xBF# SPDX-License-Identifier: MIT\n\nx = 1".as_slice();
-    gives(&rt, alloc, command, &old, "changed m.py", ("m.py", new))
-}
-
-#[test]
 fn an_empty_file_is_empty_again(rt: HostRuntime) -> Result<(), Fail> {
     let alloc = rt.alloc();
     let command = licence(alloc, &["e.py"], "MIT", plain_scope(alloc))?;

@@ -5,13 +5,15 @@ use crate::session_tests::trees::{
 };
 use reuse_dep5::Glob;
 use reuse_header::How;
-use reuse_session::{Event, Globs, HeaderFault, PathList, Refusal, Scope, Unknown, drive};
+use reuse_session::{Command, Event, Globs, HeaderFault, PathList, Refusal, Scope, Unknown, drive};
 use reuse_tree::MemoryStore;
 use std::alloc::Global;
 use std::process::Abort;
 use std::test::Fail;
 
 const TAG: &[u8] = b"SPDX-License-Identifier: MIT\n";
+
+const MARKED: &[u8] = b"\xEF\xBB\xBF# SPDX-License-Identifier: MIT\n\nx = 1";
 
 const PYTHON_FILE: &[u8] = b"# SPDX-License-Identifier: MIT\n\nx\n";
 
@@ -85,15 +87,20 @@ fn lists_and_globs_choose_beneath_folders(rt: HostRuntime) -> Result<(), Fail> {
     Ok(())
 }
 
-#[test]
-fn an_old_header_stays_where_it_is_asked(rt: HostRuntime) -> Result<(), Fail> {
-    let alloc = rt.alloc();
-    let old = ("a.py", b"# SPDX-License-Identifier: MIT\nx\n".as_slice());
+/// A command that adds `ISC` beside the old header of a file.
+fn add_beside(alloc: Global, path: &str) -> Result<Command, Fail> {
     let how = How {
         replace: false,
         ..plain_how()
     };
-    let command = annotate(alloc, &["a.py"], &[], &["ISC"], how, plain_scope(alloc))?;
+    annotate(alloc, &[path], &[], &["ISC"], how, plain_scope(alloc))
+}
+
+#[test]
+fn an_old_header_stays_where_it_is_asked(rt: HostRuntime) -> Result<(), Fail> {
+    let alloc = rt.alloc();
+    let old = ("a.py", b"# SPDX-License-Identifier: MIT\nx\n".as_slice());
+    let command = add_beside(alloc, "a.py")?;
     let both = b"# SPDX-License-Identifier: ISC\n\n# SPDX-License-Identifier: MIT\nx\n".as_slice();
     gives(&rt, alloc, command, &[old], "changed a.py", ("a.py", both))?;
     let scope = Scope {
@@ -156,25 +163,10 @@ fn long_files_are_refused(rt: HostRuntime) -> Result<(), Fail> {
 }
 
 #[test]
-fn a_long_picture_gets_a_neighbour(rt: HostRuntime) -> Result<(), Fail> {
-    let alloc = rt.alloc();
-    let mut bytes = Vec::new(alloc);
-    bytes.resize(16_777_217, b'x')?;
-    let command = licence(alloc, &["big.png"], "MIT", plain_scope(alloc))?;
-    let old = [("big.png", bytes.as_slice())];
-    let new = ("big.png.license", TAG);
-    gives(&rt, alloc, command, &old, "changed big.png.license", new)
-}
-
-#[test]
 fn a_neighbour_is_written_or_refused(rt: HostRuntime) -> Result<(), Fail> {
     let alloc = rt.alloc();
     let picture = ("p.png", b"\x89\x00".as_slice());
-    let how = How {
-        replace: false,
-        ..plain_how()
-    };
-    let command = annotate(alloc, &["p.png"], &[], &["ISC"], how, plain_scope(alloc))?;
+    let command = add_beside(alloc, "p.png")?;
     let both = b"SPDX-License-Identifier: ISC\n\nSPDX-License-Identifier: MIT\n".as_slice();
     let old = [picture, ("p.png.license", TAG)];
     let new = ("p.png.license", both);
@@ -184,23 +176,39 @@ fn a_neighbour_is_written_or_refused(rt: HostRuntime) -> Result<(), Fail> {
         ("p.png.license", b"\x00", "p.png: neighbour is not text"),
     ] {
         let command = licence(alloc, &["p.png"], "MIT", plain_scope(alloc))?;
-        gives(
-            &rt,
-            alloc,
-            command,
-            &[picture, (path, bytes)],
-            line,
-            picture,
-        )?;
+        let old = [picture, (path, bytes)];
+        gives(&rt, alloc, command, &old, line, picture)?;
     }
     Ok(())
 }
 
+/// It goes behind a mark, and into the neighbour of a file that is no text or too long to be read.
 #[test]
-fn a_file_that_is_no_text_gets_a_neighbour(rt: HostRuntime) -> Result<(), Fail> {
+fn a_licence_goes_into_the_file_or_its_neighbour(rt: HostRuntime) -> Result<(), Fail> {
     let alloc = rt.alloc();
-    let command = licence(alloc, &["a.py"], "MIT", plain_scope(alloc))?;
-    let old = [("a.py", b"x\xFF".as_slice())];
-    let new = ("a.py.license", TAG);
-    gives(&rt, alloc, command, &old, "changed a.py.license", new)
+    let long = vec![in alloc; b'x'; 16_777_217]?;
+    for (path, old, line, new) in [
+        (
+            "m.py",
+            b"\xEF\xBB\xBFx = 1".as_slice(),
+            "changed m.py",
+            ("m.py", MARKED),
+        ),
+        (
+            "a.py",
+            b"x\xFF",
+            "changed a.py.license",
+            ("a.py.license", TAG),
+        ),
+        (
+            "p.png",
+            long.as_slice(),
+            "changed p.png.license",
+            ("p.png.license", TAG),
+        ),
+    ] {
+        let command = licence(alloc, &[path], "MIT", plain_scope(alloc))?;
+        gives(&rt, alloc, command, &[(path, old)], line, new)?;
+    }
+    Ok(())
 }

@@ -16,7 +16,8 @@ const PATHS: [&str; 3] = ["a.py", "b.py", "c.py"];
 pub const CALLS: u64 = 30;
 
 /// What a session finds: its log, and the files besides those of the journal.
-pub type Standing<'a> = (&'a str, &'a [(&'a str, &'a [u8])]);
+#[derive(Clone, Copy)]
+pub struct Standing<'a>(pub &'a str, pub &'a [(&'a str, &'a [u8])]);
 
 const OLD: &[(&str, &[u8])] = &[("a.py", PLAIN), ("b.py", PLAIN), ("c.py", PLAIN)];
 
@@ -26,11 +27,11 @@ const NEW: &[(&str, &[u8])] = &[
     ("c.py", ANNOTATED),
 ];
 
-const EMPTY: Standing = ("opened\nlog\n", OLD);
+const EMPTY: Standing = Standing("opened\nlog\n", OLD);
 
-const DONE: Standing = ("opened\nlog 1 done\n", NEW);
+const DONE: Standing = Standing("opened\nlog 1 done\n", NEW);
 
-const UNDONE: Standing = ("opened\nlog 1 undone\n", OLD);
+const UNDONE: Standing = Standing("opened\nlog 1 undone\n", OLD);
 
 // The store that the events leave, of three files.
 fn after(alloc: Global, events: &[Event]) -> Result<MemoryStore, Fail> {
@@ -54,7 +55,7 @@ pub fn stop(
 // Whether a session that is opened on the store finds one of these.
 fn finds_one_of(alloc: Global, store: MemoryStore, wanted: &[Standing]) -> Result<bool, Fail> {
     let (mut store, found) = play(alloc, store, &[Event::Log])?;
-    for (log, files) in wanted {
+    for Standing(log, files) in wanted {
         if found.as_str() == *log && has_just(alloc, &mut store, files)? {
             return Ok(true);
         }
@@ -89,21 +90,22 @@ pub fn before_the_last_head(
     Ok(stores.pop().ok_or("no put")?)
 }
 
-// Stops the events at each call: one of these standings is left.
-fn stops_at_each(
-    rt: &impl Abort,
+// Whether one of these standings is left at whichever call the events stop.
+fn leaves_one_of(
     alloc: Global,
     start: &mut MemoryStore,
     events: &[Event],
-    ends: [Standing; 2],
-) -> Result<(), Fail> {
+    ends: &[Standing],
+) -> Result<bool, Fail> {
     for left in 0..CALLS {
         for takes_effect in [false, true] {
             let stopped = stop(alloc, start, events, left, takes_effect)?;
-            assert!(rt; finds_one_of(alloc, stopped, &ends)?);
+            if !finds_one_of(alloc, stopped, ends)? {
+                return Ok(false);
+            }
         }
     }
-    Ok(())
+    Ok(true)
 }
 
 /// Stops the events at each call, and lets them end: the standing before them or after them is left.
@@ -114,7 +116,7 @@ pub fn stops_everywhere(
     events: &[Event],
     ends: [Standing; 2],
 ) -> Result<(), Fail> {
-    stops_at_each(rt, alloc, start, events, ends)?;
+    assert!(rt; leaves_one_of(alloc, start, events, &ends)?);
     let whole = stop(alloc, start, events, CALLS, false)?;
     assert!(rt; finds_one_of(alloc, whole, &ends[1..])?);
     Ok(())
@@ -178,7 +180,7 @@ fn an_opening_stops_at_any_call(rt: HostRuntime) -> Result<(), Fail> {
     let mut start = after(alloc, &[])?;
     for left in 0..CALLS {
         let mut stopped = stop(alloc, &mut start, &run, left, true)?;
-        stops_at_each(&rt, alloc, &mut stopped, &[], [EMPTY, DONE])?;
+        assert!(rt; leaves_one_of(alloc, &mut stopped, &[], &[EMPTY, DONE])?);
     }
     Ok(())
 }
@@ -292,25 +294,25 @@ fn one_call_of_a_redo_fails(rt: HostRuntime) -> Result<(), Fail> {
 #[test]
 fn a_conversion_stops_at_any_call(rt: HostRuntime) -> Result<(), Fail> {
     let alloc = rt.alloc();
-    let old: &[(&str, &[u8])] = &[(".reuse/dep5", DEP5.as_bytes())];
-    let new: &[(&str, &[u8])] = &[("REUSE.toml", TOML)];
-    let ends = [("opened\nlog\n", old), ("opened\nlog 1 done\n", new)];
+    let old = Standing("opened\nlog\n", &[(".reuse/dep5", DEP5.as_bytes())]);
+    let new = Standing("opened\nlog 1 done\n", &[("REUSE.toml", TOML)]);
     let run = [Event::Run(Command::ConvertDep5, moment()?)];
-    stops_among(&rt, alloc, tree(alloc, old)?, &run, ends, 5)
+    stops_among(&rt, alloc, tree(alloc, old.1)?, &run, [old, new], 5)
 }
 
 #[test]
 fn a_made_file_is_undone_or_not_at_any_stop(rt: HostRuntime) -> Result<(), Fail> {
     let alloc = rt.alloc();
-    let tag = b"SPDX-License-Identifier: MIT\n".as_slice();
-    let old: &[(&str, &[u8])] = &[("p.png", b"\x89\x00")];
-    let new: &[(&str, &[u8])] = &[("p.png", b"\x89\x00"), ("p.png.license", tag)];
-    let ends = [
-        ("opened\nlog 1 done\n", new),
-        ("opened\nlog 1 undone\n", old),
-    ];
+    let made = Standing(
+        "opened\nlog 1 done\n",
+        &[
+            ("p.png", b"\x89\x00"),
+            ("p.png.license", b"SPDX-License-Identifier: MIT\n"),
+        ],
+    );
+    let undone = Standing("opened\nlog 1 undone\n", &[("p.png", b"\x89\x00")]);
     let command = licence(alloc, &["p.png"], "MIT", plain_scope(alloc))?;
     let run = [Event::Run(command, moment()?)];
-    let (start, _) = drive(alloc, tree(alloc, old)?, &run);
-    stops_among(&rt, alloc, start, &[Event::Undo], ends, 3)
+    let (start, _) = drive(alloc, tree(alloc, undone.1)?, &run);
+    stops_among(&rt, alloc, start, &[Event::Undo], [made, undone], 3)
 }

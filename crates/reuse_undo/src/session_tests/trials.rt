@@ -52,7 +52,7 @@ fn with_history(alloc: Global, files: &[(&str, &[u8])]) -> Result<MemoryStore, F
 }
 
 /// The text of a tree and its log, where the files and two more are these.
-fn text_of(alloc: Global, (log, files): Standing) -> Result<Vec<u8>, Fail> {
+fn text_of(alloc: Global, Standing(log, files): Standing) -> Result<Vec<u8>, Fail> {
     let mut text = dump(alloc, &mut with_others(alloc, files, ANNOTATED)?)?;
     text.extend_from_slice(log.as_bytes())?;
     Ok(text)
@@ -79,15 +79,15 @@ impl<'a> Trial<'a> {
 
     /// The standing before the command, the one after it, and the one after its undo.
     fn first(&self) -> Standing<'a> {
-        ("opened\nlog 1 done 2 undone\n", self.example.old)
+        Standing("opened\nlog 1 done 2 undone\n", self.example.old)
     }
 
     fn done(&self) -> Standing<'a> {
-        ("opened\nlog 1 done 3 done\n", self.example.new)
+        Standing("opened\nlog 1 done 3 done\n", self.example.new)
     }
 
     fn undone(&self) -> Standing<'a> {
-        ("opened\nlog 1 done 3 undone\n", self.example.old)
+        Standing("opened\nlog 1 done 3 undone\n", self.example.old)
     }
 
     /// Refuses the growths of a call with this right answer, which leads from the one standing to the other.
