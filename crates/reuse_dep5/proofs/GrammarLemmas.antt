@@ -12,7 +12,7 @@ use Rattle.reuse_dep5.specs.SourceText.{NumberedLine, is_nil, is_continuation}
 use Rattle.reuse_dep5.specs.Fields.{is_field, field_name, has_name, text_of, nonempty_lines, first_line, value_of}
 use Rattle.reuse_dep5.specs.PatternText.{words_of, word_pieces, patterns_of}
 use Rattle.reuse_dep5.specs.Dep5.{HeaderValue, FilesValue, Dep5Value, line_cause, or_next, line_fault, first_number, format_value, files_value, copyright_value, license_value, comment_value, ◌>>=◌, header_of, is_incomplete, later_of, laters_of, paragraphs_of}
-use Rattle.reuse_dep5.specs.Grammar.{IsFieldLine, IsContinuation, IsRepetition, IsLineFault, AreFields, IsFirstLineFault, IsHeader, HasParts, ArePatterns, IsLater, AreLater, IsGrammatical, IsHeaderFault, IsFirstBadWord, IsPartFault, IsLaterFault, IsFirstLaterFault, IsFirstFault}
+use Rattle.reuse_dep5.specs.Grammar.{IsFieldLine, IsContinuation, IsRepetition, IsLineFault, AreFields, IsFirstLineFault, IsHeader, HasParts, ArePatterns, IsLater, AreLater, IsGrammatical, IsHeaderFault, IsFirstBadWord, IsLaterFault, IsFirstLaterFault, IsFirstFault}
 use Rattle.reuse_dep5.proofs.NameLemmas.{continuation_no_field}
 use Rattle.reuse_dep5.proofs.ReadingLemmas.{bind_ok, bind_err, unless_ok, unless_err, cond_ok, cond_err, patterns_ok, patterns_err, files_ok, files_err, later_ok, later_err, laters_ok, laters_err}
 
@@ -27,14 +27,10 @@ some_from xs e f = false≢true (sym e ∙ ap is_nil f)
 -- what is wrong with a line
 module _ (before : List NumberedLine) (line : NumberedLine) where
   no_fault : (IsContinuation line → before ≡ [] → ⊥) → (¬ IsFieldLine line → ¬ IsContinuation line → ⊥) → (IsFieldLine line → IsRepetition before line → ⊥) → (cause : Dep5Cause) → ¬ IsLineFault before line cause
-  no_fault orphan field repeated Empty m = m
   no_fault orphan field repeated NoField m = field m.0 m.1
   no_fault orphan field repeated Orphan m = orphan m.1 m.0
   no_fault orphan field repeated Repeated m = repeated m.0 m.1
-  no_fault orphan field repeated NoFormat m = m
-  no_fault orphan field repeated NoKind m = m
-  no_fault orphan field repeated Missing m = m
-  no_fault orphan field repeated BadEscape m = m
+  no_fault orphan field repeated _ m = m
 
   abbrev again_in : Bool
   again_in = list_any (λ (l : NumberedLine). has_name (field_name line.content) l.content) before
@@ -280,28 +276,14 @@ later_refused p d e =
 pub no_later_fault : (p : List NumberedLine) (number : ℕ) (cause : Dep5Cause) → IsLater p → ¬ IsLaterFault p number cause
 no_later_fault p number cause (inl files) (inl line) = no_line_fault p number cause files.fields line
 no_later_fault p number cause (inr alone) (inl line) = no_line_fault p number cause alone.fields line
-no_later_fault p number cause (inl files) (inr part) = by_cause cause part.1
-  where
-    by_cause : (c : Dep5Cause) → ¬ IsPartFault p number c
-    by_cause Empty m = m
-    by_cause NoField m = m
-    by_cause Orphan m = m
-    by_cause Repeated m = m
-    by_cause NoFormat m = m
-    by_cause NoKind m = files.files m.0
-    by_cause Missing m = m.1 files.parts
-    by_cause BadEscape m = no_bad_word m.2.before m.2.word m.2.after m.2.fault (subst ArePatterns m.2.stands files.patterns)
-no_later_fault p number cause (inr alone) (inr part) = by_cause cause part.1
-  where
-    by_cause : (c : Dep5Cause) → ¬ IsPartFault p number c
-    by_cause Empty m = m
-    by_cause NoField m = m
-    by_cause Orphan m = m
-    by_cause Repeated m = m
-    by_cause NoFormat m = m
-    by_cause NoKind m = alone.licence m.1
-    by_cause Missing m = m.0 alone.no_files
-    by_cause BadEscape m = m.0 alone.no_files
+no_later_fault p number NoKind (inl files) (inr part) = files.files part.1.0
+no_later_fault p number NoKind (inr alone) (inr part) = alone.licence part.1.1
+no_later_fault p number Missing (inl files) (inr part) = part.1.1 files.parts
+no_later_fault p number Missing (inr alone) (inr part) = part.1.0 alone.no_files
+no_later_fault p number BadEscape (inl files) (inr part) =
+    let bad = part.1.2 in no_bad_word bad.before bad.word bad.after bad.fault (subst ArePatterns bad.stands files.patterns)
+no_later_fault p number BadEscape (inr alone) (inr part) = part.1.0 alone.no_files
+no_later_fault p number _ later (inr part) = part.1
 
 -- the later paragraphs
 laters_accepted : (ps : List (List NumberedLine)) (fs : List FilesValue) → laters_of ps ≡ Ok fs → AreLater ps

@@ -15,3 +15,4 @@ mod scarce_store;
 mod stops;
 mod tally;
 pub mod trees;
+mod trials;

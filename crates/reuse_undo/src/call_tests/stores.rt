@@ -186,7 +186,15 @@ fn parts_are_put_joined(rt: HostRuntime) -> Result<(), Fail> {
     let alloc = rt.alloc();
     let path = PathText::new(alloc, "a")?;
     let mut store = MemoryStore::new();
-    store.put_parts(alloc, &path, Parts { front: b"ab", middle: b"", back: b"c" })?;
+    store.put_parts(
+        alloc,
+        &path,
+        Parts {
+            front: b"ab",
+            middle: b"",
+            back: b"c",
+        },
+    )?;
     let Reading::Found(bytes) = store.read(alloc, &path, 3)? else {
         return Err("not found")?;
     };

@@ -1,7 +1,8 @@
 use Rattle.std.proofs.Common.{◌<◌, inl, IfErr, refl, sym, subst, arith, ◌∙◌}
 use Rattle.reuse_session.specs.Session.{store_of}
 use Rattle.reuse_undo.specs.RunLine.{Carries, HasCallClash}
-use Rattle.reuse_undo.proofs.RunLemmas.{carried, found_again, caused, unclashed, unchanged_opening}
+use Rattle.reuse_undo.proofs.LookLemmas.{caused}
+use Rattle.reuse_undo.proofs.CallLemmas.{carried, found_again, unclashed, unchanged_opening}
 use Rattle.reuse_undo.proofs.run_line.call.Goals as goal
 
 pub returns-in-Ok-clause-carries : goal.returns-in-Ok-clause-carries
