@@ -92,9 +92,16 @@ impl<R: Files + AllocGlobal + Clone + Drop> Store for DiskStore<R> {
         answer
     }
 
-    fn put_parts(&mut self, alloc: Global, path: &PathText, parts: Parts) -> Result<(), StoreFault> {
+    fn put_parts(
+        &mut self,
+        alloc: Global,
+        path: &PathText,
+        parts: Parts,
+    ) -> Result<(), StoreFault> {
         files_stay_good();
-        let answer = self.folder.put(alloc, path, &[parts.front, parts.middle, parts.back]);
+        let answer = self
+            .folder
+            .put(alloc, path, &[parts.front, parts.middle, parts.back]);
         self.failure.note(alloc, Asked::Write, path.text(), &answer);
         let answer = answer.map_err(StoreFault::from);
         self.calls.note_put_parts(path, parts, &answer);
