@@ -1,7 +1,8 @@
 //! Tags, licence expressions, what is added, and merges.
 // The tags below are data: REUSE-IgnoreStart
 use reuse_notice::{
-    Additions, Info, NoticeRefusal, Prefix, Tag, Years, check_expression, read_tag,
+    Additions, Info, NoticeRefusal, Prefix, Tag, Years, check_expression, is_all_blank,
+    is_all_filler, read_tag, trim_blank_end, trim_end_with, trim_start_with,
 };
 use reuse_text::Bytes;
 use std::alloc::{AllocError, Global};
@@ -222,4 +223,14 @@ fn refuses_in_order(rt: HostRuntime) {
     assert!(rt; is_refused(alloc, &both, &licence, &[], false, "bad text: "));
     let wanted = "bad licence expression at 7: MIT AND";
     assert!(rt; is_refused(alloc, &["Jo"], &licence, &[], true, wanted));
+}
+
+#[test]
+fn blanks_and_fillers_are_told(rt: HostRuntime) -> Result<(), Fail> {
+    assert!(rt; trim_blank_end(b"a \t\r") == b"a".as_slice());
+    assert!(rt; trim_start_with(b"  a", |b| b == b' ') == b"a".as_slice());
+    assert!(rt; trim_end_with(b"a//", |b| b == b'/') == b"a".as_slice());
+    assert!(rt; is_all_blank(b" \t\r") && !is_all_blank(b"/"));
+    assert!(rt; is_all_filler(b" /", b"/") && !is_all_filler(b"a", b"/"));
+    Ok(())
 }
