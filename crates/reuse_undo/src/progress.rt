@@ -160,7 +160,12 @@ impl<S: Store + Drop, R: Runtime> Store for WatchedStore<'_, S, R> {
         self.inner.read(alloc, path, limit)
     }
 
-    fn put_parts(&mut self, alloc: Global, path: &PathText, parts: Parts) -> Result<(), StoreFault> {
+    fn put_parts(
+        &mut self,
+        alloc: Global,
+        path: &PathText,
+        parts: Parts,
+    ) -> Result<(), StoreFault> {
         self.progress.count(&self.progress.written);
         self.inner.put_parts(alloc, path, parts)
     }

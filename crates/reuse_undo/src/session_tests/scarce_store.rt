@@ -52,7 +52,12 @@ impl<S: Store + Drop> Store for ScarceStore<'_, S> {
         Ok(reading)
     }
 
-    fn put_parts(&mut self, alloc: Global, path: &PathText, parts: Parts) -> Result<(), StoreFault> {
+    fn put_parts(
+        &mut self,
+        alloc: Global,
+        path: &PathText,
+        parts: Parts,
+    ) -> Result<(), StoreFault> {
         self.memory.pass(alloc);
         self.inner.put_parts(alloc, path, parts)?;
         self.memory.pass(alloc);
