@@ -50,8 +50,7 @@ fn print_value<W: Write>(out: &mut W, alloc: Global, value: &Value) -> io::Resul
 }
 
 fn row_value(alloc: Global, row: &Row, date: Date) -> Result<Value, AllocError>
-    ensures is { IfOk result (λ value. view value ≡ row_value row.now date) }
-    ensures no_float { IfOk result (λ value. has_float (view value) ≡ false) }
+    ensures { IfOk result (λ value. view value ≡ row_value row.now date) }
 {
     let date = format!(in alloc; "{date}")?;
     json!(in alloc; {
@@ -65,8 +64,7 @@ fn row_value(alloc: Global, row: &Row, date: Date) -> Result<Value, AllocError>
 }
 
 fn shown_value(alloc: Global, shown: &Shown, date: Date) -> Result<Value, AllocError>
-    ensures is { IfOk result (λ value. view value ≡ shown_value shown.now date) }
-    ensures no_float { IfOk result (λ value. has_float (view value) ≡ false) }
+    ensures { IfOk result (λ value. view value ≡ shown_value shown.now date) }
 {
     let row = &shown.row;
     let date = format!(in alloc; "{date}")?;
