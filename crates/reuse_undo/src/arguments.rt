@@ -1,8 +1,20 @@
 //! The options and subcommands that the command line has, with their help.
 use clap::builder::ValueParser;
 use clap::{Arg, ArgAction, ArgGroup, Command};
-use reuse_header::style_names;
 use std::alloc::{AllocError, Global};
+
+const STYLES: &[&str] = &[
+    "python",
+    "c",
+    "css",
+    "html",
+    "haskell",
+    "tex",
+    "lisp",
+    "semicolon",
+    "ml",
+    "vim",
+];
 
 /// The largest number that a step may be asked for by.
 const MOST_NUMBER: u64 = 4_294_967_295;
@@ -165,7 +177,7 @@ fn with_form<'a>(alloc: Global, command: Command<'a>) -> Result<Command<'a>, All
     let style = named(
         alloc,
         "style",
-        style_names(),
+        STYLES,
         "The comment style of all PATHs, in place of that of their names",
     );
     let prefix = named(

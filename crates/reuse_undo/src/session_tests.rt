@@ -15,4 +15,3 @@ mod scarce_store;
 mod stops;
 mod tally;
 pub mod trees;
-mod trials;

@@ -7,7 +7,6 @@ mod worked_lines;
 use crate::fault::Fault;
 use crate::line::{Line, LineFault, Telling};
 use crate::output::Output;
-use crate::place_word::place_of_word;
 use crate::request::request_of;
 use crate::run_line::run_request;
 use crate::status::{exit_status, line_status};
@@ -150,90 +149,104 @@ fn refuses(
     Ok(store)
 }
 
-/// Words that are no line, by the status and by what the text of the fault begins with.
-const NO_LINES: &[(u8, &str, &[&str])] = &[
-    (0, "Adds licensing information", &["--help"]),
-    (0, "reuse-undo 1.1.0 (journal format 2)\n", &["--version"]),
-    (
-        0,
-        "Adds copyright and licensing information",
-        &["annotate|--help"],
-    ),
-    (
-        2,
-        "error: ",
-        &[
-            "undo|x",
-            "annotate|-l|MIT",
-            "annotate|-l|MIT|--single-line|--multi-line|a.py",
-            "annotate|-l|MIT|--fallback-dot-license|--skip-unrecognised|a",
-            "annotate|-l|MIT|-s|none|a.py",
-            "annotate|-l|MIT|--copyright-prefix|none|a.py",
-            "download|MIT",
-            "undo|--diff",
-            "show",
-            "show|x",
-            "show|1|--diff|--json",
-            "revert|-1",
-        ],
-    ),
-    (2, "nothing to add", &["annotate|a.py"]),
-    (
-        2,
-        "--year and --exclude-year",
-        &["annotate|-c|A|-y|2024|--exclude-year|a.py"],
-    ),
-    (2, "bad year: 24", &["annotate|-c|A|-y|24|a.py"]),
-    (2, "bad text: ", &["annotate|-c| |a.py"]),
-    (
-        2,
-        "bad licence expression at 7: MIT AND",
-        &["annotate|-l|MIT AND|a.py"],
-    ),
-    (2, "bad path: ../a", &["annotate|-y|24|../a"]),
-    (2, "bad path: /a", &["annotate|-l|MIT|a|/a|b//c"]),
-];
+/// Words that are no line: the status, and what the text of the fault begins with.
+fn refuse(rt: &impl Abort, alloc: Global, words: &str, status: u8, text: &str) -> Result<(), Fail> {
+    let (found, told) = fault_of(alloc, words)?;
+    assert_eq!(rt; found, status, "{words}");
+    assert!(rt; told.as_str().starts_with(text), "{words}: {told}");
+    Ok(())
+}
+
+#[test]
+fn tells_help(rt: HostRuntime) -> Result<(), Fail> {
+    let alloc = rt.alloc();
+    for (words, text) in [
+        ("--help", "Adds licensing information"),
+        ("--version", "reuse-undo 1.1.0 (journal format 2)\n"),
+        (
+            "annotate|--help",
+            "Adds copyright and licensing information",
+        ),
+    ] {
+        refuse(&rt, alloc, words, 0, text)?;
+    }
+    Ok(())
+}
 
 #[test]
 fn refuses_words(rt: HostRuntime) -> Result<(), Fail> {
     let alloc = rt.alloc();
-    for (status, text, all) in NO_LINES {
-        for words in *all {
-            let (found, told) = fault_of(alloc, words)?;
-            assert_eq!(rt; found, *status, "{words}");
-            assert!(rt; told.as_str().starts_with(text), "{words}: {told}");
-        }
+    for words in [
+        "undo|x",
+        "annotate|-l|MIT",
+        "annotate|-l|MIT|--single-line|--multi-line|a.py",
+        "annotate|-l|MIT|--fallback-dot-license|--skip-unrecognised|a",
+        "annotate|-l|MIT|-s|none|a.py",
+        "annotate|-l|MIT|--copyright-prefix|none|a.py",
+        "download|MIT",
+        "undo|--diff",
+        "show",
+        "show|x",
+        "show|1|--diff|--json",
+        "revert|-1",
+    ] {
+        refuse(&rt, alloc, words, 2, "error: ")?;
     }
-    let memory = LineFault::Memory;
-    assert_eq!(rt; line_status(&memory), 1);
-    assert_eq!(rt; memory.to_string(alloc)?.as_str(), "out of memory");
+    assert_eq!(rt; line_status(&LineFault::Memory), 1);
+    assert_eq!(rt;
+        LineFault::Memory.to_string(alloc)?.as_str(),
+        "out of memory"
+    );
     Ok(())
 }
 
-/// Places, and the words that name each; the words of the last name none.
-const PLACES: &[(&str, &[&str])] = &[
-    ("a.py", &["a.py", "a.py/"]),
-    ("a/b", &["./a/./b/"]),
-    (".", &[".", "./", "./."]),
-    ("a/..b", &["a/..b"]),
-    ("", &["", "/", ".//", "a//", "a//b", "a/.."]),
-];
-
-/// The place that a word names, as a text; empty where it names none.
-fn place_text(alloc: Global, word: &str) -> Result<String, Fail> {
-    match place_of_word(alloc, word)? {
-        Some(place) => Ok(String::from_str(alloc, place.text())?),
-        None => Ok(String::new(alloc)),
+#[test]
+fn refuses_places_and_additions(rt: HostRuntime) -> Result<(), Fail> {
+    let alloc = rt.alloc();
+    for (words, text) in [
+        ("annotate|a.py", "nothing to add"),
+        (
+            "annotate|-c|A|-y|2024|--exclude-year|a.py",
+            "--year and --exclude-year",
+        ),
+        ("annotate|-c|A|-y|24|a.py", "bad year: 24"),
+        ("annotate|-c| |a.py", "bad text: "),
+        (
+            "annotate|-l|MIT AND|a.py",
+            "bad licence expression at 7: MIT AND",
+        ),
+        ("annotate|-y|24|../a", "bad path: ../a"),
+        ("annotate|-l|MIT|a|/a|b//c", "bad path: /a"),
+    ] {
+        refuse(&rt, alloc, words, 2, text)?;
     }
+    Ok(())
 }
 
 #[test]
 fn reads_places(rt: HostRuntime) -> Result<(), Fail> {
     let alloc = rt.alloc();
-    for (text, words) in PLACES {
-        for word in *words {
-            assert!(rt; place_text(alloc, word)?.as_str() == *text, "{word}");
-        }
+    for (word, text) in [
+        ("a.py", "a.py"),
+        ("./a/./b/", "a/b"),
+        ("a.py/", "a.py"),
+        (".", "."),
+        ("./", "."),
+        ("./.", "."),
+        ("a/..b", "a/..b"),
+        ("", ""),
+        ("/", ""),
+        (".//", ""),
+        ("a//", ""),
+        ("a//b", ""),
+        ("a/..", ""),
+    ] {
+        let place = crate::place_word::place_of_word(alloc, word)?;
+        let found = match &place {
+            Some(place) => place.text(),
+            None => "",
+        };
+        assert!(rt; found == text, "{word}");
     }
     Ok(())
 }

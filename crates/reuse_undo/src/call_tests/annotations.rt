@@ -203,24 +203,13 @@ fn annotate(
     annotate_file(alloc, file, style, additions, how)
 }
 
-// The file that comes of it.
-fn made(
-    alloc: Global,
-    file: &[u8],
-    style: Style,
-    additions: &Additions,
-    how: &How,
-) -> Result<Vec<u8>, Fail> {
-    let splice = annotate(alloc, file, style, additions, how)?.ok_or("same")?;
-    apply(alloc, file, &splice)
-}
-
 #[test]
 fn makes_the_file(rt: HostRuntime) -> Result<(), Fail> {
     let alloc = rt.alloc();
     for case in &CASES {
         let added = additions(alloc, case.copyright, case.licence)?;
-        let made = made(alloc, case.file, case.style, &added, &case.how)?;
+        let splice = annotate(alloc, case.file, case.style, &added, &case.how)?.ok_or("same")?;
+        let made = apply(alloc, case.file, &splice)?;
         assert_eq!(rt; made.as_slice(), case.made);
         // What was made stays as it is, unless a block is written beside the old one.
         let again = annotate(alloc, case.made, case.style, &added, &case.how)?;
@@ -235,14 +224,16 @@ fn makes_the_file(rt: HostRuntime) -> Result<(), Fail> {
 fn makes_another_kind(rt: HostRuntime) -> Result<(), Fail> {
     let alloc = rt.alloc();
     let added = additions(alloc, NONE, MIT)?;
-    let first = made(alloc, b"#!/bin/sh\r", Style::Python, &added, &PLAIN)?;
-    let lines = b"#!/bin/sh\r\n\n# SPDX-License-Identifier: MIT\n";
-    assert_eq!(rt; first.as_slice(), lines.as_slice());
-    let second = made(alloc, first.as_slice(), Style::Python, &added, &PLAIN)?;
-    let lines = b"#!/bin/sh\r\n\n# SPDX-License-Identifier: MIT\r\n";
-    assert_eq!(rt; second.as_slice(), lines.as_slice());
-    let third = annotate(alloc, second.as_slice(), Style::Python, &added, &PLAIN)?;
-    assert!(rt; third.is_none());
+    let file = b"#!/bin/sh\r";
+    let splice = annotate(alloc, file, Style::Python, &added, &PLAIN)?.ok_or("same")?;
+    let made = apply(alloc, file, &splice)?;
+    let first = b"#!/bin/sh\r\n\n# SPDX-License-Identifier: MIT\n";
+    assert_eq!(rt; made.as_slice(), first.as_slice());
+    let splice = annotate(alloc, first, Style::Python, &added, &PLAIN)?.ok_or("same")?;
+    let made = apply(alloc, first, &splice)?;
+    let second = b"#!/bin/sh\r\n\n# SPDX-License-Identifier: MIT\r\n";
+    assert_eq!(rt; made.as_slice(), second.as_slice());
+    assert!(rt; annotate(alloc, second, Style::Python, &added, &PLAIN)?.is_none());
     Ok(())
 }
 

@@ -1,8 +1,7 @@
 //! Tags, licence expressions, what is added, and merges.
 // The tags below are data: REUSE-IgnoreStart
 use reuse_notice::{
-    Additions, Info, NoticeRefusal, Prefix, Tag, Years, check_expression, is_all_blank,
-    is_all_filler, read_tag, trim_blank_end, trim_end_with, trim_start_with,
+    Additions, Info, NoticeRefusal, Prefix, Tag, Years, check_expression, read_tag,
 };
 use reuse_text::Bytes;
 use std::alloc::{AllocError, Global};
@@ -81,23 +80,23 @@ fn fault(text: &str) -> Option<usize> {
 
 #[test]
 fn checks_expressions(rt: HostRuntime) {
-    let cases: [(Option<usize>, &[&str]); 8] = [
-        (None, &["(MIT OR ISC) AND GPL-2.0+ WITH x"]),
-        (Some(0), &[""]),
-        (Some(2), &["a+b"]),
-        (Some(3), &["MIT)", "MIT\tor ISC"]),
-        (
-            Some(4),
-            &["MIT ISC", "MIT++", "MIT And ISC", "(MIT", "MIT ISC$"],
-        ),
-        (Some(6), &["(MIT) WITH x"]),
-        (Some(7), &["MIT AND"]),
-        (Some(9), &["MIT WITH x+"]),
+    let cases = [
+        ("(MIT OR ISC) AND GPL-2.0+ WITH x", None),
+        ("MIT AND", Some(7)),
+        ("MIT ISC", Some(4)),
+        ("MIT++", Some(4)),
+        ("", Some(0)),
+        ("MIT And ISC", Some(4)),
+        ("(MIT) WITH x", Some(6)),
+        ("MIT WITH x+", Some(9)),
+        ("(MIT", Some(4)),
+        ("MIT)", Some(3)),
+        ("a+b", Some(2)),
+        ("MIT ISC$", Some(4)),
+        ("MIT\tor ISC", Some(3)),
     ];
-    for (place, texts) in cases {
-        for text in texts {
-            assert_eq!(rt; fault(text), place, "{text}");
-        }
+    for (text, place) in cases {
+        assert_eq!(rt; fault(text), place);
     }
 }
 
@@ -131,31 +130,28 @@ fn reads_information(rt: HostRuntime) -> Result<(), Fail> {
     Ok(())
 }
 
-/// What these notices and licences make of a block that holds these contents.
-fn merged(
-    alloc: Global,
-    contents: &[&[u8]],
-    holders: &[&str],
-    licences: &[&str],
-    years: &[&str],
-) -> Result<Info, Fail> {
-    let spdx = Prefix::Spdx;
-    let added = Additions::new(alloc, holders, licences, &[], years, false, 2024, spdx)?;
+/// What the additions make of a block that holds these contents.
+fn merged(alloc: Global, contents: &[&[u8]], added: &Additions) -> Result<Info, AllocError> {
     let info = Info::read(alloc, contents, b"#")?;
-    Ok(info.union(alloc, &added)?.merge(alloc, &added)?)
+    info.union(alloc, added)?.merge(alloc, added)
 }
 
 #[test]
 fn adds_years(rt: HostRuntime) -> Result<(), Fail> {
-    let info = merged(rt.alloc(), &[], &["Jo"], &[], &["2018", "2016"])?;
+    let years = ["2018", "2016"];
+    let alloc = rt.alloc();
+    let added = Additions::new(alloc, &["Jo"], &[], &[], &years, false, 2024, Prefix::Spdx)?;
+    let info = merged(alloc, &[], &added)?;
     assert!(rt; is_one(info.notices(), b"SPDX-FileCopyrightText: 2016 - 2018 Jo"));
     Ok(())
 }
 
 #[test]
 fn adds_a_licence(rt: HostRuntime) -> Result<(), Fail> {
-    let old: [&[u8]; 2] = [b" SPDX-License-Identifier: MIT", b" x"];
-    let info = merged(rt.alloc(), &old, &[], &["ISC"], &[])?;
+    let alloc = rt.alloc();
+    let spdx = Prefix::Spdx;
+    let added = Additions::new(alloc, &[], &["ISC"], &[], &[], false, 2024, spdx)?;
+    let info = merged(alloc, &[b" SPDX-License-Identifier: MIT", b" x"], &added)?;
     assert!(rt; are_two(info.licences(), b"ISC", b"MIT"));
     assert!(rt; is_one(info.free(), b" x"));
     Ok(())
@@ -163,9 +159,23 @@ fn adds_a_licence(rt: HostRuntime) -> Result<(), Fail> {
 
 #[test]
 fn merges_one_holder(rt: HostRuntime) -> Result<(), Fail> {
-    let first = b" SPDX-FileCopyrightText: 2019 Jane Doe".as_slice();
-    let old = [first, b" Copyright 2016-2017 Jane Doe", b" Copyright Jo"];
-    let info = merged(rt.alloc(), &old, &["Jane Doe"], &[], &[])?;
+    let contents = [
+        b" SPDX-FileCopyrightText: 2019 Jane Doe".as_slice(),
+        b" Copyright 2016-2017 Jane Doe",
+        b" Copyright Jo",
+    ];
+    let alloc = rt.alloc();
+    let added = Additions::new(
+        alloc,
+        &["Jane Doe"],
+        &[],
+        &[],
+        &[],
+        false,
+        2024,
+        Prefix::Spdx,
+    )?;
+    let info = merged(alloc, &contents, &added)?;
     let jane = b"SPDX-FileCopyrightText: 2016 - 2024 Jane Doe";
     assert!(rt; are_two(info.notices(), b"Copyright Jo", jane));
     Ok(())
@@ -223,14 +233,4 @@ fn refuses_in_order(rt: HostRuntime) {
     assert!(rt; is_refused(alloc, &both, &licence, &[], false, "bad text: "));
     let wanted = "bad licence expression at 7: MIT AND";
     assert!(rt; is_refused(alloc, &["Jo"], &licence, &[], true, wanted));
-}
-
-#[test]
-fn blanks_and_fillers_are_told(rt: HostRuntime) -> Result<(), Fail> {
-    assert!(rt; trim_blank_end(b"a \t\r") == b"a".as_slice());
-    assert!(rt; trim_start_with(b"  a", |b| b == b' ') == b"a".as_slice());
-    assert!(rt; trim_end_with(b"a//", |b| b == b'/') == b"a".as_slice());
-    assert!(rt; is_all_blank(b" \t\r") && !is_all_blank(b"/"));
-    assert!(rt; is_all_filler(b" /", b"/") && !is_all_filler(b"a", b"/"));
-    Ok(())
 }

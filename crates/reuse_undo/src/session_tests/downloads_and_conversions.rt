@@ -82,15 +82,30 @@ fn texts_of_licences_become_files(rt: HostRuntime) -> Result<(), Fail> {
 #[test]
 fn a_conversion_may_be_refused(rt: HostRuntime) -> Result<(), Fail> {
     let alloc = rt.alloc();
-    for (name, text, other, line) in [
-        ("a", "", "b", ".reuse/dep5: absent"),
-        (".reuse/dep5", QUESTION, "b", ".reuse/dep5:6: question mark"),
-        (".reuse/dep5", DEP5, "REUSE.toml", "REUSE.toml: exists"),
-        (".reuse/dep5", DEP5, "REUSE.toml/x", "REUSE.toml: clash"),
+    for (name, text, other, lines) in [
+        ("a", "", "b", "opened\n.reuse/dep5: absent\n"),
+        (
+            ".reuse/dep5",
+            QUESTION,
+            "b",
+            "opened\n.reuse/dep5:6: question mark\n",
+        ),
+        (
+            ".reuse/dep5",
+            DEP5,
+            "REUSE.toml",
+            "opened\nREUSE.toml: exists\n",
+        ),
+        (
+            ".reuse/dep5",
+            DEP5,
+            "REUSE.toml/x",
+            "opened\nREUSE.toml: clash\n",
+        ),
     ] {
         let file = (name, text.as_bytes());
         let files = [file, (other, b"")];
-        gives(&rt, alloc, Command::ConvertDep5, &files, line, file)?;
+        gives(&rt, alloc, &files, Command::ConvertDep5, lines, file)?;
     }
     Ok(())
 }
@@ -99,8 +114,8 @@ fn a_conversion_may_be_refused(rt: HostRuntime) -> Result<(), Fail> {
 fn a_dep5_becomes_a_reuse_toml(rt: HostRuntime) -> Result<(), Fail> {
     let alloc = rt.alloc();
     let (old, new) = ([(".reuse/dep5", DEP5.as_bytes())], [("REUSE.toml", TOML)]);
-    let line = "changed .reuse/dep5 REUSE.toml";
-    let mut store = runs(&rt, alloc, Command::ConvertDep5, &old, line)?;
+    let lines = "opened\nchanged .reuse/dep5 REUSE.toml\n";
+    let mut store = runs(&rt, alloc, &old, Command::ConvertDep5, lines)?;
     assert!(rt; has_just(alloc, &mut store, &new)?);
     let lines = "opened\nundone .reuse/dep5 REUSE.toml\n";
     let mut store = plays(&rt, alloc, store, &["undo"], lines)?;
@@ -113,7 +128,7 @@ fn a_dep5_without_question_marks_is_converted(rt: HostRuntime) -> Result<(), Fai
     let alloc = rt.alloc();
     let plain = QUESTION.replace(alloc, "?", "")?;
     let files = [(".reuse/dep5", plain.as_bytes())];
-    let line = "changed .reuse/dep5 REUSE.toml";
-    runs(&rt, alloc, Command::ConvertDep5, &files, line)?;
+    let lines = "opened\nchanged .reuse/dep5 REUSE.toml\n";
+    runs(&rt, alloc, &files, Command::ConvertDep5, lines)?;
     Ok(())
 }

@@ -9,20 +9,26 @@ use std::test::Fail;
 const FIRST: &[(&str, &[u8])] = &[("a.py", ANNOTATED), ("b.py", PLAIN)];
 
 // The first file is annotated, by a step from before entries were sealed.
-const UNSEALED: Standing = Standing("opened\nlog 1 done\n", FIRST);
+const UNSEALED: Standing = Standing {
+    log: "opened\nlog 1 done\n",
+    files: FIRST,
+};
 
 // So is the second, by a step that is sealed.
-const SEALED: Standing = Standing(
-    "opened\nlog 1 done 2 done\n",
-    &[("a.py", ANNOTATED), ("b.py", ANNOTATED)],
-);
+const SEALED: Standing = Standing {
+    log: "opened\nlog 1 done 2 done\n",
+    files: &[("a.py", ANNOTATED), ("b.py", ANNOTATED)],
+};
 
-const ONE_BACK: Standing = Standing("opened\nlog 1 done 2 undone\n", FIRST);
+const ONE_BACK: Standing = Standing {
+    log: "opened\nlog 1 done 2 undone\n",
+    files: FIRST,
+};
 
-const BOTH_BACK: Standing = Standing(
-    "opened\nlog 1 undone 2 undone\n",
-    &[("a.py", PLAIN), ("b.py", PLAIN)],
-);
+const BOTH_BACK: Standing = Standing {
+    log: "opened\nlog 1 undone 2 undone\n",
+    files: &[("a.py", PLAIN), ("b.py", PLAIN)],
+};
 
 #[test]
 fn a_journal_of_both_formats_stops_at_any_call(rt: HostRuntime) -> Result<(), Fail> {
@@ -38,9 +44,9 @@ fn a_journal_of_both_formats_stops_at_any_call(rt: HostRuntime) -> Result<(), Fa
             (ENTRY, FIRST_UNSEALED.as_bytes()),
         ],
     )?;
-    stops_everywhere(&rt, alloc, &mut unsealed, &run, [UNSEALED, SEALED])?;
+    stops_everywhere(&rt, alloc, &mut unsealed, &run, UNSEALED, SEALED)?;
     let mut sealed = stop(alloc, &mut unsealed, &run, CALLS, false)?;
-    stops_everywhere(&rt, alloc, &mut sealed, &back, [SEALED, ONE_BACK])?;
+    stops_everywhere(&rt, alloc, &mut sealed, &back, SEALED, ONE_BACK)?;
     let mut one_back = stop(alloc, &mut sealed, &back, CALLS, false)?;
-    stops_everywhere(&rt, alloc, &mut one_back, &back, [ONE_BACK, BOTH_BACK])
+    stops_everywhere(&rt, alloc, &mut one_back, &back, ONE_BACK, BOTH_BACK)
 }

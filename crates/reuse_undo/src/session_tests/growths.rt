@@ -1,17 +1,40 @@
 //! Sessions whose calls run out of memory, before, between, in and after the calls of their store: the next opening finds the tree
 //! and the history of before the call or of after it.
+// The tags below are data: REUSE-IgnoreStart
+use crate::session_tests::downloads_and_conversions::{DEP5, TOML, download};
 use crate::session_tests::scarce_memory::{GRAIN, PIECE, ScarceMemory};
 use crate::session_tests::scarce_store::ScarceStore;
-use crate::session_tests::stops::call;
+use crate::session_tests::stops::{before_the_last_head, call};
 use crate::session_tests::tally::{Tally, Told};
-use crate::session_tests::trees::{copy, dump, play, push_answer};
-use reuse_session::{Answer, Cause, Event, Refusal, Reply, Session};
+use crate::session_tests::trees::{
+    ANNOTATED, PLAIN, annotate, copy, dump, licence, moment, path, plain_how, plain_scope, play,
+    push_answer, sign, signing, tree,
+};
+use reuse_session::{Answer, Cause, Command, Event, Refusal, Reply, Session, drive};
 use reuse_tree::{MemoryStore, Store};
 use std::alloc::Global;
 use std::process::Abort;
+use std::rt::Files;
 use std::test::Fail;
 
 const UNDO_FOLDER: &str = ".reuse/undo/";
+
+const OLD_HEADER: &[u8] = b"/* SPDX-License-Identifier: GPL-2.0 */\nint a;\n";
+
+const NEW_HEADER: &[u8] =
+    b"/*\n * SPDX-FileCopyrightText: 2024 Jane Doe\n *\n * SPDX-License-Identifier: GPL-2.0\n */\nint a;\n";
+
+const TAG: &[u8] = b"SPDX-License-Identifier: MIT\n";
+
+const PICTURE: &[u8] = b"\x89\x00";
+
+/// The files of a command before and after it, and the paths that it names.
+#[derive(Clone, Copy)]
+struct Example<'a> {
+    old: &'a [(&'a str, &'a [u8])],
+    new: &'a [(&'a str, &'a [u8])],
+    paths: &'a str,
+}
 
 /// A call: the store that it starts from, its right answer, the standings before and after it, and whether want of memory can
 /// interrupt it.
@@ -25,7 +48,33 @@ pub struct Call<'a> {
     pub stops: bool,
 }
 
-/// The text of the tree and of the log that the next opening finds.
+/// The files and two more, of which the first has these bytes.
+fn with_others(alloc: Global, files: &[(&str, &[u8])], first: &[u8]) -> Result<MemoryStore, Fail> {
+    let mut store = tree(alloc, files)?;
+    store.put(alloc, &path(alloc, "y.py")?, first)?;
+    store.put(alloc, &path(alloc, "z.py")?, PLAIN)?;
+    Ok(store)
+}
+
+/// The files, with a step that is done and one that is undone.
+fn with_history(alloc: Global, files: &[(&str, &[u8])]) -> Result<MemoryStore, Fail> {
+    let events = [
+        signing(alloc, &["y.py"])?,
+        signing(alloc, &["z.py"])?,
+        Event::Undo,
+    ];
+    let (store, _) = drive(alloc, with_others(alloc, files, PLAIN)?, &events);
+    Ok(store)
+}
+
+/// The text of a tree and its log, where the files are these.
+fn standing_of(alloc: Global, files: &[(&str, &[u8])], rows: &str) -> Result<Vec<u8>, Fail> {
+    let mut text = dump(alloc, &mut with_others(alloc, files, ANNOTATED)?)?;
+    text.extend_from_slice(format!(in alloc; "opened\nlog {rows}\n")?.as_bytes())?;
+    Ok(text)
+}
+
+/// The same text of what the next opening finds.
 fn find_standing(alloc: Global, store: MemoryStore) -> Result<Vec<u8>, Fail> {
     let (mut store, log) = play(alloc, store, &[Event::Log])?;
     for path in &store.list(alloc)? {
@@ -190,4 +239,155 @@ pub fn refuse_growths(
         );
     }
     Ok(())
+}
+
+fn refuse_run(
+    rt: &(impl Abort + Eprint),
+    alloc: Global,
+    memory: &ScarceMemory,
+    example: Example,
+    run: &[Event; 1],
+) -> Result<(), Fail> {
+    let call = Call {
+        start: with_history(alloc, example.old)?,
+        event: &run[0],
+        answer: format!(in alloc; "changed {}", example.paths)?,
+        before: standing_of(alloc, example.old, "1 done 2 undone")?,
+        after: standing_of(alloc, example.new, "1 done 3 done")?,
+        stops: true,
+    };
+    refuse_growths(rt, alloc, memory, call)
+}
+
+fn refuse_undo(
+    rt: &(impl Abort + Eprint),
+    alloc: Global,
+    memory: &ScarceMemory,
+    example: Example,
+    run: &[Event; 1],
+) -> Result<(), Fail> {
+    let (start, _) = drive(alloc, with_history(alloc, example.old)?, run);
+    let call = Call {
+        start,
+        event: &Event::Undo,
+        answer: format!(in alloc; "undone {}", example.paths)?,
+        before: standing_of(alloc, example.new, "1 done 3 done")?,
+        after: standing_of(alloc, example.old, "1 done 3 undone")?,
+        stops: true,
+    };
+    refuse_growths(rt, alloc, memory, call)
+}
+
+fn refuse_redo(
+    rt: &(impl Abort + Eprint),
+    alloc: Global,
+    memory: &ScarceMemory,
+    example: Example,
+    run: &[Event; 1],
+) -> Result<(), Fail> {
+    let (ran, _) = drive(alloc, with_history(alloc, example.old)?, run);
+    let (start, _) = drive(alloc, ran, &[Event::Undo]);
+    let call = Call {
+        start,
+        event: &Event::Redo,
+        answer: format!(in alloc; "redone {}", example.paths)?,
+        before: standing_of(alloc, example.old, "1 done 3 undone")?,
+        after: standing_of(alloc, example.new, "1 done 3 done")?,
+        stops: true,
+    };
+    refuse_growths(rt, alloc, memory, call)
+}
+
+/// Refuses the growths of an opening where the run stopped.
+fn refuse_opening(
+    rt: &(impl Abort + Eprint),
+    alloc: Global,
+    memory: &ScarceMemory,
+    example: Example,
+    run: &[Event; 1],
+) -> Result<(), Fail> {
+    let mut start = with_history(alloc, example.old)?;
+    let call = Call {
+        start: before_the_last_head(alloc, &mut start, run)?,
+        event: &Event::Reopen,
+        answer: String::from_str(alloc, "opened")?,
+        before: standing_of(alloc, example.old, "1 done 2 undone")?,
+        after: standing_of(alloc, example.old, "1 done 2 undone")?,
+        stops: true,
+    };
+    refuse_growths(rt, alloc, memory, call)
+}
+
+/// Refuses the growths of a run, of its undo and redo, and of an opening where the run stopped.
+fn refuse_each_growth<R: Abort + Eprint + Files + Alloc>(
+    rt: &R,
+    alloc: Global,
+    command: Command,
+    example: Example,
+) -> Result<(), Fail> {
+    let run = [Event::Run(command, moment()?)];
+    let memory = ScarceMemory::new(rt, alloc)?;
+    refuse_run(rt, alloc, &memory, example, &run)?;
+    refuse_undo(rt, alloc, &memory, example, &run)?;
+    refuse_redo(rt, alloc, &memory, example, &run)?;
+    refuse_opening(rt, alloc, &memory, example, &run)
+}
+
+#[test]
+fn a_header_is_added_in_scarce_memory(rt: HostRuntime) -> Result<(), Fail> {
+    let alloc = rt.alloc();
+    let command = sign(alloc, &["a.py"])?;
+    let example = Example {
+        old: &[("a.py", PLAIN)],
+        new: &[("a.py", ANNOTATED)],
+        paths: "a.py",
+    };
+    refuse_each_growth(&rt, alloc, command, example)
+}
+
+#[test]
+fn a_header_is_replaced_in_scarce_memory(rt: HostRuntime) -> Result<(), Fail> {
+    let alloc = rt.alloc();
+    let (how, scope) = (plain_how(), plain_scope(alloc));
+    let command = annotate(alloc, &["k.h"], &["Jane Doe"], &[], how, scope)?;
+    let example = Example {
+        old: &[("k.h", OLD_HEADER)],
+        new: &[("k.h", NEW_HEADER)],
+        paths: "k.h",
+    };
+    refuse_each_growth(&rt, alloc, command, example)
+}
+
+#[test]
+fn a_picture_gets_a_neighbour_in_scarce_memory(rt: HostRuntime) -> Result<(), Fail> {
+    let alloc = rt.alloc();
+    let command = licence(alloc, &["p.png"], "MIT", plain_scope(alloc))?;
+    let example = Example {
+        old: &[("p.png", PICTURE)],
+        new: &[("p.png", PICTURE), ("p.png.license", TAG)],
+        paths: "p.png.license",
+    };
+    refuse_each_growth(&rt, alloc, command, example)
+}
+
+#[test]
+fn a_dep5_is_converted_in_scarce_memory(rt: HostRuntime) -> Result<(), Fail> {
+    let example = Example {
+        old: &[(".reuse/dep5", DEP5.as_bytes())],
+        new: &[("REUSE.toml", TOML)],
+        paths: ".reuse/dep5 REUSE.toml",
+    };
+    refuse_each_growth(&rt, rt.alloc(), Command::ConvertDep5, example)
+}
+
+#[test]
+fn a_text_becomes_a_file_in_scarce_memory(rt: HostRuntime) -> Result<(), Fail> {
+    let alloc = rt.alloc();
+    let command = download(alloc, &["MIT"])?;
+    let example = Example {
+        old: &[],
+        new: &[("LICENSES/MIT.txt", b"text\n")],
+        paths: "LICENSES/MIT.txt",
+    };
+    refuse_each_growth(&rt, alloc, command, example)
 }

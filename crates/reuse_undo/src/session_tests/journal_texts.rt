@@ -98,11 +98,11 @@ fn entry_of(alloc: Global, change: Change) -> Result<Entry, Fail> {
     })
 }
 
-// Whether the entry of a change is written as this text, and so is what is read of it.
-fn is_written_as(alloc: Global, change: Change, wanted: &str) -> Result<bool, Fail> {
+// Writes the entry of a change, and what is read of that text.
+fn twice(alloc: Global, change: Change) -> Result<(Vec<u8>, Vec<u8>), Fail> {
     let text = encode_entry(alloc, &entry_of(alloc, change)?)?;
     let again = encode_entry(alloc, &decode_entry(alloc, text.as_slice())?)?;
-    Ok(text.as_slice() == wanted.as_bytes() && again == text)
+    Ok((text, again))
 }
 
 #[test]
@@ -115,7 +115,9 @@ fn an_entry_is_written_and_read(rt: HostRuntime) -> Result<(), Fail> {
         Bytes::new(alloc),
         Bytes::from_slice(alloc, NEW)?,
     );
-    assert!(rt; is_written_as(alloc, change, FIRST)?);
+    let (text, again) = twice(alloc, change)?;
+    assert_eq!(rt; text.as_slice(), FIRST.as_bytes());
+    assert_eq!(rt; again.as_slice(), FIRST.as_bytes());
     Ok(())
 }
 
@@ -130,7 +132,9 @@ fn an_unsealed_entry_stays_so(rt: HostRuntime) -> Result<(), Fail> {
         rest: 9,
         seal: None,
     };
-    assert!(rt; is_written_as(alloc, change, FIRST_UNSEALED)?);
+    let (text, again) = twice(alloc, change)?;
+    assert_eq!(rt; text.as_slice(), FIRST_UNSEALED.as_bytes());
+    assert_eq!(rt; again.as_slice(), FIRST_UNSEALED.as_bytes());
     Ok(())
 }
 

@@ -93,16 +93,15 @@ fn changed_to(alloc: Global, bytes: &[u8]) -> Result<MemoryStore, Fail> {
     Ok(store)
 }
 
-const LONGER: &[u8] =
-    b"# SPDX-FileCopyrightText: 2024 Jane Doe\n#\n# SPDX-License-Identifier: MIT\n\nprint(1)\n\n";
-
 #[test]
 fn a_moved_file_is_not_undone(rt: HostRuntime) -> Result<(), Fail> {
     let alloc = rt.alloc();
-    let store = changed_to(alloc, LONGER)?;
+    let longer =
+        b"# SPDX-FileCopyrightText: 2024 Jane Doe\n#\n# SPDX-License-Identifier: MIT\n\nprint(1)\n\n";
+    let store = changed_to(alloc, longer)?;
     let lines = "opened\na.py: moved\nlog 1 done\n";
     let mut store = plays(&rt, alloc, store, &["undo", "log"], lines)?;
-    assert!(rt; holds(alloc, &mut store, "a.py", LONGER)?);
+    assert!(rt; holds(alloc, &mut store, "a.py", longer)?);
     assert!(rt; holds(alloc, &mut store, ENTRY, FIRST.as_bytes())?);
     assert!(rt; holds(alloc, &mut store, HEAD, DONE)?);
     store.put(alloc, &path(alloc, "a.py")?, ANNOTATED)?;

@@ -37,7 +37,8 @@ fn own_names_stand_first(rt: HostRuntime) -> Result<(), Fail> {
     let alloc = rt.alloc();
     let files = [(FILE, STYLES), ("a.py", OLD), ("x.foo", OLD)];
     let command = licence(alloc, &["x.foo", "a.py"], "MIT", plain_scope(alloc))?;
-    let mut store = runs(&rt, alloc, command, &files, "changed a.py x.foo")?;
+    let lines = "opened\nchanged a.py x.foo\n";
+    let mut store = runs(&rt, alloc, &files, command, lines)?;
     let tex = b"% SPDX-License-Identifier: MIT\n\nx\n".as_slice();
     let python = b"# SPDX-License-Identifier: MIT\n\nx\n".as_slice();
     let new = [(FILE, STYLES), ("a.py", tex), ("x.foo", python)];
@@ -60,7 +61,7 @@ fn a_tree_may_have_no_names_of_its_own(rt: HostRuntime) -> Result<(), Fail> {
     let folder = [(".reuse/styles.toml/x", OLD), ("x.foo", OLD)];
     for files in [&folder[1..], &folder] {
         let command = licence(alloc, &["x.foo"], "MIT", plain_scope(alloc))?;
-        runs(&rt, alloc, command, files, "x.foo: unrecognised")?;
+        runs(&rt, alloc, files, command, "opened\nx.foo: unrecognised\n")?;
     }
     Ok(())
 }
@@ -110,7 +111,8 @@ fn bad_styles_are_refused_first(rt: HostRuntime) -> Result<(), Fail> {
     long.resize(16_777_217, b'\n')?;
     for command in readers(alloc)? {
         let files = [(FILE, long.as_slice()), ("a.py", OLD)];
-        runs(&rt, alloc, command, &files, ".reuse/styles.toml: too long")?;
+        let lines = "opened\n.reuse/styles.toml: too long\n";
+        runs(&rt, alloc, &files, command, lines)?;
     }
     Ok(())
 }

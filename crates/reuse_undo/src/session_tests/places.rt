@@ -5,15 +5,13 @@ use crate::session_tests::trees::{
 };
 use reuse_dep5::Glob;
 use reuse_header::How;
-use reuse_session::{Command, Event, Globs, HeaderFault, PathList, Refusal, Scope, Unknown, drive};
+use reuse_session::{Event, Globs, HeaderFault, PathList, Refusal, Scope, Unknown, drive};
 use reuse_tree::MemoryStore;
 use std::alloc::Global;
 use std::process::Abort;
 use std::test::Fail;
 
 const TAG: &[u8] = b"SPDX-License-Identifier: MIT\n";
-
-const MARKED: &[u8] = b"\xEF\xBB\xBF# SPDX-License-Identifier: MIT\n\nx = 1";
 
 const PYTHON_FILE: &[u8] = b"# SPDX-License-Identifier: MIT\n\nx\n";
 
@@ -22,7 +20,8 @@ fn a_picture_gets_a_neighbour(rt: HostRuntime) -> Result<(), Fail> {
     let alloc = rt.alloc();
     let command = licence(alloc, &["p.png"], "MIT", plain_scope(alloc))?;
     let picture = ("p.png", b"\x89\x00".as_slice());
-    let mut store = runs(&rt, alloc, command, &[picture], "changed p.png.license")?;
+    let lines = "opened\nchanged p.png.license\n";
+    let mut store = runs(&rt, alloc, &[picture], command, lines)?;
     assert!(rt; has_just(alloc, &mut store, &[picture, ("p.png.license", TAG)])?);
     let lines = "opened\nundone p.png.license\n";
     let mut store = plays(&rt, alloc, store, &["undo"], lines)?;
@@ -30,22 +29,36 @@ fn a_picture_gets_a_neighbour(rt: HostRuntime) -> Result<(), Fail> {
     Ok(())
 }
 
+fn scope_of(alloc: Global, unknown: Unknown) -> Scope {
+    Scope {
+        unknown,
+        ..plain_scope(alloc)
+    }
+}
+
 #[test]
 fn unknown_names_are_refused_or_skipped(rt: HostRuntime) -> Result<(), Fail> {
     let alloc = rt.alloc();
     let files: [(&str, &[u8]); 2] = [("a.py", b"x\n"), ("b.xyz", b"x\n")];
-    for (unknown, line, new) in [
-        (Unknown::Refuse, "b.xyz: unrecognised", b"x\n".as_slice()),
-        (Unknown::Skip, "changed a.py", PYTHON_FILE),
-    ] {
-        let scope = Scope {
-            unknown,
-            ..plain_scope(alloc)
-        };
-        let command = licence(alloc, &["a.py", "b.xyz"], "MIT", scope)?;
-        gives(&rt, alloc, command, &files, line, ("a.py", new))?;
-    }
-    Ok(())
+    let paths = ["a.py", "b.xyz"];
+    let command = licence(alloc, &paths, "MIT", scope_of(alloc, Unknown::Refuse))?;
+    gives(
+        &rt,
+        alloc,
+        &files,
+        command,
+        "opened\nb.xyz: unrecognised\n",
+        ("a.py", b"x\n"),
+    )?;
+    let command = licence(alloc, &paths, "MIT", scope_of(alloc, Unknown::Skip))?;
+    gives(
+        &rt,
+        alloc,
+        &files,
+        command,
+        "opened\nchanged a.py\n",
+        ("a.py", PYTHON_FILE),
+    )
 }
 
 /// Of the files beneath folders those of a list that no glob matches.
@@ -76,7 +89,8 @@ fn lists_and_globs_choose_beneath_folders(rt: HostRuntime) -> Result<(), Fail> {
     // The list may repeat, be in any order and name what isn't there; a file that is given itself is worked in any case.
     let scope = chosen(alloc, &["s/d.py", "s/b.py", "gone", "s/d.py"], "s/b*")?;
     let command = licence(alloc, &["s", "a.py"], "MIT", scope)?;
-    let mut store = runs(&rt, alloc, command, &files, "changed a.py s/d.py")?;
+    let lines = "opened\nchanged a.py s/d.py\n";
+    let mut store = runs(&rt, alloc, &files, command, lines)?;
     let after: [(&str, &[u8]); 4] = [
         ("a.py", PYTHON_FILE),
         ("s/b.py", b"x\n"),
@@ -87,28 +101,37 @@ fn lists_and_globs_choose_beneath_folders(rt: HostRuntime) -> Result<(), Fail> {
     Ok(())
 }
 
-/// A command that adds `ISC` beside the old header of a file.
-fn add_beside(alloc: Global, path: &str) -> Result<Command, Fail> {
+#[test]
+fn an_old_header_stays_where_it_is_asked(rt: HostRuntime) -> Result<(), Fail> {
+    let alloc = rt.alloc();
+    let old = b"# SPDX-License-Identifier: MIT\nx\n".as_slice();
     let how = How {
         replace: false,
         ..plain_how()
     };
-    annotate(alloc, &[path], &[], &["ISC"], how, plain_scope(alloc))
-}
-
-#[test]
-fn an_old_header_stays_where_it_is_asked(rt: HostRuntime) -> Result<(), Fail> {
-    let alloc = rt.alloc();
-    let old = ("a.py", b"# SPDX-License-Identifier: MIT\nx\n".as_slice());
-    let command = add_beside(alloc, "a.py")?;
+    let command = annotate(alloc, &["a.py"], &[], &["ISC"], how, plain_scope(alloc))?;
     let both = b"# SPDX-License-Identifier: ISC\n\n# SPDX-License-Identifier: MIT\nx\n".as_slice();
-    gives(&rt, alloc, command, &[old], "changed a.py", ("a.py", both))?;
+    gives(
+        &rt,
+        alloc,
+        &[("a.py", old)],
+        command,
+        "opened\nchanged a.py\n",
+        ("a.py", both),
+    )?;
     let scope = Scope {
         skip_existing: true,
         ..plain_scope(alloc)
     };
     let command = licence(alloc, &["a.py"], "ISC", scope)?;
-    gives(&rt, alloc, command, &[old], "nothing changed", old)
+    gives(
+        &rt,
+        alloc,
+        &[("a.py", old)],
+        command,
+        "opened\nnothing changed\n",
+        ("a.py", old),
+    )
 }
 
 #[test]
@@ -120,12 +143,12 @@ fn places_are_covered_files(rt: HostRuntime) -> Result<(), Fail> {
         ("src/p.json", b"x\n"),
     ];
     for (place, line) in [
-        ("src", "src: is a folder"),
-        ("src/LICENSE", "src/LICENSE: not covered"),
-        ("zz", "zz: no such path"),
+        ("src", "opened\nsrc: is a folder\n"),
+        ("src/LICENSE", "opened\nsrc/LICENSE: not covered\n"),
+        ("zz", "opened\nzz: no such path\n"),
     ] {
         let command = licence(alloc, &[place], "MIT", plain_scope(alloc))?;
-        gives(&rt, alloc, command, &files, line, ("src/a.py", b"x\n"))?;
+        gives(&rt, alloc, &files, command, line, ("src/a.py", b"x\n"))?;
     }
     Ok(())
 }
@@ -163,52 +186,74 @@ fn long_files_are_refused(rt: HostRuntime) -> Result<(), Fail> {
 }
 
 #[test]
+fn a_long_picture_gets_a_neighbour(rt: HostRuntime) -> Result<(), Fail> {
+    let alloc = rt.alloc();
+    let mut bytes = Vec::new(alloc);
+    bytes.resize(16_777_217, b'x')?;
+    let command = licence(alloc, &["big.png"], "MIT", plain_scope(alloc))?;
+    let line = "opened\nchanged big.png.license\n";
+    gives(
+        &rt,
+        alloc,
+        &[("big.png", &bytes)],
+        command,
+        line,
+        ("big.png.license", TAG),
+    )
+}
+
+#[test]
 fn a_neighbour_is_written_or_refused(rt: HostRuntime) -> Result<(), Fail> {
     let alloc = rt.alloc();
     let picture = ("p.png", b"\x89\x00".as_slice());
-    let command = add_beside(alloc, "p.png")?;
+    let how = How {
+        replace: false,
+        ..plain_how()
+    };
+    let command = annotate(alloc, &["p.png"], &[], &["ISC"], how, plain_scope(alloc))?;
     let both = b"SPDX-License-Identifier: ISC\n\nSPDX-License-Identifier: MIT\n".as_slice();
-    let old = [picture, ("p.png.license", TAG)];
-    let new = ("p.png.license", both);
-    gives(&rt, alloc, command, &old, "changed p.png.license", new)?;
-    for (path, bytes, line) in [
-        ("p.png.license/x", b"".as_slice(), "p.png.license: clash"),
-        ("p.png.license", b"\x00", "p.png: neighbour is not text"),
-    ] {
-        let command = licence(alloc, &["p.png"], "MIT", plain_scope(alloc))?;
-        let old = [picture, (path, bytes)];
-        gives(&rt, alloc, command, &old, line, picture)?;
-    }
-    Ok(())
+    let line = "opened\nchanged p.png.license\n";
+    gives(
+        &rt,
+        alloc,
+        &[picture, ("p.png.license", TAG)],
+        command,
+        line,
+        ("p.png.license", both),
+    )?;
+    let command = licence(alloc, &["p.png"], "MIT", plain_scope(alloc))?;
+    let line = "opened\np.png.license: clash\n";
+    gives(
+        &rt,
+        alloc,
+        &[picture, ("p.png.license/x", b"")],
+        command,
+        line,
+        picture,
+    )?;
+    let command = licence(alloc, &["p.png"], "MIT", plain_scope(alloc))?;
+    let line = "opened\np.png: neighbour is not text\n";
+    gives(
+        &rt,
+        alloc,
+        &[picture, ("p.png.license", b"\x00")],
+        command,
+        line,
+        picture,
+    )
 }
 
-/// It goes behind a mark, and into the neighbour of a file that is no text or too long to be read.
 #[test]
-fn a_licence_goes_into_the_file_or_its_neighbour(rt: HostRuntime) -> Result<(), Fail> {
+fn a_file_that_is_no_text_gets_a_neighbour(rt: HostRuntime) -> Result<(), Fail> {
     let alloc = rt.alloc();
-    let long = vec![in alloc; b'x'; 16_777_217]?;
-    for (path, old, line, new) in [
-        (
-            "m.py",
-            b"\xEF\xBB\xBFx = 1".as_slice(),
-            "changed m.py",
-            ("m.py", MARKED),
-        ),
-        (
-            "a.py",
-            b"x\xFF",
-            "changed a.py.license",
-            ("a.py.license", TAG),
-        ),
-        (
-            "p.png",
-            long.as_slice(),
-            "changed p.png.license",
-            ("p.png.license", TAG),
-        ),
-    ] {
-        let command = licence(alloc, &[path], "MIT", plain_scope(alloc))?;
-        gives(&rt, alloc, command, &[(path, old)], line, new)?;
-    }
-    Ok(())
+    let command = licence(alloc, &["a.py"], "MIT", plain_scope(alloc))?;
+    let line = "opened\nchanged a.py.license\n";
+    gives(
+        &rt,
+        alloc,
+        &[("a.py", b"x\xFF")],
+        command,
+        line,
+        ("a.py.license", TAG),
+    )
 }

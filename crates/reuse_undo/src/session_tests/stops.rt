@@ -17,7 +17,10 @@ pub const CALLS: u64 = 30;
 
 /// What a session finds: its log, and the files besides those of the journal.
 #[derive(Clone, Copy)]
-pub struct Standing<'a>(pub &'a str, pub &'a [(&'a str, &'a [u8])]);
+pub struct Standing<'a> {
+    pub log: &'a str,
+    pub files: &'a [(&'a str, &'a [u8])],
+}
 
 const OLD: &[(&str, &[u8])] = &[("a.py", PLAIN), ("b.py", PLAIN), ("c.py", PLAIN)];
 
@@ -27,11 +30,20 @@ const NEW: &[(&str, &[u8])] = &[
     ("c.py", ANNOTATED),
 ];
 
-const EMPTY: Standing = Standing("opened\nlog\n", OLD);
+const EMPTY: Standing = Standing {
+    log: "opened\nlog\n",
+    files: OLD,
+};
 
-const DONE: Standing = Standing("opened\nlog 1 done\n", NEW);
+const DONE: Standing = Standing {
+    log: "opened\nlog 1 done\n",
+    files: NEW,
+};
 
-const UNDONE: Standing = Standing("opened\nlog 1 undone\n", OLD);
+const UNDONE: Standing = Standing {
+    log: "opened\nlog 1 undone\n",
+    files: OLD,
+};
 
 // The store that the events leave, of three files.
 fn after(alloc: Global, events: &[Event]) -> Result<MemoryStore, Fail> {
@@ -52,88 +64,69 @@ pub fn stop(
     Ok(fuse.into_inner())
 }
 
-// Whether a session that is opened on the store finds one of these.
-fn finds_one_of(alloc: Global, store: MemoryStore, wanted: &[Standing]) -> Result<bool, Fail> {
-    let (mut store, found) = play(alloc, store, &[Event::Log])?;
-    for Standing(log, files) in wanted {
-        if found.as_str() == *log && has_just(alloc, &mut store, files)? {
+// Whether a session that is opened on the store finds the one or the other.
+fn is_one_of(
+    alloc: Global,
+    store: MemoryStore,
+    one: Standing,
+    other: Standing,
+) -> Result<bool, Fail> {
+    let (mut store, log) = play(alloc, store, &[Event::Log])?;
+    for standing in [one, other] {
+        if log.as_str() == standing.log && has_just(alloc, &mut store, standing.files)? {
             return Ok(true);
         }
     }
     Ok(false)
 }
 
-// The stores that the events leave where they stop just before a call that changes a file: where the files differ by whether it is done.
-fn before_changes(
+// A mark for each call that changes a file: those where the files differ by whether it is done.
+fn changing_calls(
     alloc: Global,
     start: &mut MemoryStore,
     events: &[Event],
-) -> Result<Vec<MemoryStore>, Fail> {
-    let mut stores = Vec::new(alloc);
+) -> Result<String, Fail> {
+    let mut marks = String::new(alloc);
     for left in 0..CALLS {
         let mut one = stop(alloc, start, events, left, false)?;
         let mut other = stop(alloc, start, events, left, true)?;
         if dump(alloc, &mut one)? != dump(alloc, &mut other)? {
-            stores.push(one)?;
+            marks.push_str("+")?;
         }
     }
-    Ok(stores)
+    Ok(marks)
 }
 
-/// The store that the events leave where they stop just before the put of their last head.
-pub fn before_the_last_head(
+// Stops the events at each call.
+fn stops_at_each(
+    rt: &impl Abort,
     alloc: Global,
     start: &mut MemoryStore,
     events: &[Event],
-) -> Result<MemoryStore, Fail> {
-    let mut stores = before_changes(alloc, start, events)?;
-    Ok(stores.pop().ok_or("no put")?)
-}
-
-// Whether one of these standings is left at whichever call the events stop.
-fn leaves_one_of(
-    alloc: Global,
-    start: &mut MemoryStore,
-    events: &[Event],
-    ends: &[Standing],
-) -> Result<bool, Fail> {
+    before: Standing,
+    after: Standing,
+) -> Result<(), Fail> {
     for left in 0..CALLS {
-        for takes_effect in [false, true] {
-            let stopped = stop(alloc, start, events, left, takes_effect)?;
-            if !finds_one_of(alloc, stopped, ends)? {
-                return Ok(false);
-            }
-        }
+        let undone = stop(alloc, start, events, left, false)?;
+        assert!(rt; is_one_of(alloc, undone, before, after)?);
+        let done = stop(alloc, start, events, left, true)?;
+        assert!(rt; is_one_of(alloc, done, before, after)?);
     }
-    Ok(true)
+    Ok(())
 }
 
-/// Stops the events at each call, and lets them end: the standing before them or after them is left.
+/// Stops the events at each call, and lets them end.
 pub fn stops_everywhere(
     rt: &impl Abort,
     alloc: Global,
     start: &mut MemoryStore,
     events: &[Event],
-    ends: [Standing; 2],
+    before: Standing,
+    after: Standing,
 ) -> Result<(), Fail> {
-    assert!(rt; leaves_one_of(alloc, start, events, &ends)?);
+    stops_at_each(rt, alloc, start, events, before, after)?;
     let whole = stop(alloc, start, events, CALLS, false)?;
-    assert!(rt; finds_one_of(alloc, whole, &ends[1..])?);
-    Ok(())
-}
-
-// The same of events that change files by so many calls.
-fn stops_among(
-    rt: &impl Abort,
-    alloc: Global,
-    start: MemoryStore,
-    events: &[Event],
-    ends: [Standing; 2],
-    changes: usize,
-) -> Result<(), Fail> {
-    let mut start = start;
-    stops_everywhere(rt, alloc, &mut start, events, ends)?;
-    assert_eq!(rt; before_changes(alloc, &mut start, events)?.len(), changes);
+    assert!(rt; is_one_of(alloc, whole, after, after)?);
     Ok(())
 }
 
@@ -141,21 +134,51 @@ fn stops_among(
 fn a_run_stops_at_any_call(rt: HostRuntime) -> Result<(), Fail> {
     let alloc = rt.alloc();
     let run = [signing(alloc, &PATHS)?];
-    stops_among(&rt, alloc, after(alloc, &[])?, &run, [EMPTY, DONE], 6)
+    let mut start = after(alloc, &[])?;
+    stops_everywhere(&rt, alloc, &mut start, &run, EMPTY, DONE)?;
+    assert_eq!(rt; changing_calls(alloc, &mut start, &run)?.as_str(), "++++++");
+    Ok(())
 }
 
 #[test]
 fn an_undo_stops_at_any_call(rt: HostRuntime) -> Result<(), Fail> {
     let alloc = rt.alloc();
-    let start = after(alloc, &[signing(alloc, &PATHS)?])?;
-    stops_among(&rt, alloc, start, &[Event::Undo], [DONE, UNDONE], 5)
+    let mut start = after(alloc, &[signing(alloc, &PATHS)?])?;
+    stops_everywhere(&rt, alloc, &mut start, &[Event::Undo], DONE, UNDONE)?;
+    assert_eq!(rt;
+        changing_calls(alloc, &mut start, &[Event::Undo])?.as_str(),
+        "+++++"
+    );
+    Ok(())
 }
 
 #[test]
 fn a_redo_stops_at_any_call(rt: HostRuntime) -> Result<(), Fail> {
     let alloc = rt.alloc();
-    let start = after(alloc, &[signing(alloc, &PATHS)?, Event::Undo])?;
-    stops_among(&rt, alloc, start, &[Event::Redo], [UNDONE, DONE], 5)
+    let mut start = after(alloc, &[signing(alloc, &PATHS)?, Event::Undo])?;
+    stops_everywhere(&rt, alloc, &mut start, &[Event::Redo], UNDONE, DONE)?;
+    assert_eq!(rt;
+        changing_calls(alloc, &mut start, &[Event::Redo])?.as_str(),
+        "+++++"
+    );
+    Ok(())
+}
+
+/// The store that the event leaves where it stops just before the put of its last head.
+pub fn before_the_last_head(
+    alloc: Global,
+    start: &mut MemoryStore,
+    events: &[Event],
+) -> Result<MemoryStore, Fail> {
+    let mut found = copy(alloc, start)?;
+    for left in 0..CALLS {
+        let mut one = stop(alloc, start, events, left, false)?;
+        let mut other = stop(alloc, start, events, left, true)?;
+        if dump(alloc, &mut one)? != dump(alloc, &mut other)? {
+            found = one;
+        }
+    }
+    Ok(found)
 }
 
 // The store that a run leaves which stops just before the put of its last head.
@@ -169,7 +192,7 @@ fn an_opening_changes_what_a_run_changed(rt: HostRuntime) -> Result<(), Fail> {
     let alloc = rt.alloc();
     let mut stopped = before_the_head_of_a_run(alloc)?;
     assert!(rt; has_just(alloc, &mut stopped, NEW)?);
-    assert_eq!(rt; before_changes(alloc, &mut stopped, &[])?.len(), 4);
+    assert_eq!(rt; changing_calls(alloc, &mut stopped, &[])?.as_str(), "++++");
     Ok(())
 }
 
@@ -180,7 +203,7 @@ fn an_opening_stops_at_any_call(rt: HostRuntime) -> Result<(), Fail> {
     let mut start = after(alloc, &[])?;
     for left in 0..CALLS {
         let mut stopped = stop(alloc, &mut start, &run, left, true)?;
-        assert!(rt; leaves_one_of(alloc, &mut stopped, &[], &[EMPTY, DONE])?);
+        stops_at_each(&rt, alloc, &mut stopped, &[], EMPTY, DONE)?;
     }
     Ok(())
 }
@@ -245,20 +268,19 @@ fn fail_once(
     }
 }
 
-// Makes one call of the store fail, each in turn: one of these standings is left.
 fn fails_everywhere(
     rt: &impl Abort,
     alloc: Global,
-    start: MemoryStore,
+    start: &mut MemoryStore,
     event: &Event,
-    ends: [Standing; 2],
+    before: Standing,
+    after: Standing,
 ) -> Result<(), Fail> {
-    let mut start = start;
     for left in 0..CALLS {
-        for takes_effect in [false, true] {
-            let failed = fail_once(rt, alloc, &mut start, event, left, takes_effect)?;
-            assert!(rt; finds_one_of(alloc, failed, &ends)?);
-        }
+        let undone = fail_once(rt, alloc, start, event, left, false)?;
+        assert!(rt; is_one_of(alloc, undone, before, after)?);
+        let done = fail_once(rt, alloc, start, event, left, true)?;
+        assert!(rt; is_one_of(alloc, done, before, after)?);
     }
     Ok(())
 }
@@ -267,52 +289,69 @@ fn fails_everywhere(
 fn one_call_of_a_run_fails(rt: HostRuntime) -> Result<(), Fail> {
     let alloc = rt.alloc();
     let run = signing(alloc, &PATHS)?;
-    fails_everywhere(&rt, alloc, after(alloc, &[])?, &run, [EMPTY, DONE])
+    fails_everywhere(&rt, alloc, &mut after(alloc, &[])?, &run, EMPTY, DONE)
 }
 
 #[test]
 fn one_call_of_an_opening_fails(rt: HostRuntime) -> Result<(), Fail> {
     let alloc = rt.alloc();
-    let stopped = before_the_head_of_a_run(alloc)?;
-    fails_everywhere(&rt, alloc, stopped, &Event::Log, [EMPTY, DONE])
+    let mut stopped = before_the_head_of_a_run(alloc)?;
+    fails_everywhere(&rt, alloc, &mut stopped, &Event::Log, EMPTY, DONE)
 }
 
 #[test]
 fn one_call_of_an_undo_fails(rt: HostRuntime) -> Result<(), Fail> {
     let alloc = rt.alloc();
-    let start = after(alloc, &[signing(alloc, &PATHS)?])?;
-    fails_everywhere(&rt, alloc, start, &Event::Undo, [DONE, UNDONE])
+    let mut start = after(alloc, &[signing(alloc, &PATHS)?])?;
+    fails_everywhere(&rt, alloc, &mut start, &Event::Undo, DONE, UNDONE)
 }
 
 #[test]
 fn one_call_of_a_redo_fails(rt: HostRuntime) -> Result<(), Fail> {
     let alloc = rt.alloc();
-    let start = after(alloc, &[signing(alloc, &PATHS)?, Event::Undo])?;
-    fails_everywhere(&rt, alloc, start, &Event::Redo, [UNDONE, DONE])
+    let mut start = after(alloc, &[signing(alloc, &PATHS)?, Event::Undo])?;
+    fails_everywhere(&rt, alloc, &mut start, &Event::Redo, UNDONE, DONE)
 }
 
 #[test]
 fn a_conversion_stops_at_any_call(rt: HostRuntime) -> Result<(), Fail> {
     let alloc = rt.alloc();
-    let old = Standing("opened\nlog\n", &[(".reuse/dep5", DEP5.as_bytes())]);
-    let new = Standing("opened\nlog 1 done\n", &[("REUSE.toml", TOML)]);
+    let before = Standing {
+        log: "opened\nlog\n",
+        files: &[(".reuse/dep5", DEP5.as_bytes())],
+    };
+    let after = Standing {
+        log: "opened\nlog 1 done\n",
+        files: &[("REUSE.toml", TOML)],
+    };
     let run = [Event::Run(Command::ConvertDep5, moment()?)];
-    stops_among(&rt, alloc, tree(alloc, old.1)?, &run, [old, new], 5)
+    let mut start = tree(alloc, before.files)?;
+    stops_everywhere(&rt, alloc, &mut start, &run, before, after)?;
+    assert_eq!(rt; changing_calls(alloc, &mut start, &run)?.as_str(), "+++++");
+    Ok(())
 }
 
 #[test]
 fn a_made_file_is_undone_or_not_at_any_stop(rt: HostRuntime) -> Result<(), Fail> {
     let alloc = rt.alloc();
-    let made = Standing(
-        "opened\nlog 1 done\n",
-        &[
+    let before = Standing {
+        log: "opened\nlog 1 done\n",
+        files: &[
             ("p.png", b"\x89\x00"),
             ("p.png.license", b"SPDX-License-Identifier: MIT\n"),
         ],
-    );
-    let undone = Standing("opened\nlog 1 undone\n", &[("p.png", b"\x89\x00")]);
+    };
+    let after = Standing {
+        log: "opened\nlog 1 undone\n",
+        files: &[("p.png", b"\x89\x00")],
+    };
     let command = licence(alloc, &["p.png"], "MIT", plain_scope(alloc))?;
     let run = [Event::Run(command, moment()?)];
-    let (start, _) = drive(alloc, tree(alloc, undone.1)?, &run);
-    stops_among(&rt, alloc, start, &[Event::Undo], [made, undone], 3)
+    let (mut start, _) = drive(alloc, tree(alloc, after.files)?, &run);
+    stops_everywhere(&rt, alloc, &mut start, &[Event::Undo], before, after)?;
+    assert_eq!(rt;
+        changing_calls(alloc, &mut start, &[Event::Undo])?.as_str(),
+        "+++"
+    );
+    Ok(())
 }

@@ -284,31 +284,30 @@ pub fn licence(alloc: Global, paths: &[&str], name: &str, scope: Scope) -> Resul
     annotate(alloc, paths, &[], &[name], plain_how(), scope)
 }
 
-/// Runs the command on a tree, where this line is answered; the store then.
+/// Runs the command on a tree, where these lines are answered; the store then.
 pub fn runs(
     rt: &impl Abort,
     alloc: Global,
-    command: Command,
     files: &[(&str, &[u8])],
-    line: &str,
+    command: Command,
+    lines: &str,
 ) -> Result<MemoryStore, Fail> {
     let run = [Event::Run(command, moment()?)];
     let (store, found) = play(alloc, tree(alloc, files)?, &run)?;
-    let lines = format!(in alloc; "opened\n{line}\n")?;
-    assert!(rt; found.as_str() == lines.as_str(), "{found}");
+    assert!(rt; found.as_str() == lines, "{found}");
     Ok(store)
 }
 
-/// Runs the command on a tree, where this line is answered and a file is this then.
+/// Runs the command on a tree, where these lines are answered and a file is this then.
 pub fn gives(
     rt: &impl Abort,
     alloc: Global,
-    command: Command,
     files: &[(&str, &[u8])],
-    line: &str,
+    command: Command,
+    lines: &str,
     after: (&str, &[u8]),
 ) -> Result<(), Fail> {
-    let mut store = runs(rt, alloc, command, files, line)?;
-    assert!(rt; holds(alloc, &mut store, after.0, after.1)?, "{line}");
+    let mut store = runs(rt, alloc, files, command, lines)?;
+    assert!(rt; holds(alloc, &mut store, after.0, after.1)?, "{lines}");
     Ok(())
 }

@@ -161,35 +161,32 @@ fn an_option_gives_a_text(rt: HostRuntime) -> Result<(), Fail> {
     Ok(())
 }
 
-/// What the text of the fault holds, and words behind `annotate -l MIT a.py` for which it does.
-const EXCLUDED: &[(&str, &[&str])] = &[
-    (
-        "cannot be used with",
-        &[
-            "--single-line|--multi-line",
-            "--multi-line|--single-line",
-            "--fallback-dot-license|--skip-unrecognised",
-            "--skip-unrecognised|--fallback-dot-license",
-        ],
-    ),
-    ("cannot be used multiple times", &["--style|c|--style|c"]),
-    ("--year and --exclude-year", &["--exclude-year|-y|2024"]),
-    ("unexpected argument", &["--texts|x"]),
-    ("--recursive", &["--files-from|x", "--exclude|x"]),
-    ("bad glob: a\\b", &["-r|--exclude|a\\b"]),
-    ("a value is required", &["--year"]),
-];
-
 #[test]
 fn options_exclude_each_other(rt: HostRuntime) -> Result<(), Fail> {
     let alloc = rt.alloc();
-    for (text, all) in EXCLUDED {
-        for words in *all {
-            let line = format!(in alloc; "annotate|-l|MIT|a.py|{words}")?;
-            let (status, told) = fault_of(alloc, line.as_str())?;
-            assert_eq!(rt; status, 2, "{words}");
-            assert!(rt; told.as_str().contains(text), "{words}: {told}");
-        }
+    for (words, text) in [
+        ("--single-line|--multi-line", "cannot be used with"),
+        ("--multi-line|--single-line", "cannot be used with"),
+        (
+            "--fallback-dot-license|--skip-unrecognised",
+            "cannot be used with",
+        ),
+        (
+            "--skip-unrecognised|--fallback-dot-license",
+            "cannot be used with",
+        ),
+        ("--style|c|--style|c", "cannot be used multiple times"),
+        ("--exclude-year|-y|2024", "--year and --exclude-year"),
+        ("--texts|x", "unexpected argument"),
+        ("--files-from|x", "--recursive"),
+        ("--exclude|x", "--recursive"),
+        ("-r|--exclude|a\\b", "bad glob: a\\b"),
+        ("--year", "a value is required"),
+    ] {
+        let line = format!(in alloc; "annotate|-l|MIT|a.py|{words}")?;
+        let (status, told) = fault_of(alloc, line.as_str())?;
+        assert_eq!(rt; status, 2, "{words}");
+        assert!(rt; told.as_str().contains(text), "{words}: {told}");
     }
     Ok(())
 }
