@@ -68,19 +68,27 @@ name_of_entry n =
     or_from _ _ (no_slash (n / 100_000 % 10)) (or_from _ _ (no_slash (n / 10_000 % 10)) (or_from _ _ (no_slash (n / 1_000 % 10))
     (or_from _ _ (no_slash (n / 100 % 10)) (or_from _ _ (no_slash (n / 10 % 10)) (or_from _ _ (no_slash (n / 1 % 10)) refl)))))
 
--- a path of the journal is the folder, a slash, and a name without one
-name_in : (path : List ℕ) → IsJournalPath path → (name : List ℕ) × (path ≡ journal_folder ++ 47 ∷ name) × (list_any (λ byte. nat_eq byte 47) name ≡ false)
+-- the path is that of the head, or one that an entry of some number would have
+abbrev pub IsLikeJournalPath : List ℕ → Type 0
+IsLikeJournalPath path = (path ≡ head_path) ⊎ ((number : ℕ) × (path ≡ entry_path number))
+
+pub like : (path : List ℕ) → IsJournalPath path → IsLikeJournalPath path
+like path (inl is) = inl is
+like path (inr is) = inr (is.0, is.3)
+
+-- such a path is the folder, a slash, and a name without one
+name_in : (path : List ℕ) → IsLikeJournalPath path → (name : List ℕ) × (path ≡ journal_folder ++ 47 ∷ name) × (list_any (λ byte. nat_eq byte 47) name ≡ false)
 name_in path (inl is) = (codes "head.json", is, refl)
 name_in path (inr is) = (six_digits is.0 ++ codes ".json", is.1, name_of_entry is.0)
 
 no_folder : (name front x : List ℕ) → list_any (λ byte. nat_eq byte 47) name ≡ false → name ≡ front ++ 47 ∷ x → ⊥
 no_folder name front x none is = false≢true (sym none ∙ ap (list_any (λ byte. nat_eq byte 47)) is ∙ slash_inside front x)
 
-in_folder : (path : List ℕ) → IsJournalPath path → lies_under path journal_folder ≡ true
+in_folder : (path : List ℕ) → IsLikeJournalPath path → lies_under path journal_folder ≡ true
 in_folder path is = let parts = name_in path is in under_from_parts path journal_folder parts.0 parts.1
 
 -- none is a folder of another
-pub paths_apart : (p q : List ℕ) → IsJournalPath p → IsJournalPath q → lies_under p q ≡ false
+pub paths_apart : (p q : List ℕ) → IsLikeJournalPath p → IsLikeJournalPath q → lies_under p q ≡ false
 paths_apart p q is_p is_q = test (lies_under p q) refl
   where
     test : (b : Bool) → lies_under p q ≡ b → lies_under p q ≡ false
@@ -96,7 +104,7 @@ paths_apart p q is_p is_q = test (lies_under p q) refl
 -- ---- the folder of the journal
 
 -- where the folders above it are no files, a path of the journal clashes only with a file beneath it
-pub clash_beneath : (files : Files) (path : List ℕ) → IsTree (tree_of files) → IsJournalPath path → Clashes files path
+pub clash_beneath : (files : Files) (path : List ℕ) → IsTree (tree_of files) → IsLikeJournalPath path → Clashes files path
     → (other : List ℕ) × IsSome (get (undo_folder_of files) other) × (lies_under other path ≡ true)
 clash_beneath files path tree is clash = test (lies_under clash.other path) refl
   where
@@ -149,9 +157,9 @@ sets_in_folder files after path file under sets =
     let same = same_but_in_folder files after path under sets.elsewhere in
     (record { here = get-folder after path ∙ ap (λ b. cond b (get after path) None) under ∙ sets.here; elsewhere = same.0 }, same.1)
 
-pub free_stays : (folder after : Files) (path : List ℕ) → IsJournalPath path → IsSameBut path folder after → IsFree folder → IsFree after
+pub free_stays : (folder after : Files) (path : List ℕ) → IsLikeJournalPath path → IsSameBut path folder after → IsFree folder → IsFree after
 free_stays folder after path is same free p other is_p some below = ⊎_elim
-    (λ (here : other ≡ path). false≢true (sym (ap (λ o. lies_under o p) here ∙ paths_apart path p is is_p) ∙ below))
+    (λ (here : other ≡ path). false≢true (sym (ap (λ o. lies_under o p) here ∙ paths_apart path p is (like p is_p)) ∙ below))
     (λ (ne : other ≢ path). free p other is_p (ap is_some (sym (same other ne)) ∙ some) below)
     (same_or_other other path)
 

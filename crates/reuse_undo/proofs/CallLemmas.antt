@@ -172,10 +172,11 @@ revert_clash store number skip_moved when old new (Err refusal) honest leaves =
 pub carried : {S : Type 0} (files : S → Files) (before : Files) (request : Request) (session : Session S) (answer : Result Told Refusal) (after : Files)
     → (held : State) × StandsOn files session held × OpensOn before held (files (store_of session))
     → ((first second : State) → InDoubt first second before → StandsOn files session first ⊎ StandsOn files session second)
-    → ((held : State) → StandsOn files session held → Meets request held answer after) → Carries before request answer after
-carried files before request session answer after opened settles meets =
+    → ((held : State) → StandsOn files session held → Meets request held answer after)
+    → ((held : State) → StandsOn files session held → IfErr answer (HasCallClash request held (files (store_of session)))) → Carries before request answer after
+carried files before request session answer after opened settles meets clashes =
     inr (record {
-      made = (opened.0, files (store_of session), opened.2, meets opened.0 opened.1);
+      made = (opened.0, files (store_of session), opened.2, meets opened.0 opened.1, clashes opened.0 opened.1);
       settles = λ first second doubt. ⊎_elim (λ (stands : StandsOn files session first). inl (meets first stands)) (λ (stands : StandsOn files session second). inr (meets second stands)) (settles first second doubt);
     })
 

@@ -1,4 +1,4 @@
-use Rattle.std.proofs.Common.{◌+◌, Some, sym, subst, ◌∙◌}
+use Rattle.std.proofs.Common.{length, Some, sym, subst, ◌∙◌}
 use Rattle.reuse_session.specs.Machine.{step}
 use Rattle.reuse_tree.specs.Files.{Files}
 use Rattle.reuse_session.specs.JournalFiles.{IsFree}
@@ -25,7 +25,7 @@ returns-in-Run g c =
           (run_left stands.held state stands.holds (files new.store) (files old.store) c.in-Run.command c.in-Run.when stands.stands.standing (at_stop (StopsAfterRun c.in-Run.command c.in-Run.when stands.held (files new.store)) is (c.run.ensures.leaves.doubt honest stands.held stands.stands)));
       log = λ is. absurd (run_is_no_log c.in-Run.command c.in-Run.when (sym c.in-Run.is ∙ is));
       preview = λ call is. absurd (run_is_no_preview c.in-Run.command c.in-Run.when call (sym c.in-Run.is ∙ is));
-      clash = λ honest state stands free. run_no_clash (files old.store) stands.held stands.stands.standing free c.run.result (old.history.used + 1) (c.run.ensures.leaves.clash honest);
+      clash = λ honest state stands free. run_no_clash (files old.store) stands.held stands.stands.standing free c.run.result (length old.history.done) old.history.used (λ full. c.run.ensures.full.1 (stands.stands.whole, full)) (c.run.ensures.leaves.clash honest);
       free = c.run.ensures.leaves.free;
       fault = c.run.ensures.call.fault;
       failures = c.run.ensures.call.later.failures;

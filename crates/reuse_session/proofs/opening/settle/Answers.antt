@@ -13,7 +13,7 @@ use Rattle.reuse_session.specs.Head.{way_of, IsGoodHead}
 use Rattle.reuse_session.specs.History.{head_listing}
 use Rattle.reuse_session.specs.JournalFiles.{head_path}
 use Rattle.reuse_session.specs.Opening.{IsRead, IsSettled}
-use Rattle.reuse_session.specs.Session.{IsSameBut}
+use Rattle.reuse_session.specs.Session.{HasHeadText, IsSameBut}
 use Rattle.reuse_session.specs.Standing.{IsStanding, IsUnderWay}
 use Rattle.reuse_session.specs.Tree.{undo_folder_of}
 use Rattle.reuse_tree.specs.declared.change.Change.{Change}
@@ -22,6 +22,7 @@ use Rattle.reuse_session.specs.declared.reply.Refusal.TheVariants.{Memory}
 use Rattle.reuse_session.proofs.Settling.{is_entry, is_settled, is_stuck, some_made, all_ready, settles, settled_good, settled_sound, head_fits, at_same, pending_readable, stays_under_way, read_failure}
 use Rattle.reuse_session.proofs.OpeningLemmas.{recorded}
 use Rattle.reuse_session.proofs.TakenBack.{was_under_way}
+use Rattle.reuse_session.proofs.JournalReading.{file_in_folder}
 use Rattle.reuse_session.proofs.Turning.{on_ok}
 use Rattle.reuse_session.specs.Journal.{Journal, Recorded, State}
 use Rattle.reuse_session.specs.JournalFiles.{entry_path, head_of, number_of, EntrySays}
@@ -144,6 +145,13 @@ pub returns-clause-folder : goal.returns-clause-folder
 returns-clause-folder g c honest journal read =
     let at = (goal.at.returns-clause-folder g c).After-roll_back in
     subst (λ f. IsSameBut head_path (undo_folder_of f) (undo_folder_of (g.S.Store.files c.roll_back.new.store))) (same g at honest journal read) (c.roll_back.ensures.folder honest (good g at honest journal read))
+
+pub returns-clause-texts : goal.returns-clause-texts
+returns-clause-texts g c honest journal read =
+    let new = g.S.Store.files c.roll_back.new.store in
+    on_ok c.roll_back.result (IsRolledBack c.way.result c.as_slice.result.now c.as_slice-2.result.now (g.S.Store.files c.read_entry.new.store) new) (HasHeadText c.args.history.now new)
+    (λ rolled. file_in_folder new head_path head_path refl refl ∙ rolled.sets.here ∙ ap (λ text. Some text) (c.as_slice-2.ensures.value ∙ c.in_ok-settled.ensures.text))
+    (c.roll_back.ensures.done honest (good g (goal.at.returns-clause-texts g c).After-roll_back honest journal read))
 
 pub returns-clause-clash : goal.returns-clause-clash
 returns-clause-clash g c honest journal read =

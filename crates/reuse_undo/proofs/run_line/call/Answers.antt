@@ -15,7 +15,7 @@ returns-in-Ok-clause-carries g c honest =
     let was_honest = c.ask-answer.ensures.was_honest is_honest in
     subst (λ f. Carries before request answer f) (sym (c.close-store.ensures.reads.files honest))
     (carried files before request c.in-Ok.opened answer (files (store_of c.ask-answer.new.session)) (c.in-Ok.ensures.opened was_honest)
-    (λ first second doubt. c.in-Ok.ensures.settles first second doubt was_honest) (c.ask-answer.ensures.meets is_honest))
+    (λ first second doubt. c.in-Ok.ensures.settles first second doubt was_honest) (c.ask-answer.ensures.meets is_honest) (c.ask-answer.ensures.clash is_honest))
 
 pub returns-in-Ok-clause-looks : goal.returns-in-Ok-clause-looks
 returns-in-Ok-clause-looks g c honest look held standing =
