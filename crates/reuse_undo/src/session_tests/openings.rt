@@ -1,6 +1,7 @@
-//! Openings that take a stopped step back while one call of the store fails: up to the first put it is told as a fault, from there on as a stop.
+//! Which fault is told as one, and which as a stop, where one call of the store fails and memory is ample: in openings that take a stopped step
+//! back, and in runs, undos and redos.
 use crate::session_tests::trees::{PLAIN, copy, dump, signing, tree};
-use reuse_session::{Cause, Refusal, Session, drive};
+use reuse_session::{Answer, Cause, Event, Refusal, Session, drive};
 use reuse_tree::{FuseStore, MemoryStore, OnceStore, StoreFault};
 use std::alloc::Global;
 use std::test::Fail;
@@ -25,6 +26,7 @@ fn mark(refusal: &Refusal) -> &'static str {
     match refusal {
         Refusal::Fault(StoreFault::Device) => "f",
         Refusal::Interrupted(Cause::Device) => "i",
+        Refusal::Broken => "b",
         _ => "?",
     }
 }
@@ -63,5 +65,63 @@ fn a_fault_before_the_first_put_is_no_stop(rt: HostRuntime) -> Result<(), Fail> 
     // Twelve reads; then three files are put, two of them after a read, and the head.
     assert_eq!(rt; marks(alloc, &mut start)?.as_str(), "ffffffffffffiiiiii");
     assert!(rt; leaves_all(alloc, &mut start, 12)?);
+    Ok(())
+}
+
+/// The files, once these events are answered.
+fn left_by(alloc: Global, events: &[Event]) -> Result<MemoryStore, Fail> {
+    let files = [("a.py", PLAIN), ("b.py", PLAIN)];
+    let (store, _) = drive(alloc, tree(alloc, &files)?, events);
+    Ok(store)
+}
+
+/// A mark for what the last event is answered.
+fn last_mark(answers: &[Answer]) -> &'static str {
+    match answers.last() {
+        Some(Err(refusal)) => mark(refusal),
+        Some(Ok(_)) => ".",
+        None => "?",
+    }
+}
+
+/// A mark for each call of an opening and the event that fails, and one more.
+fn event_marks(alloc: Global, start: &mut MemoryStore, event: Event) -> Result<String, Fail> {
+    let events = [event];
+    let mut marks = String::new(alloc);
+    for left in 0..CALLS {
+        let once = OnceStore::new(copy(alloc, start)?, left, false);
+        let (_, answers) = drive(alloc, once, &events);
+        let mark = last_mark(&answers);
+        marks.push_str(mark)?;
+        if mark == "." {
+            break;
+        }
+    }
+    Ok(marks)
+}
+
+#[test]
+fn a_fault_of_a_run_is_a_stop_once_the_step_is_pending(rt: HostRuntime) -> Result<(), Fail> {
+    let alloc = rt.alloc();
+    let mut start = left_by(alloc, &[])?;
+    // The opening looks for the folders of the journal and reads the head. The run reads the styles, looks for the neighbour of each file and
+    // reads it, and puts the entry; then the head is put, each file is read and put, and the head is put again.
+    let marks = event_marks(alloc, &mut start, signing(alloc, &["a.py", "b.py"])?)?;
+    assert_eq!(rt; marks.as_str(), "bbbffffffiiiiii.");
+    Ok(())
+}
+
+#[test]
+fn a_fault_of_an_undo_or_a_redo_is_a_stop_once_the_step_is_pending(
+    rt: HostRuntime,
+) -> Result<(), Fail> {
+    let alloc = rt.alloc();
+    let mut done = left_by(alloc, &[signing(alloc, &["a.py", "b.py"])?])?;
+    // The opening reads the entry too. An undo reads it once more, and tests both files; then it goes on as the run.
+    let marks = event_marks(alloc, &mut done, Event::Undo)?;
+    assert_eq!(rt; marks.as_str(), "bbbbfffiiiiii.");
+    let mut undone = left_by(alloc, &[signing(alloc, &["a.py", "b.py"])?, Event::Undo])?;
+    let marks = event_marks(alloc, &mut undone, Event::Redo)?;
+    assert_eq!(rt; marks.as_str(), "bbbbfffiiiiii.");
     Ok(())
 }
