@@ -1,5 +1,5 @@
 -- The files of the journal: their paths, what a change of one of them leaves, and when they keep a journal.
-use Rattle.std.proofs.Common.{◌≡◌, ◌≢◌, inl, inr, ⊎_elim, ℕ, ◌+◌, ◌*◌, ◌/◌, ◌%◌, ◌<◌, ◌≤◌, Bool, false, true, not, cond, ◌||◌, nat_eq, List, ◌∷◌, ◌++◌, codes, drop, get_or, Option, Some, None, IsSome, is_some, refl, sym, ap, ◌∙◌, subst, append_assoc, arith}
+use Rattle.std.proofs.Common.{◌≡◌, ◌≢◌, ◌⊎◌, inl, inr, ⊎_elim, ℕ, ◌+◌, ◌*◌, ◌/◌, ◌%◌, ◌<◌, ◌≤◌, Bool, false, true, not, cond, ◌||◌, nat_eq, List, ◌∷◌, ◌++◌, codes, drop, get_or, Option, Some, None, IsSome, is_some, refl, sym, ap, ◌∙◌, subst, append_assoc, arith}
 use Rattle.std.specs.List.{All, list_any}
 use Rattle.std.proofs.lemmas.Bool.{false≢true, or_from}
 use Rattle.std.proofs.lemmas.Bool.Decides.{nat_tests}
