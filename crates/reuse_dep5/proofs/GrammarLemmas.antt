@@ -215,6 +215,11 @@ patterns_accepted (word ∷ words) patterns e =
     let found = patterns_ok word.number (word_pieces word.content) (patterns_of words) patterns e in
     (λ none. let f = found.2 in cc, patterns_accepted words found.1 found.3)
 
+-- behind a good word, the first bad one is that of the words after it
+behind_good_word : (word : NumberedLine) (words : List NumberedLine) (number : ℕ) → ¬ (word_pieces word.content ≡ None) → IsFirstBadWord words number → IsFirstBadWord (word ∷ words) number
+behind_good_word word words number good b =
+    record { before = word ∷ b.before; word = b.word; after = b.after; stands = ap (λ q. word ∷ q) b.stands; sound = (good, b.sound); fault = b.fault; named = b.named }
+
 patterns_refused : (words : List NumberedLine) (d : Dep5Refusal) → patterns_of words ≡ Err d → (number : ℕ) × (BadDep5 number BadEscape ≡ d) × IsFirstBadWord words number
 patterns_refused [] d e = cc
 patterns_refused (word ∷ words) d e =
@@ -223,19 +228,7 @@ patterns_refused (word ∷ words) d e =
           (word.number, here.1, record { before = []; word = word; after = words; stands = refl; sound = tt; fault = here.0; named = refl })
       | inr later ↦ (
           let r = patterns_refused words d later.2 in
-          let b = r.2 in (
-            r.0,
-            r.1,
-            record {
-              before = word ∷ b.before;
-              word = b.word;
-              after = b.after;
-              stands = ap (λ q. word ∷ q) b.stands;
-              sound = (λ none. let f = later.1 in cc, b.sound);
-              fault = b.fault;
-              named = b.named;
-            },
-          ))
+          (r.0, r.1, behind_good_word word words r.0 (λ none. let f = later.1 in cc) r.2))
     ]
 
 no_bad_word : (before : List NumberedLine) (word : NumberedLine) (after : List NumberedLine) → word_pieces word.content ≡ None → ¬ ArePatterns (before ++ word ∷ after)
@@ -291,6 +284,11 @@ laters_accepted [] fs e = tt
 laters_accepted (p ∷ ps) fs e =
     let found = laters_ok p ps fs e in (later_accepted p found.0 found.2, laters_accepted ps found.1 found.3)
 
+-- behind a good paragraph, the first fault is that of the paragraphs after it
+behind_good_paragraph : (p : List NumberedLine) (ps : List (List NumberedLine)) (number : ℕ) (cause : Dep5Cause) → IsLater p → IsFirstLaterFault ps number cause → IsFirstLaterFault (p ∷ ps) number cause
+behind_good_paragraph p ps number cause good f =
+    record { before = p ∷ f.before; p = f.p; after = f.after; stands = ap (λ q. p ∷ q) f.stands; sound = (good, f.sound); fault = f.fault }
+
 laters_refused : (ps : List (List NumberedLine)) (d : Dep5Refusal) → laters_of ps ≡ Err d → Names (IsFirstLaterFault ps) d
 laters_refused [] d e = cc
 laters_refused (p ∷ ps) d e =
@@ -300,19 +298,7 @@ laters_refused (p ∷ ps) d e =
           (r.0, r.1, r.2, record { before = []; p = p; after = ps; stands = refl; sound = tt; fault = r.3 }))
       | inr later ↦ (
           let r = laters_refused ps d later.2 in
-          let f = r.3 in (
-            r.0,
-            r.1,
-            r.2,
-            record {
-              before = p ∷ f.before;
-              p = f.p;
-              after = f.after;
-              stands = ap (λ q. p ∷ q) f.stands;
-              sound = (later_accepted p later.0 later.1, f.sound);
-              fault = f.fault;
-            },
-          ))
+          (r.0, r.1, r.2, behind_good_paragraph p ps r.0 r.1 (later_accepted p later.0 later.1) r.3))
     ]
 
 no_later_faults : (before : List (List NumberedLine)) (p : List NumberedLine) (after : List (List NumberedLine)) (number : ℕ) (cause : Dep5Cause) → IsLaterFault p number cause → ¬ AreLater (before ++ p ∷ after)

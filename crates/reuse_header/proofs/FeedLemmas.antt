@@ -27,7 +27,7 @@ use Rattle.reuse_header.specs.Writing.{new_info}
 use Rattle.std.proofs.lemmas.Bool.{cases_Bool as truth}
 use Rattle.reuse_header.proofs.SplitLemmas.{split_found}
 use Rattle.reuse_header.proofs.SayableLemmas.{Each, each_of_all, each_both, of_picked}
-use Rattle.reuse_header.proofs.MergedLemmas.{Merges}
+use Rattle.reuse_header.specs.LowerLaws.{Merges}
 use Rattle.reuse_header.proofs.InfoLemmas.{EachText, EachAdded, Spreads, each_new}
 
 -- ---- no LF

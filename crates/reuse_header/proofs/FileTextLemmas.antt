@@ -28,7 +28,7 @@ use Rattle.reuse_header.specs.Annotation.{Edit, edited, chosen_form, replaced_bl
 use Rattle.reuse_header.specs.Split.{begins_in, bytes_of, size_of, IsHeaderBlock}
 use Rattle.reuse_header.specs.Neighbour.{is_text}
 use Rattle.reuse_header.proofs.SayableLemmas.{Each}
-use Rattle.reuse_header.proofs.MergedLemmas.{Merges}
+use Rattle.reuse_header.specs.LowerLaws.{Merges}
 use Rattle.reuse_header.proofs.SplitLemmas.{begins_in-nil}
 use Rattle.reuse_header.proofs.CutLemmas.{span_cuts, before_body, place_behind, file_size}
 use Rattle.reuse_header.proofs.KeptLemmas.{replacing_keeps_others, inserting_keeps_others}

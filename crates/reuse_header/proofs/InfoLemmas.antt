@@ -11,7 +11,8 @@ use Rattle.reuse_notice.specs.Infos.{info_of, union_of, merged_of}
 use Rattle.reuse_notice.specs.Keeping.{IsWrittenOf}
 use Rattle.reuse_header.specs.Writing.{new_info}
 use Rattle.reuse_header.proofs.SayableLemmas.{Each, all_of_each, each_of_all, each_both, each_front, each_end, each_set, notice_whole, contributor_is, licence_is}
-use Rattle.reuse_header.proofs.MergedLemmas.{Merges, merged_each}
+use Rattle.reuse_header.specs.LowerLaws.{Merges}
+use Rattle.reuse_header.proofs.MergedLemmas.{merged_each}
 
 pub record EachText (P : List ℕ → Type 0) (info : Info) : Type 0 where
   pub notices : Each P info.notices

@@ -21,7 +21,7 @@ use Rattle.reuse_notice.proofs.PrefixLemmas.{found_passes}
 use Rattle.reuse_notice.proofs.SoundLemmas.{is_nul, IsSound, is_low, low_is, low_utf8, sound_after, sound_front, sound_end, sound_trimmed}
 use Rattle.reuse_header.specs.Writing.{new_info}
 use Rattle.reuse_header.proofs.SayableLemmas.{Each, each_of_all}
-use Rattle.reuse_header.proofs.MergedLemmas.{Merges}
+use Rattle.reuse_header.specs.LowerLaws.{Merges}
 use Rattle.reuse_header.proofs.LineSoundLemmas.{blank_low}
 use Rattle.reuse_header.proofs.InfoLemmas.{EachText, EachAdded, Spreads, each_new}
 

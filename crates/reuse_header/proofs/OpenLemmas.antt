@@ -34,10 +34,11 @@ use Rattle.reuse_header.proofs.WrittenLemmas.{error_is_ok}
 use Rattle.reuse_header.proofs.LawLemmas.{NeighbourWritten, neighbour_ok, text_lines}
 use Rattle.reuse_header.proofs.ContentsLemmas.{neighbour_reader}
 use Rattle.reuse_header.proofs.ReadingLemmas.{reads_back}
-use Rattle.reuse_header.proofs.LinesLemmas.{Known, neighbour_sayable}
+use Rattle.reuse_header.proofs.LinesLemmas.{neighbour_sayable}
 use Rattle.reuse_header.proofs.FeedLemmas.{Feedless}
 use Rattle.reuse_header.proofs.KindLemmas.{Begins, mark_plain, replacement_begins}
-use Rattle.reuse_header.proofs.RepeatLemmas.{Laws, same_info, same_text, text_stays, no_splice, settled_yes}
+use Rattle.reuse_header.specs.LowerLaws.{Known, Laws}
+use Rattle.reuse_header.proofs.RepeatLemmas.{same_info, same_text, text_stays, no_splice, settled_yes}
 
 -- ---- lines that are written before others
 

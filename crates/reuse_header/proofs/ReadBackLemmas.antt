@@ -16,8 +16,8 @@ use Rattle.reuse_header.specs.Annotation.{Edit, edited, kind_of_file, chosen_for
 use Rattle.reuse_header.specs.Neighbour.{neighbour_annotation_of}
 use Rattle.reuse_header.specs.Laws.{info_written, neighbour_info_written, information_in}
 use Rattle.reuse_header.proofs.LawLemmas.{written_block, read_again}
-use Rattle.reuse_header.proofs.LinesLemmas.{Known, written_sayable}
-use Rattle.reuse_header.proofs.RepeatLemmas.{Laws}
+use Rattle.reuse_header.proofs.LinesLemmas.{written_sayable}
+use Rattle.reuse_header.specs.LowerLaws.{Known, Laws}
 use Rattle.reuse_header.proofs.OpenLemmas.{neighbour_opened, neighbour_begun}
 use Rattle.reuse_header.proofs.WrittenLemmas.{error_is_ok}
 
