@@ -24,7 +24,7 @@ use Rattle.reuse_session.specs.Format.{format_number}
 use Rattle.reuse_tree.specs.Change.{is_sealed}
 use Rattle.reuse_tree.specs.declared.digest.Seal.{Seal}
 use Rattle.std.specs.Option.{option_map}
-use Rattle.reuse_session.specs.EntryText.{command_name, hex_text, digest_text, is_any_sealed, change_text, entry_text, AreDigestBytes, IsHex, IsHexDigest, IsChangeValue, IsChangeInMemory, IsEntryInMemory, IsSoundEntry, IsGoodEntry}
+use Rattle.reuse_session.specs.EntryText.{command_name, hex_text, digest_text, whole_text, is_any_sealed, change_text, entry_text, AreDigestBytes, IsHex, IsHexDigest, IsChangeValue, IsChangeInMemory, IsEntryInMemory, IsSoundEntry, IsGoodEntry}
 use Rattle.reuse_tree.specs.declared.change.Change.{Change}
 use Rattle.reuse_tree.specs.declared.change.Change.TheVariants.{Make, Drop, Splice}
 use Rattle.reuse_session.specs.declared.journal.entry.Entry.{Entry}
@@ -64,9 +64,6 @@ change_plain (Splice path at old new rest (Some seal)) = (refl, refl)
 changes_no_float : (cs : List Change) → items_have_float (items_of (map change_value cs)) ≡ false
 changes_no_float [] = refl
 changes_no_float (c ∷ cs) = rw ((change_plain c).0) (changes_no_float cs)
-
-pub entry_no_float : (e : Entry) → has_float (entry_value e) ≡ false
-entry_no_float e = rw (changes_no_float e.changes) refl
 
 -- ---- the value is read back from its text
 
@@ -150,16 +147,14 @@ digest_utf8 key (Some digest) h =
 front_utf8 : (key : List ℕ) (digest : Option (List ℕ)) → IsUtf8 key → IsUtf8 (codes "{" ++ digest_text key digest)
 front_utf8 key digest h = IsUtf8-append (codes "{") (digest_text key digest) (ascii _ refl) (digest_utf8 key digest h)
 
--- a change's text from its bytes on
-ended_utf8 : (front bytes path : List ℕ) → IsUtf8 front → IsUtf8 path → IsUtf8 (front ++ hex_text bytes ++ codes ",\"path\":" ++ quoted path ++ codes "}")
-ended_utf8 front bytes path h p =
-    IsUtf8-append _ (codes "}") (IsUtf8-append _ (quoted path) (IsUtf8-append _ (codes ",\"path\":") (IsUtf8-append front (hex_text bytes) h (hex_utf8 bytes)) (ascii _ refl)) (IsUtf8-quoted path p)) (ascii _ refl)
+whole_utf8 : (key : List ℕ) (digest : Option (List ℕ)) (kind bytes path : List ℕ) → IsUtf8 key → IsUtf8 kind → IsUtf8 path → IsUtf8 (whole_text key digest kind bytes path)
+whole_utf8 key digest kind bytes path k n p =
+    let named = IsUtf8-append (codes "{" ++ digest_text key digest) kind (front_utf8 key digest k) n in
+    IsUtf8-append _ (codes "}") (IsUtf8-append _ (quoted path) (IsUtf8-append _ (codes ",\"path\":") (IsUtf8-append _ (hex_text bytes) named (hex_utf8 bytes)) (ascii _ refl)) (IsUtf8-quoted path p)) (ascii _ refl)
 
 change_utf8 : (c : Change) → IsWritable c → IsUtf8 (change_text c)
-change_utf8 (Make path new after) h =
-    ended_utf8 _ new path (IsUtf8-append (codes "{" ++ digest_text (codes "after") after) (codes "\"kind\":\"make\",\"new\":") (front_utf8 (codes "after") after (ascii _ refl)) (ascii _ refl)) h.in_memory.utf8
-change_utf8 (Drop path old before) h =
-    ended_utf8 _ old path (IsUtf8-append (codes "{" ++ digest_text (codes "before") before) (codes "\"kind\":\"drop\",\"old\":") (front_utf8 (codes "before") before (ascii _ refl)) (ascii _ refl)) h.in_memory.utf8
+change_utf8 (Make path new after) h = whole_utf8 (codes "after") after (codes "\"kind\":\"make\",\"new\":") new path (ascii _ refl) (ascii _ refl) h.in_memory.utf8
+change_utf8 (Drop path old before) h = whole_utf8 (codes "before") before (codes "\"kind\":\"drop\",\"old\":") old path (ascii _ refl) (ascii _ refl) h.in_memory.utf8
 change_utf8 (Splice path at old new rest seal) h =
     let after = option_map (λ (s : Seal). s.after) seal in
     let before = option_map (λ (s : Seal). s.before) seal in
@@ -239,11 +234,8 @@ length-hex bytes h = omega (arith, length-append (escape (encode_lower bytes)) (
 number_length : (n : ℕ) → n < 2 ^ 64 → length (decimal n) ≤ 20
 number_length n h = length-decimal-le 20 n (omega arith) (omega arith) h
 
-make_length : (digest new path : List ℕ) → length (codes "{" ++ digest ++ codes "\"kind\":\"make\",\"new\":" ++ new ++ codes ",\"path\":" ++ path ++ codes "}") ≤ 30 + (length digest + length new + length path)
-make_length digest new path = simp length-append (omega arith)
-
-drop_length : (digest old path : List ℕ) → length (codes "{" ++ digest ++ codes "\"kind\":\"drop\",\"old\":" ++ old ++ codes ",\"path\":" ++ path ++ codes "}") ≤ 30 + (length digest + length old + length path)
-drop_length digest old path = simp length-append (omega arith)
+whole_length : (digest kind bytes path : List ℕ) → length (codes "{" ++ digest ++ kind ++ bytes ++ codes ",\"path\":" ++ path ++ codes "}") ≡ 10 + (length digest + length kind + length bytes + length path)
+whole_length digest kind bytes path = simp length-append (omega arith)
 
 splice_length : (after at before new old path rest : List ℕ)
     → length (codes "{" ++ after ++ codes "\"at\":" ++ at ++ codes "," ++ before ++ codes "\"kind\":\"splice\",\"new\":" ++ new ++ codes ",\"old\":" ++ old ++ codes ",\"path\":" ++ path ++ codes ",\"rest\":" ++ rest ++ codes "}")
@@ -287,13 +279,17 @@ splice_fits sealed path at old new rest after before low high old_bytes new_byte
       splice_length after (decimal at) before (hex_text new) (hex_text old) (quoted path) (decimal rest),
     )
 
+whole_fits : (key : List ℕ) (digest : Option (List ℕ)) (kind bytes path : List ℕ) → length key ≤ 6 → length kind ≤ 20 → AreDigestBytes digest → IsBytes bytes
+    → length (whole_text key digest kind bytes path) + 1 ≤ fixed_size (is_some digest) + 6 * length path + 2 * length bytes
+whole_fits key digest kind bytes path short named is_digest are_bytes =
+    let front = digest_length key digest short is_digest in
+    omega (arith, room_fits (is_some digest), front, length-hex bytes are_bytes, length-quoted-le path, whole_length (digest_text key digest) kind (hex_text bytes) (quoted path))
+
 change_length : (c : Change) → IsWritable c → length (change_text c) + 1 ≤ change_size c
 change_length (Make path new after) h =
-    let digest = digest_length (codes "after") after (omega arith) h.in_memory.after in
-    omega (arith, room_fits (is_some after), digest, length-hex new h.in_memory.written, length-quoted-le path, make_length (digest_text (codes "after") after) (hex_text new) (quoted path))
+    omega (arith, whole_fits (codes "after") after (codes "\"kind\":\"make\",\"new\":") new path (omega arith) (omega arith) h.in_memory.after h.in_memory.written)
 change_length (Drop path old before) h =
-    let digest = digest_length (codes "before") before (omega arith) h.in_memory.before in
-    omega (arith, room_fits (is_some before), digest, length-hex old h.in_memory.removed, length-quoted-le path, drop_length (digest_text (codes "before") before) (hex_text old) (quoted path))
+    omega (arith, whole_fits (codes "before") before (codes "\"kind\":\"drop\",\"old\":") old path (omega arith) (omega arith) h.in_memory.before h.in_memory.removed)
 change_length (Splice path at old new rest None) h =
     splice_fits false path at old new rest [] [] (omega (arith, h.small.0)) (omega (arith, h.small.0)) h.in_memory.removed h.in_memory.written (omega arith) (omega arith)
 change_length (Splice path at old new rest (Some seal)) h =

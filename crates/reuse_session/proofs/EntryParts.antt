@@ -1,5 +1,5 @@
 -- What is read of an entry's value is the entry, and nothing else is.
-use Rattle.std.proofs.Common.{◌≡◌, ℕ, ◌≤◌, Bool, true, false, cond, ◌==◌, eqb-true, eq-eqb, List, [], ◌∷◌, length, codes, Option, Some, None, refl, sym, ap, ap₂, ◌∙◌, subst, le-leb, leb-true, Result, Ok, Err, ◌⊎◌, inl, inr}
+use Rattle.std.proofs.Common.{◌≡◌, ℕ, ◌≤◌, Bool, true, false, cond, ◌==◌, eqb-true, eq-eqb, List, [], ◌∷◌, length, codes, Option, Some, None, is_some, refl, sym, ap, ap₂, ◌∙◌, subst, le-leb, leb-true, Result, Ok, Err, ◌⊎◌, inl, inr}
 use Rattle.std.specs.Prelude.{IsTrue, IfOk}
 use Rattle.reuse_session.specs.declared.journal.fault.DecodeFault.{DecodeFault}
 use Rattle.reuse_session.specs.Decoded.{Gives, IsAnswer}
@@ -21,9 +21,9 @@ use Rattle.reuse_tree.specs.declared.digest.Seal.{Seal}
 use Rattle.reuse_session.specs.Entry.{AreAllSealed}
 use Rattle.reuse_session.specs.Json.{count, array_of, members_of, IsJson}
 use Rattle.reuse_session.specs.Format.{knows}
-use Rattle.reuse_session.specs.EntryText.{command_name, make_members, drop_members, splice_members, IsHex, IsHexDigest, IsChangeValue, IsEntryValue, HavePaths, IsJsonEntry, IsGoodEntry}
+use Rattle.reuse_session.specs.EntryText.{command_name, whole_members, splice_members, IsWholeValue, IsHex, IsHexDigest, IsChangeValue, IsEntryValue, HavePaths, IsJsonEntry, IsGoodEntry}
 use Rattle.reuse_session.specs.JsonReading.{first_member, if_none_left, format_in, number_in, read_items}
-use Rattle.reuse_session.specs.EntryReading.{if_text, digest_in, first_digest, seal_of, hex_in, path_in, command_from, if_known, moment_in, make_in, drop_in, splice_in, splice_bytes_in, splice_end_in, change_in, changes_in, entry_in}
+use Rattle.reuse_session.specs.EntryReading.{if_text, digest_in, first_digest, seal_of, hex_in, path_in, command_from, if_known, moment_in, whole_in, make_in, drop_in, splice_in, splice_bytes_in, splice_end_in, change_in, changes_in, entry_in}
 use Rattle.reuse_tree.specs.declared.change.Change.{Change}
 use Rattle.reuse_tree.specs.declared.change.Change.TheVariants.{Make, Drop, Splice}
 use Rattle.reuse_session.specs.declared.journal.entry.Entry.{Entry}
@@ -56,9 +56,6 @@ path_found d path e =
     let s = bind_some _ (as_str d) path e in
     let t = cond_some (is_path s.0) s.0 path s.2 in
     (string_found d s.0 s.1 ∙ ap string t.1, subst (λ (p : List ℕ). is_path p ≡ true) t.1 t.0)
-
-path_again : (path : List ℕ) → is_path path ≡ true → path_in (string path) ≡ Some path
-path_again path is = ap (λ b. cond b (Some path) None) is
 
 moment_found : (d : Data) (n : ℕ) → moment_in d ≡ Some n → (d ≡ count n) × (n ≤ 250_000_000_000)
 moment_found d n e =
@@ -117,55 +114,42 @@ first_digest_found true key fields p e =
 abbrev IsValueIn : Bool → Change → Data → Type 0
 IsValueIn sealed c d = IsChangeValue c d × (is_sealed c ≡ sealed)
 
-make_value : (sealed : Bool) (after : Option (List ℕ)) (path new : List ℕ) (n : Data) (fields rest : Members) → IsInFront sealed (codes "after") after fields rest → IsHex new n
-    → rest ≡ members_of (make_members path n) → IsValueIn sealed (Make path new after) (object fields)
-make_value sealed None path new n fields rest front is e = ((n, is, ap object (front.1 ∙ e)), sym front.0)
-make_value sealed (Some after) path new n fields rest front is e = ((n, is, front.1, front.2, ap object (front.3 ∙ ap (member (codes "after") front.1) e)), sym front.0)
+whole_value : (sealed : Bool) (key : List ℕ) (digest : Option (List ℕ)) (kind name bytes path : List ℕ) (b : Data) (fields rest : Members) → IsInFront sealed key digest fields rest → IsHex bytes b
+    → rest ≡ members_of (whole_members kind name path b) → IsWholeValue key digest kind name bytes path (object fields) × (is_some digest ≡ sealed)
+whole_value sealed key None kind name bytes path b fields rest front is e = ((b, is, ap object (front.1 ∙ e)), sym front.0)
+whole_value sealed key (Some digest) kind name bytes path b fields rest front is e = ((b, is, front.1, front.2, ap object (front.3 ∙ ap (member key front.1) e)), sym front.0)
+
+whole_found : (sealed : Bool) (key kind name : List ℕ) (d : Data) (w : List ℕ × List ℕ × Option (List ℕ)) → whole_in sealed key kind name d ≡ Some w → IsWholeValue key w.2 kind name w.1 w.0 d × (is_some w.2 ≡ sealed)
+unfolding whole_in
+whole_found sealed key kind name d w e =
+    let fields = bind_some _ (as_object d) w e in
+    let digest = bind_some _ (first_digest sealed key fields.0) w fields.2 in
+    let named = bind_some _ (first_member (codes "kind") digest.0.1) w digest.2 in
+    let is = bind_some _ (if_text kind named.0.0) w named.2 in
+    let bytes = bind_some _ (first_member name named.0.1) w is.2 in
+    let b = bind_some _ (hex_in bytes.0.0) w bytes.2 in
+    let path = bind_some _ (first_member (codes "path") bytes.0.1) w b.2 in
+    let p = bind_some _ (path_in path.0.0) w path.2 in
+    let end = bind_some _ (if_none_left path.0.1) w p.2 in
+    let third = first_member_found (codes "path") bytes.0.1 path.0 path.1 ∙ ap₂ (member (codes "path")) (path_found path.0.0 p.0 p.1).0 (none_left_found path.0.1 end.0 end.1) in
+    let second = first_member_found name named.0.1 bytes.0 bytes.1 ∙ ap (member name bytes.0.0) third in
+    let first = first_member_found (codes "kind") digest.0.1 named.0 named.1 ∙ ap₂ (member (codes "kind")) (if_text_found kind named.0.0 is.0 is.1) second in
+    let front = first_digest_found sealed key fields.0 digest.0 digest.1 in
+    subst (λ (q : List ℕ × List ℕ × Option (List ℕ)). IsWholeValue key q.2 kind name q.1 q.0 d × (is_some q.2 ≡ sealed)) (same_Some (p.0, b.0, digest.0.0) w end.2)
+    (subst (λ (x : Data). IsWholeValue key digest.0.0 kind name b.0 p.0 x × (is_some digest.0.0 ≡ sealed)) (sym (object_found d fields.0 fields.1))
+    (whole_value sealed key digest.0.0 kind name b.0 p.0 bytes.0.0 fields.0 digest.0.1 front (hex_found bytes.0.0 b.0 b.1) first))
 
 make_found : (sealed : Bool) (d : Data) (c : Change) → make_in sealed d ≡ Some c → IsValueIn sealed c d
 unfolding make_in
 make_found sealed d c e =
-    let fields = bind_some _ (as_object d) c e in
-    let after = bind_some _ (first_digest sealed (codes "after") fields.0) c fields.2 in
-    let kind = bind_some _ (first_member (codes "kind") after.0.1) c after.2 in
-    let make = bind_some _ (if_text (codes "make") kind.0.0) c kind.2 in
-    let new = bind_some _ (first_member (codes "new") kind.0.1) c make.2 in
-    let n = bind_some _ (hex_in new.0.0) c new.2 in
-    let path = bind_some _ (first_member (codes "path") new.0.1) c n.2 in
-    let p = bind_some _ (path_in path.0.0) c path.2 in
-    let end = bind_some _ (if_none_left path.0.1) c p.2 in
-    let third = first_member_found (codes "path") new.0.1 path.0 path.1 ∙ ap₂ (member (codes "path")) (path_found path.0.0 p.0 p.1).0 (none_left_found path.0.1 end.0 end.1) in
-    let second = first_member_found (codes "new") kind.0.1 new.0 new.1 ∙ ap (member (codes "new") new.0.0) third in
-    let first = first_member_found (codes "kind") after.0.1 kind.0 kind.1 ∙ ap₂ (member (codes "kind")) (if_text_found (codes "make") kind.0.0 make.0 make.1) second in
-    let front = first_digest_found sealed (codes "after") fields.0 after.0 after.1 in
-    subst (λ (x : Change). IsValueIn sealed x d) (same_Some (Make p.0 n.0 after.0.0) c end.2)
-    (subst (IsValueIn sealed (Make p.0 n.0 after.0.0)) (sym (object_found d fields.0 fields.1))
-    (make_value sealed after.0.0 p.0 n.0 new.0.0 fields.0 after.0.1 front (hex_found new.0.0 n.0 n.1) first))
-
-drop_value : (sealed : Bool) (before : Option (List ℕ)) (path old : List ℕ) (o : Data) (fields rest : Members) → IsInFront sealed (codes "before") before fields rest → IsHex old o
-    → rest ≡ members_of (drop_members path o) → IsValueIn sealed (Drop path old before) (object fields)
-drop_value sealed None path old o fields rest front is e = ((o, is, ap object (front.1 ∙ e)), sym front.0)
-drop_value sealed (Some before) path old o fields rest front is e = ((o, is, front.1, front.2, ap object (front.3 ∙ ap (member (codes "before") front.1) e)), sym front.0)
+    let w = bind_some _ (whole_in sealed (codes "after") (codes "make") (codes "new") d) c e in
+    subst (λ (x : Change). IsValueIn sealed x d) (same_Some (Make w.0.0 w.0.1 w.0.2) c w.2) (whole_found sealed (codes "after") (codes "make") (codes "new") d w.0 w.1)
 
 drop_found : (sealed : Bool) (d : Data) (c : Change) → drop_in sealed d ≡ Some c → IsValueIn sealed c d
 unfolding drop_in
 drop_found sealed d c e =
-    let fields = bind_some _ (as_object d) c e in
-    let before = bind_some _ (first_digest sealed (codes "before") fields.0) c fields.2 in
-    let kind = bind_some _ (first_member (codes "kind") before.0.1) c before.2 in
-    let is = bind_some _ (if_text (codes "drop") kind.0.0) c kind.2 in
-    let old = bind_some _ (first_member (codes "old") kind.0.1) c is.2 in
-    let o = bind_some _ (hex_in old.0.0) c old.2 in
-    let path = bind_some _ (first_member (codes "path") old.0.1) c o.2 in
-    let p = bind_some _ (path_in path.0.0) c path.2 in
-    let end = bind_some _ (if_none_left path.0.1) c p.2 in
-    let third = first_member_found (codes "path") old.0.1 path.0 path.1 ∙ ap₂ (member (codes "path")) (path_found path.0.0 p.0 p.1).0 (none_left_found path.0.1 end.0 end.1) in
-    let second = first_member_found (codes "old") kind.0.1 old.0 old.1 ∙ ap (member (codes "old") old.0.0) third in
-    let first = first_member_found (codes "kind") before.0.1 kind.0 kind.1 ∙ ap₂ (member (codes "kind")) (if_text_found (codes "drop") kind.0.0 is.0 is.1) second in
-    let front = first_digest_found sealed (codes "before") fields.0 before.0 before.1 in
-    subst (λ (x : Change). IsValueIn sealed x d) (same_Some (Drop p.0 o.0 before.0.0) c end.2)
-    (subst (IsValueIn sealed (Drop p.0 o.0 before.0.0)) (sym (object_found d fields.0 fields.1))
-    (drop_value sealed before.0.0 p.0 o.0 old.0.0 fields.0 before.0.1 front (hex_found old.0.0 o.0 o.1) first))
+    let w = bind_some _ (whole_in sealed (codes "before") (codes "drop") (codes "old") d) c e in
+    subst (λ (x : Change). IsValueIn sealed x d) (same_Some (Drop w.0.0 w.0.1 w.0.2) c w.2) (whole_found sealed (codes "before") (codes "drop") (codes "old") d w.0 w.1)
 
 splice_end_found : (at : ℕ) (new old : List ℕ) (seal : Option Seal) (fields : Members) (c : Change) → splice_end_in at new old seal fields ≡ Some c
     → (p : List ℕ) × (r : ℕ) × (c ≡ Splice p at old new r seal) × (fields ≡ member (codes "path") (string p) (member (codes "rest") (count r) no_members))
@@ -262,7 +246,7 @@ change_found sealed d c e =
     ]
 
 change_again : (c : Change) (d : Data) → IsChangeValue c d → is_path (path_of c) ≡ true → change_in (is_sealed c) d ≡ Some c
-unfolding change_in make_in drop_in splice_in splice_bytes_in splice_end_in first_digest
+unfolding change_in make_in drop_in whole_in splice_in splice_bytes_in splice_end_in first_digest
 change_again (Make path new None) d h is = rw h.2 (rw (hex_again h.0 new h.1, is) refl)
 change_again (Make path new (Some after)) d h is = rw h.4 (rw (digest_again h.2 after h.3, hex_again h.0 new h.1, is) refl)
 change_again (Drop path old None) d h is = rw h.2 (rw (hex_again h.0 old h.1, is) refl)

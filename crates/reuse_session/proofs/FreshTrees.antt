@@ -12,7 +12,8 @@ use Rattle.reuse_session.specs.JournalFiles.{head_path, IsFree, IsKeptIn, HeadSa
 use Rattle.reuse_session.specs.Standing.{IsStanding}
 use Rattle.reuse_session.specs.Stops.{HoldState}
 use Rattle.reuse_session.specs.Tree.{undo_folder_of}
-use Rattle.reuse_session.proofs.OfTree.{get-tree, get-folder}
+use Rattle.reuse_session.proofs.TreeLemmas.{tree_file}
+use Rattle.reuse_session.proofs.OfTree.{get-folder}
 
 abbrev no_steps : Journal
 no_steps = record { done = []; undone = []; used = 0 }
@@ -29,7 +30,7 @@ module _ (files : Files) (fresh : IsFresh files) where
   none_under path under = no_file (get files path) (λ some. fresh.no_journal path some under)
 
   all_tree : tree_of files ≡ files
-  all_tree = same_files (tree_of files) files (λ path. get-tree files path ∙ of_test path (lies_under path journal_folder) refl)
+  all_tree = same_files (tree_of files) files (λ path. tree_file files path ∙ of_test path (lies_under path journal_folder) refl)
     where
       of_test : (path : List ℕ) (b : Bool) → lies_under path journal_folder ≡ b → cond (not b) (get files path) None ≡ get files path
       of_test path true under = sym (none_under path under)

@@ -1,5 +1,5 @@
 -- The text of a sound head is good, and short.
-use Rattle.std.proofs.Common.{◌≡◌, ℕ, ◌+◌, ◌*◌, ◌^◌, ◌<◌, ◌≤◌, List, [], ◌∷◌, ◌++◌, length, map, codes, decimal, Option, Some, None, false, true, refl, sym, ap, ◌∙◌, subst, arith, length-append, option_map}
+use Rattle.std.proofs.Common.{◌≡◌, ℕ, ◌+◌, ◌*◌, ◌^◌, ◌<◌, ◌≤◌, List, [], ◌∷◌, ◌++◌, length, map, codes, decimal, Option, Some, None, false, true, refl, sym, ap, ◌∙◌, subst, arith, length-append}
 use Rattle.std.specs.Prelude.{IsUtf8}
 use Rattle.std.specs.List.{AllByRecursion, join_with_byte}
 use Rattle.std.proofs.lemmas.Fmt.{length-decimal-le, IsAscii-decimal}
@@ -7,7 +7,6 @@ use Rattle.std.proofs.lemmas.Str.{IsUtf8-append, IsUtf8-from_ascii}
 use Rattle.json.specs.Tree as tree
 use Rattle.json.proofs.Printed.Utf8.{IsUtf8-are_ascii, are_ascii}
 use Rattle.json.proofs.Printed.Decimals.{IsNumber-decimal}
-use Rattle.serde_json.specs.Data.{number}
 use Rattle.serde_json.specs.Read.{read, of_json, of_items}
 use Rattle.serde_json.specs.View.{items_of}
 use Rattle.serde_json.specs.Written.{outline, items_outline, has_float, items_have_float}
@@ -24,9 +23,6 @@ use Rattle.reuse_session.proofs.HeadTexts.{head_compact, head_shape, regroup}
 use Rattle.reuse_session.proofs.HeadParts.{IsSmallHead, small_from_sound, FitsSmall, FitsSix, six_from_sound}
 
 -- ---- numbers
-
-pub count_read : (n : ℕ) → n < 2 ^ 64 → of_json (outline (count n)) ≡ Some (count n)
-count_read n h = ap (option_map number) (number_of-decimal n h)
 
 counts_no_float : (ns : List ℕ) → items_have_float (items_of (map count ns)) ≡ false
 counts_no_float [] = refl

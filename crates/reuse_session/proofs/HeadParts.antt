@@ -7,7 +7,7 @@ use Rattle.std.specs.List.{AllByRecursion, All, slice_get}
 use Rattle.std.proofs.lemmas.List.Elements.{All-get_or, All-weaker, recursion_from_All, All-nil, All-cons, All-head, All-tail}
 use Rattle.std.proofs.lemmas.Option.{none-some, same_Some, cond_some, slice_get_within, get_or_from_slice_get}
 use Rattle.std.specs.Str.{bytes_eq}
-use Rattle.serde_json.specs.Data.{Data, null, boolean, number, string, array, object, member}
+use Rattle.serde_json.specs.Data.{Data, null, string, object, member}
 use Rattle.serde_json.specs.Find.{as_object, as_str}
 use Rattle.reuse_session.specs.Json.{IsJson}
 use Rattle.reuse_session.specs.Head.{way_name, pending_value, head_value, FitsWay, PendingFits, IsJsonHead, IsSoundHead, IsGoodHead}
@@ -82,11 +82,7 @@ pending_again (Some p) h = ap (option_map Some) (some_pending_again p h)
 
 pending_found : (d : Data) (o : Option Pending) → pending_in d ≡ Some o → d ≡ pending_value o
 pending_found null o e = ap pending_value (same_Some None o e)
-pending_found (boolean b) o e = not_null (boolean b) o e
-pending_found (number n) o e = not_null (number n) o e
-pending_found (string s) o e = not_null (string s) o e
-pending_found (array ds) o e = not_null (array ds) o e
-pending_found (object ms) o e = not_null (object ms) o e
+pending_found d o e = not_null d o e
 
 -- what is read as a head is its value
 pub head_found : (d : Data) (h : Head) → head_in d ≡ Some h → (second : Bool) × (d ≡ head_value second h)

@@ -7,7 +7,7 @@ use Rattle.std.proofs.Math.Seq.{take-length}
 use Rattle.std.proofs.lemmas.Bool.{false≢true, cases_lt}
 use Rattle.std.proofs.lemmas.List.{get_or-take, length-take, take-take}
 use Rattle.std.proofs.lemmas.List.Elements.{All-more}
-use Rattle.std.proofs.lemmas.List.Folds.{list_any_more, Any-from_list_any}
+use Rattle.std.proofs.lemmas.List.Folds.{list_any_more}
 use Rattle.std.proofs.lemmas.Slice.Eq.{bytes_eq-Decides}
 use Rattle.reuse_tree.specs.Files.{Files, Clashes, AreFiles, tree_of}
 use Rattle.reuse_tree.specs.declared.change.Change.{Change}
@@ -19,6 +19,7 @@ use Rattle.reuse_session.specs.declared.entry.Way.TheVariants.{Do, Undo}
 use Rattle.reuse_session.specs.Carried.{IsSetBack}
 use Rattle.reuse_session.specs.Entry.{touches, IsEntry, TurnsBy, Steps, LeadsBy, SomeMade, IsReady, CanBeMade, CanBeSetBack, opposite, makes}
 use Rattle.reuse_session.specs.Tree.{is_of_tree, undo_folder_of}
+use Rattle.reuse_session.proofs.Differ.{touching}
 use Rattle.reuse_session.proofs.OfTree.{tree_at, step_of_tree, folder_stays}
 use Rattle.reuse_session.proofs.Walk.{front_touches, not_touched, touched, of_no_change, turns_once_by, or_left, or_right, leads_none, leads_more, ready_now, made_is_file}
 
@@ -237,10 +238,9 @@ module _ (way : Way) (changes : List Change) (good : IsEntry changes) (start old
       at_test : (path : List ℕ) (b : Bool) → touches changes path ≡ b → get now path ≡ get start path
       at_test path false e = sym (back.made.others path e) ∙ some.others path e
       at_test path true e =
-          let found = Any-from_list_any (λ change. bytes_eq path (path_of change)) changes e in
+          let found = touching changes path e in
           let c = get_or changes found.0 found.1 in
-          let here : path ≡ path_of c = (bytes_eq-Decides path (path_of found.1)).0 found.4 ∙ ap path_of (sym found.3) in
-          subst (λ p. get now p ≡ get start p) (sym here)
+          subst (λ p. get now p ≡ get start p) (sym found.3)
           (one_start way c (get old (path_of c)) (get now (path_of c)) (get start (path_of c)) (good.proper found.0 found.1 found.2) (back.ready found.0 found.1 found.2) (ready found.0 found.1 found.2) (back.made.each found.0 found.1 found.2) (some.each found.0 found.1 found.2))
 
 -- on the way from a tree, each change can be set back

@@ -96,7 +96,7 @@ kept_some false file h = absurd (false≢true h)
 pub of_store : (files : Files) (q : List ℕ) → IsSome (get (tree_of files) q) → get (tree_of files) q ≡ get files q
 of_store files q h = tree_file files q ∙ kept_some (not (lies_under q journal_folder)) (get files q) (ap is_some (sym (tree_file files q)) ∙ h)
 
-some_in_store : (files : Files) (q : List ℕ) → IsSome (get (tree_of files) q) → IsSome (get files q)
+pub some_in_store : (files : Files) (q : List ℕ) → IsSome (get (tree_of files) q) → IsSome (get files q)
 some_in_store files q h = ap is_some (sym (of_store files q h)) ∙ h
 
 -- the files of a tree

@@ -1,5 +1,5 @@
 -- What a put, a removal and a splice make of a file.
-use Rattle.std.proofs.Common.{◌≡◌, ◌⊎◌, inl, inr, ⊎_elim, ℕ, ◌+◌, true, cond, List, length, Option, Some, None, IsSome, is_some, Result, Ok, Err, OnOk, refl, ap, sym, subst, ◌∙◌, arith}
+use Rattle.std.proofs.Common.{◌≡◌, ◌⊎◌, inl, inr, ⊎_elim, ℕ, ◌+◌, true, cond, List, length, Option, Some, None, IsSome, is_some, refl, ap, sym, subst, ◌∙◌, arith}
 use Rattle.std.proofs.lemmas.Bool.{false≢true}
 use Rattle.std.specs.FinMap.{get, remove}
 use Rattle.reuse_tree.specs.Files.{Files, AreFiles, Clashes}
@@ -45,11 +45,6 @@ counts_none path bytes old new of_tree e = e ∙ ap (λ n. old + n) (ap (λ b. c
   where
     no_more : (n : ℕ) → n + 0 ≡ n
     no_more n = omega arith
-
--- what an answer says, through what follows from it
-pub on_ok : {A E : Type 0} (r : Result A E) (P Q : Type 0) → (P → Q) → OnOk r P → OnOk r Q
-on_ok (Ok x) P Q f h = f h
-on_ok (Err e) P Q f h = h
 
 -- where the path of a change holds what the change makes of it, the change is made
 pub step_by : (way : Way) (change : Change) (m n : Files) (held : Option (List ℕ)) → TurnsBy way change (get m (path_of change)) held → Sets (path_of change) held m n → Steps way change m n

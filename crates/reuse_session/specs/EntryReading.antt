@@ -62,31 +62,29 @@ first_digest true key fields = do
   digest ← digest_in first.0
   Some (Some digest, first.1)
 
-unfoldable pub make_in : Bool → Data → Option Change
-make_in sealed d = do
+-- of a whole file that is made or removed: the path, the bytes, and the digest that stands first
+unfoldable pub whole_in : Bool → (key kind name : List ℕ) → Data → Option (List ℕ × List ℕ × Option (List ℕ))
+whole_in sealed key kind name d = do
   fields ← as_object d
-  after ← first_digest sealed (codes "after") fields
-  kind ← first_member (codes "kind") after.1
-  _ ← if_text (codes "make") kind.0
-  new ← first_member (codes "new") kind.1
-  n ← hex_in new.0
-  path ← first_member (codes "path") new.1
+  digest ← first_digest sealed key fields
+  first ← first_member (codes "kind") digest.1
+  _ ← if_text kind first.0
+  bytes ← first_member name first.1
+  b ← hex_in bytes.0
+  path ← first_member (codes "path") bytes.1
   p ← path_in path.0
   _ ← if_none_left path.1
-  Some (Make p n after.0)
+  Some (p, b, digest.0)
+
+unfoldable pub make_in : Bool → Data → Option Change
+make_in sealed d = do
+  whole ← whole_in sealed (codes "after") (codes "make") (codes "new") d
+  Some (Make whole.0 whole.1 whole.2)
 
 unfoldable pub drop_in : Bool → Data → Option Change
 drop_in sealed d = do
-  fields ← as_object d
-  before ← first_digest sealed (codes "before") fields
-  kind ← first_member (codes "kind") before.1
-  _ ← if_text (codes "drop") kind.0
-  old ← first_member (codes "old") kind.1
-  o ← hex_in old.0
-  path ← first_member (codes "path") old.1
-  p ← path_in path.0
-  _ ← if_none_left path.1
-  Some (Drop p o before.0)
+  whole ← whole_in sealed (codes "before") (codes "drop") (codes "old") d
+  Some (Drop whole.0 whole.1 whole.2)
 
 -- both digests, or none
 abbrev pub seal_of : Option (List ℕ) → Option (List ℕ) → Option Seal
