@@ -5,7 +5,7 @@ use Rattle.std.specs.List.{Contains}
 use Rattle.std.proofs.lemmas.List.Elements.{Contains-append_cases, Contains-append_left}
 use Rattle.std.specs.FinMap.{get}
 use Rattle.std.proofs.lemmas.Option.{same_Some, none-some}
-use Rattle.std.proofs.lemmas.Bool.{and_parts}
+use Rattle.std.proofs.lemmas.Bool.{and_parts, and_right}
 use Rattle.reuse_notice.specs.declared.adding.Additions.{Additions}
 use Rattle.reuse_notice.proofs.SetLemmas.{In, In-from_contains, Contains-from_in, sorted-set_of}
 use Rattle.reuse_header.specs.declared.annotation.How.{How}
@@ -68,14 +68,10 @@ module _ (how : How) (scope : Scope) (additions : Additions) (own : OwnNames) (t
   tagged there is reason rest false e h =
       beside_not_skipped scope own path bytes (pair_at tree path) reason (λ other is_other. ap (λ f. scope.skip_existing && has_tagged f) (sym is_other ∙ is) ∙ e)
 
-  and_false : (b : Bool) → (b && false) ≡ false
-  and_false true = refl
-  and_false false = refl
-
   beside : (file : Option (List ℕ)) → get tree (neighbour_of path) ≡ file → Takes scope own tree path bytes Beside → edit_neighbour how scope additions tree path file ≡ Ok given
       → TellsOf (scope.skip_existing && has_tagged file)
   beside None is reason h =
-      subst TellsOf (sym (and_false scope.skip_existing)) (beside_not_skipped scope own path bytes (pair_at tree path) reason (λ other there. absurd (none-some other (sym is ∙ there))))
+      subst TellsOf (sym (and_right scope.skip_existing false refl)) (beside_not_skipped scope own path bytes (pair_at tree path) reason (λ other there. absurd (none-some other (sym is ∙ there))))
   beside (Some there) is reason h =
       tagged there is reason _ (scope.skip_existing && neighbour_is_tagged there) refl (if_not (nat_lt 16_777_216 (length there)) (refusals.TooLong path) _ given h)
 

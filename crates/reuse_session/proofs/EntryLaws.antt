@@ -31,7 +31,7 @@ use Rattle.reuse_session.specs.declared.journal.entry.Entry.{Entry}
 use Rattle.reuse_session.specs.declared.command.CommandName.{CommandName}
 use Rattle.reuse_session.specs.declared.command.CommandName.TheVariants.{Annotate, ConvertDep5, Download, Revert}
 use Rattle.reuse_session.proofs.JsonPrinting.{IsReadable, read-compact_text}
-use Rattle.reuse_session.proofs.JoinedTexts.{length-join-le, IsUtf8-join, AllByRecursion-weaker}
+use Rattle.reuse_session.proofs.JoinedTexts.{◌⊹◌, length-join-le, IsUtf8-join, AllByRecursion-weaker}
 use Rattle.reuse_session.proofs.EntryTexts.{entry_compact}
 use Rattle.reuse_session.proofs.EntryValues.{hex_value, change_value, entry_value}
 use Rattle.reuse_session.proofs.PlainTexts.{escape_plain, plain_digits}
@@ -140,51 +140,25 @@ ascii xs e = IsUtf8-are_ascii xs e
 
 digest_utf8 : (key : List ℕ) (digest : Option (List ℕ)) → IsUtf8 key → IsUtf8 (digest_text key digest)
 digest_utf8 key None h = ascii [] refl
-digest_utf8 key (Some digest) h =
-    IsUtf8-append _ (codes ",") (IsUtf8-append _ (hex_text digest) (IsUtf8-append _ (codes "\":") (IsUtf8-append (codes "\"") key (ascii _ refl) h) (ascii _ refl)) (hex_utf8 digest)) (ascii _ refl)
+digest_utf8 key (Some digest) h = IsUtf8-append (codes "\"") key (ascii _ refl) h ⊹ ascii (codes "\":") refl ⊹ hex_utf8 digest ⊹ ascii (codes ",") refl
 
 -- a change's text up to the digest that stands first
 front_utf8 : (key : List ℕ) (digest : Option (List ℕ)) → IsUtf8 key → IsUtf8 (codes "{" ++ digest_text key digest)
 front_utf8 key digest h = IsUtf8-append (codes "{") (digest_text key digest) (ascii _ refl) (digest_utf8 key digest h)
 
 whole_utf8 : (key : List ℕ) (digest : Option (List ℕ)) (kind bytes path : List ℕ) → IsUtf8 key → IsUtf8 kind → IsUtf8 path → IsUtf8 (whole_text key digest kind bytes path)
-whole_utf8 key digest kind bytes path k n p =
-    let named = IsUtf8-append (codes "{" ++ digest_text key digest) kind (front_utf8 key digest k) n in
-    IsUtf8-append _ (codes "}") (IsUtf8-append _ (quoted path) (IsUtf8-append _ (codes ",\"path\":") (IsUtf8-append _ (hex_text bytes) named (hex_utf8 bytes)) (ascii _ refl)) (IsUtf8-quoted path p)) (ascii _ refl)
+whole_utf8 key digest kind bytes path k n p = front_utf8 key digest k ⊹ n ⊹ hex_utf8 bytes ⊹ ascii (codes ",\"path\":") refl ⊹ IsUtf8-quoted path p ⊹ ascii (codes "}") refl
 
 change_utf8 : (c : Change) → IsWritable c → IsUtf8 (change_text c)
 change_utf8 (Make path new after) h = whole_utf8 (codes "after") after (codes "\"kind\":\"make\",\"new\":") new path (ascii _ refl) (ascii _ refl) h.in_memory.utf8
 change_utf8 (Drop path old before) h = whole_utf8 (codes "before") before (codes "\"kind\":\"drop\",\"old\":") old path (ascii _ refl) (ascii _ refl) h.in_memory.utf8
 change_utf8 (Splice path at old new rest seal) h =
-    let after = option_map (λ (s : Seal). s.after) seal in
-    let before = option_map (λ (s : Seal). s.before) seal in
-    let low : at < 2 ^ 64 = omega (arith, h.small.0) in
-    let high : rest < 2 ^ 64 = omega (arith, h.small.0) in
-    IsUtf8-append _ (codes "}")
-    (IsUtf8-append _ (decimal rest)
-    (IsUtf8-append _ (codes ",\"rest\":")
-    (IsUtf8-append _ (quoted path)
-    (IsUtf8-append _ (codes ",\"path\":")
-    (IsUtf8-append _ (hex_text old)
-    (IsUtf8-append _ (codes ",\"old\":")
-    (IsUtf8-append _ (hex_text new)
-    (IsUtf8-append _ (codes "\"kind\":\"splice\",\"new\":")
-    (IsUtf8-append _ (digest_text (codes "before") before)
-    (IsUtf8-append _ (codes ",")
-    (IsUtf8-append _ (decimal at)
-    (IsUtf8-append (codes "{" ++ digest_text (codes "after") after) (codes "\"at\":") (front_utf8 (codes "after") after (ascii _ refl)) (ascii _ refl))
-    (number_utf8 at low))
-    (ascii _ refl))
-    (digest_utf8 (codes "before") before (ascii _ refl)))
-    (ascii _ refl))
-    (hex_utf8 new))
-    (ascii _ refl))
-    (hex_utf8 old))
-    (ascii _ refl))
-    (IsUtf8-quoted path h.in_memory.utf8))
-    (ascii _ refl))
-    (number_utf8 rest high))
-    (ascii _ refl)
+    front_utf8 (codes "after") (option_map (λ (s : Seal). s.after) seal) (ascii _ refl)
+    ⊹ ascii (codes "\"at\":") refl ⊹ number_utf8 at (omega (arith, h.small.0)) ⊹ ascii (codes ",") refl
+    ⊹ digest_utf8 (codes "before") (option_map (λ (s : Seal). s.before) seal) (ascii _ refl)
+    ⊹ ascii (codes "\"kind\":\"splice\",\"new\":") refl ⊹ hex_utf8 new ⊹ ascii (codes ",\"old\":") refl ⊹ hex_utf8 old
+    ⊹ ascii (codes ",\"path\":") refl ⊹ IsUtf8-quoted path h.in_memory.utf8
+    ⊹ ascii (codes ",\"rest\":") refl ⊹ number_utf8 rest (omega (arith, h.small.0)) ⊹ ascii (codes "}") refl
 
 name_utf8 : (w : CommandName) → IsUtf8 (command_name w)
 name_utf8 Annotate = IsUtf8-are_ascii _ refl
@@ -196,21 +170,10 @@ entry_utf8 : (e : Entry) → IsEntryInMemory e → IsUtf8 (entry_text e)
 entry_utf8 e sound =
     let second = is_any_sealed e.changes in
     let each = AllByRecursion-weaker IsWritable (λ c. IsUtf8 (change_text c)) change_utf8 e.changes (all_writable e sound) in
-    IsUtf8-append _ (codes "}")
-    (IsUtf8-append _ (decimal e.when)
-    (IsUtf8-append _ (codes ",\"when\":")
-    (IsUtf8-append _ (decimal (format_number second))
-    (IsUtf8-append _ (codes "\",\"format\":")
-    (IsUtf8-append _ (command_name e.command)
-    (IsUtf8-append _ (codes "],\"command\":\"")
-    (IsUtf8-append (codes "{\"changes\":[") (join_with_byte 44 (map change_text e.changes)) (ascii _ refl) (IsUtf8-join change_text e.changes each))
-    (ascii _ refl))
-    (name_utf8 e.command))
-    (ascii _ refl))
-    (number_utf8 (format_number second) (few_formats second)))
-    (ascii _ refl))
-    (number_utf8 e.when (omega (arith, sound.when))))
-    (ascii _ refl)
+    IsUtf8-append (codes "{\"changes\":[") (join_with_byte 44 (map change_text e.changes)) (ascii _ refl) (IsUtf8-join change_text e.changes each)
+    ⊹ ascii (codes "],\"command\":\"") refl ⊹ name_utf8 e.command
+    ⊹ ascii (codes "\",\"format\":") refl ⊹ number_utf8 (format_number second) (few_formats second)
+    ⊹ ascii (codes ",\"when\":") refl ⊹ number_utf8 e.when (omega (arith, sound.when)) ⊹ ascii (codes "}") refl
 
 -- ---- the lengths
 

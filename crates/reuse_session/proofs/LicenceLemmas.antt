@@ -4,7 +4,7 @@ use Rattle.std.specs.Char.{is_ascii_alphanumeric}
 use Rattle.std.specs.Int.{is_in_range}
 use Rattle.std.specs.List.{list_all, slice_split, All}
 use Rattle.std.specs.Str.{bytes_eq, IsAscii, IsUtf8}
-use Rattle.std.proofs.lemmas.Bool.{false≢true, and_parts, and_from, or_cases, not-true, le-leb}
+use Rattle.std.proofs.lemmas.Bool.{false≢true, and_parts, and_from, or_cases, not-true, le-leb, lt-ltb, and_right}
 use Rattle.std.proofs.lemmas.Bool.Decides.{nat_tests}
 use Rattle.std.proofs.lemmas.List.Elements.{All-nil, All-cons}
 use Rattle.std.proofs.lemmas.List.Folds.{list_all-append}
@@ -131,11 +131,8 @@ name_is_part id =
 path_is_short : (id : List ℕ) → is_id id ≡ true → nat_le (length (licence_path id)) 4096 ≡ true
 path_is_short id h = let n = name_length id in le-leb (length (licence_path id)) 4096 (omega (arith, n, id_length id h))
 
-more_than_none : (n : ℕ) → 0 < n → nat_lt 0 n ≡ true
-more_than_none n h = grind (arith, nat_tests)
-
 path_has_bytes : (id : List ℕ) → nat_lt 0 (length (licence_path id)) ≡ true
-path_has_bytes id = let n = name_length id in more_than_none (length (licence_path id)) (omega (arith, n))
+path_has_bytes id = let n = name_length id in lt-ltb 0 (length (licence_path id)) (omega (arith, n))
 
 path_has_no_nul : (id : List ℕ) → list_all is_id_byte id ≡ true → has_no_nul (licence_path id) ≡ true
 path_has_no_nul id h = name_bytes (λ b. not (b == 0)) not_zero refl id h
@@ -160,11 +157,7 @@ paths_apart id other h = of_test (lies_under (licence_path id) (licence_path oth
   where
     slash : (xs rest : List ℕ) → list_all (λ b. not (b == 47)) (xs ++ 47 ∷ rest) ≡ false
     slash [] rest = refl
-    slash (x ∷ xs) rest = ap (λ b. not (x == 47) && b) (slash xs rest) ∙ and_false (not (x == 47))
-      where
-        and_false : (b : Bool) → (b && false) ≡ false
-        and_false true = refl
-        and_false false = refl
+    slash (x ∷ xs) rest = ap (λ b. not (x == 47) && b) (slash xs rest) ∙ and_right (not (x == 47)) false refl
 
     of_test : (b : Bool) → lies_under (licence_path id) (licence_path other) ≡ b → b ≡ false
     of_test false e = refl

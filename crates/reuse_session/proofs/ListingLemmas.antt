@@ -6,7 +6,7 @@ use Rattle.std.specs.List.{AllByRecursion, starts_with, list_any, take_while}
 use Rattle.std.proofs.lemmas.List.Sums.{take_while-cons}
 use Rattle.std.specs.List.Sorted.{IsPartitionPoint, IsPartitionedBy}
 use Rattle.std.specs.Str.{bytes_eq}
-use Rattle.std.proofs.lemmas.Bool.{false≢true, false_from_ne_true, and_parts, and_from, le-ltb, lt-ltb}
+use Rattle.std.proofs.lemmas.Bool.{false≢true, false_from_ne_true, and_parts, and_from, le-ltb, lt-ltb, eqb-true}
 use Rattle.std.proofs.lemmas.Bool.Decides.{nat_tests, Decides-eqb}
 use Rattle.std.proofs.lemmas.Cmp.{nat_list_cmp_total, nat_cmp_total, ranked, tied_itself}
 use Rattle.std.proofs.lemmas.List.{drop_more}
@@ -48,14 +48,11 @@ slash_within [] k e = absurd (false≢true e)
 slash_within (x ∷ path) zero e = omega arith
 slash_within (x ∷ path) (suc k) e = let h = slash_within path k e in omega arith
 
-is_slash : (n : ℕ) → nat_eq n 47 ≡ true → n ≡ 47
-is_slash n e = grind (arith, nat_tests)
-
 pub under_from_test : (path folder : List ℕ) → lies_under path folder ≡ true → LiesUnder folder path
 under_from_test path folder h =
     let parts = and_parts (starts_with nat_eq path folder) _ h in
     let begun : path ≡ folder ++ drop (length folder) path = (starts_is Decides-eqb path folder (starts_with nat_eq path folder) refl).0 parts.0 in
-    (drop (length folder + 1) path, begun ∙ ap (λ l. folder ++ l) (drop_more path (length folder) 0 (slash_within path (length folder) parts.1) ∙ ap (λ (n : ℕ). n ∷ drop (length folder + 1) path) (is_slash _ parts.1)))
+    (drop (length folder + 1) path, begun ∙ ap (λ l. folder ++ l) (drop_more path (length folder) 0 (slash_within path (length folder) parts.1) ∙ ap (λ (n : ℕ). n ∷ drop (length folder + 1) path) (eqb-true _ 47 parts.1)))
 
 pub test_from_under : (path folder : List ℕ) → LiesUnder folder path → lies_under path folder ≡ true
 test_from_under path folder h =

@@ -16,7 +16,7 @@ use crate::journal::fields::{
     bytes_of, expect_text, field, fields, finish, is_second_format, moment_of, next_digest,
     number_of, parse, path_of, text_of,
 };
-use crate::journal::written_entry::read_written;
+use crate::journal::written_entry::{knows, read_written};
 use reuse_text::Bytes;
 use reuse_tree::{Change, Digest, PathText, Seal};
 use serde_json::Value;
@@ -102,9 +102,10 @@ fn command_of(name: &str) -> Result<CommandName, DecodeFault>
 fn expect_known(sealed: bool, command: CommandName) -> Result<(), DecodeFault>
     ensures { Gives result (if_known sealed command) }
 {
-    match command {
-        CommandName::Revert if !sealed => Err(DecodeFault::NotGood),
-        _ => Ok(()),
+    if knows(sealed, command) {
+        Ok(())
+    } else {
+        Err(DecodeFault::NotGood)
     }
 }
 

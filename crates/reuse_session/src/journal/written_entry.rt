@@ -52,8 +52,8 @@ fn expect_good(changes: &[Change], sealed: bool, command: CommandName) -> Result
     }
 }
 
-// Whether the format knows the command.
-fn knows(sealed: bool, command: CommandName) -> bool
+/// Whether the format, the second or the first, knows the command.
+pub(crate) fn knows(sealed: bool, command: CommandName) -> bool
     ensures { result ≡ knows sealed command }
 {
     match command {
