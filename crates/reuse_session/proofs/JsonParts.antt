@@ -14,7 +14,7 @@ use Rattle.reuse_session.specs.declared.journal.fault.DecodeFault.{DecodeFault}
 use Rattle.reuse_session.specs.declared.journal.fault.DecodeFault.TheVariants.{NotGood, Memory}
 use Rattle.reuse_session.specs.Decoded.{Fails, Gives, IsAnswer}
 use Rattle.reuse_session.specs.Json.{count, counts, IsJson}
-use Rattle.reuse_session.specs.JsonReading.{first_member, if_none_left, number_in, small_in, smalls_in, read_items, format_of_number, format_in, with_front}
+use Rattle.reuse_session.specs.JsonReading.{first_member, field_in, if_none_left, number_in, small_in, smalls_in, read_items, format_of_number, format_in, with_front}
 use Rattle.reuse_session.specs.Format.{format_number}
 
 -- the two steps of a bind that gave a value
@@ -37,6 +37,18 @@ first_member_found key (member k d rest) p e =
     let t = cond_some _ _ _ e in
     let same : k ≡ key = (bytes_eq-Decides k key).0 t.0 in
     ap (λ l. member l d rest) same ∙ ap (λ (q : Data × Members). member key q.0 q.1) t.1
+
+-- what was read of the first member
+pub field_found : {A : Type 0} (f : Data → Option A) (key : List ℕ) (ms : Members) (p : A × Members) → field_in f key ms ≡ Some p → (d : Data) × (f d ≡ Some p.0) × (ms ≡ member key d p.1)
+field_found {A} f key ms p e =
+    let first = bind_some _ (first_member key ms) p e in
+    let value = bind_some _ (f first.0.0) p first.2 in
+    subst (λ (q : A × Members). (d : Data) × (f d ≡ Some q.0) × (ms ≡ member key d q.1)) (same_Some (value.0, first.0.1) p value.2) (first.0.0, value.1, first_member_found key ms first.0 first.1)
+
+-- where that tells the member's value
+pub field_is : {A : Type 0} (f : Data → Option A) (value : A → Data) → ((d : Data) (x : A) → f d ≡ Some x → d ≡ value x) → (key : List ℕ) (ms : Members) (p : A × Members)
+    → field_in f key ms ≡ Some p → ms ≡ member key (value p.0) p.1
+field_is f value found key ms p e = let field = field_found f key ms p e in field.2 ∙ ap (λ (d : Data). member key d p.1) (found field.0 p.0 field.1)
 
 pub none_left_found : (ms : Members) (u : Unit) → if_none_left ms ≡ Some u → ms ≡ no_members
 none_left_found no_members u e = refl
