@@ -2,10 +2,10 @@
 use Rattle.std.proofs.Common.{◌≡◌, ◌≢◌, ◌↔◌, inl, inr, ℕ, Bool, true, false, cond, not, ◌||◌, ◌&&◌, nat_lt, List, [], ◌∷◌, ◌++◌, length, map, Option, Some, None, is_some, unwrap_or, Result, Ok, Err, refl, sym, ap, subst, ◌∙◌}
 use Rattle.std.specs.List.{AllByRecursion, Contains, cons_option, list_any}
 use Rattle.std.specs.Str.{bytes_eq}
-use Rattle.std.specs.FinMap.{get}
+use Rattle.std.specs.FinMap.{get, empty}
 use Rattle.std.proofs.lemmas.Bool.{false≢true}
 use Rattle.std.proofs.lemmas.List.{append-nil}
-use Rattle.std.proofs.lemmas.List.Elements.{All-contains, Contains-get_or}
+use Rattle.std.proofs.lemmas.List.Elements.{All-contains, Contains-get_or, recursion_from_All}
 use Rattle.std.proofs.lemmas.List.Folds.{list_any_at, Any-from_list_any}
 use Rattle.std.proofs.lemmas.Slice.Eq.{bytes_eq-Decides}
 use Rattle.reuse_notice.specs.Sets.{set_of}
@@ -42,36 +42,31 @@ use Rattle.reuse_session.specs.declared.target.Target.{Target}
 use Rattle.reuse_session.specs.declared.target.Target.TheVariants.{Inside, Beside, Nowhere}
 use Rattle.reuse_session.specs.declared.reply.Refusal.{Refusal}
 use Rattle.reuse_session.specs.declared.reply.Refusal.TheVariants as refusals
+use Rattle.reuse_session.specs.Reverting.{stands_as_written, is_short, put_back, taken_back, taken_back_on, stuck_on}
+use Rattle.reuse_text.specs.Text.{spliced}
+use Rattle.reuse_tree.specs.Change.{path_of, IsProper}
+use Rattle.reuse_tree.specs.declared.change.Change.{Change}
+use Rattle.reuse_tree.specs.declared.change.Change.TheVariants.{Make, Drop, Splice}
+use Rattle.std.proofs.lemmas.Option.{none-some, same_Some, cond_some}
 use Rattle.reuse_session.proofs.Annotating.{both_err, if_not, first_is, no_edits, all_edits}
 use Rattle.reuse_session.proofs.Downloading.{IsMade, are_made}
 use Rattle.reuse_session.proofs.FatePlans.{none_refused}
 use Rattle.reuse_session.proofs.Planning.{paths_at, with_same, with_other, edited_other}
 use Rattle.reuse_session.proofs.RevertFitting.{backs, back_on, path_back, edits_are}
 use Rattle.reuse_session.proofs.RevertPlanning.{and_first, splice_differs}
-use Rattle.reuse_session.specs.Reverting.{stands_as_written, is_short, put_back, taken_back, taken_back_on, stuck_on}
-use Rattle.reuse_text.specs.Text.{spliced}
-use Rattle.reuse_tree.specs.Change.{path_of, IsProper}
-use Rattle.reuse_tree.specs.declared.change.Change.{Change}
-use Rattle.reuse_tree.specs.declared.change.Change.TheVariants.{Make, Drop, Splice}
-use Rattle.std.proofs.lemmas.List.Elements.{recursion_from_All}
-use Rattle.std.proofs.lemmas.Option.{none-some, same_Some, cond_some}
-use Rattle.std.specs.FinMap.{empty}
+use Rattle.reuse_session.proofs.Results.{err_or, same_Ok, none_from_test}
 
 -- ---- the paths that change
 
 -- the fate is that this path changes
 is_change : List ℕ → Fate → Bool
 is_change path (fate.Changes other) = bytes_eq path other
-is_change path (fate.Unchanged other) = false
-is_change path (fate.Skipped other) = false
-is_change path (fate.Refused refusal) = false
+is_change path told = false
 
 is_that : (path : List ℕ) (told : Fate) → is_change path told ≡ true → told ≡ fate.Changes path
 unfolding is_change
 is_that path (fate.Changes other) e = ap fate.Changes (sym ((bytes_eq-Decides path other).0 e))
-is_that path (fate.Unchanged other) e = absurd (false≢true e)
-is_that path (fate.Skipped other) e = absurd (false≢true e)
-is_that path (fate.Refused refusal) e = absurd (false≢true e)
+is_that path told e = absurd (false≢true e)
 
 it_is : (path : List ℕ) → is_change path (fate.Changes path) ≡ true
 unfolding is_change
@@ -110,10 +105,6 @@ module _ (at : List ℕ → Result (Option Edit) Refusal) (skip : List ℕ → B
         ∙ ap (λ b. bytes_eq path some.0.path || b) (of_paths path paths some.1 some.3) ∙ ap (λ es. is_among (paths_at es) path) (sym some.4)
   ]
 
-root_or : (b : Bool) (r : Refusal) (rest : Result (List Edit) Refusal) (edits : List Edit) → cond b (Err r) rest ≡ Ok edits → (b ≡ false) × (rest ≡ Ok edits)
-root_or true r rest edits e = absurd (cc)
-root_or false r rest edits e = (refl, e)
-
 none_or : (o : Option Refusal) (others edits : List Edit) → unless_refused o others ≡ Ok edits → o ≡ None
 none_or None others edits e = refl
 none_or (Some refusal) others edits e = absurd (cc)
@@ -144,7 +135,7 @@ of_command (Annotate places additions how scope) tree path edits h = by_styles (
         → list_any (is_change path) (annotation_fates places additions how scope tree styles) ≡ is_among (paths_at edits) path
     by_styles (Err refusal) e = absurd (cc)
     by_styles (Ok own) e =
-        let parts = root_or (not scope.recursive && has_root places) (refusals.IsFolder place.Root) (edits_at (annotated_at how scope additions own tree) (worked_paths scope places tree)) edits e in
+        let parts = err_or (not scope.recursive && has_root places) (refusals.IsFolder place.Root) (edits_at (annotated_at how scope additions own tree) (worked_paths scope places tree)) edits e in
         ap (λ b. list_any (is_change path) (cond b (fate.Refused (refusals.IsFolder place.Root) ∷ []) (map (fate_at how scope additions own tree) (worked_paths scope places tree)))) parts.0
         ∙ of_paths (annotated_at how scope additions own tree) (is_skipped scope own tree) path (worked_paths scope places tree) edits parts.1
 of_command ConvertDep5 tree path edits h = ap (λ r. list_any (is_change path) (edit_fates r)) h ∙ of_edits path edits
@@ -174,9 +165,6 @@ unskipped : (b : Bool) (r : Result (Option Edit) Refusal) (edit : Edit) → cond
 unskipped true r edit e = absurd (cc)
 unskipped false r edit e = (refl, e)
 
-same_bytes : (x y : List ℕ) → Some x ≡ Some y → x ≡ y
-same_bytes x y e = cc
-
 -- an edit by an annotation of these bytes is of its place, and gives others
 edit_gives : (path at bytes : List ℕ) (due : Due) (edit : Edit) → edit_by path at bytes due ≡ some_edit edit → (edit.path ≡ at) × (new : List ℕ) × (edit.file ≡ Some new) × (bytes_eq new bytes ≡ false)
 edit_gives path at bytes (Err refusal) edit e = absurd (cc)
@@ -189,7 +177,7 @@ differs_there : (tree : Files) (path at bytes : List ℕ) (due : Due) (edit : Ed
 differs_there tree path at bytes due edit here e = λ same.
     let g = edit_gives path at bytes due edit e in
     let is : Some bytes ≡ Some g.1 = sym here ∙ ap (get tree) (sym g.0) ∙ same ∙ g.2 in
-    false≢true (sym g.3 ∙ (bytes_eq-Decides g.1 bytes).1 (sym (same_bytes bytes g.1 is)))
+    false≢true (sym g.3 ∙ (bytes_eq-Decides g.1 bytes).1 (sym (same_Some bytes g.1 is)))
 
 differs_new : (tree : Files) (path at : List ℕ) (due : Due) (edit : Edit) → get tree at ≡ None → edit_by path at [] due ≡ some_edit edit → Differs tree edit
 differs_new tree path at due edit here e = λ same.
@@ -219,15 +207,8 @@ module _ (how : How) (scope : Scope) (additions : Additions) (tree : Files) (pat
       of_file None here h = absurd (both_err (is_folder tree path) (refusals.IsFolder (place.Path path)) (refusals.NoSuchPath path) (Some edit) h)
       of_file (Some bytes) here h = target_differs bytes (target_of scope own tree path bytes) here (if_not (not (is_covered path)) (refusals.NotCovered path) _ (Some edit) h)
 
-is_absent : (file : Option (List ℕ)) → is_some file ≡ false → file ≡ None
-is_absent None e = refl
-is_absent (Some bytes) e = absurd (false≢true (sym e))
-
 abbrev accepted : {A : Type 0} → A → Result A Refusal
 accepted x = Ok x
-
-ok_is : (one other : List Edit) → accepted one ≡ accepted other → one ≡ other
-ok_is one other e = cc
 
 conversion_differs : (tree : Files) (edits : List Edit) → conversion_edits tree ≡ Ok edits → AllByRecursion (Differs tree) edits
 conversion_differs tree edits h = of_file (get tree dep5_path) refl h
@@ -238,27 +219,24 @@ conversion_differs tree edits h = of_file (get tree dep5_path) refl h
     of_text : (bytes : List ℕ) (given : Result (List ℕ) Dep5Refusal) → get tree dep5_path ≡ Some bytes → get tree toml_path ≡ None → replaced_by tree bytes given ≡ Ok edits → AllByRecursion (Differs tree) edits
     of_text bytes (Err refusal) here free e = absurd (cc)
     of_text bytes (Ok text) here free e =
-        subst (AllByRecursion (Differs tree)) (ok_is (dropped dep5_path bytes ∷ made toml_path text ∷ []) edits (root_or (is_clash tree toml_path) (refusals.Clash toml_path) (Ok (dropped dep5_path bytes ∷ made toml_path text ∷ [])) edits e).1) (both bytes text here free)
+        subst (AllByRecursion (Differs tree)) (same_Ok (dropped dep5_path bytes ∷ made toml_path text ∷ []) edits (err_or (is_clash tree toml_path) (refusals.Clash toml_path) (Ok (dropped dep5_path bytes ∷ made toml_path text ∷ [])) edits e).1) (both bytes text here free)
 
     of_file : (file : Option (List ℕ)) → get tree dep5_path ≡ file → conversion_where tree file ≡ Ok edits → AllByRecursion (Differs tree) edits
     of_file None here e = absurd (cc)
     of_file (Some bytes) here e =
-        let one = root_or (nat_lt 16_777_216 (length bytes)) (refusals.TooLong dep5_path) (cond (is_some (get tree toml_path)) (Err (refusals.Exists toml_path)) (replaced_by tree bytes (converted bytes))) edits e in
-        let two = root_or (is_some (get tree toml_path)) (refusals.Exists toml_path) (replaced_by tree bytes (converted bytes)) edits one.1 in
-        of_text bytes (converted bytes) here (is_absent (get tree toml_path) two.0) two.1
-
-absent_is_none : (bytes : List ℕ) → None ≡ Some bytes → ⊥
-absent_is_none bytes e = cc
+        let one = err_or (nat_lt 16_777_216 (length bytes)) (refusals.TooLong dep5_path) (cond (is_some (get tree toml_path)) (Err (refusals.Exists toml_path)) (replaced_by tree bytes (converted bytes))) edits e in
+        let two = err_or (is_some (get tree toml_path)) (refusals.Exists toml_path) (replaced_by tree bytes (converted bytes)) edits one.1 in
+        of_text bytes (converted bytes) here (none_from_test (get tree toml_path) two.0) two.1
 
 download_differs : (ids : List (List ℕ)) (texts : List LicenceText) (tree : Files) (edits : List Edit) → download_edits ids texts tree ≡ Ok edits → AllByRecursion (Differs tree) edits
 download_differs ids texts tree edits h = by_refusal (ids_refusal tree texts (set_of ids)) refl h
   where
     each : (paths : List (List ℕ)) → AllByRecursion (IsMade tree texts) paths → AllByRecursion (Differs tree) (map (licence_edit texts) paths)
     each [] all = tt
-    each (p ∷ paths) all = (λ same. absent_is_none (unwrap_or (text_for texts (licence_id p)) []) (sym all.0.absent ∙ same), each paths all.1)
+    each (p ∷ paths) all = (λ same. none-some (unwrap_or (text_for texts (licence_id p)) []) (sym all.0.absent ∙ same), each paths all.1)
 
     by_refusal : (o : Option Refusal) → ids_refusal tree texts (set_of ids) ≡ o → unless_refused o (map (licence_edit texts) (set_of (map licence_path (set_of ids)))) ≡ Ok edits → AllByRecursion (Differs tree) edits
-    by_refusal None none e = subst (AllByRecursion (Differs tree)) (ok_is (map (licence_edit texts) (set_of (map licence_path (set_of ids)))) edits e) (each (set_of (map licence_path (set_of ids))) (are_made tree texts (set_of ids) none))
+    by_refusal None none e = subst (AllByRecursion (Differs tree)) (same_Ok (map (licence_edit texts) (set_of (map licence_path (set_of ids)))) edits e) (each (set_of (map licence_path (set_of ids))) (are_made tree texts (set_of ids) none))
     by_refusal (Some refusal) none e = absurd (cc)
 
 -- what a change that changes something is taken back to isn't what was there
@@ -294,7 +272,7 @@ each_differs (Annotate places additions how scope) tree edits holds h = by_style
     by_styles : (styles : Result OwnNames Refusal) → edits_by_names places additions how scope tree styles ≡ Ok edits → AllByRecursion (Differs tree) edits
     by_styles (Err refusal) e = absurd (cc)
     by_styles (Ok own) e =
-        let parts = root_or (not scope.recursive && has_root places) (refusals.IsFolder place.Root) (edits_at (annotated_at how scope additions own tree) (worked_paths scope places tree)) edits e in
+        let parts = err_or (not scope.recursive && has_root places) (refusals.IsFolder place.Root) (edits_at (annotated_at how scope additions own tree) (worked_paths scope places tree)) edits e in
         all_edits (annotated_at how scope additions own tree) (Differs tree) (λ p e k. annotated_differs how scope additions tree p e own k) (worked_paths scope places tree) edits parts.1
 each_differs ConvertDep5 tree edits holds h = conversion_differs tree edits h
 each_differs (Download ids texts) tree edits holds h = download_differs ids texts tree edits h

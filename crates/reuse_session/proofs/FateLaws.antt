@@ -1,5 +1,5 @@
 -- A command is refused as the first of its paths' fates is.
-use Rattle.std.proofs.Common.{◌≡◌, ◌≢◌, ◌↔◌, ℕ, Bool, true, false, cond, not, ◌||◌, ◌&&◌, List, [], ◌∷◌, ◌++◌, map, Option, Some, None, is_some, Result, Ok, Err, refl, sym, ap, ◌∙◌}
+use Rattle.std.proofs.Common.{◌≡◌, ◌↔◌, ℕ, Bool, true, false, cond, not, ◌&&◌, List, [], ◌∷◌, ◌++◌, map, Option, Some, None, is_some, Result, Ok, Err, refl, sym, ap, ◌∙◌}
 use Rattle.std.specs.Option.{option_or}
 use Rattle.reuse_notice.specs.Sets.{set_of}
 use Rattle.reuse_tree.specs.Files.{Files}
@@ -21,11 +21,11 @@ use Rattle.reuse_session.specs.declared.fate.Fate.TheVariants as fate
 use Rattle.reuse_session.specs.declared.licence.LicenceText.{LicenceText}
 use Rattle.reuse_session.specs.declared.reply.Refusal.{Refusal}
 use Rattle.reuse_session.specs.declared.reply.Refusal.TheVariants as refusals
-use Rattle.reuse_session.proofs.FatePlans.{first_of_ids, none_refused}
-use Rattle.reuse_session.proofs.RevertFitting.{backs}
 use Rattle.reuse_session.specs.Reverting.{taken_back_on, stuck_on, unless_stuck, revert_edits}
 use Rattle.reuse_tree.specs.Change.{path_of}
 use Rattle.reuse_tree.specs.declared.change.Change.{Change}
+use Rattle.reuse_session.proofs.FatePlans.{first_of_ids, none_refused}
+use Rattle.reuse_session.proofs.RevertFitting.{backs}
 
 -- ---- the first refusal
 

@@ -2,7 +2,7 @@
 use Rattle.std.proofs.Common.{◌≡◌, ◌⊎◌, inl, inr, ℕ, zero, suc, ◌<◌, Bool, true, false, cond, ◌==◌, ◌||◌, eqb-true, eq-eqb, List, [], ◌∷◌, length, map, reverse, get_or, Option, Some, None, is_some, refl, sym, ap, subst, ◌∙◌, arith}
 use Rattle.std.specs.List.{All, Contains}
 use Rattle.std.specs.FinMap.{get}
-use Rattle.std.proofs.lemmas.Bool.{false≢true}
+use Rattle.std.proofs.lemmas.Bool.{false≢true, or_parts}
 use Rattle.std.proofs.lemmas.Option.{none-some, same_Some}
 use Rattle.std.proofs.lemmas.List.{reverse-append, reverse-reverse}
 use Rattle.std.proofs.lemmas.List.Elements.{Contains-append_left, Contains-append_right, Contains-get_or, Contains-push_cases}
@@ -189,10 +189,6 @@ done_says files session held stands number listed =
     let at = done_step (memory_of session) held.journal number stands.remembers listed in
     (entry_in at.0, says_step (undo_folder_of (files (store_of session))) held.journal stands.standing.journal true at.0 number at.1 at.2)
 
-or_none : (a b : Bool) → (a || b) ≡ false → (a ≡ false) × (b ≡ false)
-or_none true b e = absurd (false≢true (sym e))
-or_none false b e = (refl, e)
-
 is_none_of : (o : Option Row) → o ≡ None → is_some o ≡ false
 is_none_of o e = ap is_some e
 
@@ -204,7 +200,7 @@ some_listed memory number row e = sym (row_listed memory number) ∙ ap is_some 
 
 pub unused_both : (memory : Memory) (journal : Journal) (number : ℕ) → Remembers memory journal → row_in memory number ≡ None → IsUnused number journal.done × IsUnused number journal.undone
 unused_both memory journal number remembers e =
-    let none = or_none (lists memory.done number) (lists memory.undone number) (none_listed memory number e) in
+    let none = or_parts (lists memory.done number) (lists memory.undone number) (none_listed memory number e) in
     (unused memory journal number remembers true none.0, unused memory journal number remembers false none.1)
 
 -- reading an entry is never refused as a step that isn't there
