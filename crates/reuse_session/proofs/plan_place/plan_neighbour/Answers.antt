@@ -7,7 +7,7 @@ use Rattle.reuse_session.specs.Plan.{AnswersEdit}
 use Rattle.reuse_session.proofs.ReadingLemmas.{found_is}
 use Rattle.reuse_session.proofs.EditLemmas.{fits_by, neighbour_is}
 use Rattle.reuse_session.proofs.plan_place.plan_neighbour.Goals as goal
-use Rattle.reuse_session.proofs.plan_place.plan_neighbour.Goals.{else-scope-via-then-scope+else-neighbour_has_tag, else-scope-via-else-scope}
+use Rattle.reuse_session.proofs.plan_place.plan_neighbour.Goals.{else-asked-via-then-asked+else-neighbour_has_tag, else-asked-via-else-asked}
 
 some_is : (x y : List ℕ) → Some x ≡ Some y → x ≡ y
 some_is x y e = cc
@@ -24,15 +24,15 @@ returns-clause-edit c tree bytes is here reading =
     let size = ap length same in
     let short : length bytes ≤ 16_777_216 = omega (arith, size, c.len.ensures, c.if-len-gt-LONGEST_FILE.false) in
     let file = c.as_slice-3.result.now in
-    let due = neighbour_annotation_of c.args.how.now c.args.additions.now file in
-    let kept : (c.args.scope.now.skip_existing && neighbour_is_tagged bytes) ≡ false = elim c.else-scope.branch [
-      | else-scope-via-then-scope+else-neighbour_has_tag w ↦
-          ap (λ b. b && neighbour_is_tagged bytes) w.if-scope.true ∙ ap neighbour_is_tagged (same ∙ sym w.as_slice.ensures) ∙ sym w.neighbour_has_tag.ensures ∙ w.if-neighbour_has_tag.false
-      | else-scope-via-else-scope w ↦ ap (λ b. b && neighbour_is_tagged bytes) w.if-scope.false
+    let due = neighbour_annotation_of c.args.asked.now.how.now c.args.asked.now.additions.now file in
+    let kept : (c.args.asked.now.scope.now.skip_existing && neighbour_is_tagged bytes) ≡ false = elim c.else-asked.branch [
+      | else-asked-via-then-asked+else-neighbour_has_tag w ↦
+          ap (λ b. b && neighbour_is_tagged bytes) w.if-asked.true ∙ ap neighbour_is_tagged (same ∙ sym w.as_slice.ensures) ∙ sym w.neighbour_has_tag.ensures ∙ w.if-neighbour_has_tag.false
+      | else-asked-via-else-asked w ↦ ap (λ b. b && neighbour_is_tagged bytes) w.if-asked.false
     ] in
-    subst (λ r. AnswersEdit tree r c.change_by.result) (sym (neighbour_is c.args.how.now c.args.scope.now c.args.additions.now tree c.args.path.now bytes (not_over (length bytes) short) kept))
-    (subst (λ n. AnswersEdit tree (edit_by c.args.path.now n bytes (neighbour_annotation_of c.args.how.now c.args.additions.now bytes)) c.change_by.result) is
-    (subst (λ xs. AnswersEdit tree (edit_by c.args.path.now c.args.neighbour.now xs (neighbour_annotation_of c.args.how.now c.args.additions.now xs)) c.change_by.result) (c.as_slice-3.ensures ∙ sym same)
+    subst (λ r. AnswersEdit tree r c.change_by.result) (sym (neighbour_is c.args.asked.now tree c.args.path.now bytes (not_over (length bytes) short) kept))
+    (subst (λ n. AnswersEdit tree (edit_by c.args.path.now n bytes (neighbour_annotation_of c.args.asked.now.how.now c.args.asked.now.additions.now bytes)) c.change_by.result) is
+    (subst (λ xs. AnswersEdit tree (edit_by c.args.path.now c.args.neighbour.now xs (neighbour_annotation_of c.args.asked.now.how.now c.args.asked.now.additions.now xs)) c.change_by.result) (c.as_slice-3.ensures ∙ sym same)
     (c.change_by.ensures.edit tree due (here ∙ ap (λ xs. Some xs) (same ∙ sym c.as_slice-3.ensures)) (omega (arith, ap length c.as_slice-3.ensures, c.len.ensures, c.if-len-gt-LONGEST_FILE.false))
-    (fits_by file due (λ edit e. c.annotations_fit.ensures.neighbours c.args.how.now c.args.additions.now file edit e))
-    (subst (λ xs. IsDue (answer_of xs (neighbour_annotation_of c.args.how.now c.args.additions.now xs)) c.annotate_neighbour-made.result) (c.as_slice-2.ensures ∙ sym c.as_slice-3.ensures) c.annotate_neighbour-made.ensures))))
+    (fits_by file due (λ edit e. c.annotations_fit.ensures.neighbours c.args.asked.now.how.now c.args.asked.now.additions.now file edit e))
+    (subst (λ xs. IsDue (answer_of xs (neighbour_annotation_of c.args.asked.now.how.now c.args.asked.now.additions.now xs)) c.annotate_neighbour-made.result) (c.as_slice-2.ensures ∙ sym c.as_slice-3.ensures) c.annotate_neighbour-made.ensures))))
