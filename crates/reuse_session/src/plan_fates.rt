@@ -1,6 +1,6 @@
 // What a run of a command would do, path by path.
 ghost use Rattle.std.specs.Prelude.{◌≡◌, ◌++◌, ◌∷◌, [], Result, Ok, Err, Option, Some, None, List, IfOk, IfErr, OnOk, not, ◌&&◌, if◌then◌else◌};
-ghost use Rattle.reuse_session.specs.Reading.{keys, tree_of, Files, OnlyReads, RefusedAsRead};
+ghost use Rattle.reuse_session.specs.Reading.{keys, tree_of, Files, OnlyReads, ReadsAlone, RefusedAsRead};
 ghost use Rattle.reuse_session.specs.AnnotationPlan.{worked_by, AddsPath, PlansPaths, PlansPlaces};
 ghost use Rattle.reuse_session.specs.Command.{has_root};
 ghost use Rattle.reuse_session.specs.Edit.{Edit};
@@ -55,9 +55,7 @@ fn plan_command<S: Store>(
     command: &Command,
 ) -> Result<Planned, Refusal>
     ensures planned { S.honest store.new → IfOk result (Plans (tree_of (S.files store.old)) (path_fates command.now (tree_of (S.files store.old))) (edits_of command.now (tree_of (S.files store.old)))) }
-    ensures fails { RefusedAsRead S.Store store.old store.new result }
-    ensures reads { OnlyReads S.Store store.old store.new }
-    ensures refusal { IfErr result IsLookRefusal }
+    ensures asks { ReadsAlone S.Store IsLookRefusal store.old store.new result }
 {
     match command {
         Command::Annotate {
@@ -111,9 +109,7 @@ fn plan_annotation<S: Store>(
     ensures planned { S.honest store.new → IfOk result (Plans (tree_of (S.files store.old))
         (annotation_fates places.now additions.now how.now scope.now (tree_of (S.files store.old)) (styles_in (tree_of (S.files store.old))))
         (edits_by_names places.now additions.now how.now scope.now (tree_of (S.files store.old)) (styles_in (tree_of (S.files store.old))))) }
-    ensures fails { RefusedAsRead S.Store store.old store.new result }
-    ensures reads { OnlyReads S.Store store.old store.new }
-    ensures refusal { IfErr result IsLookRefusal }
+    ensures asks { ReadsAlone S.Store IsLookRefusal store.old store.new result }
 {
     match read_styles(alloc, store) {
         Ok(styles) => {
@@ -137,9 +133,7 @@ fn plan_places<S: Store>(
     asked: &Annotation<'_>,
 ) -> Result<Planned, Refusal>
     ensures planned { S.honest store.new → IfOk result (PlansPlaces asked.now (tree_of (S.files store.old)) places.now) }
-    ensures fails { RefusedAsRead S.Store store.old store.new result }
-    ensures reads { OnlyReads S.Store store.old store.new }
-    ensures refusal { IfErr result IsLookRefusal }
+    ensures asks { ReadsAlone S.Store IsLookRefusal store.old store.new result }
 {
     if gives_root(places, asked.scope) {
         return refused(alloc, Refusal::IsFolder(Place::Root));
@@ -162,9 +156,7 @@ fn plan_listed<S: Store>(
     asked: &Annotation<'_>,
 ) -> Result<Planned, Refusal>
     ensures planned { S.honest store.new → IfOk result (PlansPaths asked.now (tree_of (S.files store.old)) (worked_by asked.now (tree_of (S.files store.old)) places.now)) }
-    ensures fails { RefusedAsRead S.Store store.old store.new result }
-    ensures reads { OnlyReads S.Store store.old store.new }
-    ensures refusal { IfErr result IsLookRefusal }
+    ensures asks { ReadsAlone S.Store IsLookRefusal store.old store.new result }
 {
     let paths = tree_paths(alloc, store)?;
     let worked = worked_paths(alloc, &paths, places, asked.scope)?;
@@ -180,9 +172,7 @@ fn plan_paths<S: Store>(
     asked: &Annotation<'_>,
 ) -> Result<Planned, Refusal>
     ensures planned { S.honest store.new → paths.now ≡ keys (tree_of (S.files store.old)) → IfOk result (PlansPaths asked.now (tree_of (S.files store.old)) worked.now) }
-    ensures fails { RefusedAsRead S.Store store.old store.new result }
-    ensures reads { OnlyReads S.Store store.old store.new }
-    ensures refusal { IfErr result IsLookRefusal }
+    ensures asks { ReadsAlone S.Store IsLookRefusal store.old store.new result }
 {
     let mut planned = Planned::new(alloc);
     for path in worked {
@@ -201,9 +191,7 @@ fn plan_next<S: Store>(
     asked: &Annotation<'_>,
 ) -> Result<(), Refusal>
     ensures adds { S.honest store.new → paths.now ≡ keys (tree_of (S.files store.old)) → OnOk result (AddsPath asked.now (tree_of (S.files store.old)) path.now planned.old planned.new) }
-    ensures fails { RefusedAsRead S.Store store.old store.new result }
-    ensures reads { OnlyReads S.Store store.old store.new }
-    ensures refusal { IfErr result IsLookRefusal }
+    ensures asks { ReadsAlone S.Store IsLookRefusal store.old store.new result }
 {
     match plan_path(alloc, store, paths, path, asked) {
         Ok(Some(change)) => Ok(planned.push_change(alloc, change)?),

@@ -1,6 +1,6 @@
 // What annotate does at a path, as far as that is known without a listing of the tree.
 ghost use Rattle.std.specs.Prelude.{◌≡◌, ℕ, List, true, false, length, nat_lt, IfErr, None, Some};
-ghost use Rattle.reuse_session.specs.Reading.{get, reading_of, tree_of, IsOfPlan, OnlyReads, RefusedAsRead};
+ghost use Rattle.reuse_session.specs.Reading.{get, reading_of, tree_of, IsOfPlan, ReadsAlone};
 ghost use Rattle.reuse_session.specs.Annotate.{neighbour_of};
 ghost use Rattle.reuse_session.specs.AnnotationPlan.{AnswersPath};
 ghost use Rattle.reuse_session.specs.Covered.{is_covered};
@@ -33,9 +33,7 @@ pub(crate) fn plan_unlisted<S: Store>(
     asked: &Annotation<'_>,
 ) -> Result<Unlisted<Option<Change>>, Refusal>
     ensures edit { S.honest store.new → IfKnown (AnswersPath asked.now (tree_of (S.files store.old)) path.now) result }
-    ensures fails { RefusedAsRead S.Store store.old store.new result }
-    ensures reads { OnlyReads S.Store store.old store.new }
-    ensures planned { IfErr result IsOfPlan }
+    ensures asks { ReadsAlone S.Store IsOfPlan store.old store.new result }
 {
     if !is_covered(path.as_bytes()) {
         return Ok(Unlisted::Unknown);
@@ -59,9 +57,7 @@ fn plan_alone<S: Store>(
     requires { is_covered path.now ≡ true }
     ensures edit { S.honest store.new → get (tree_of (S.files store.old)) (neighbour_of path.now) ≡ None
         → IfKnown (AnswersPath asked.now (tree_of (S.files store.old)) path.now) result }
-    ensures fails { RefusedAsRead S.Store store.old store.new result }
-    ensures reads { OnlyReads S.Store store.old store.new }
-    ensures planned { IfErr result IsOfPlan }
+    ensures asks { ReadsAlone S.Store IsOfPlan store.old store.new result }
 {
     if goes_beside_unread(path, asked.scope, asked.styles) {
         return Ok(Unlisted::Unknown);
@@ -91,9 +87,7 @@ fn plan_beside_file<S: Store>(
     requires short { nat_lt 4096 (length (neighbour_of path.now)) ≡ false }
     ensures edit { S.honest store.new → (bytes : List ℕ) → get (tree_of (S.files store.old)) (neighbour_of path.now) ≡ Some bytes → reading ≡ reading_of (Some bytes) 16_777_216
         → IfKnown (AnswersPath asked.now (tree_of (S.files store.old)) path.now) result }
-    ensures fails { RefusedAsRead S.Store store.old store.new result }
-    ensures reads { OnlyReads S.Store store.old store.new }
-    ensures planned { IfErr result IsOfPlan }
+    ensures asks { ReadsAlone S.Store IsOfPlan store.old store.new result }
 {
     // Nothing of the file is looked at but whether it is there.
     if let Reading::Absent = store.read(alloc, path, 0)? {

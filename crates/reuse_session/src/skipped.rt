@@ -1,6 +1,6 @@
 // Which of the files that annotate leaves as they are were skipped.
 ghost use Rattle.std.specs.Prelude.{◌≡◌, ◌≤◌, ◌&&◌, Ok, Err, None, true, is_some, length, IfOk, IfErr};
-ghost use Rattle.reuse_session.specs.Reading.{get, keys, tree_of, Files, OnlyReads, RefusedAsRead};
+ghost use Rattle.reuse_session.specs.Reading.{get, keys, tree_of, Files, ReadsAlone};
 ghost use Rattle.reuse_header.specs.Header.{header_of};
 ghost use Rattle.reuse_tree.specs.declared.fault.StoreFault.{StoreFault};
 ghost use Rattle.reuse_session.specs.Annotate.{neighbour_of};
@@ -32,9 +32,7 @@ pub(crate) fn is_skipped<S: Store>(
     ensures skipped { S.honest store.new → paths.now ≡ keys (tree_of (S.files store.old))
         → annotated_by asked.now (tree_of (S.files store.old)) path.now ≡ Ok None
         → IfOk result (λ skipped. skipped ≡ skipped_by asked.now (tree_of (S.files store.old)) path.now) }
-    ensures fails { RefusedAsRead S.Store store.old store.new result }
-    ensures reads { OnlyReads S.Store store.old store.new }
-    ensures refusal { IfErr result IsLookRefusal }
+    ensures asks { ReadsAlone S.Store IsLookRefusal store.old store.new result }
 {
     if goes_beside(alloc, paths, path, asked.scope, asked.styles)? {
         return is_skipped_beside(alloc, store, path, asked);
@@ -54,9 +52,7 @@ fn is_skipped_beside<S: Store>(
 ) -> Result<bool, Refusal>
     ensures skipped { S.honest store.new → is_covered path.now ≡ true → beside_by asked.now (tree_of (S.files store.old)) path.now ≡ Ok None
         → IfOk result (λ skipped. skipped ≡ (asked.now.scope.now.skip_existing && has_tagged (get (tree_of (S.files store.old)) (neighbour_of path.now)))) }
-    ensures fails { RefusedAsRead S.Store store.old store.new result }
-    ensures reads { OnlyReads S.Store store.old store.new }
-    ensures refusal { IfErr result IsLookRefusal }
+    ensures asks { ReadsAlone S.Store IsLookRefusal store.old store.new result }
 {
     if !asked.scope.skip_existing {
         return Ok(false);

@@ -12,7 +12,7 @@ use Rattle.reuse_session.proofs.plan.plan_each.Goals as goal
 
 module _ (g : Over) (c : After-plan_unlisted g) (honest : g.S.Store.honest c.plan_unlisted.new.store) where
   same : g.S.Store.files c.loop-path.store ≡ g.S.Store.files c.args.store.now
-  same = c.loop-path.invariant.reads.files (c.plan_unlisted.ensures.reads.was_honest honest)
+  same = c.loop-path.invariant.reads.files (c.plan_unlisted.ensures.asks.reads.was_honest honest)
 
   so_far : SoFar (annotated_by c.args.asked.now (tree_of (g.S.Store.files c.args.store.now))) (tree_of (g.S.Store.files c.args.store.now)) c.args.paths.now
       (c.path-item.result ∷ drop (c.loop-path.path-index + 1) c.args.paths.now) c.loop-path.changes.items
@@ -20,11 +20,11 @@ module _ (g : Over) (c : After-plan_unlisted g) (honest : g.S.Store.honest c.pla
       let tree = tree_of (g.S.Store.files c.args.store.now) in
       subst (λ left. SoFar (annotated_by c.args.asked.now tree) tree c.args.paths.now left c.loop-path.changes.items)
       (left_here c.args.paths.now c.loop-path.path-index c.loop-path-test.true c.path-item.result c.path-item.is)
-      (c.loop-path.invariant.so_far (c.plan_unlisted.ensures.reads.was_honest honest))
+      (c.loop-path.invariant.so_far (c.plan_unlisted.ensures.asks.reads.was_honest honest))
 
 pub loop-path-preserved : goal.loop-path-preserved
 loop-path-preserved g c = record {
-  reads = reads_more g.S.Store _ _ _ c.loop-path.invariant.reads c.plan_unlisted.ensures.reads;
+  reads = reads_more g.S.Store _ _ _ c.loop-path.invariant.reads c.plan_unlisted.ensures.asks.reads;
   so_far = λ h.
       let read = (goal.at.loop-path-preserved g c).After-plan_unlisted in
       let at = annotated_by c.args.asked.now in

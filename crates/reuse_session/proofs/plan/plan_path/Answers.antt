@@ -70,7 +70,7 @@ pub returns-in-Ok-Beside-clause-edit : goal.returns-in-Ok-Beside-clause-edit
 returns-in-Ok-Beside-clause-edit g c honest are =
     let at = goal.at.returns-in-Ok-Beside-clause-edit g c in
     let file = found g at.After-is_covered are in
-    let before = c.plan_beside-in-Ok-Beside.ensures.reads.was_honest honest in
+    let before = c.plan_beside-in-Ok-Beside.ensures.asks.reads.was_honest honest in
     let same = c.in_ok-reading.ensures.reads.files before in
     let tree = tree_of (g.S.Store.files c.args.store.now) in
     let step = c.in-Ok-Beside.ensures.step tree file.0 file.1 (read_there (g.S.Store.files c.args.store.now) c.args.path.now file.0 16_777_216 c.in_ok-reading.reading file.1 (c.in_ok-reading.ensures.reading before)) in

@@ -12,7 +12,7 @@ use Rattle.reuse_session.proofs.plan.plan_paths.Goals as goal
 
 module _ (g : Over) (c : After-plan_path g) (honest : g.S.Store.honest c.plan_path.new.store) (are : c.args.paths.now ≡ keys (tree_of (g.S.Store.files c.args.store.now))) where
   same : g.S.Store.files c.loop-path.store ≡ g.S.Store.files c.args.store.now
-  same = c.loop-path.invariant.reads.files (c.plan_path.ensures.reads.was_honest honest)
+  same = c.loop-path.invariant.reads.files (c.plan_path.ensures.asks.reads.was_honest honest)
 
   -- the paths are those of the tree still
   are_still : c.args.paths.now ≡ keys (tree_of (g.S.Store.files c.loop-path.store))
@@ -23,11 +23,11 @@ module _ (g : Over) (c : After-plan_path g) (honest : g.S.Store.honest c.plan_pa
   so_far =
       subst (λ left. SoFar (annotated_by c.args.asked.now (tree_of (g.S.Store.files c.args.store.now))) (tree_of (g.S.Store.files c.args.store.now)) c.args.worked.now left c.loop-path.changes.items)
       (left_here c.args.worked.now c.loop-path.path-index c.loop-path-test.true c.path-item.result c.path-item.is)
-      (c.loop-path.invariant.so_far (c.plan_path.ensures.reads.was_honest honest) are)
+      (c.loop-path.invariant.so_far (c.plan_path.ensures.asks.reads.was_honest honest) are)
 
 pub loop-path-preserved : goal.loop-path-preserved
 loop-path-preserved g c = record {
-  reads = reads_more g.S.Store _ _ _ c.loop-path.invariant.reads c.plan_path.ensures.reads;
+  reads = reads_more g.S.Store _ _ _ c.loop-path.invariant.reads c.plan_path.ensures.asks.reads;
   so_far = λ h are.
       let read = (goal.at.loop-path-preserved g c).After-plan_path in
       let at = annotated_by c.args.asked.now in

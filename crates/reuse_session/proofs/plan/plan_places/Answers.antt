@@ -9,8 +9,8 @@ use Rattle.reuse_session.proofs.plan.plan_places.Goals as goal
 
 pub returns-in-Ok-Unknown-clause-edits : goal.returns-in-Ok-Unknown-clause-edits
 returns-in-Ok-Unknown-clause-edits g c honest =
-    let before = c.plan_listed-in-Ok-Unknown.ensures.reads.was_honest honest in
-    let same = c.plan_given.ensures.reads.files before in
+    let before = c.plan_listed-in-Ok-Unknown.ensures.asks.reads.was_honest honest in
+    let same = c.plan_given.ensures.asks.reads.files before in
     let rootless : (not c.args.asked.now.scope.now.recursive && has_root c.args.places.now) ≡ false =
     ap (λ r. not r && has_root c.args.places.now) c.if-asked.false ∙ sym c.has_root.ensures ∙ c.if-has_root.false in
     let tree = tree_of (g.S.Store.files c.args.store.now) in

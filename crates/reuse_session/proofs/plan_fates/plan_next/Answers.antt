@@ -20,8 +20,8 @@ returns-in_ok-push_change-in-Ok-Some-clause-adds g c honest are =
 pub returns-in_ok-push_idle-in-Ok-None-clause-adds : goal.returns-in_ok-push_idle-in-Ok-None-clause-adds
 returns-in_ok-push_idle-in-Ok-None-clause-adds g c honest are =
     let tree = tree_of (g.S.Store.files c.args.store.now) in
-    let before = c.is_skipped.ensures.reads.was_honest honest in
-    let same = c.plan_path.ensures.reads.files before in
+    let before = c.is_skipped.ensures.asks.reads.was_honest honest in
+    let same = c.plan_path.ensures.asks.reads.files before in
     let given = annotated_by c.args.asked.now tree c.args.path.now in
     let none : given ≡ Ok None = subst (MakesEdit tree given) c.in-Ok-None.field-0-is (c.in-Ok-None.ensures.edit before are) in
     let skipped = c.in_ok-skipped-in-Ok-None.ensures.skipped honest (are ∙ ap (λ f. keys (tree_of f)) (sym same))

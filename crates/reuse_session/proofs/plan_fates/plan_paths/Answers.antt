@@ -11,9 +11,9 @@ use Rattle.reuse_session.proofs.plan_fates.plan_paths.Goals as goal
 
 pub loop-path-preserved : goal.loop-path-preserved
 loop-path-preserved g c = record {
-  reads = reads_more g.S.Store _ _ _ c.loop-path.invariant.reads c.plan_next.ensures.reads;
+  reads = reads_more g.S.Store _ _ _ c.loop-path.invariant.reads c.plan_next.ensures.asks.reads;
   so_far = λ h are.
-      let before = c.plan_next.ensures.reads.was_honest h in
+      let before = c.plan_next.ensures.asks.reads.was_honest h in
       let at = annotated_by c.args.asked.now in
       let tell = told_by c.args.asked.now in
       let tree = tree_of (g.S.Store.files c.args.store.now) in

@@ -27,7 +27,7 @@ module _ (g : Over) (c : In_ok-reading g) where
 
 pub returns-in-Absent-clause-edit : goal.returns-in-Absent-clause-edit
 returns-in-Absent-clause-edit g c honest =
-    let before = c.plan_alone.ensures.reads.was_honest honest in
+    let before = c.plan_alone.ensures.asks.reads.was_honest honest in
     let same = c.in_ok-reading.ensures.reads.files before in
     let none = absent_is (get (g.S.Store.files c.args.store.now) c.in-Some.neighbour) 16_777_216 (sym c.in-Absent.is ∙ c.in_ok-reading.ensures.reading before) in
     subst (λ f. IfKnown (AnswersEdit (tree_of f) (annotated_by c.args.asked.now (tree_of f) c.args.path.now)) c.plan_alone.result) same
@@ -36,7 +36,7 @@ returns-in-Absent-clause-edit g c honest =
 pub returns-clause-edit : goal.returns-clause-edit
 returns-clause-edit g c honest =
     let files = g.S.Store.files c.args.store.now in
-    let before = c.plan_beside_file.ensures.reads.was_honest honest in
+    let before = c.plan_beside_file.ensures.asks.reads.was_honest honest in
     let read = c.in_ok-reading.ensures.reading before in
     let some = there_is (get files c.in-Some.neighbour) 16_777_216 (λ e. c.in_default-2.not-Absent (read ∙ e)) in
     let kept = of_store g (goal.at.returns-clause-edit g c).In_ok-reading in
