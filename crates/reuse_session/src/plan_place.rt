@@ -1,14 +1,14 @@
 // What annotate does at the place that was chosen.
 ghost use Rattle.std.specs.Prelude.{◌≡◌, ◌≤◌, ◌++◌, ℕ, List, false, true, length, IfOk, IfErr, IfSome, IfNone, Some, None, Ok, Err, nat_lt};
-ghost use Rattle.reuse_session.specs.Reading.{get, keys, reading_of, Files, IsOfPlan};
+ghost use Rattle.reuse_session.specs.Reading.{get, keys, reading_of, Files};
 ghost use Rattle.reuse_header.specs.declared.annotation.How.{How};
 ghost use Rattle.reuse_session.specs.TreeStyles.{OwnNames};
 ghost use Rattle.reuse_notice.specs.declared.adding.Additions.{Additions};
-ghost use Rattle.reuse_tree.specs.declared.fault.StoreFault.{StoreFault};
 ghost use Rattle.reuse_session.specs.Annotate.{neighbour_of, annotated_at};
 ghost use Rattle.reuse_session.specs.AnnotationPlan.{inside_by, neighbour_by};
 ghost use Rattle.reuse_session.specs.Listing.{is_among};
 ghost use Rattle.reuse_session.specs.Plan.{AnswersEdit};
+ghost use Rattle.reuse_session.specs.Refused.{IsNoFault};
 ghost use Rattle.reuse_session.specs.Steps.{StepsTo, StepsBy};
 ghost use Rattle.reuse_session.specs.declared.command.Scope.{Scope};
 
@@ -43,8 +43,7 @@ pub(crate) fn plan_absent(
     path: &PathText,
 ) -> Result<Option<Change>, Refusal>
     ensures edit { (how : How) (scope : Scope) (additions : Additions) (own : OwnNames) (tree : Files) → paths.now ≡ keys tree → is_among paths.now path.now ≡ false → AnswersEdit tree (annotated_at how scope additions own tree path.now) result }
-    ensures planned { IfErr result IsOfPlan }
-    ensures fault { (fault : StoreFault) → result ≡ Err (Refusal.Fault fault) → ⊥ }
+    ensures no_fault { IfErr result IsNoFault }
 {
     let refused = path.try_clone(alloc)?;
     if is_folder(alloc, paths, path)? {
@@ -60,8 +59,6 @@ pub(crate) fn neighbour_path(alloc: Global, path: &PathText) -> Result<Option<Pa
     ensures long { IfOk result (λ found. IfNone found (nat_lt 4096 (length (neighbour_of path.now)) ≡ true)) }
     ensures short { IfOk result (λ found. IfSome found (λ neighbour. nat_lt 4096 (length (neighbour_of path.now)) ≡ false)) }
     ensures memory { IfErr result (λ refusal. refusal ≡ Refusal.Memory) }
-    ensures planned { IfErr result IsOfPlan }
-    ensures fault { (fault : StoreFault) → result ≡ Err (Refusal.Fault fault) → ⊥ }
 {
     let text = format!(in alloc; "{}.license", path.text())?;
     match PathText::new(alloc, text.as_str()) {
@@ -80,8 +77,7 @@ pub(crate) fn plan_reading(
 ) -> Result<Step, Refusal>
     ensures step { (tree : Files) (bytes : List ℕ) → get tree path.now ≡ Some bytes → reading ≡ reading_of (Some bytes) 16_777_216
         → StepsTo asked.now tree path.now bytes result }
-    ensures planned { IfErr result IsOfPlan }
-    ensures fault { (fault : StoreFault) → result ≡ Err (Refusal.Fault fault) → ⊥ }
+    ensures no_fault { IfErr result IsNoFault }
 {
     let bytes = match reading {
         Reading::Absent => return Err(Refusal::NoSuchPath(path.try_clone(alloc)?)),
@@ -109,8 +105,7 @@ fn plan_inside(
 ) -> Result<Step, Refusal>
     requires { length bytes.now ≤ 16_777_216 }
     ensures step { (tree : Files) → get tree path.now ≡ Some bytes.now → StepsBy tree (inside_by asked.now path.now bytes.now style) result }
-    ensures planned { IfErr result IsOfPlan }
-    ensures fault { (fault : StoreFault) → result ≡ Err (Refusal.Fault fault) → ⊥ }
+    ensures no_fault { IfErr result IsNoFault }
 {
     if asked.scope.skip_existing && find(bytes, style).block.is_some() {
         return Ok(Step::Done(None));
@@ -134,8 +129,7 @@ pub(crate) fn plan_neighbour(
 ) -> Result<Option<Change>, Refusal>
     ensures edit { (tree : Files) (bytes : List ℕ) → neighbour.now ≡ neighbour_of path.now → get tree neighbour.now ≡ Some bytes → reading ≡ reading_of (Some bytes) 16_777_216
         → AnswersEdit tree (neighbour_by asked.now tree path.now (Some bytes)) result }
-    ensures planned { IfErr result IsOfPlan }
-    ensures fault { (fault : StoreFault) → result ≡ Err (Refusal.Fault fault) → ⊥ }
+    ensures no_fault { IfErr result IsNoFault }
 {
     let bytes = match reading {
         Reading::Absent => return Err(Refusal::NoSuchPath(path.try_clone(alloc)?)),
@@ -164,8 +158,7 @@ pub(crate) fn plan_new_neighbour(
 ) -> Result<Option<Change>, Refusal>
     ensures edit { (tree : Files) → paths.now ≡ keys tree → neighbour ≡ neighbour_of path.now → get tree neighbour ≡ None
         → AnswersEdit tree (neighbour_by asked.now tree path.now None) result }
-    ensures planned { IfErr result IsOfPlan }
-    ensures fault { (fault : StoreFault) → result ≡ Err (Refusal.Fault fault) → ⊥ }
+    ensures no_fault { IfErr result IsNoFault }
 {
     if is_clash(alloc, paths, &neighbour)? {
         return Err(Refusal::Clash(neighbour));
