@@ -24,6 +24,7 @@ use Rattle.reuse_session.specs.declared.target.Target.{Target}
 use Rattle.reuse_session.specs.declared.target.Target.TheVariants.{Beside}
 use Rattle.reuse_session.specs.Annotations.{Due, Fits}
 use Rattle.reuse_session.specs.Plan.{Makes, MakesEdit}
+use Rattle.reuse_session.specs.Steps.{short_file}
 use Rattle.reuse_session.specs.declared.annotation.Annotation.{Annotation}
 use Rattle.reuse_session.specs.declared.reply.Refusal.{Refusal}
 use Rattle.reuse_session.proofs.SpliceLemmas.{makes_splice}
@@ -136,6 +137,28 @@ same_some f g (Some x) None e = absurd (cc)
 pub inside_is : (asked : Annotation) (path bytes : List ℕ) (style : Style) → (asked.scope.now.skip_existing && is_some (header_of style bytes)) ≡ false
     → inside_by asked path bytes style ≡ edit_by path path bytes (header.annotation_of style asked.how.now asked.additions.now bytes)
 inside_is asked path bytes style e = ap (λ b. cond b (edited_to None) (edit_by path path bytes (header.annotation_of style asked.how.now asked.additions.now bytes))) e
+
+-- ---- a file that was read
+
+abbrev found : List ℕ → Result (List ℕ) Refusal
+found bytes = Ok bytes
+
+-- where its bytes were found, they are not too many
+pub short_is : (path file bytes : List ℕ) → short_file path file ≡ found bytes → (nat_lt 16_777_216 (length file) ≡ false) × (file ≡ bytes)
+short_is path file bytes e = by_test (nat_lt 16_777_216 (length file)) e
+  where
+    by_test : (b : Bool) → cond b (Err (refusals.TooLong path)) (found file) ≡ found bytes → (b ≡ false) × (file ≡ bytes)
+    by_test true h = absurd (cc)
+    by_test false h = (refl, cc)
+
+-- where they are too many, nothing else is made of them
+pub long_is : {A : Type 0} (path file : List ℕ) (rest : Result A Refusal) (refusal : Refusal) → short_file path file ≡ Err refusal
+    → cond (nat_lt 16_777_216 (length file)) (Err (refusals.TooLong path)) rest ≡ Err refusal
+long_is path file rest refusal e = by_test (nat_lt 16_777_216 (length file)) e
+  where
+    by_test : (b : Bool) → cond b (Err (refusals.TooLong path)) (found file) ≡ Err refusal → cond b (Err (refusals.TooLong path)) rest ≡ Err refusal
+    by_test true h = cc
+    by_test false h = absurd (cc)
 
 -- ---- the edit of a neighbour, and of a file, by the tests of the code
 

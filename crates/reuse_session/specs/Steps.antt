@@ -1,5 +1,5 @@
 -- For private clauses: what is known of a file's change once the file was read.
-use Rattle.std.specs.Prelude.{◌≡◌, ℕ, List, Option, Result, Ok, Err}
+use Rattle.std.specs.Prelude.{◌≡◌, ℕ, List, length, Option, Result, Ok, Err, nat_lt, if◌then◌else◌}
 use Rattle.reuse_tree.specs.Files.{Files}
 use Rattle.reuse_session.specs.AnnotationPlan.{edit_by_place, place_by}
 use Rattle.reuse_session.specs.Edit.{Edit}
@@ -9,6 +9,11 @@ use Rattle.reuse_session.specs.declared.target.Target.TheVariants as target
 use Rattle.reuse_session.specs.declared.plan_place.Step.{Step}
 use Rattle.reuse_session.specs.declared.plan_place.Step.TheVariants.{Done, Beside}
 use Rattle.reuse_session.specs.declared.reply.Refusal.{Refusal}
+use Rattle.reuse_session.specs.declared.reply.Refusal.TheVariants.{TooLong}
+
+-- the bytes of a file, unless they are too many
+abbrev pub short_file : List ℕ → List ℕ → Result (List ℕ) Refusal
+short_file path bytes = if nat_lt 16_777_216 (length bytes) then Err (TooLong path) else Ok bytes
 
 -- the change, a refusal, or that the neighbour is the place
 abbrev pub StepsTo : Annotation → Files → List ℕ → List ℕ → Result Step Refusal → Type 0

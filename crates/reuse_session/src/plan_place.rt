@@ -7,9 +7,9 @@ ghost use Rattle.reuse_notice.specs.declared.adding.Additions.{Additions};
 ghost use Rattle.reuse_session.specs.Annotate.{neighbour_of, annotated_at};
 ghost use Rattle.reuse_session.specs.AnnotationPlan.{inside_by, neighbour_by};
 ghost use Rattle.reuse_session.specs.Listing.{is_among};
-ghost use Rattle.reuse_session.specs.Plan.{AnswersEdit};
+ghost use Rattle.reuse_session.specs.Plan.{AnswersEdit, AnswersOf};
 ghost use Rattle.reuse_session.specs.Refused.{IsNoFault};
-ghost use Rattle.reuse_session.specs.Steps.{StepsTo, StepsBy};
+ghost use Rattle.reuse_session.specs.Steps.{short_file, StepsTo, StepsBy};
 ghost use Rattle.reuse_session.specs.declared.command.Scope.{Scope};
 
 use crate::annotation::Annotation;
@@ -24,6 +24,7 @@ use crate::target::Target;
 use reuse_header::{
     Style, annotate_file, annotate_neighbour, annotations_fit, find, neighbour_has_tag,
 };
+use reuse_text::Bytes;
 use reuse_tree::{Change, PathError, PathText, Reading};
 use std::alloc::Global;
 
@@ -79,6 +80,21 @@ pub(crate) fn plan_reading(
         → StepsTo asked.now tree path.now bytes result }
     ensures no_fault { IfErr result IsNoFault }
 {
+    let bytes = short_bytes(alloc, path, reading)?;
+    match target_by_bytes(alloc, path, bytes.as_slice(), asked.scope, asked.styles) {
+        Ok(Target::Inside(style)) => plan_inside(alloc, path, bytes.as_slice(), style, asked),
+        Ok(Target::Beside) => Ok(Step::Beside),
+        Ok(Target::Nowhere) => Ok(Step::Done(None)),
+        Err(refusal) => Err(refusal),
+    }
+}
+
+// The bytes that were read of a file, unless they are too many. A refusal names `path`.
+fn short_bytes(alloc: Global, path: &PathText, reading: Reading) -> Result<Bytes, Refusal>
+    ensures answer { (file : List ℕ) → reading ≡ reading_of (Some file) 16_777_216 → AnswersOf (short_file path.now file) result }
+    ensures short { IfOk result (λ bytes. length bytes ≤ 16_777_216) }
+    ensures no_fault { IfErr result IsNoFault }
+{
     let bytes = match reading {
         Reading::Absent => return Err(Refusal::NoSuchPath(path.try_clone(alloc)?)),
         Reading::TooLong => return Err(Refusal::TooLong(path.try_clone(alloc)?)),
@@ -87,12 +103,7 @@ pub(crate) fn plan_reading(
     if bytes.len() > LONGEST_FILE {
         return Err(Refusal::TooLong(path.try_clone(alloc)?));
     }
-    match target_by_bytes(alloc, path, bytes.as_slice(), asked.scope, asked.styles) {
-        Ok(Target::Inside(style)) => plan_inside(alloc, path, bytes.as_slice(), style, asked),
-        Ok(Target::Beside) => Ok(Step::Beside),
-        Ok(Target::Nowhere) => Ok(Step::Done(None)),
-        Err(refusal) => Err(refusal),
-    }
+    Ok(bytes)
 }
 
 // The change of a file's own comment, unless it has a header block and such files are skipped.
@@ -131,14 +142,7 @@ pub(crate) fn plan_neighbour(
         → AnswersEdit tree (neighbour_by asked.now tree path.now (Some bytes)) result }
     ensures no_fault { IfErr result IsNoFault }
 {
-    let bytes = match reading {
-        Reading::Absent => return Err(Refusal::NoSuchPath(path.try_clone(alloc)?)),
-        Reading::TooLong => return Err(Refusal::TooLong(path.try_clone(alloc)?)),
-        Reading::Found(bytes) => bytes,
-    };
-    if bytes.len() > LONGEST_FILE {
-        return Err(Refusal::TooLong(path.try_clone(alloc)?));
-    }
+    let bytes = short_bytes(alloc, path, reading)?;
     if asked.scope.skip_existing && neighbour_has_tag(bytes.as_slice()) {
         return Ok(None);
     }

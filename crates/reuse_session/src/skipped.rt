@@ -2,7 +2,6 @@
 ghost use Rattle.std.specs.Prelude.{◌≡◌, ◌≤◌, ◌&&◌, Ok, Err, None, true, is_some, length, IfOk, IfErr};
 ghost use Rattle.reuse_session.specs.Reading.{get, keys, tree_of, Files, ReadsAlone};
 ghost use Rattle.reuse_header.specs.Header.{header_of};
-ghost use Rattle.reuse_tree.specs.declared.fault.StoreFault.{StoreFault};
 ghost use Rattle.reuse_session.specs.Annotate.{neighbour_of};
 ghost use Rattle.reuse_session.specs.AnnotationPlan.{annotated_by, beside_by, place_by, skipped_by};
 ghost use Rattle.reuse_session.specs.Covered.{is_covered};
@@ -75,8 +74,7 @@ fn is_skipped_alone(
 ) -> Result<bool, Refusal>
     ensures skipped { (tree : Files) → length bytes.now ≤ 16_777_216 → get tree (neighbour_of path.now) ≡ None
         → IfOk result (λ skipped. skipped ≡ is_skipped_at asked.now.scope.now tree path.now bytes.now (place_by asked.now path.now bytes.now)) }
-    ensures refusal { IfErr result IsLookRefusal }
-    ensures fault { (fault : StoreFault) → result ≡ Err (Refusal.Fault fault) → ⊥ }
+    ensures memory { IfErr result (λ refusal. refusal ≡ Refusal.Memory) }
 {
     if bytes.len() > LONGEST_FILE {
         return Ok(false);
