@@ -3,10 +3,9 @@ ghost use Rattle.std.specs.Prelude.{◌≡◌, ◌≤◌, ◌++◌, IfOk, IfErr,
 ghost use Rattle.std.specs.FinMap.{keys};
 ghost use Rattle.reuse_header.specs.Names.{kind_in, lookup};
 ghost use Rattle.reuse_tree.specs.Files.{Files};
-ghost use Rattle.reuse_session.specs.Answer.{IsOfPlan};
 ghost use Rattle.reuse_session.specs.Annotate.{neighbour_of, is_uncommentable, goes_beside, goes_beside_unread, target_of_unknown, target_by_name, target_by_style, target_by_bytes};
 ghost use Rattle.reuse_session.specs.Plan.{AnswersOf};
-ghost use Rattle.reuse_tree.specs.declared.fault.StoreFault.{StoreFault};
+ghost use Rattle.reuse_session.specs.Refused.{IsNoFault};
 
 use crate::command::{Scope, Unknown};
 use crate::listing::is_among;
@@ -69,8 +68,7 @@ pub(crate) fn target_by_bytes(
 ) -> Result<Target, Refusal>
     requires { length bytes.now ≤ 16_777_216 }
     ensures target { AnswersOf (target_by_bytes scope.now (lookup styles.now) path.now bytes.now) result }
-    ensures planned { IfErr result IsOfPlan }
-    ensures fault { (fault : StoreFault) → result ≡ Err (Refusal.Fault fault) → ⊥ }
+    ensures no_fault { IfErr result IsNoFault }
 {
     if !is_text(bytes) {
         return Ok(Target::Beside);
@@ -86,8 +84,7 @@ fn target_by_style(
     styles: &StyleTable,
 ) -> Result<Target, Refusal>
     ensures target { AnswersOf (target_by_style scope.now (lookup styles.now) path.now scope.now.style) result }
-    ensures planned { IfErr result IsOfPlan }
-    ensures fault { (fault : StoreFault) → result ≡ Err (Refusal.Fault fault) → ⊥ }
+    ensures no_fault { IfErr result IsNoFault }
 {
     match scope.style {
         Some(style) => Ok(Target::Inside(style)),
@@ -103,8 +100,7 @@ fn target_by_name(
     styles: &StyleTable,
 ) -> Result<Target, Refusal>
     ensures target { AnswersOf (target_by_name unknown path.now (kind_in (lookup styles.now) path.now)) result }
-    ensures planned { IfErr result IsOfPlan }
-    ensures fault { (fault : StoreFault) → result ≡ Err (Refusal.Fault fault) → ⊥ }
+    ensures no_fault { IfErr result IsNoFault }
 {
     match styles.style_of(path.text()) {
         Kind::Style(style) => Ok(Target::Inside(style)),
@@ -116,8 +112,7 @@ fn target_by_name(
 // The place where the name has no style.
 fn target_of_unknown(alloc: Global, path: &PathText, unknown: Unknown) -> Result<Target, Refusal>
     ensures target { AnswersOf (target_of_unknown unknown path.now) result }
-    ensures planned { IfErr result IsOfPlan }
-    ensures fault { (fault : StoreFault) → result ≡ Err (Refusal.Fault fault) → ⊥ }
+    ensures no_fault { IfErr result IsNoFault }
 {
     match unknown {
         Unknown::Refuse => Err(Refusal::Unrecognised(path.try_clone(alloc)?)),

@@ -24,7 +24,6 @@ use Rattle.reuse_session.proofs.Settling.{is_entry, is_settled, is_stuck, some_m
 use Rattle.reuse_session.proofs.OpeningLemmas.{recorded}
 use Rattle.reuse_session.proofs.TakenBack.{was_under_way}
 use Rattle.reuse_session.proofs.JournalReading.{file_in_folder}
-use Rattle.reuse_session.proofs.Turning.{on_ok}
 use Rattle.reuse_session.proofs.OnlyReading.{early_files, passed_on}
 use Rattle.reuse_session.proofs.opening.settle.Given.{Over}
 use Rattle.reuse_session.proofs.opening.settle.Goals.{After-roll_back}
@@ -148,8 +147,8 @@ returns-clause-folder g c honest journal read =
 pub returns-clause-texts : goal.returns-clause-texts
 returns-clause-texts g c honest journal read =
     let new = g.S.Store.files c.roll_back.new.store in
-    on_ok c.roll_back.result (IsRolledBack c.way.result c.as_slice.result.now c.as_slice-2.result.now (g.S.Store.files c.read_entry.new.store) new) (HasHeadText c.args.history.now new)
-    (λ rolled. file_in_folder new head_path head_path refl refl ∙ rolled.sets.here ∙ ap (λ text. Some text) (c.as_slice-2.ensures.value ∙ c.in_ok-settled.ensures.text))
+    on_ok_weaker c.roll_back.result
+    (λ (rolled : IsRolledBack c.way.result c.as_slice.result.now c.as_slice-2.result.now (g.S.Store.files c.read_entry.new.store) new). file_in_folder new head_path head_path refl refl ∙ rolled.sets.here ∙ ap (λ text. Some text) (c.as_slice-2.ensures.value ∙ c.in_ok-settled.ensures.text))
     (c.roll_back.ensures.done honest (good g (goal.at.returns-clause-texts g c).After-roll_back honest journal read))
 
 pub returns-clause-clash : goal.returns-clause-clash
