@@ -7,9 +7,9 @@ ghost use Rattle.reuse_text.specs.Text.{IsText, TextLine, AreLines, text_of, lin
 
 mod bytes;
 
-use bstr::ByteSlice;
 pub use bytes::Bytes;
 use memchr::{memchr, memrchr};
+use simdutf8::is_utf8_baseline;
 use std::alloc::{AllocError, Global};
 
 /// The ending of a line: LF or CR LF.
@@ -129,7 +129,7 @@ pub fn mark_len(file: &[u8]) -> usize
 pub fn is_text(file: &[u8]) -> bool
     ensures { IsTrue result ↔ IsText file.now }
 {
-    memchr(0, file).is_none() && file.to_str().is_ok()
+    memchr(0, file).is_none() && is_utf8_baseline(file)
 }
 
 /// The bytes of `file` with `new` in the place of the `old_len` bytes from `at` on.

@@ -13,7 +13,7 @@ use Rattle.reuse_session.specs.Head.{way_of, IsGoodHead}
 use Rattle.reuse_session.specs.History.{head_listing}
 use Rattle.reuse_session.specs.JournalFiles.{head_path, entry_path, head_of, number_of, EntrySays}
 use Rattle.reuse_session.specs.Opening.{IsRead}
-use Rattle.reuse_session.specs.Session.{HasHeadText, IsSameBut}
+use Rattle.reuse_session.specs.Session.{IsSameBut}
 use Rattle.reuse_session.specs.Standing.{IsStanding, IsUnderWay}
 use Rattle.reuse_session.specs.Tree.{undo_folder_of}
 use Rattle.reuse_tree.specs.declared.change.Change.{Change}
