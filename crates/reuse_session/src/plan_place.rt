@@ -81,7 +81,7 @@ pub(crate) fn plan_reading(
     ensures no_fault { IfErr result IsNoFault }
 {
     let bytes = short_bytes(alloc, path, reading)?;
-    match target_by_bytes(alloc, path, bytes.as_slice(), asked.scope, asked.styles) {
+    match target_by_bytes(alloc, path, bytes.as_slice(), asked) {
         Ok(Target::Inside(style)) => plan_inside(alloc, path, bytes.as_slice(), style, asked),
         Ok(Target::Beside) => Ok(Step::Beside),
         Ok(Target::Nowhere) => Ok(Step::Done(None)),

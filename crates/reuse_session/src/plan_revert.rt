@@ -7,10 +7,11 @@ ghost use Rattle.std.specs.Str.{bytes_eq};
 ghost use Rattle.reuse_tree.specs.Change.{path_of, IsProper};
 ghost use Rattle.reuse_tree.specs.declared.change.Change.TheVariants.{Make, Splice};
 ghost use Rattle.reuse_tree.specs.declared.fault.StoreFault.{StoreFault};
-ghost use Rattle.reuse_session.specs.Answer.{IsFailure, IsTestRefusal};
+ghost use Rattle.reuse_session.specs.Answer.{IsTestRefusal};
 ghost use Rattle.reuse_session.specs.Entry.{makes, IsEntry, IsSmall};
 ghost use Rattle.reuse_session.specs.EntryText.{HavePaths};
 ghost use Rattle.reuse_session.specs.Plan.{AnswersEdits, MakesEdit};
+ghost use Rattle.reuse_session.specs.Previews.{IsLookRefusal};
 ghost use Rattle.reuse_session.specs.Reverting.{has_digest, is_as_left, revert_edits, stands_as_written, stands_at, taken_back, taken_back_on};
 ghost use Rattle.reuse_session.specs.Tree.{is_of_tree};
 ghost use Rattle.reuse_session.specs.declared.entry.Way.TheVariants.{Undo};
@@ -52,8 +53,7 @@ pub(crate) fn paths_to_heed<S: Store>(
     changes: &[Change],
 ) -> Result<Vec<PathText>, Refusal>
     ensures paths { S.honest store.new → list_any (makes Undo) changes.now ≡ true → IfOk result (λ paths. paths.items ≡ keys (tree_of (S.files store.old))) }
-    ensures asks { ReadsAlone S.Store IsOfPlan store.old store.new result }
-    ensures kinds { IfErr result IsFailure }
+    ensures asks { ReadsAlone S.Store IsLookRefusal store.old store.new result }
 {
     if makes_any(changes, Way::Undo) {
         Ok(tree_paths(alloc, store)?)
@@ -119,8 +119,7 @@ pub(crate) fn take_back<S: Store>(
     ensures edit { S.honest store.new → IsProper change.now → IsSmall change.now → is_of_tree (path_of change.now) ≡ true
         → (makes Undo change.now ≡ true → paths.now ≡ keys (tree_of (S.files store.old)))
         → IfOk result (MakesEdit (tree_of (S.files store.old)) (Ok (taken_back_on (tree_of (S.files store.old)) change.now))) }
-    ensures asks { ReadsAlone S.Store IsOfPlan store.old store.new result }
-    ensures kinds { IfErr result IsFailure }
+    ensures asks { ReadsAlone S.Store IsLookRefusal store.old store.new result }
 {
     if makes(change, Way::Undo) && is_clash(alloc, paths, change.path())? {
         return Ok(None);

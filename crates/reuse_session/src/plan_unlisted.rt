@@ -59,7 +59,7 @@ fn plan_alone<S: Store>(
         → IfKnown (AnswersPath asked.now (tree_of (S.files store.old)) path.now) result }
     ensures asks { ReadsAlone S.Store IsOfPlan store.old store.new result }
 {
-    if goes_beside_unread(path, asked.scope, asked.styles) {
+    if goes_beside_unread(path, asked) {
         return Ok(Unlisted::Unknown);
     }
     let reading = match store.read(alloc, path, LONGEST_FILE)? {

@@ -33,7 +33,7 @@ pub(crate) fn is_skipped<S: Store>(
         → IfOk result (λ skipped. skipped ≡ skipped_by asked.now (tree_of (S.files store.old)) path.now) }
     ensures asks { ReadsAlone S.Store IsLookRefusal store.old store.new result }
 {
-    if goes_beside(alloc, paths, path, asked.scope, asked.styles)? {
+    if goes_beside(alloc, paths, path, asked)? {
         return is_skipped_beside(alloc, store, path, asked);
     }
     let Reading::Found(bytes) = store.read(alloc, path, LONGEST_FILE)? else {
@@ -79,7 +79,7 @@ fn is_skipped_alone(
     if bytes.len() > LONGEST_FILE {
         return Ok(false);
     }
-    match target_by_bytes(alloc, path, bytes, asked.scope, asked.styles) {
+    match target_by_bytes(alloc, path, bytes, asked) {
         Ok(Target::Inside(style)) => Ok(has_kept_header(bytes, style, asked.scope)),
         Ok(Target::Beside) => Ok(false),
         Ok(Target::Nowhere) => Ok(true),
