@@ -11,6 +11,7 @@ mod disk;
 mod fault;
 mod file_list;
 mod findings;
+mod help;
 mod line;
 mod lines;
 mod lock;
