@@ -31,6 +31,7 @@ mod status;
 #[cfg(test)]
 mod tests;
 mod texts;
+mod watched;
 mod words;
 
 use disk::DiskStore;

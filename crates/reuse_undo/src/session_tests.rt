@@ -11,7 +11,6 @@ mod own_styles;
 mod places;
 mod reverts;
 mod scarce_memory;
-mod scarce_store;
 mod stops;
 mod tally;
 pub mod trees;

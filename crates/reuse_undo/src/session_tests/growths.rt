@@ -3,13 +3,13 @@
 // The tags below are data: REUSE-IgnoreStart
 use crate::session_tests::downloads_and_conversions::{DEP5, TOML, download};
 use crate::session_tests::scarce_memory::{GRAIN, PIECE, ScarceMemory};
-use crate::session_tests::scarce_store::ScarceStore;
 use crate::session_tests::stops::{before_the_last_head, call};
 use crate::session_tests::tally::{Tally, Told};
 use crate::session_tests::trees::{
     ANNOTATED, PLAIN, annotate, copy, dump, licence, moment, path, plain_how, plain_scope, play,
     push_answer, sign, signing, tree,
 };
+use crate::watched::WatchedStore;
 use reuse_session::{Answer, Cause, Command, Event, Refusal, Reply, Session, drive};
 use reuse_tree::{MemoryStore, Store};
 use std::alloc::Global;
@@ -112,7 +112,7 @@ fn open_at(
     point: u32,
     bytes: usize,
 ) -> (MemoryStore, Answer) {
-    let store = ScarceStore::new(store, memory);
+    let store = WatchedStore::new(store, memory);
     memory.leave_at(alloc, point, bytes);
     let opened = Session::open(alloc, store);
     memory.release(alloc);
@@ -131,7 +131,7 @@ fn call_at(
     point: u32,
     bytes: usize,
 ) -> (MemoryStore, Answer) {
-    match Session::open(alloc, ScarceStore::new(store, memory)) {
+    match Session::open(alloc, WatchedStore::new(store, memory)) {
         Ok(session) => {
             let mut session = session;
             memory.leave_at(alloc, point, bytes);
