@@ -1,24 +1,10 @@
 //! Openings that take a stopped step back while one call of the store fails: up to the first put it is told as a fault, from there on as a stop.
-use crate::session_tests::trees::{PLAIN, copy, dump, signing, tree};
-use reuse_session::{Cause, Refusal, Session, drive};
-use reuse_tree::{FuseStore, MemoryStore, OnceStore, StoreFault};
+use crate::session_tests::stops::{CALLS, before_the_head_of_a_run};
+use crate::session_tests::trees::{copy, dump};
+use reuse_session::{Cause, Refusal, Session};
+use reuse_tree::{MemoryStore, OnceStore, StoreFault};
 use std::alloc::Global;
 use std::test::Fail;
-
-/// The calls of an opening and of a run before its last put, which then fails.
-const ALL_MADE: u64 = 18;
-
-/// More calls than an opening makes.
-const CALLS: u64 = 30;
-
-/// Three files, and a step that has changed each of them when it stopped.
-fn stopped(alloc: Global) -> Result<MemoryStore, Fail> {
-    let files = [("a.py", PLAIN), ("b.py", PLAIN), ("c.py", PLAIN)];
-    let run = [signing(alloc, &["a.py", "b.py", "c.py"])?];
-    let fuse = FuseStore::new(tree(alloc, &files)?, ALL_MADE, false);
-    let (fuse, _) = drive(alloc, fuse, &run);
-    Ok(fuse.into_inner())
-}
 
 /// A mark for what an opening tells where one call fails, if it fails.
 fn mark(refusal: &Refusal) -> &'static str {
@@ -59,7 +45,7 @@ fn leaves_all(alloc: Global, start: &mut MemoryStore, calls: u64) -> Result<bool
 #[test]
 fn a_fault_before_the_first_put_is_no_stop(rt: HostRuntime) -> Result<(), Fail> {
     let alloc = rt.alloc();
-    let mut start = stopped(alloc)?;
+    let mut start = before_the_head_of_a_run(alloc)?;
     // Twelve reads; then three files are put, two of them after a read, and the head.
     assert_eq!(rt; marks(alloc, &mut start)?.as_str(), "ffffffffffffiiiiii");
     assert!(rt; leaves_all(alloc, &mut start, 12)?);
