@@ -2,7 +2,6 @@
 mod downloads_and_conversions;
 mod formats;
 mod growths;
-mod headers;
 mod histories;
 mod journal_texts;
 mod journals;
