@@ -15,8 +15,8 @@ mod place;
 #[cfg(test)]
 mod tests;
 
-pub use failure::Failure;
-use failure::{Asked, LastFailure};
+use failure::LastFailure;
+pub use failure::{Asked, Failure};
 use folder::RootFolder;
 use reuse_tree::laws::files_stay_good;
 use reuse_tree::{CallRecord, Parts, PathText, Reading, Store, StoreFault};

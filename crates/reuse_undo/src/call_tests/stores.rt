@@ -153,9 +153,9 @@ fn a_folder_is_no_file(rt: HostRuntime) -> Result<(), Fail> {
 #[test]
 fn a_fuse_burns_at_its_call(rt: HostRuntime) -> Result<(), Fail> {
     let alloc = rt.alloc();
-    let path = PathText::new(alloc, "a")?;
     let mut fuse = FuseStore::new(MemoryStore::new(), 6, false);
     keeps_a_file(&rt, alloc, &mut fuse)?;
+    let path = PathText::new(alloc, "a")?;
     assert!(rt; matches!(fuse.put(alloc, &path, b"x"), Err(StoreFault::Device)));
     assert!(rt; matches!(fuse.list(alloc), Err(StoreFault::Device)));
     let mut fuse = FuseStore::new(fuse.into_inner(), 1, true);

@@ -1,25 +1,11 @@
 //! Which fault is told as one, and which as a stop, where one call of the store fails and memory is ample: in openings that take a stopped step
 //! back, and in runs, undos and redos.
-use crate::session_tests::trees::{PLAIN, copy, dump, signing, tree};
+use crate::session_tests::stops::{CALLS, PATHS, before_the_head_of_a_run, left_by};
+use crate::session_tests::trees::{copy, dump, signing};
 use reuse_session::{Answer, Cause, Event, Refusal, Session, drive};
-use reuse_tree::{FuseStore, MemoryStore, OnceStore, StoreFault};
+use reuse_tree::{MemoryStore, OnceStore, StoreFault};
 use std::alloc::Global;
 use std::test::Fail;
-
-/// The calls of an opening and of a run before its last put, which then fails.
-const ALL_MADE: u64 = 18;
-
-/// More calls than an opening makes.
-const CALLS: u64 = 30;
-
-/// Three files, and a step that has changed each of them when it stopped.
-fn stopped(alloc: Global) -> Result<MemoryStore, Fail> {
-    let files = [("a.py", PLAIN), ("b.py", PLAIN), ("c.py", PLAIN)];
-    let run = [signing(alloc, &["a.py", "b.py", "c.py"])?];
-    let fuse = FuseStore::new(tree(alloc, &files)?, ALL_MADE, false);
-    let (fuse, _) = drive(alloc, fuse, &run);
-    Ok(fuse.into_inner())
-}
 
 /// A mark for what an opening tells where one call fails, if it fails.
 fn mark(refusal: &Refusal) -> &'static str {
@@ -61,18 +47,11 @@ fn leaves_all(alloc: Global, start: &mut MemoryStore, calls: u64) -> Result<bool
 #[test]
 fn a_fault_before_the_first_put_is_no_stop(rt: HostRuntime) -> Result<(), Fail> {
     let alloc = rt.alloc();
-    let mut start = stopped(alloc)?;
+    let mut start = before_the_head_of_a_run(alloc)?;
     // Twelve reads; then three files are put, two of them after a read, and the head.
     assert_eq!(rt; marks(alloc, &mut start)?.as_str(), "ffffffffffffiiiiii");
     assert!(rt; leaves_all(alloc, &mut start, 12)?);
     Ok(())
-}
-
-/// The files, once these events are answered.
-fn left_by(alloc: Global, events: &[Event]) -> Result<MemoryStore, Fail> {
-    let files = [("a.py", PLAIN), ("b.py", PLAIN)];
-    let (store, _) = drive(alloc, tree(alloc, &files)?, events);
-    Ok(store)
 }
 
 /// A mark for what the last event is answered.
@@ -106,8 +85,8 @@ fn a_fault_of_a_run_is_a_stop_once_the_step_is_pending(rt: HostRuntime) -> Resul
     let mut start = left_by(alloc, &[])?;
     // The opening looks for the folders of the journal and reads the head. The run reads the styles, looks for the neighbour of each file and
     // reads it, and puts the entry; then the head is put, each file is read and put, and the head is put again.
-    let marks = event_marks(alloc, &mut start, signing(alloc, &["a.py", "b.py"])?)?;
-    assert_eq!(rt; marks.as_str(), "bbbffffffiiiiii.");
+    let marks = event_marks(alloc, &mut start, signing(alloc, &PATHS)?)?;
+    assert_eq!(rt; marks.as_str(), "bbbffffffffiiiiiiii.");
     Ok(())
 }
 
@@ -116,12 +95,12 @@ fn a_fault_of_an_undo_or_a_redo_is_a_stop_once_the_step_is_pending(
     rt: HostRuntime,
 ) -> Result<(), Fail> {
     let alloc = rt.alloc();
-    let mut done = left_by(alloc, &[signing(alloc, &["a.py", "b.py"])?])?;
-    // The opening reads the entry too. An undo reads it once more, and tests both files; then it goes on as the run.
+    let mut done = left_by(alloc, &[signing(alloc, &PATHS)?])?;
+    // The opening reads the entry too. An undo reads it once more, and tests each file; then it goes on as the run.
     let marks = event_marks(alloc, &mut done, Event::Undo)?;
-    assert_eq!(rt; marks.as_str(), "bbbbfffiiiiii.");
-    let mut undone = left_by(alloc, &[signing(alloc, &["a.py", "b.py"])?, Event::Undo])?;
+    assert_eq!(rt; marks.as_str(), "bbbbffffiiiiiiii.");
+    let mut undone = left_by(alloc, &[signing(alloc, &PATHS)?, Event::Undo])?;
     let marks = event_marks(alloc, &mut undone, Event::Redo)?;
-    assert_eq!(rt; marks.as_str(), "bbbbfffiiiiii.");
+    assert_eq!(rt; marks.as_str(), "bbbbffffiiiiiiii.");
     Ok(())
 }

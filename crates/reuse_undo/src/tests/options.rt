@@ -1,6 +1,6 @@
 //! What the options of `annotate` set, and which exclude each other.
 // The tags below are data: REUSE-IgnoreStart
-use super::{fault_of, holds, prints, read_line, store_of};
+use super::{fault_of, holds, read_line, store_of, tells};
 use std::alloc::Global;
 use std::test::Fail;
 
@@ -154,35 +154,39 @@ fn an_option_gives_a_text(rt: HostRuntime) -> Result<(), Fail> {
     for (words, header) in TEXTS {
         let line = format!(in alloc; "annotate|{words}|a.py")?;
         let store = store_of(alloc, "a.py", b"")?;
-        let mut store = prints(&rt, alloc, store, line.as_str(), "changed a.py\n")?;
+        let lines = [(line.as_str(), "changed a.py\n")];
+        let mut store = tells(&rt, alloc, store, &lines)?;
         let written = holds(alloc, &mut store, "a.py", header.as_bytes())?;
         assert!(rt; written, "{words}");
     }
     Ok(())
 }
 
+/// Words behind `annotate -l MIT a.py` that are refused, and what the fault tells.
+const EXCLUDED: &[(&str, &str)] = &[
+    ("--single-line|--multi-line", "cannot be used with"),
+    ("--multi-line|--single-line", "cannot be used with"),
+    (
+        "--fallback-dot-license|--skip-unrecognised",
+        "cannot be used with",
+    ),
+    (
+        "--skip-unrecognised|--fallback-dot-license",
+        "cannot be used with",
+    ),
+    ("--style|c|--style|c", "cannot be used multiple times"),
+    ("--exclude-year|-y|2024", "--year and --exclude-year"),
+    ("--texts|x", "unexpected argument"),
+    ("--files-from|x", "--recursive"),
+    ("--exclude|x", "--recursive"),
+    ("-r|--exclude|a\\b", "bad glob: a\\b"),
+    ("--year", "a value is required"),
+];
+
 #[test]
 fn options_exclude_each_other(rt: HostRuntime) -> Result<(), Fail> {
     let alloc = rt.alloc();
-    for (words, text) in [
-        ("--single-line|--multi-line", "cannot be used with"),
-        ("--multi-line|--single-line", "cannot be used with"),
-        (
-            "--fallback-dot-license|--skip-unrecognised",
-            "cannot be used with",
-        ),
-        (
-            "--skip-unrecognised|--fallback-dot-license",
-            "cannot be used with",
-        ),
-        ("--style|c|--style|c", "cannot be used multiple times"),
-        ("--exclude-year|-y|2024", "--year and --exclude-year"),
-        ("--texts|x", "unexpected argument"),
-        ("--files-from|x", "--recursive"),
-        ("--exclude|x", "--recursive"),
-        ("-r|--exclude|a\\b", "bad glob: a\\b"),
-        ("--year", "a value is required"),
-    ] {
+    for (words, text) in EXCLUDED {
         let line = format!(in alloc; "annotate|-l|MIT|a.py|{words}")?;
         let (status, told) = fault_of(alloc, line.as_str())?;
         assert_eq!(rt; status, 2, "{words}");

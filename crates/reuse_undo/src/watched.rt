@@ -1,28 +1,43 @@
-//! A store before and after whose calls memory can get scarce.
-use crate::session_tests::scarce_memory::ScarceMemory;
+//! A store whose calls are watched.
+ghost use Rattle.std.specs.Prelude.{◌≡◌};
+
+use crate::disk::Asked;
 use reuse_tree::{Parts, PathText, Reading, Store, StoreFault};
 use std::alloc::Global;
 
-/// Passes each call on to the store inside. A point lies before each call, and one after each that succeeds.
-#[derive(Drop)]
-pub struct ScarceStore<'a, S: Store + Drop> {
-    inner: S,
-    memory: &'a ScarceMemory,
+/// What is done beside the calls of a store.
+pub trait Watcher {
+    /// Before a call that asks for this.
+    fn before(&self, alloc: Global, asked: Asked);
+
+    /// After a call that succeeded, with how many paths it listed, if it did.
+    fn after(&self, alloc: Global, listed: Option<usize>);
 }
 
-impl<'a, S: Store + Drop> ScarceStore<'a, S> {
+/// Passes each call on to the store inside, and tells the watcher of it.
+#[derive(Drop)]
+pub struct WatchedStore<'a, S: Store + Drop, W: Watcher> {
+    inner: S,
+    watcher: &'a W,
+}
+
+impl<'a, S: Store + Drop, W: Watcher> WatchedStore<'a, S, W> {
     /// A store over this one.
-    pub fn new(inner: S, memory: &'a ScarceMemory) -> ScarceStore<'a, S> {
-        ScarceStore { inner, memory }
+    pub fn new(inner: S, watcher: &'a W) -> WatchedStore<'a, S, W>
+        ensures { result.inner ≡ inner }
+    {
+        WatchedStore { inner, watcher }
     }
 
     /// Gives the store inside back.
-    pub fn into_inner(self) -> S {
+    pub fn into_inner(self) -> S
+        ensures { result ≡ self.entry.inner }
+    {
         self.inner
     }
 }
 
-impl<S: Store + Drop> Store for ScarceStore<'_, S> {
+impl<S: Store + Drop, W: Watcher> Store for WatchedStore<'_, S, W> {
     ghost files = { λ store. S.files store.inner };
 
     ghost failures = { λ store. S.failures store.inner };
@@ -34,9 +49,9 @@ impl<S: Store + Drop> Store for ScarceStore<'_, S> {
     ghost honest = { λ store. S.honest store.inner };
 
     fn list(&mut self, alloc: Global) -> Result<Vec<PathText>, StoreFault> {
-        self.memory.pass(alloc);
+        self.watcher.before(alloc, Asked::List);
         let paths = self.inner.list(alloc)?;
-        self.memory.pass(alloc);
+        self.watcher.after(alloc, Some(paths.len()));
         Ok(paths)
     }
 
@@ -46,9 +61,9 @@ impl<S: Store + Drop> Store for ScarceStore<'_, S> {
         path: &PathText,
         limit: usize,
     ) -> Result<Reading, StoreFault> {
-        self.memory.pass(alloc);
+        self.watcher.before(alloc, Asked::Read);
         let reading = self.inner.read(alloc, path, limit)?;
-        self.memory.pass(alloc);
+        self.watcher.after(alloc, None);
         Ok(reading)
     }
 
@@ -58,16 +73,16 @@ impl<S: Store + Drop> Store for ScarceStore<'_, S> {
         path: &PathText,
         parts: Parts,
     ) -> Result<(), StoreFault> {
-        self.memory.pass(alloc);
+        self.watcher.before(alloc, Asked::Write);
         self.inner.put_parts(alloc, path, parts)?;
-        self.memory.pass(alloc);
+        self.watcher.after(alloc, None);
         Ok(())
     }
 
     fn remove(&mut self, alloc: Global, path: &PathText) -> Result<(), StoreFault> {
-        self.memory.pass(alloc);
+        self.watcher.before(alloc, Asked::Remove);
         self.inner.remove(alloc, path)?;
-        self.memory.pass(alloc);
+        self.watcher.after(alloc, None);
         Ok(())
     }
 
