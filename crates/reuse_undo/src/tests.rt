@@ -303,12 +303,22 @@ fn keeps_what_it_cannot_tell(rt: HostRuntime) -> Result<(), Fail> {
     Ok(())
 }
 
+/// Whether a fault is told by this text.
+fn is_told(alloc: Global, fault: Fault, text: &str) -> Result<bool, Fail> {
+    Ok(fault.to_string(alloc)?.as_str() == text)
+}
+
 #[test]
 fn tells_faults(rt: HostRuntime) -> Result<(), Fail> {
     let alloc = rt.alloc();
-    let refused = Fault::Refused(Refusal::NothingToUndo);
-    assert_eq!(rt; refused.to_string(alloc)?.as_str(), "nothing to undo");
-    assert_eq!(rt; Fault::Memory.to_string(alloc)?.as_str(), "out of memory");
-    assert_eq!(rt; Fault::Write.to_string(alloc)?.as_str(), "write fault");
+    assert!(rt;
+        is_told(
+            alloc,
+            Fault::Refused(Refusal::NothingToUndo),
+            "nothing to undo"
+        )?
+    );
+    assert!(rt; is_told(alloc, Fault::Memory, "out of memory")?);
+    assert!(rt; is_told(alloc, Fault::Write, "write fault")?);
     Ok(())
 }
