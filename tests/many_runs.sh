@@ -50,7 +50,15 @@ undo_all() {
   [[ $(< "$room/error") == 'reuse-undo: nothing to undo' ]] || fail "undo of all: $(< "$room/error")"
 }
 
+# Takes every step back after a part of the script, which gives the first tree.
+undo_to_first() {
+  undo_all
+  [[ $(all_files) == "$first" ]] || fail "undo of all after $1 gives another tree"
+}
+
 first=$(all_files)
+logs=0
+kills=0
 declare -A seen=([done]=0 [idle]=0 [busy]=0)
 for ((round = 1; round <= rounds; round++)); do
   for process in {1..8}; do
@@ -69,17 +77,14 @@ for ((round = 1; round <= rounds; round++)); do
   ! is_pending "$tree" || fail "round $round: a step is left under way"
   "$program" --root "$tree" log > "$room/out" 2>&1 || fail "round $round: the log is refused: $(< "$room/out")"
   if ((round % 10 == 0)); then
-    undo_all
-    [[ $(all_files) == "$first" ]] || fail "round $round: undo of all gives another tree"
+    undo_to_first "round $round"
     rm -r "$tree/.reuse"
   fi
 done
-undo_all
-[[ $(all_files) == "$first" ]] || fail 'undo of all gives another tree'
+undo_to_first 'the rounds'
 echo "$rounds rounds of eight on $files files: ${seen[done]} done, ${seen[busy]} refused as in use, ${seen[idle]} with nothing to undo or redo"
 
 # Logs while an annotate runs: it does what it tells, whatever they see.
-logs=0
 for round in {1..10}; do
   start annotate annotate -c "Holder $round" -l MIT -y 2024 -r .
   while [[ ! -e $room/annotate.status ]]; do
@@ -98,12 +103,10 @@ for round in {1..10}; do
   esac
   rm "$room/annotate.status"
 done
-undo_all
-[[ $(all_files) == "$first" ]] || fail 'undo of all after the logs gives another tree'
+undo_to_first 'the logs'
 echo "10 annotations with $logs logs beside them: none is taken back"
 
 # A killed run leaves no lock: the very next call is made.
-kills=0
 for round in {1..20}; do
   "$program" --root "$tree" annotate -c "Holder $round" -l MIT -y 2024 -r . > "$room/out" 2> "$room/error" &
   run=$!
@@ -112,8 +115,7 @@ for round in {1..20}; do
   wait $run 2> "$room/wait" || :
   "$program" --root "$tree" log > "$room/out" 2>&1 || fail "the log after a killed run: $(< "$room/out")"
 done
-undo_all
-[[ $(all_files) == "$first" ]] || fail 'undo of all after killed runs gives another tree'
+undo_to_first 'killed runs'
 echo "$kills runs killed: the next call is made each time"
 
 # No file is left behind by the lock: a log on a tree without a journal makes nothing.

@@ -2,12 +2,11 @@
 use Rattle.std.proofs.Common.{◌≡◌, ◌≢◌, ℕ, ℤ, pos, ◌<◌, ◌≤◌, Bool, true, false, cond, ◌&&◌, nat_lt, codes, List, [], ◌∷◌, length, map, Option, Some, None, Result, Ok, Err, IfOk, IfErr, refl, sym, ap, ap₂, ◌∙◌, subst, arith}
 use Rattle.std.specs.Prelude.{Vec}
 use Rattle.std.specs.declared.alloc.Global.{Global}
-use Rattle.std.specs.Ordering.{int_eq}
 use Rattle.std.specs.Str.{bytes_eq}
 use Rattle.std.proofs.lemmas.Bool.{false≢true, and_parts}
 use Rattle.std.proofs.lemmas.Bool.Decides.{nat_tests, Decides-int_eq}
 use Rattle.std.proofs.lemmas.Slice.Eq.{bytes_eq-Decides}
-use Rattle.toml.specs.Data.{Data, string, integer, float, boolean, datetime, array, table, Items, no_items, item, Members, no_members, member}
+use Rattle.toml.specs.Data.{Data, string, integer, array, table, Items, no_items, item, Members, no_members, member}
 use Rattle.reuse_dep5.specs.declared.refusal.Dep5Refusal.{Dep5Refusal}
 use Rattle.reuse_dep5.specs.declared.refusal.Dep5Refusal.TheVariants as refusal
 use Rattle.reuse_dep5.specs.SourceText.{is_nil}
@@ -15,10 +14,10 @@ use Rattle.reuse_dep5.specs.GlobText.{glob_text}
 use Rattle.reuse_dep5.specs.Answers.{IsRefusalOf, IsAnswer}
 use Rattle.reuse_dep5.specs.Dep5.{HeaderValue, Dep5Value}
 use Rattle.reuse_dep5.specs.ReuseTable.{Annotation, annotations_of, toml_text}
-use Rattle.reuse_dep5.specs.ReadBack.{text_items, texts_data, with_text, members_with, annotation_members, annotation_items, with_annotations, header_members, with_header, table_of, read_toml}
-use Rattle.reuse_dep5.specs.ReuseToml.{question_of, IsReuseToml, IsTomlRefusal}
+use Rattle.reuse_dep5.specs.ReadBack.{text_items, texts_data, with_text, members_with, annotation_members, annotation_items, with_annotations, with_header, table_of, read_toml}
+use Rattle.reuse_dep5.specs.ReuseToml.{IsReuseToml, IsTomlRefusal}
 use Rattle.reuse_dep5.specs.SameData.{is_string, is_integer, same_data, same_items, same_members, is_table}
-use Rattle.reuse_dep5.specs.Conversion.{text_of, text_unless, toml_of, converted_from}
+use Rattle.reuse_dep5.specs.Conversion.{text_unless, toml_of, converted_from}
 
 -- ---- what passes the test is the same
 

@@ -5,9 +5,9 @@ use Rattle.std.proofs.lemmas.Str.{IsUtf8-from_is_utf8, is_utf8-from_IsUtf8}
 use Rattle.std.proofs.lemmas.Bool.{false≢true}
 use Rattle.std.proofs.lemmas.List.{append-nil}
 use Rattle.reuse_dep5.specs.declared.refusal.Dep5Refusal.{Dep5Refusal}
-use Rattle.reuse_dep5.specs.declared.refusal.Dep5Refusal.TheVariants.{NotUtf8, BadDep5, Question, NotToml, TooLong, Memory}
+use Rattle.reuse_dep5.specs.declared.refusal.Dep5Refusal.TheVariants.{NotUtf8, BadDep5}
 use Rattle.reuse_dep5.specs.declared.refusal.Dep5Cause.{Dep5Cause}
-use Rattle.reuse_dep5.specs.declared.refusal.Dep5Cause.TheVariants.{Empty, NoField, Orphan, Repeated, NoFormat, NoKind, Missing, BadEscape}
+use Rattle.reuse_dep5.specs.declared.refusal.Dep5Cause.TheVariants.{NoField, Orphan, Repeated, NoKind, Missing, BadEscape}
 use Rattle.reuse_dep5.specs.declared.pattern.PatternPiece.{PatternPiece}
 use Rattle.reuse_dep5.specs.PatternValue.{PatternValue}
 use Rattle.reuse_dep5.specs.SourceText.{NumberedLine, is_nil, is_continuation, dep5_lines, paragraphs}
@@ -33,14 +33,10 @@ some_test xs h = is_false (is_nil xs) (λ e. h (nil_from xs e))
 -- ---- a line
 
 cause_named : (before : List NumberedLine) (line : NumberedLine) (cause : Dep5Cause) → IsLineFault before line cause → line_cause before line.content ≡ Some cause
-cause_named before line Empty m = absurd m
 cause_named before line NoField m = rw (is_false (is_continuation line.content) m.1, is_false (is_field line.content) m.0) refl
 cause_named before line Orphan m = rw (m.1, m.0) refl
 cause_named before line Repeated m = rw (is_false (is_continuation line.content) (λ k. false≢true (sym (continuation_no_field line.content k) ∙ m.0)), m.0, m.1) refl
-cause_named before line NoFormat m = absurd m
-cause_named before line NoKind m = absurd m
-cause_named before line Missing m = absurd m
-cause_named before line BadEscape m = absurd m
+cause_named before line _ m = absurd m
 
 no_cause : (before : List NumberedLine) (line : NumberedLine) → ((cause : Dep5Cause) → ¬ IsLineFault before line cause) → line_cause before line.content ≡ None
 no_cause before line sound = by_cause (line_cause before line.content) refl
@@ -108,15 +104,11 @@ complete p parts = rw (some_test (words_of (files_value p)) parts.pattern, some_
 
 part_found : (p : List NumberedLine) (number : ℕ) (cause : Dep5Cause) → line_fault [] p ≡ None → IsPartFault p number cause → later_of p ≡ Err (BadDep5 number cause)
 unfolding later_of files_of
-part_found p number Empty fields m = absurd m
-part_found p number NoField fields m = absurd m
-part_found p number Orphan fields m = absurd m
-part_found p number Repeated fields m = absurd m
-part_found p number NoFormat fields m = absurd m
 part_found p number NoKind fields m = rw (fields, nil_test (files_value p) m.0, nil_test (license_value p) m.1, m.2) refl
 part_found p number Missing fields m = rw (fields, some_test (files_value p) m.0, lacking p m.1, m.2) refl
 part_found p number BadEscape fields m =
     rw (fields, some_test (files_value p) m.0, complete p m.1, m.2.stands, word_found m.2.before m.2.word m.2.after m.2.sound m.2.fault, m.2.named) refl
+part_found p number _ fields m = absurd m
 
 later_found : (p : List NumberedLine) (number : ℕ) (cause : Dep5Cause) → IsLaterFault p number cause → later_of p ≡ Err (BadDep5 number cause)
 unfolding later_of
@@ -175,10 +167,7 @@ text_accepted bytes = (to, λ m. let r = (accepted_exactly (paragraphs (dep5_lin
 fault_told : (bytes : List ℕ) (e : Dep5Refusal) → IsTextFault bytes e → dep5_of bytes ≡ Err e
 fault_told bytes NotUtf8 m = dep5_not_utf8 bytes m
 fault_told bytes (BadDep5 number cause) m = sym (read_text bytes m.0) ∙ found (paragraphs (dep5_lines bytes)) number cause m.1
-fault_told bytes (Question number) m = absurd m
-fault_told bytes NotToml m = absurd m
-fault_told bytes TooLong m = absurd m
-fault_told bytes Memory m = absurd m
+fault_told bytes _ m = absurd m
 
 told_fault : (bytes : List ℕ) (e : Dep5Refusal) → dep5_of bytes ≡ Err e → IsTextFault bytes e
 told_fault bytes e is =

@@ -12,7 +12,7 @@ use Rattle.reuse_dep5.specs.SourceText.{NumberedLine, is_nil, is_continuation}
 use Rattle.reuse_dep5.specs.Fields.{is_field, field_name, has_name, text_of, nonempty_lines, first_line, value_of}
 use Rattle.reuse_dep5.specs.PatternText.{words_of, word_pieces, patterns_of}
 use Rattle.reuse_dep5.specs.Dep5.{HeaderValue, FilesValue, Dep5Value, line_cause, or_next, line_fault, first_number, format_value, files_value, copyright_value, license_value, comment_value, ◌>>=◌, header_of, is_incomplete, later_of, laters_of, paragraphs_of}
-use Rattle.reuse_dep5.specs.Grammar.{IsFieldLine, IsContinuation, IsRepetition, IsLineFault, AreFields, IsFirstLineFault, IsHeader, HasParts, ArePatterns, IsLater, AreLater, IsGrammatical, IsHeaderFault, IsFirstBadWord, IsPartFault, IsLaterFault, IsFirstLaterFault, IsFirstFault}
+use Rattle.reuse_dep5.specs.Grammar.{IsFieldLine, IsContinuation, IsRepetition, IsLineFault, AreFields, IsFirstLineFault, IsHeader, HasParts, ArePatterns, IsLater, AreLater, IsGrammatical, IsHeaderFault, IsFirstBadWord, IsLaterFault, IsFirstLaterFault, IsFirstFault}
 use Rattle.reuse_dep5.proofs.NameLemmas.{continuation_no_field}
 use Rattle.reuse_dep5.proofs.ReadingLemmas.{bind_ok, bind_err, unless_ok, unless_err, cond_ok, cond_err, patterns_ok, patterns_err, files_ok, files_err, later_ok, later_err, laters_ok, laters_err}
 
@@ -27,14 +27,10 @@ some_from xs e f = false≢true (sym e ∙ ap is_nil f)
 -- what is wrong with a line
 module _ (before : List NumberedLine) (line : NumberedLine) where
   no_fault : (IsContinuation line → before ≡ [] → ⊥) → (¬ IsFieldLine line → ¬ IsContinuation line → ⊥) → (IsFieldLine line → IsRepetition before line → ⊥) → (cause : Dep5Cause) → ¬ IsLineFault before line cause
-  no_fault orphan field repeated Empty m = m
   no_fault orphan field repeated NoField m = field m.0 m.1
   no_fault orphan field repeated Orphan m = orphan m.1 m.0
   no_fault orphan field repeated Repeated m = repeated m.0 m.1
-  no_fault orphan field repeated NoFormat m = m
-  no_fault orphan field repeated NoKind m = m
-  no_fault orphan field repeated Missing m = m
-  no_fault orphan field repeated BadEscape m = m
+  no_fault orphan field repeated _ m = m
 
   abbrev again_in : Bool
   again_in = list_any (λ (l : NumberedLine). has_name (field_name line.content) l.content) before
@@ -219,6 +215,11 @@ patterns_accepted (word ∷ words) patterns e =
     let found = patterns_ok word.number (word_pieces word.content) (patterns_of words) patterns e in
     (λ none. let f = found.2 in cc, patterns_accepted words found.1 found.3)
 
+-- behind a good word, the first bad one is that of the words after it
+behind_good_word : (word : NumberedLine) (words : List NumberedLine) (number : ℕ) → ¬ (word_pieces word.content ≡ None) → IsFirstBadWord words number → IsFirstBadWord (word ∷ words) number
+behind_good_word word words number good b =
+    record { before = word ∷ b.before; word = b.word; after = b.after; stands = ap (λ q. word ∷ q) b.stands; sound = (good, b.sound); fault = b.fault; named = b.named }
+
 patterns_refused : (words : List NumberedLine) (d : Dep5Refusal) → patterns_of words ≡ Err d → (number : ℕ) × (BadDep5 number BadEscape ≡ d) × IsFirstBadWord words number
 patterns_refused [] d e = cc
 patterns_refused (word ∷ words) d e =
@@ -227,19 +228,7 @@ patterns_refused (word ∷ words) d e =
           (word.number, here.1, record { before = []; word = word; after = words; stands = refl; sound = tt; fault = here.0; named = refl })
       | inr later ↦ (
           let r = patterns_refused words d later.2 in
-          let b = r.2 in (
-            r.0,
-            r.1,
-            record {
-              before = word ∷ b.before;
-              word = b.word;
-              after = b.after;
-              stands = ap (λ q. word ∷ q) b.stands;
-              sound = (λ none. let f = later.1 in cc, b.sound);
-              fault = b.fault;
-              named = b.named;
-            },
-          ))
+          (r.0, r.1, behind_good_word word words r.0 (λ none. let f = later.1 in cc) r.2))
     ]
 
 no_bad_word : (before : List NumberedLine) (word : NumberedLine) (after : List NumberedLine) → word_pieces word.content ≡ None → ¬ ArePatterns (before ++ word ∷ after)
@@ -280,34 +269,25 @@ later_refused p d e =
 pub no_later_fault : (p : List NumberedLine) (number : ℕ) (cause : Dep5Cause) → IsLater p → ¬ IsLaterFault p number cause
 no_later_fault p number cause (inl files) (inl line) = no_line_fault p number cause files.fields line
 no_later_fault p number cause (inr alone) (inl line) = no_line_fault p number cause alone.fields line
-no_later_fault p number cause (inl files) (inr part) = by_cause cause part.1
-  where
-    by_cause : (c : Dep5Cause) → ¬ IsPartFault p number c
-    by_cause Empty m = m
-    by_cause NoField m = m
-    by_cause Orphan m = m
-    by_cause Repeated m = m
-    by_cause NoFormat m = m
-    by_cause NoKind m = files.files m.0
-    by_cause Missing m = m.1 files.parts
-    by_cause BadEscape m = no_bad_word m.2.before m.2.word m.2.after m.2.fault (subst ArePatterns m.2.stands files.patterns)
-no_later_fault p number cause (inr alone) (inr part) = by_cause cause part.1
-  where
-    by_cause : (c : Dep5Cause) → ¬ IsPartFault p number c
-    by_cause Empty m = m
-    by_cause NoField m = m
-    by_cause Orphan m = m
-    by_cause Repeated m = m
-    by_cause NoFormat m = m
-    by_cause NoKind m = alone.licence m.1
-    by_cause Missing m = m.0 alone.no_files
-    by_cause BadEscape m = m.0 alone.no_files
+no_later_fault p number NoKind (inl files) (inr part) = files.files part.1.0
+no_later_fault p number NoKind (inr alone) (inr part) = alone.licence part.1.1
+no_later_fault p number Missing (inl files) (inr part) = part.1.1 files.parts
+no_later_fault p number Missing (inr alone) (inr part) = part.1.0 alone.no_files
+no_later_fault p number BadEscape (inl files) (inr part) =
+    let bad = part.1.2 in no_bad_word bad.before bad.word bad.after bad.fault (subst ArePatterns bad.stands files.patterns)
+no_later_fault p number BadEscape (inr alone) (inr part) = part.1.0 alone.no_files
+no_later_fault p number _ later (inr part) = part.1
 
 -- the later paragraphs
 laters_accepted : (ps : List (List NumberedLine)) (fs : List FilesValue) → laters_of ps ≡ Ok fs → AreLater ps
 laters_accepted [] fs e = tt
 laters_accepted (p ∷ ps) fs e =
     let found = laters_ok p ps fs e in (later_accepted p found.0 found.2, laters_accepted ps found.1 found.3)
+
+-- behind a good paragraph, the first fault is that of the paragraphs after it
+behind_good_paragraph : (p : List NumberedLine) (ps : List (List NumberedLine)) (number : ℕ) (cause : Dep5Cause) → IsLater p → IsFirstLaterFault ps number cause → IsFirstLaterFault (p ∷ ps) number cause
+behind_good_paragraph p ps number cause good f =
+    record { before = p ∷ f.before; p = f.p; after = f.after; stands = ap (λ q. p ∷ q) f.stands; sound = (good, f.sound); fault = f.fault }
 
 laters_refused : (ps : List (List NumberedLine)) (d : Dep5Refusal) → laters_of ps ≡ Err d → Names (IsFirstLaterFault ps) d
 laters_refused [] d e = cc
@@ -318,19 +298,7 @@ laters_refused (p ∷ ps) d e =
           (r.0, r.1, r.2, record { before = []; p = p; after = ps; stands = refl; sound = tt; fault = r.3 }))
       | inr later ↦ (
           let r = laters_refused ps d later.2 in
-          let f = r.3 in (
-            r.0,
-            r.1,
-            r.2,
-            record {
-              before = p ∷ f.before;
-              p = f.p;
-              after = f.after;
-              stands = ap (λ q. p ∷ q) f.stands;
-              sound = (later_accepted p later.0 later.1, f.sound);
-              fault = f.fault;
-            },
-          ))
+          (r.0, r.1, r.2, behind_good_paragraph p ps r.0 r.1 (later_accepted p later.0 later.1) r.3))
     ]
 
 no_later_faults : (before : List (List NumberedLine)) (p : List NumberedLine) (after : List (List NumberedLine)) (number : ℕ) (cause : Dep5Cause) → IsLaterFault p number cause → ¬ AreLater (before ++ p ∷ after)

@@ -25,7 +25,7 @@ use Rattle.reuse_dep5.specs.ReadBack.{text_items, texts_data, with_text, members
 use Rattle.reuse_dep5.specs.LastMatch.{SomePasses, IsLast, PatternsMatch, IsDep5Answer, texts_among, tables_among, texts_in, tables_in, PathMatches, PathsMatch, IsWrittenAnswer}
 use Rattle.reuse_dep5.specs.ReuseToml.{question_in, question_of}
 use Rattle.reuse_dep5.proofs.ReadGlobLemmas.{read_text, both_parts}
-use Rattle.reuse_dep5.proofs.TableLemmas.{StandFor, some_same, last_same, first_none, or_else_none}
+use Rattle.reuse_dep5.proofs.TableLemmas.{StandFor, passes_same, last_same, first_none, or_else_none}
 use Rattle.reuse_dep5.proofs.TranslationLemmas.{translated_same}
 
 -- a translation has no `*` but in `**`, and names what the pattern names
@@ -119,7 +119,7 @@ record_stands f e named = λ path.
     let texts : List (List ℕ) = map glob_text (map (λ (p : PatternValue). translated p.pieces) f.patterns) in
     let at : texts_in (get_member (codes "path") (annotation_members (annotation_of f))) ≡ texts = ap texts_in (path_member texts f.notices f.license f.comment) ∙ in_texts texts in
     subst (λ (ts : List (List ℕ)). SomePasses (PathMatches path) ts ↔ PatternsMatch path f) (sym at)
-    (some_same TextOf (PathMatches path) (λ (p : PatternValue). Matches p.pieces path) (λ t p same. same path) texts f.patterns (texts_stand f.patterns e named))
+    ((passes_same TextOf (PathMatches path) (λ (p : PatternValue). Matches p.pieces path) (λ t p same. same path) texts f.patterns (texts_stand f.patterns e named)).0)
 
 records_stand : (fs : List FilesValue) → question_of fs ≡ None → name_characters fs ≡ true → StandFor WrittenRecordOf (map annotation_members (map annotation_of fs)) fs
 records_stand [] e named = tt

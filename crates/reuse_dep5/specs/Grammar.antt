@@ -3,7 +3,7 @@ use Rattle.std.specs.Prelude.{◌≡◌, ◌≢◌, ◌⊎◌, ℕ, true, List, 
 use Rattle.std.specs.List.{list_any}
 use Rattle.std.specs.Str.{IsUtf8}
 use Rattle.reuse_dep5.specs.declared.refusal.Dep5Refusal.{Dep5Refusal}
-use Rattle.reuse_dep5.specs.declared.refusal.Dep5Refusal.TheVariants.{NotUtf8, BadDep5, Question, NotToml, TooLong, Memory}
+use Rattle.reuse_dep5.specs.declared.refusal.Dep5Refusal.TheVariants.{NotUtf8, BadDep5}
 use Rattle.reuse_dep5.specs.declared.refusal.Dep5Cause.{Dep5Cause}
 use Rattle.reuse_dep5.specs.declared.refusal.Dep5Cause.TheVariants.{Empty, NoField, Orphan, Repeated, NoFormat, NoKind, Missing, BadEscape}
 use Rattle.reuse_dep5.specs.SourceText.{NumberedLine, is_continuation, dep5_lines, paragraphs}
@@ -23,14 +23,10 @@ IsRepetition before line = list_any (λ (l : NumberedLine). has_name (field_name
 
 -- what is wrong with a line of a paragraph, behind the lines that stand before it in the paragraph
 abbrev pub IsLineFault : List NumberedLine → NumberedLine → Dep5Cause → Type 0
-IsLineFault before line Empty = ⊥
 IsLineFault before line NoField = (¬ IsFieldLine line) × (¬ IsContinuation line)
 IsLineFault before line Orphan = (before ≡ []) × IsContinuation line
 IsLineFault before line Repeated = IsFieldLine line × IsRepetition before line
-IsLineFault before line NoFormat = ⊥
-IsLineFault before line NoKind = ⊥
-IsLineFault before line Missing = ⊥
-IsLineFault before line BadEscape = ⊥
+IsLineFault before line _ = ⊥
 
 -- the lines are fields: nothing is wrong with any of them
 abbrev pub AreFields : List NumberedLine → Type 0
@@ -103,14 +99,10 @@ pub record IsFirstBadWord (words : List NumberedLine) (number : ℕ) : Type 0 wh
 
 -- what is wrong with a later paragraph: a line, else what it has or lacks, else a pattern
 abbrev pub IsPartFault : List NumberedLine → ℕ → Dep5Cause → Type 0
-IsPartFault p number Empty = ⊥
-IsPartFault p number NoField = ⊥
-IsPartFault p number Orphan = ⊥
-IsPartFault p number Repeated = ⊥
-IsPartFault p number NoFormat = ⊥
 IsPartFault p number NoKind = (files_value p ≡ []) × (license_value p ≡ []) × (number ≡ first_number p)
 IsPartFault p number Missing = (files_value p ≢ []) × (¬ HasParts p) × (number ≡ first_number p)
 IsPartFault p number BadEscape = (files_value p ≢ []) × HasParts p × IsFirstBadWord (words_of (files_value p)) number
+IsPartFault p number _ = ⊥
 
 abbrev pub IsLaterFault : List NumberedLine → ℕ → Dep5Cause → Type 0
 IsLaterFault p number cause = IsFirstLineFault p number cause ⊎ (AreFields p × IsPartFault p number cause)
@@ -137,7 +129,4 @@ IsDep5Text bytes = IsUtf8 bytes × IsGrammatical (paragraphs (dep5_lines bytes))
 abbrev pub IsTextFault : List ℕ → Dep5Refusal → Type 0
 IsTextFault bytes NotUtf8 = ¬ IsUtf8 bytes
 IsTextFault bytes (BadDep5 number cause) = IsUtf8 bytes × IsFirstFault (paragraphs (dep5_lines bytes)) number cause
-IsTextFault bytes (Question number) = ⊥
-IsTextFault bytes NotToml = ⊥
-IsTextFault bytes TooLong = ⊥
-IsTextFault bytes Memory = ⊥
+IsTextFault bytes _ = ⊥

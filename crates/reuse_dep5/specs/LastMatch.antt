@@ -1,7 +1,7 @@
 -- Which Files paragraph of a dep5, or which record of a `REUSE.toml`, holds for a path: the last that matches.
-use Rattle.std.specs.Prelude.{◌≡◌, ◌⊎◌, ℕ, zero, suc, codes, List, [], ◌∷◌, Option, Some, None}
+use Rattle.std.specs.Prelude.{◌≡◌, ◌⊎◌, ℕ, zero, suc, codes, List, [], ◌∷◌, Option, Some}
 use Rattle.std.specs.Str.{chars}
-use Rattle.toml.specs.Data.{Data, string, integer, float, boolean, datetime, array, table, Items, no_items, item, Members, get_member}
+use Rattle.toml.specs.Data.{Data, string, array, table, Items, no_items, item, Members, get_member}
 use Rattle.reuse_dep5.specs.declared.glob.GlobPiece.{GlobPiece}
 use Rattle.reuse_dep5.specs.PatternValue.{PatternValue}
 use Rattle.reuse_dep5.specs.PatternMatch.{Matches}
@@ -47,44 +47,23 @@ IsTableAnswer annotations path k = IsLast (GlobsMatch path) annotations k
 abbrev pub texts_among : Items → List (List ℕ)
 texts_among no_items = []
 texts_among (item (string text) more) = text ∷ texts_among more
-texts_among (item (integer z) more) = texts_among more
-texts_among (item (float x) more) = texts_among more
-texts_among (item (boolean b) more) = texts_among more
-texts_among (item (datetime d) more) = texts_among more
-texts_among (item (array ds) more) = texts_among more
-texts_among (item (table ms) more) = texts_among more
+texts_among (item _ more) = texts_among more
 
 abbrev pub tables_among : Items → List Members
 tables_among no_items = []
-tables_among (item (string text) more) = tables_among more
-tables_among (item (integer z) more) = tables_among more
-tables_among (item (float x) more) = tables_among more
-tables_among (item (boolean b) more) = tables_among more
-tables_among (item (datetime d) more) = tables_among more
-tables_among (item (array ds) more) = tables_among more
 tables_among (item (table ms) more) = ms ∷ tables_among more
+tables_among (item _ more) = tables_among more
 
 -- a text, or the texts of an array
 abbrev pub texts_in : Option Data → List (List ℕ)
-texts_in None = []
 texts_in (Some (string text)) = text ∷ []
-texts_in (Some (integer z)) = []
-texts_in (Some (float x)) = []
-texts_in (Some (boolean b)) = []
-texts_in (Some (datetime d)) = []
 texts_in (Some (array ds)) = texts_among ds
-texts_in (Some (table ms)) = []
+texts_in _ = []
 
 -- the tables of an array
 abbrev pub tables_in : Option Data → List Members
-tables_in None = []
-tables_in (Some (string text)) = []
-tables_in (Some (integer z)) = []
-tables_in (Some (float x)) = []
-tables_in (Some (boolean b)) = []
-tables_in (Some (datetime d)) = []
 tables_in (Some (array ds)) = tables_among ds
-tables_in (Some (table ms)) = []
+tables_in _ = []
 
 -- the text, read as a glob, matches the path
 abbrev pub PathMatches : List ℕ → List ℕ → Type 0

@@ -3,7 +3,7 @@ use Rattle.std.specs.Prelude.{ℕ, Bool, List, [], ◌∷◌}
 use Rattle.std.specs.List.{list_all}
 use Rattle.std.specs.Str.{all_scalars}
 use Rattle.reuse_dep5.specs.declared.pattern.PatternPiece.{PatternPiece}
-use Rattle.reuse_dep5.specs.declared.pattern.PatternPiece.TheVariants.{Literal, AnyCharacter, AnyRun}
+use Rattle.reuse_dep5.specs.declared.pattern.PatternPiece.TheVariants.{Literal}
 use Rattle.reuse_dep5.specs.PatternValue.{PatternValue}
 use Rattle.reuse_dep5.specs.Dep5.{FilesValue}
 
@@ -11,8 +11,7 @@ use Rattle.reuse_dep5.specs.Dep5.{FilesValue}
 abbrev pub literals : List PatternPiece → List ℕ
 literals [] = []
 literals (Literal c ∷ pieces) = c ∷ literals pieces
-literals (AnyCharacter ∷ pieces) = literals pieces
-literals (AnyRun ∷ pieces) = literals pieces
+literals (_ ∷ pieces) = literals pieces
 
 -- whether what the patterns name are characters
 abbrev pub names_characters : PatternValue → Bool

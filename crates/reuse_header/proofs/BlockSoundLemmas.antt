@@ -1,23 +1,23 @@
 -- What the lines of a comment block say is text, where they are.
 use Rattle.std.proofs.Common.{◌≡◌, ℕ, zero, suc, ◌+◌, ◌<◌, ◌≤◌, Bool, true, false, cond, List, [], ◌∷◌, ◌++◌, length, take, drop, Option, None, Some, refl, sym, ap, subst, ◌∙◌, arith}
 use Rattle.std.specs.Prelude.{not, ◌&&◌, ◌||◌, ◌==◌, nat_eq, unwrap_or, option_and_then, if◌then◌else◌, codes}
-use Rattle.std.specs.List.{list_any, starts_with, prefix_len}
+use Rattle.std.specs.List.{list_all, list_any, starts_with, prefix_len}
 use Rattle.std.specs.Option.{option_map, option_map_or, option_to_list}
 use Rattle.std.proofs.Math.Seq.{take-length}
-use Rattle.std.proofs.lemmas.Bool.{false≢true, eqb-true}
+use Rattle.std.proofs.lemmas.Bool.{false≢true, eqb-true, and_parts}
 use Rattle.std.proofs.lemmas.Bool.Decides.{Decides-eqb}
 use Rattle.std.proofs.lemmas.List.{take-append-drop}
 use Rattle.std.proofs.lemmas.Slice.Eq.{starts_is}
 use Rattle.reuse_notice.specs.Tags.{is_blank, drop_front, drop_end}
-use Rattle.reuse_notice.proofs.SoundLemmas.{IsSound, is_low, sound_low, sound_nil, sound_to_low, sound_after, sound_front, sound_end}
+use Rattle.reuse_notice.proofs.SoundLemmas.{IsSound, is_low, is_nul, sound_low, sound_to_low, sound_after, sound_front, sound_end}
 use Rattle.reuse_header.specs.declared.blocks.BlockSize.{BlockSize}
 use Rattle.reuse_header.specs.declared.style.Style.{Style}
 use Rattle.reuse_header.specs.declared.style.Style.TheVariants.{Python, C, Css, Html, Haskell, Tex, Lisp, Semicolon, Ml, Vim}
 use Rattle.reuse_header.specs.declared.style.Form.TheVariants.{Single, Multi}
 use Rattle.reuse_header.specs.Search.{place_of, is_return, is_indent}
-use Rattle.reuse_header.specs.Styles.{LineForm, BlockForm, line_comment_of, block_comment_of}
+use Rattle.reuse_header.specs.Styles.{LineForm, BlockForm, c_block, html_block, ml_block, line_comment_of, block_comment_of}
 use Rattle.reuse_header.specs.Blocks.{count_to_closer, multi_count, multi_lines, marked_lines, block_of, block_at, without_star, between_marks, is_blank_content, single_content, multi_content, without_returns, contents_from, contents_of}
-use Rattle.reuse_header.proofs.SayableLemmas.{Each, each_both}
+use Rattle.reuse_header.proofs.SayableLemmas.{Each, each_both, of_picked}
 use Rattle.reuse_header.proofs.LineSoundLemmas.{blank_low, return_low}
 
 -- ---- the marks of the styles
@@ -54,46 +54,42 @@ abbrev pub AreBlockMarks : Option BlockForm → Type 0
 AreBlockMarks None = Unit {0}
 AreBlockMarks (Some comment) = IsBlockMarks comment
 
-c_marks : AreBlockMarks (block_comment_of C)
-c_marks = record {
-  opener = sound_low _ refl refl;
-  middle = sound_low _ refl refl;
-  last_line = sound_low _ refl refl;
-  lead = sound_low _ refl refl;
-  first = 42;
-  rest = codes "/";
-  closer = refl;
-  low = omega arith;
-}
+abbrev are_low : List ℕ → Bool
+are_low bytes = list_all is_low bytes && not (list_any is_nul bytes)
+
+low_sound : (bytes : List ℕ) → are_low bytes ≡ true → IsSound bytes
+low_sound bytes e = let both = and_parts (list_all is_low bytes) (not (list_any is_nul bytes)) e in sound_low bytes both.0 (grind (arith, both.1))
+
+-- each mark is ASCII without a NUL byte
+abbrev is_plain_form : BlockForm → Bool
+is_plain_form comment = are_low comment.opener && are_low comment.middle && are_low comment.last_line && are_low comment.lead
+
+plain_marks : (comment : BlockForm) (first : ℕ) (rest : List ℕ) → is_plain_form comment ≡ true → comment.closer ≡ first ∷ rest → first < 128 → IsBlockMarks comment
+plain_marks comment first rest plain closer low =
+    let four = and_parts (are_low comment.opener && are_low comment.middle && are_low comment.last_line) (are_low comment.lead) plain in
+    let three = and_parts (are_low comment.opener && are_low comment.middle) (are_low comment.last_line) four.0 in
+    let two = and_parts (are_low comment.opener) (are_low comment.middle) three.0 in
+    record {
+      opener = low_sound comment.opener two.0;
+      middle = low_sound comment.middle two.1;
+      last_line = low_sound comment.last_line three.1;
+      lead = low_sound comment.lead four.1;
+      first = first;
+      rest = rest;
+      closer = closer;
+      low = low;
+    }
 
 pub block_marks : (style : Style) → AreBlockMarks (block_comment_of style)
 block_marks Python = tt
-block_marks C = c_marks
-block_marks Css = c_marks
-block_marks Html = record {
-  opener = sound_low _ refl refl;
-  middle = sound_nil;
-  last_line = sound_low _ refl refl;
-  lead = sound_nil;
-  first = 45;
-  rest = codes "->";
-  closer = refl;
-  low = omega arith;
-}
+block_marks C = plain_marks c_block 42 (codes "/") refl refl (omega arith)
+block_marks Css = plain_marks c_block 42 (codes "/") refl refl (omega arith)
+block_marks Html = plain_marks html_block 45 (codes "->") refl refl (omega arith)
 block_marks Haskell = tt
 block_marks Tex = tt
 block_marks Lisp = tt
 block_marks Semicolon = tt
-block_marks Ml = record {
-  opener = sound_low _ refl refl;
-  middle = sound_low _ refl refl;
-  last_line = sound_low _ refl refl;
-  lead = sound_low _ refl refl;
-  first = 42;
-  rest = codes ")";
-  closer = refl;
-  low = omega arith;
-}
+block_marks Ml = plain_marks ml_block 42 (codes ")") refl refl (omega arith)
 block_marks Vim = tt
 
 -- ---- the closer
@@ -163,11 +159,7 @@ between_sound comment marks is_first is_last content begins s = star _ (closed i
     closed false bytes f = f
 
     star : (bytes : List ℕ) → IsSound bytes → IsSound (if is_first || not (list_any (λ b. b == 42) comment.middle) then bytes else without_star bytes)
-    star bytes f = by (is_first || not (list_any (λ b. b == 42) comment.middle))
-      where
-        by : (b : Bool) → IsSound (if b then bytes else without_star bytes)
-        by true = f
-        by false = star_sound bytes f
+    star bytes f = of_picked IsSound (is_first || not (list_any (λ b. b == 42) comment.middle)) bytes (without_star bytes) f (star_sound bytes f)
 
 -- a line of a block begins with its marker, and the first line of a block over several lines with its opener
 abbrev BeginsMarked : Option LineForm → List ℕ → Type 0

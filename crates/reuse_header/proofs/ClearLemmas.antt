@@ -18,7 +18,7 @@ use Rattle.reuse_header.proofs.StandsLemmas.{nowhere_exact}
 
 -- ---- a text that bytes lack
 
-lacked : (o : Option ℕ) → is_some o ≡ false → o ≡ None
+pub lacked : (o : Option ℕ) → is_some o ≡ false → o ≡ None
 lacked None e = refl
 lacked (Some k) e = absurd (false≢true (sym e))
 
@@ -27,11 +27,11 @@ place_of-front text front back e =
     (nowhere_exact text front).1 (λ place (before, behind, n, is). (nowhere_exact text (front ++ back)).0 e place
     (before, behind ++ back, n, ap (λ (xs : List ℕ). xs ++ back) is ∙ append_assoc (before ++ text) behind back))
 
-place_of-take : (text bytes : List ℕ) (n : ℕ) → place_of text bytes ≡ None → place_of text (take n bytes) ≡ None
+pub place_of-take : (text bytes : List ℕ) (n : ℕ) → place_of text bytes ≡ None → place_of text (take n bytes) ≡ None
 place_of-take text bytes n e = place_of-front text (take n bytes) (drop n bytes) (ap (place_of text) (take-append-drop n bytes) ∙ e)
 
 -- the content of a line holds no text that its file lacks
-content_lacks : (text file : List ℕ) (line : ℕ × TextLine) → StandsIn file line → holds text file ≡ false → holds text line.1.content ≡ false
+pub content_lacks : (text file : List ℕ) (line : ℕ × TextLine) → StandsIn file line → holds text file ≡ false → holds text line.1.content ≡ false
 content_lacks text file (start, line) stands lacks =
     let none = place_of-take text (drop start file) (length (line_bytes line)) (place_of-drop text file start (lacked (place_of text file) lacks)) in
     ap is_some (place_of-front text line.content (ending_bytes line.ending) (ap (place_of text) (sym stands) ∙ none))

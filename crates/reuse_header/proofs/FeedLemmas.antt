@@ -1,8 +1,8 @@
 -- The texts of contents and of additions hold no LF.
-use Rattle.std.proofs.Common.{◌≡◌, ℕ, zero, suc, ◌+◌, ◌/◌, ◌%◌, Bool, true, false, cond, List, [], ◌∷◌, ◌++◌, length, take, drop, map, Option, None, Some, refl, sym, ap, subst, ◌∙◌, inl, inr, arith}
-use Rattle.std.specs.Prelude.{not, ◌&&◌, ◌||◌, ◌==◌, if◌then◌else◌, Contains, filter, filter_map, codes, unwrap_or, nat_eq}
-use Rattle.std.specs.List.{list_any, starts_with, cons_option}
-use Rattle.std.specs.Option.{option_map, option_map_or, option_to_list, is_none}
+use Rattle.std.proofs.Common.{◌≡◌, ℕ, zero, suc, ◌+◌, ◌/◌, ◌%◌, Bool, true, false, List, [], ◌∷◌, ◌++◌, length, drop, map, Option, None, Some, refl, sym, ap, subst, ◌∙◌, arith}
+use Rattle.std.specs.Prelude.{not, ◌&&◌, ◌==◌, if◌then◌else◌, Contains, codes, nat_eq}
+use Rattle.std.specs.List.{list_any, starts_with}
+use Rattle.std.specs.Option.{option_map}
 use Rattle.std.proofs.lemmas.Bool.{false≢true, eqb-true, or_parts, false_from_ne_true}
 use Rattle.reuse_text.specs.Text.{TextLine, AreLines, line_bytes, lines_of, placed, file_lines, after_mark, mark_len_of}
 use Rattle.reuse_notice.specs.declared.prefixes.Prefix.{Prefix}
@@ -11,25 +11,21 @@ use Rattle.reuse_notice.specs.declared.tags.Years.{Years}
 use Rattle.reuse_notice.specs.declared.infos.Info.{Info}
 use Rattle.reuse_notice.specs.declared.adding.Additions.{Additions}
 use Rattle.reuse_notice.specs.Prefixes.{prefix_text}
-use Rattle.reuse_notice.specs.Tags.{NoticeText, is_blank, all_blank, is_filler, drop_front, drop_end, trimmed, stripped, value_after, licence_lead, contributor_lead, years_front, prefix_of, notice_behind, notice_of, tag_of}
-use Rattle.reuse_notice.specs.Contents.{notice_text, contributor_value, licence_value, is_blank_content}
+use Rattle.reuse_notice.specs.Tags.{NoticeText, is_blank, all_blank, is_filler, drop_front, trimmed, stripped, value_after, licence_lead, contributor_lead, years_front, prefix_of, notice_behind, notice_of}
 use Rattle.reuse_notice.specs.Adding.{is_control, four_digits, years_text, notice_written}
 use Rattle.reuse_notice.specs.Plain.{IsPlain, ArePlain}
-use Rattle.reuse_notice.specs.Infos.{info_of, union_of, merged_of}
 use Rattle.reuse_notice.proofs.NoneLemmas.{or_none, none_append, none_drop, none_take, none_front, none_end, none_trimmed, none_weaker}
 use Rattle.reuse_header.specs.declared.style.Style.{Style}
-use Rattle.reuse_header.specs.declared.style.Form.{Form}
-use Rattle.reuse_header.specs.declared.style.Form.TheVariants.{Single, Multi}
-use Rattle.reuse_header.specs.Search.{is_return, is_indent, place_of}
-use Rattle.reuse_header.specs.Styles.{BlockForm, line_comment_of, block_comment_of}
-use Rattle.reuse_header.specs.Body.{PlacedLines, is_shebang, is_declaration, is_barrier, without_first, body_lines, open_contents}
-use Rattle.reuse_header.specs.Blocks.{without_returns, without_star, between_marks, is_blank_content as is_blank_line, single_content, multi_content, line_content, contents_from}
+use Rattle.reuse_header.specs.Search.{is_return}
+use Rattle.reuse_header.specs.Body.{body_lines, open_contents}
+use Rattle.reuse_header.specs.Blocks.{without_returns}
 use Rattle.reuse_header.specs.Header.{Header, HeaderSpan, span_in, header_of, neighbour_contents}
 use Rattle.reuse_header.specs.Writing.{new_info}
-use Rattle.std.proofs.lemmas.Bool.{cases_Bool as truth}
 use Rattle.reuse_header.proofs.SplitLemmas.{split_found}
-use Rattle.reuse_header.proofs.SayableLemmas.{Each, all_of_each, each_of_all, each_both, each_front, each_end, each_set, notice_whole, contributor_is, licence_is}
-use Rattle.reuse_header.proofs.MergedLemmas.{Merges, merged_each}
+use Rattle.reuse_header.proofs.SayableLemmas.{Each, each_of_all}
+use Rattle.reuse_header.specs.LowerLaws.{Merges}
+use Rattle.reuse_header.proofs.PartLemmas.{IsOfParts, each_open, each_in_body, each_dropped, each_content}
+use Rattle.reuse_header.proofs.InfoLemmas.{EachText, EachAdded, Spreads, each_new}
 
 -- ---- no LF
 
@@ -61,75 +57,11 @@ unfolding Each
 placed_feedless [] start are = tt
 placed_feedless (line ∷ lines) start are = (feedless_from line.content are.0.no_feed, placed_feedless lines (start + length (line_bytes line)) are.2)
 
-without_feedless : (test : List ℕ → Bool) (lines : PlacedLines) → Each FeedlessLine lines → Each FeedlessLine (without_first test lines)
-unfolding Each
-without_feedless test [] h = tt
-without_feedless test (line ∷ lines) h = elim (truth (test line.1.content)) [ inl e ↦ rw e h.1 | inr e ↦ rw e h ]
-
-open_feedless : (lines : PlacedLines) → Each FeedlessLine lines → Each Feedless (open_contents lines)
-unfolding Each
-open_feedless [] h = tt
-open_feedless (line ∷ lines) h = elim (truth (is_barrier line.1.content)) [ inl e ↦ rw e tt | inr e ↦ rw e (h.0, open_feedless lines h.1) ]
-
-each_dropped : (P : List ℕ → Type 0) (n : ℕ) (xs : List (List ℕ)) → Each P xs → Each P (drop n xs)
-unfolding Each
-each_dropped P zero xs h = h
-each_dropped P (suc n) [] h = h
-each_dropped P (suc n) (x ∷ xs) h = each_dropped P n xs h.1
-
-star_feedless : (content : List ℕ) → Feedless content → Feedless (without_star content)
-unfolding without_star
-star_feedless content e = by (starts_with nat_eq (drop_front is_indent content) (42 ∷ []))
-  where
-    by : (b : Bool) → Feedless (cond b (drop 1 (drop_front is_indent content)) content)
-    by true = none_drop is_feed 1 (drop_front is_indent content) (none_front is_feed is_indent content e)
-    by false = e
-
-between_feedless : (comment : BlockForm) (is_first is_last : Bool) (content : List ℕ) → Feedless content → Feedless (between_marks comment is_first is_last content)
-unfolding between_marks
-between_feedless comment is_first is_last content e = star _ (closed is_last _ (opened is_first))
-  where
-    opened : (first : Bool) → Feedless (if first then drop (length comment.opener) content else content)
-    opened true = none_drop is_feed (length comment.opener) content e
-    opened false = e
-
-    closed : (last : Bool) (bytes : List ℕ) → Feedless bytes → Feedless (if last then drop_end is_blank (take (unwrap_or (place_of comment.closer bytes) (length bytes)) bytes) else bytes)
-    closed true bytes f = none_end is_feed is_blank _ (none_take is_feed (unwrap_or (place_of comment.closer bytes) (length bytes)) bytes f)
-    closed false bytes f = f
-
-    star : (bytes : List ℕ) → Feedless bytes → Feedless (if is_first || not (list_any (λ b. b == 42) comment.middle) then bytes else without_star bytes)
-    star bytes f = by (is_first || not (list_any (λ b. b == 42) comment.middle))
-      where
-        by : (b : Bool) → Feedless (if b then bytes else without_star bytes)
-        by true = f
-        by false = star_feedless bytes f
+feedless_parts : IsOfParts Feedless
+feedless_parts = record { front = none_take is_feed; back = none_drop is_feed }
 
 returns_feedless : (content : List ℕ) → Feedless content → Feedless (without_returns content)
 returns_feedless content e = none_end is_feed is_return content e
-
-line_feedless : (style : Style) (form : Form) (is_first is_last : Bool) (line : List ℕ) → Feedless line → Each Feedless (option_to_list (line_content style form is_first is_last line))
-unfolding Each single_content multi_content
-line_feedless style Single is_first is_last line e = (returns_feedless _ (none_drop is_feed (option_map_or (λ comment. length comment.marker) (line_comment_of style) 0) line e), tt)
-line_feedless style Multi is_first is_last line e = by_test ((is_first || is_last) && is_blank_line style inner) inner (returns_feedless _ (by_form (block_comment_of style)))
-  where
-    inner : List ℕ
-    inner = without_returns (option_map_or (λ comment. between_marks comment is_first is_last line) (block_comment_of style) line)
-
-    by_form : (form : Option BlockForm) → Feedless (option_map_or (λ comment. between_marks comment is_first is_last line) form line)
-    by_form None = e
-    by_form (Some comment) = between_feedless comment is_first is_last line e
-
-    by_test : (blank : Bool) (content : List ℕ) → Feedless content → Each Feedless (option_to_list (if blank then None else Some content))
-    by_test true content h = tt
-    by_test false content h = (h, tt)
-
-contents_feedless : (style : Style) (form : Form) (lines : List (List ℕ)) (is_first : Bool) (count : ℕ) → Each Feedless lines → Each Feedless (contents_from style form is_first count lines)
-unfolding Each contents_from
-contents_feedless style form lines is_first zero h = tt
-contents_feedless style form [] is_first (suc count) h = tt
-contents_feedless style form (line ∷ lines) is_first (suc count) h =
-    each_both Feedless (option_to_list (line_content style form is_first (count == 0) line)) (contents_from style form false count lines)
-    (line_feedless style form is_first (count == 0) line h.0) (contents_feedless style form lines false count h.1)
 
 pub found_feedless : (style : Style) (file : List ℕ) (span : HeaderSpan) → AreLines (lines_of (after_mark file)) → option_map (span_in file) (header_of style file) ≡ Some span → Each Feedless span.contents
 found_feedless style file span are e = by_header (header_of style file) refl e
@@ -140,14 +72,14 @@ found_feedless style file span are e = by_header (header_of style file) refl e
         let there = split_found style (body_lines style (file_lines file)) h is in
         let same : h.contents ≡ span.contents = let e' : span_in file h ≡ span = cc in ap (λ (s : HeaderSpan). s.contents) e' in
         let lines = open_contents (body_lines style (file_lines file)) in
-        let good = open_feedless (body_lines style (file_lines file))
-        (without_feedless (is_declaration style) (without_first is_shebang (file_lines file)) (without_feedless is_shebang (file_lines file) (placed_feedless (lines_of (after_mark file)) (mark_len_of file) are))) in
+        let good = each_open Feedless (body_lines style (file_lines file))
+        (each_in_body Feedless style (file_lines file) (placed_feedless (lines_of (after_mark file)) (mark_len_of file) are)) in
         subst (λ (cs : List (List ℕ)). Each Feedless cs) (sym there.1.contents ∙ same)
-        (contents_feedless style h.form (drop (length there.0) lines) true (length h.block) (each_dropped Feedless (length there.0) lines good))
+        (each_content Feedless feedless_parts style h.form (drop (length there.0) lines) true (length h.block) (each_dropped Feedless (length there.0) lines good))
 
 pub neighbour_feedless : (file : List ℕ) → AreLines (lines_of (after_mark file)) → Each Feedless (neighbour_contents file)
 unfolding Each
-neighbour_feedless file are = mapped (open_contents (file_lines file)) (open_feedless (file_lines file) (placed_feedless (lines_of (after_mark file)) (mark_len_of file) are))
+neighbour_feedless file are = mapped (open_contents (file_lines file)) (each_open Feedless (file_lines file) (placed_feedless (lines_of (after_mark file)) (mark_len_of file) are))
   where
     mapped : (cs : List (List ℕ)) → Each Feedless cs → Each Feedless (map without_returns cs)
     mapped [] h = tt
@@ -155,30 +87,11 @@ neighbour_feedless file are = mapped (open_contents (file_lines file)) (open_fee
 
 -- ---- information
 
-pub record HasNoFeed (info : Info) : Type 0 where
-  pub notices : Each Feedless info.notices
-  pub contributors : Each Feedless info.contributors
-  pub licences : Each Feedless info.licences
-  pub free : Each Feedless info.free
+abbrev pub HasNoFeed : Info → Type 0
+HasNoFeed info = EachText Feedless info
 
--- what texts of some kind say
-each_said_of : (f : List ℕ → Option (List ℕ)) (xs : List (List ℕ)) → ((x v : List ℕ) → Feedless x → f x ≡ Some v → Feedless v) → Each Feedless xs → Each Feedless (filter_map f xs)
-unfolding Each
-each_said_of f [] w h = tt
-each_said_of f (x ∷ xs) w h = by_value (f x) refl (each_said_of f xs w h.1)
-  where
-    by_value : (o : Option (List ℕ)) → f x ≡ o → Each Feedless (filter_map f xs) → Each Feedless (cons_option o (filter_map f xs))
-    by_value None e deep = deep
-    by_value (Some v) e deep = (w x v h.0 e, deep)
-
-each_filtered : (p : List ℕ → Bool) (xs : List (List ℕ)) → Each Feedless xs → Each Feedless (filter p xs)
-unfolding Each
-each_filtered p [] h = tt
-each_filtered p (x ∷ xs) h = by (p x) (each_filtered p xs h.1)
-  where
-    by : (b : Bool) → Each Feedless (filter p xs) → Each Feedless (cond b (x ∷ filter p xs) (filter p xs))
-    by true deep = (h.0, deep)
-    by false deep = deep
+abbrev pub AreFeedless : Additions → Type 0
+AreFeedless additions = EachAdded Feedless additions
 
 stripped_feedless : (punct content : List ℕ) → Feedless content → Feedless (stripped punct content)
 stripped_feedless punct content e = none_end is_feed is_blank _ (none_front is_feed (is_filler punct) content e)
@@ -189,22 +102,6 @@ value_feedless lead text v h e = by (starts_with nat_eq text lead && not (all_bl
     by : (b : Bool) → (if b then Some (trimmed is_blank (drop (length lead) text)) else None) ≡ Some v → Feedless v
     by true f = subst Feedless (let same : trimmed is_blank (drop (length lead) text) ≡ v = cc f in same) (none_trimmed is_feed is_blank (drop (length lead) text) (none_drop is_feed (length lead) text h))
     by false f = absurd (let none : ⊥ = cc f in none)
-
-info_feedless : (punct : List ℕ) (contents : List (List ℕ)) → Each Feedless contents → HasNoFeed (info_of punct contents)
-info_feedless punct contents h = record {
-  notices = each_set Feedless _ (each_said_of (λ c. notice_text (tag_of punct c)) contents (λ c t f e. subst Feedless (sym (notice_whole (stripped punct c) t e)) (stripped_feedless punct c f)) h);
-  contributors = each_set Feedless _ (each_said_of (λ c. contributor_value (tag_of punct c)) contents
-      (λ c v f e. value_feedless contributor_lead (stripped punct c) v (stripped_feedless punct c f) (contributor_is (stripped punct c) v e)) h);
-  licences = each_set Feedless _ (each_said_of (λ c. licence_value (tag_of punct c)) contents
-      (λ c v f e. value_feedless licence_lead (stripped punct c) v (stripped_feedless punct c f) (licence_is (stripped punct c) v e)) h);
-  free = each_end Feedless (is_blank_content punct) _ (each_front Feedless (is_blank_content punct) _ (each_filtered (λ c. is_none (tag_of punct c)) contents h));
-}
-
--- the texts of additions
-pub record AreFeedless (additions : Additions) : Type 0 where
-  pub notices : Each Feedless additions.notices
-  pub contributors : Each Feedless additions.contributors
-  pub licences : Each Feedless additions.licences
 
 plain_feedless : (text : List ℕ) → IsPlain text → Feedless text
 plain_feedless text plain = none_weaker is_control is_feed (λ b e. ap is_control (eqb-true b 10 e)) text plain.printable
@@ -219,14 +116,6 @@ additions_feedless additions plain = record {
   notices = each_plain additions.notices (each_of_all IsPlain additions.notices plain.notices);
   contributors = each_plain additions.contributors (each_of_all IsPlain additions.contributors plain.contributors);
   licences = each_plain additions.licences (each_of_all IsPlain additions.licences plain.licences);
-}
-
-union_feedless : (info : Info) (additions : Additions) → HasNoFeed info → AreFeedless additions → HasNoFeed (union_of info additions)
-union_feedless info additions h a = record {
-  notices = each_set Feedless _ (each_both Feedless info.notices additions.notices h.notices a.notices);
-  contributors = each_set Feedless _ (each_both Feedless info.contributors additions.contributors h.contributors a.contributors);
-  licences = each_set Feedless _ (each_both Feedless info.licences additions.licences h.licences a.licences);
-  free = h.free;
 }
 
 -- a notice that is written of a holder
@@ -273,16 +162,12 @@ holder_feedless text n e h = by (prefix_of text) e
         (none_trimmed is_feed is_blank (drop (years_front value).1 value)
         (none_drop is_feed (years_front value).1 value (none_front is_feed is_blank (drop (length (prefix_text p)) text) (none_drop is_feed (length (prefix_text p)) text h))))
 
-merged_feedless : Merges → (info : Info) (additions : Additions) → HasNoFeed info → HasNoFeed (merged_of info additions)
-merged_feedless merges info additions h = record {
-  notices = each_of_all Feedless _ (merged_each merges Feedless additions.notices info.notices (all_of_each Feedless info.notices h.notices)
-      (λ old text f w. subst Feedless (sym w.written) (written_feedless w.prefix w.years w.notice.holder (holder_feedless old w.notice w.read f))));
-  contributors = h.contributors;
-  licences = h.licences;
-  free = h.free;
-}
-
 pub new_feedless : Merges → (punct : List ℕ) (contents : List (List ℕ)) (merge : Bool) (additions : Additions) → Each Feedless contents → AreFeedless additions → HasNoFeed (new_info punct contents merge additions)
-unfolding new_info
-new_feedless merges punct contents false additions h a = union_feedless (info_of punct contents) additions (info_feedless punct contents h) a
-new_feedless merges punct contents true additions h a = merged_feedless merges (union_of (info_of punct contents) additions) additions (union_feedless (info_of punct contents) additions (info_feedless punct contents h) a)
+new_feedless merges punct contents merge additions h a =
+    let spreads : Spreads Feedless punct = record {
+      inner = stripped_feedless punct;
+      contributor = value_feedless contributor_lead;
+      licence = value_feedless licence_lead;
+      written = λ old text f w. subst Feedless (sym w.written) (written_feedless w.prefix w.years w.notice.holder (holder_feedless old w.notice w.read f));
+    } in
+    each_new Feedless punct spreads merges contents merge additions h a

@@ -28,7 +28,8 @@ use Rattle.reuse_header.specs.Annotation.{Edit, edited, chosen_form, replaced_bl
 use Rattle.reuse_header.specs.Split.{begins_in, bytes_of, size_of, IsHeaderBlock}
 use Rattle.reuse_header.specs.Neighbour.{is_text}
 use Rattle.reuse_header.proofs.SayableLemmas.{Each}
-use Rattle.reuse_header.proofs.MergedLemmas.{Merges}
+use Rattle.reuse_header.specs.LowerLaws.{Merges}
+use Rattle.reuse_header.proofs.PartLemmas.{each_dropped}
 use Rattle.reuse_header.proofs.SplitLemmas.{begins_in-nil}
 use Rattle.reuse_header.proofs.CutLemmas.{span_cuts, before_body, place_behind, file_size}
 use Rattle.reuse_header.proofs.KeptLemmas.{replacing_keeps_others, inserting_keeps_others}
@@ -104,12 +105,6 @@ begins_at style (c ∷ contents) zero (suc line) block is = begins_at style cont
 begins_at style (c ∷ contents) (suc inside) zero block is = absurd (let no : ⊥ = cc is in no)
 begins_at style (c ∷ contents) (suc inside) (suc line) block is = begins_at style contents inside line block is
 
-each_dropped : (n : ℕ) (xs : List (List ℕ)) → Each IsSound xs → Each IsSound (drop n xs)
-unfolding Each
-each_dropped zero xs h = h
-each_dropped (suc n) [] h = h
-each_dropped (suc n) (x ∷ xs) h = each_dropped n xs h.1
-
 -- no block is found where there is no header
 no_header : (file : List ℕ) (header : Option Header) → option_map (span_in file) header ≡ None → header ≡ None
 no_header file None e = refl
@@ -148,7 +143,7 @@ module _ (joined : (text : List ℕ) → text_of (lines_of text) ≡ text) (well
       record {
         contents = subst (λ (cs : List (List ℕ)). Each IsSound cs) (sym (at.contents ∙ at.split.contents))
             (block_contents_sound style (drop (length before) (open_contents lines)) (size_of h) (begins_at style (open_contents lines) 0 (length before) (size_of h) at.split.begins_there)
-            (each_dropped (length before) (open_contents lines) (open_sound lines parts_are.1)));
+            (each_dropped IsSound (length before) (open_contents lines) (open_sound lines parts_are.1)));
         before = subst IsSound (sym taken) (sound_before front rest (subst IsSound at.bytes sound) (sound_append (bytes_of h.block) (bytes_of h.after) block after).utf8);
         behind = subst IsSound (sym dropped) after;
       }

@@ -1,8 +1,8 @@
 -- What texts say as information is text, also joined with additions that are, and merged.
 use Rattle.std.proofs.Common.{◌≡◌, ℕ, ◌+◌, ◌<◌, Bool, true, false, cond, List, [], ◌∷◌, length, take, drop, Option, None, Some, refl, sym, ap, subst, arith}
-use Rattle.std.specs.Prelude.{not, ◌&&◌, ◌||◌, nat_eq, nat_lt, if◌then◌else◌, filter, filter_map, slice_index}
-use Rattle.std.specs.List.{starts_with, cons_option}
-use Rattle.std.specs.Option.{option_map, is_none}
+use Rattle.std.specs.Prelude.{not, ◌&&◌, ◌||◌, nat_eq, nat_lt, if◌then◌else◌, slice_index}
+use Rattle.std.specs.List.{starts_with}
+use Rattle.std.specs.Option.{option_map}
 use Rattle.std.specs.Str.{IsUtf8}
 use Rattle.std.proofs.lemmas.Bool.{eqb-true, and_parts}
 use Rattle.std.proofs.lemmas.Bool.Decides.{nat_tests}
@@ -12,51 +12,26 @@ use Rattle.reuse_notice.specs.declared.tags.Years.{Years}
 use Rattle.reuse_notice.specs.declared.infos.Info.{Info}
 use Rattle.reuse_notice.specs.declared.adding.Additions.{Additions}
 use Rattle.reuse_notice.specs.Prefixes.{prefix_text, longest_first}
-use Rattle.reuse_notice.specs.Tags.{NoticeText, is_blank, all_blank, is_filler, drop_front, trimmed, stripped, value_after, licence_lead, contributor_lead, needs_no_space, leaves_value, years_written, years_in, years_or, years_front, prefix_of, notice_behind, notice_of, tag_of}
-use Rattle.reuse_notice.specs.Contents.{notice_text, contributor_value, licence_value, is_blank_content}
+use Rattle.reuse_notice.specs.Tags.{NoticeText, is_blank, all_blank, is_filler, drop_front, trimmed, stripped, value_after, licence_lead, contributor_lead, needs_no_space, leaves_value, years_written, years_in, years_or, years_front, prefix_of, notice_behind, notice_of}
 use Rattle.reuse_notice.specs.Adding.{is_control}
 use Rattle.reuse_notice.specs.Plain.{IsPlain, ArePlain, AreUtf8}
-use Rattle.reuse_notice.specs.Infos.{info_of, union_of, merged_of}
 use Rattle.reuse_notice.proofs.NoneLemmas.{none_drop, none_weaker}
 use Rattle.reuse_notice.proofs.NoticeSoundLemmas.{prefix_sound, written_sound}
 use Rattle.reuse_notice.proofs.PrefixLemmas.{found_passes}
 use Rattle.reuse_notice.proofs.SoundLemmas.{is_nul, IsSound, is_low, low_is, low_utf8, sound_after, sound_front, sound_end, sound_trimmed}
 use Rattle.reuse_header.specs.Writing.{new_info}
-use Rattle.reuse_header.proofs.SayableLemmas.{Each, all_of_each, each_of_all, each_both, each_front, each_end, each_set, notice_whole, contributor_is, licence_is}
-use Rattle.reuse_header.proofs.MergedLemmas.{Merges, merged_each}
+use Rattle.reuse_header.proofs.SayableLemmas.{Each, each_of_all}
+use Rattle.reuse_header.specs.LowerLaws.{Merges}
 use Rattle.reuse_header.proofs.LineSoundLemmas.{blank_low}
+use Rattle.reuse_header.proofs.InfoLemmas.{EachText, EachAdded, Spreads, each_new}
 
 -- ---- information
 
-pub record IsSoundInfo (info : Info) : Type 0 where
-  pub notices : Each IsSound info.notices
-  pub contributors : Each IsSound info.contributors
-  pub licences : Each IsSound info.licences
-  pub free : Each IsSound info.free
+abbrev pub IsSoundInfo : Info → Type 0
+IsSoundInfo info = EachText IsSound info
 
--- the texts of additions
-pub record AreSound (additions : Additions) : Type 0 where
-  pub notices : Each IsSound additions.notices
-  pub contributors : Each IsSound additions.contributors
-  pub licences : Each IsSound additions.licences
-
-each_said_of : (f : List ℕ → Option (List ℕ)) (xs : List (List ℕ)) → ((x v : List ℕ) → IsSound x → f x ≡ Some v → IsSound v) → Each IsSound xs → Each IsSound (filter_map f xs)
-unfolding Each
-each_said_of f [] w h = tt
-each_said_of f (x ∷ xs) w h = by_value (f x) refl (each_said_of f xs w h.1)
-  where
-    by_value : (o : Option (List ℕ)) → f x ≡ o → Each IsSound (filter_map f xs) → Each IsSound (cons_option o (filter_map f xs))
-    by_value None e deep = deep
-    by_value (Some v) e deep = (w x v h.0 e, deep)
-
-each_filtered : (p : List ℕ → Bool) (xs : List (List ℕ)) → Each IsSound xs → Each IsSound (filter p xs)
-unfolding Each
-each_filtered p [] h = tt
-each_filtered p (x ∷ xs) h = by (p x) (each_filtered p xs h.1)
-  where
-    by : (b : Bool) → Each IsSound (filter p xs) → Each IsSound (cond b (x ∷ filter p xs) (filter p xs))
-    by true deep = (h.0, deep)
-    by false deep = deep
+abbrev pub AreSound : Additions → Type 0
+AreSound additions = EachAdded IsSound additions
 
 -- the blank bytes and the punctuation that stand in front of a tag are ASCII
 abbrev pub AreLow : List ℕ → Type 0
@@ -73,24 +48,6 @@ value_sound lead text v first s e = by (starts_with nat_eq text lead && not (all
         let begins = (and_parts (starts_with nat_eq text lead) (not (all_blank (drop (length lead) text))) is).0 in
         subst IsSound (let same : trimmed is_blank (drop (length lead) text) ≡ v = cc f in same) (sound_trimmed is_blank blank_low (drop (length lead) text) (sound_after text lead begins first s))
     by false is f = absurd (let none : ⊥ = cc f in none)
-
-info_sound : (punct : List ℕ) → AreLow punct → (contents : List (List ℕ)) → Each IsSound contents → IsSoundInfo (info_of punct contents)
-info_sound punct low contents h = record {
-  notices = each_set IsSound _ (each_said_of (λ c. notice_text (tag_of punct c)) contents (λ c t f e. subst IsSound (sym (notice_whole (stripped punct c) t e)) (stripped_sound punct low c f)) h);
-  contributors = each_set IsSound _ (each_said_of (λ c. contributor_value (tag_of punct c)) contents
-      (λ c v f e. value_sound contributor_lead (stripped punct c) v (low_utf8 contributor_lead refl) (stripped_sound punct low c f) (contributor_is (stripped punct c) v e)) h);
-  licences = each_set IsSound _ (each_said_of (λ c. licence_value (tag_of punct c)) contents
-      (λ c v f e. value_sound licence_lead (stripped punct c) v (low_utf8 licence_lead refl) (stripped_sound punct low c f) (licence_is (stripped punct c) v e)) h);
-  free = each_end IsSound (is_blank_content punct) _ (each_front IsSound (is_blank_content punct) _ (each_filtered (λ c. is_none (tag_of punct c)) contents h));
-}
-
-union_sound : (info : Info) (additions : Additions) → IsSoundInfo info → AreSound additions → IsSoundInfo (union_of info additions)
-union_sound info additions h a = record {
-  notices = each_set IsSound _ (each_both IsSound info.notices additions.notices h.notices a.notices);
-  contributors = each_set IsSound _ (each_both IsSound info.contributors additions.contributors h.contributors a.contributors);
-  licences = each_set IsSound _ (each_both IsSound info.licences additions.licences h.licences a.licences);
-  free = h.free;
-}
 
 -- ---- merged notices
 
@@ -138,19 +95,15 @@ holder_sound text n e s = by (prefix_of text) refl e
         let sound = sound_front is_blank blank_low rest (sound_after text (prefix_text p) begins (prefix_sound p).utf8 s) in
         subst (λ (m : NoticeText). IsSound m.holder) same (sound_trimmed is_blank blank_low (drop (years_front value).1 value) (front_behind value sound))
 
-merged_sound : Merges → (info : Info) (additions : Additions) → IsSoundInfo info → IsSoundInfo (merged_of info additions)
-merged_sound merges info additions h = record {
-  notices = each_of_all IsSound _ (merged_each merges IsSound additions.notices info.notices (all_of_each IsSound info.notices h.notices)
-      (λ old text f w. subst IsSound (sym w.written) (written_sound w.prefix w.years w.notice.holder w.digits (holder_sound old w.notice w.read f))));
-  contributors = h.contributors;
-  licences = h.licences;
-  free = h.free;
-}
-
 pub new_sound : Merges → (punct : List ℕ) → AreLow punct → (contents : List (List ℕ)) (merge : Bool) (additions : Additions) → Each IsSound contents → AreSound additions → IsSoundInfo (new_info punct contents merge additions)
-unfolding new_info
-new_sound merges punct low contents false additions h a = union_sound (info_of punct contents) additions (info_sound punct low contents h) a
-new_sound merges punct low contents true additions h a = merged_sound merges (union_of (info_of punct contents) additions) additions (union_sound (info_of punct contents) additions (info_sound punct low contents h) a)
+new_sound merges punct low contents merge additions h a =
+    let spreads : Spreads IsSound punct = record {
+      inner = stripped_sound punct low;
+      contributor = λ text v. value_sound contributor_lead text v (low_utf8 contributor_lead refl);
+      licence = λ text v. value_sound licence_lead text v (low_utf8 licence_lead refl);
+      written = λ old text f w. subst IsSound (sym w.written) (written_sound w.prefix w.years w.notice.holder w.digits (holder_sound old w.notice w.read f));
+    } in
+    each_new IsSound punct spreads merges contents merge additions h a
 
 -- the texts of additions that are plain and UTF-8
 plain_sound : (text : List ℕ) → IsPlain text → IsUtf8 text → IsSound text

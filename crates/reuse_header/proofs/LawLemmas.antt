@@ -28,7 +28,8 @@ use Rattle.reuse_header.specs.Blocks.{contents_of}
 use Rattle.reuse_header.specs.Split.{bytes_of}
 use Rattle.reuse_header.specs.Reading.{IsSayable}
 use Rattle.reuse_header.specs.Laws.{part, Keeps, IsBlockText, ReadsAs, AreContents}
-use Rattle.reuse_header.proofs.ReadingLemmas.{inner_content, the_reader, block_contents, reads_back}
+use Rattle.reuse_header.proofs.ContentsLemmas.{inner_content, the_reader, block_contents}
+use Rattle.reuse_header.proofs.ReadingLemmas.{reads_back}
 use Rattle.reuse_header.proofs.AgainLemmas.{stands_there, found_bytes, found_contents, form_again}
 use Rattle.reuse_header.proofs.CutLemmas.{span_cuts, block_within, body_first, body_within, mark_within}
 use Rattle.reuse_header.proofs.WrittenLemmas.{IsWritten, written_ok, kept_behind, error_is_ok, settled_ok}

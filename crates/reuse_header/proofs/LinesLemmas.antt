@@ -6,13 +6,11 @@ use Rattle.std.specs.Option.{option_map, option_to_list}
 use Rattle.std.proofs.lemmas.Bool.{eqb-true}
 use Rattle.reuse_text.specs.declared.LineKind.{LineKind}
 use Rattle.reuse_text.specs.Text.{IsLine, AreLines, lines_of, after_mark, ends_in_return}
-use Rattle.reuse_notice.specs.declared.prefixes.Prefix.{Prefix}
 use Rattle.reuse_notice.specs.declared.infos.Info.{Info}
-use Rattle.reuse_notice.specs.Tags.{is_blank, drop_front, drop_end, stripped, leaves_value, prefix_of, tag_of, is_filler}
+use Rattle.reuse_notice.specs.Tags.{is_blank, drop_front, drop_end, stripped, tag_of, is_filler}
 use Rattle.reuse_notice.specs.Contents.{notice_text, contributor_value, licence_value}
 use Rattle.reuse_notice.specs.Adding.{Arguments, additions_of}
 use Rattle.reuse_notice.specs.Plain.{ArePlain}
-use Rattle.reuse_notice.specs.Sets.{set_of, IsSorted}
 use Rattle.reuse_notice.specs.Infos.{info_of, union_of}
 use Rattle.reuse_header.specs.declared.style.Style.{Style}
 use Rattle.reuse_header.specs.declared.style.Style.TheVariants.{Python, C, Css, Html, Haskell, Tex, Lisp, Semicolon, Ml, Vim}
@@ -30,12 +28,14 @@ use Rattle.reuse_header.specs.Neighbour.{replaced_contents}
 use Rattle.reuse_header.specs.Reading.{IsSayable}
 use Rattle.reuse_header.specs.Laws.{AreContents, info_written, neighbour_info_written}
 use Rattle.std.proofs.lemmas.Bool.{cases_Bool as truth}
-use Rattle.reuse_header.proofs.SayableLemmas.{Each, all_of_each, each_of_all, each_both, end_again, notice_whole, value_whole, contributor_read, licence_read, info_sayable, union_sayable, found_clean, neighbour_clean}
+use Rattle.reuse_header.proofs.SayableLemmas.{Each, all_of_each, each_of_all, each_both, notice_whole, value_whole, contributor_read, licence_read, info_sayable, union_sayable, found_clean, neighbour_clean}
 use Rattle.reuse_header.proofs.PlainLemmas.{NoFillers, letters, no_letters, additions_sayable}
-use Rattle.reuse_header.proofs.MergedLemmas.{Merges, merged_sayable}
+use Rattle.reuse_header.specs.LowerLaws.{Known}
+use Rattle.reuse_header.proofs.MergedLemmas.{merged_sayable}
 use Rattle.reuse_notice.proofs.NoneLemmas.{none_append}
 use Rattle.reuse_header.proofs.FeedLemmas.{is_feed, Feedless, feedless_holds, HasNoFeed, found_feedless, neighbour_feedless, additions_feedless, new_feedless}
 use Rattle.reuse_header.proofs.AgainLemmas.{each-joined, each-set_off}
+use Rattle.reuse_notice.proofs.BlankLemmas.{drop_end-twice}
 
 -- ---- no CR at an end
 
@@ -78,7 +78,7 @@ fit_notice : (punct text : List ℕ) → Feedless text → notice_text (tag_of p
 unfolding Fit
 fit_notice punct text f e =
     let whole = notice_whole (stripped punct text) text e in
-    (f, ends_kept is_blank refl text (ap (drop_end is_blank) whole ∙ end_again is_blank (drop_front (is_filler punct) text) ∙ sym whole))
+    (f, ends_kept is_blank refl text (ap (drop_end is_blank) whole ∙ drop_end-twice is_blank (drop_front (is_filler punct) text) ∙ sym whole))
 
 fit_contributor : (punct v : List ℕ) → Feedless v → contributor_value (tag_of punct (contributor_text v)) ≡ Some v → Fit (contributor_text v)
 unfolding Fit
@@ -173,12 +173,6 @@ fit_contents kind lines h = all_of_each (λ line. IsLine (record { content = lin
     each (line ∷ lines) h = (record { no_feed = feedless_holds line h.0.0; bare_feed = λ e. h.0.1; unended = λ e. absurd (let none : ⊥ = cc e in none) }, each lines h.1)
 
 -- ---- the information that is written
-
--- what is known of notices
-pub record Known : Type 0 where
-  pub merges : Merges
-  pub sorted : (texts : List (List ℕ)) → IsSorted (set_of texts)
-  pub none : (text : List ℕ) (prefix : Prefix) → prefix_of text ≡ None → leaves_value text prefix ≡ false
 
 new_sayable : Known → (punct : List ℕ) → NoFillers punct → (contents : List (List ℕ)) (merge : Bool) (arguments : Arguments) → All (λ c. without_returns c ≡ c) contents → ArePlain (additions_of arguments)
     → IsSayable punct (new_info punct contents merge (additions_of arguments))

@@ -24,7 +24,7 @@ use Rattle.reuse_header.specs.Annotation.{Edit, edited, ending_if, kind_of_file,
 use Rattle.reuse_header.specs.Neighbour.{is_text, closed_lines, neighbour_end, replaced_contents, neighbour_written, neighbour_annotation_of, neighbour_annotated}
 use Rattle.reuse_header.specs.Laws.{IsInsertion, neighbour_info_written}
 use Rattle.reuse_header.proofs.SayableLemmas.{Each, each_both}
-use Rattle.reuse_header.proofs.MergedLemmas.{Merges}
+use Rattle.reuse_header.specs.LowerLaws.{Merges}
 use Rattle.reuse_header.proofs.AgainLemmas.{each-joined, each-set_off}
 use Rattle.reuse_header.proofs.BarrierLemmas.{open_lines, lines_cut, end_behind}
 use Rattle.reuse_header.proofs.KeptLemmas.{neighbour_replacing_keeps_others, neighbour_inserting_keeps_others}

@@ -5,21 +5,16 @@ use Rattle.std.proofs.lemmas.List.Elements.{All-contains, All-contains_itself}
 use Rattle.reuse_notice.specs.declared.prefixes.Prefix.{Prefix}
 use Rattle.reuse_notice.specs.declared.infos.Info.{Info}
 use Rattle.reuse_notice.specs.declared.adding.Additions.{Additions}
-use Rattle.reuse_notice.specs.Tags.{NoticeText, is_blank, all_blank, trimmed, leaves_value, prefix_of, notice_of, tag_of}
+use Rattle.reuse_notice.specs.Tags.{leaves_value, prefix_of, tag_of}
 use Rattle.reuse_notice.specs.Contents.{notice_text}
 use Rattle.reuse_notice.specs.Sets.{set_of, IsSorted}
 use Rattle.reuse_notice.specs.Merging.{merged}
 use Rattle.reuse_notice.specs.Infos.{merged_of}
 use Rattle.reuse_notice.specs.Keeping.{IsWrittenOf}
 use Rattle.reuse_header.specs.Reading.{IsSayable}
+use Rattle.reuse_header.specs.LowerLaws.{Merges}
 use Rattle.reuse_header.proofs.SayableLemmas.{IsValue}
 use Rattle.reuse_header.proofs.PlainLemmas.{NoFillers, value_notice}
-
--- what is known of merged notices and of holders
-pub record Merges : Type 0 where
-  pub written : (command notices : List (List ℕ)) (text : List ℕ) → Contains (merged command notices) text → (Contains notices text) ⊎ ((old : List ℕ) × (Contains notices old) × IsWrittenOf old text)
-  pub some : (text : List ℕ) (notice : NoticeText) → notice_of text ≡ Some notice → all_blank notice.holder ≡ false
-  pub trim : (text : List ℕ) (notice : NoticeText) → notice_of text ≡ Some notice → trimmed is_blank notice.holder ≡ notice.holder
 
 -- what holds of the notices, and of those that are written of their holders, holds of merged ones
 pub merged_each : Merges → (P : List ℕ → Type 0) (command notices : List (List ℕ)) → All P notices → ((old text : List ℕ) → P old → IsWrittenOf old text → P text) → All P (merged command notices)

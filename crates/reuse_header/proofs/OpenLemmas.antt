@@ -31,12 +31,14 @@ use Rattle.reuse_header.proofs.CutLemmas.{file_size, mark_within}
 use Rattle.reuse_header.proofs.SpanLemmas.{last-place, last-closed}
 use Rattle.reuse_header.proofs.AgainLemmas.{ended_lines, ended_lines-text, parts_again}
 use Rattle.reuse_header.proofs.WrittenLemmas.{error_is_ok}
-use Rattle.reuse_header.proofs.LawLemmas.{neighbour_ok, text_lines}
-use Rattle.reuse_header.proofs.ReadingLemmas.{neighbour_reader, reads_back}
-use Rattle.reuse_header.proofs.LinesLemmas.{Known, neighbour_sayable}
+use Rattle.reuse_header.proofs.LawLemmas.{NeighbourWritten, neighbour_ok, text_lines}
+use Rattle.reuse_header.proofs.ContentsLemmas.{neighbour_reader}
+use Rattle.reuse_header.proofs.ReadingLemmas.{reads_back}
+use Rattle.reuse_header.proofs.LinesLemmas.{neighbour_sayable}
 use Rattle.reuse_header.proofs.FeedLemmas.{Feedless}
 use Rattle.reuse_header.proofs.KindLemmas.{Begins, mark_plain, replacement_begins}
-use Rattle.reuse_header.proofs.RepeatLemmas.{Laws, same_info, same_text, text_stays, no_splice, settled_yes}
+use Rattle.reuse_header.specs.LowerLaws.{Known, Laws}
+use Rattle.reuse_header.proofs.RepeatLemmas.{same_info, same_text, text_stays, no_splice, settled_yes}
 
 -- ---- lines that are written before others
 
@@ -64,6 +66,17 @@ written_text : (kind : LineKind) (contents : List (List ℕ)) (lines : List Text
 written_text kind contents lines =
     flat_map-append line_bytes (ended_lines kind contents) lines ∙ ap (λ (xs : List ℕ). xs ++ text_of lines) (ended_lines-text kind contents)
 
+-- no line that is written is a barrier, where the first barrier stands behind all of them
+written_clear : (made : List ℕ) (kind : LineKind) (c : List ℕ) (contents : List (List ℕ)) (lines : List TextLine) (start : ℕ)
+    → start + length (ended_by kind (c ∷ contents)) ≤ place_in made (closed_lines (placed start (ended_lines kind (c ∷ contents) ++ lines))) → is_barrier c ≡ true → ⊥
+unfolding ended_lines
+written_clear made kind c contents lines start place e =
+    let first = rw e at place in
+    let n = length-append (c ++ ending_bytes (Some kind)) (ended_by kind contents) in
+    let m = length-append c (ending_bytes (Some kind)) in
+    let some = ending_some kind in
+    omega (arith, first, n, m, some)
+
 -- the contents before the first barrier are those that are written, if the barrier stands right behind them
 open_written : (made : List ℕ) (kind : LineKind) (contents : List (List ℕ)) (lines : List TextLine) (start : ℕ) → AreLines lines → length made ≡ start + length (text_of (ended_lines kind contents ++ lines))
     → place_in made (closed_lines (placed start (ended_lines kind contents ++ lines))) ≡ start + length (ended_by kind contents)
@@ -80,11 +93,7 @@ open_written made kind [] (line ∷ lines) start are whole place = elim (truth (
       absurd (omega (arith, behind, last.0, some)))
 ]
 open_written made kind (c ∷ contents) lines start are whole place = elim (truth (is_barrier c)) [
-  | inl e ↦ (let first = rw e at place in
-      let n = length-append (c ++ ending_bytes (Some kind)) (ended_by kind contents) in
-      let m = length-append c (ending_bytes (Some kind)) in
-      let some = ending_some kind in
-      absurd (omega (arith, first, n, m, some)))
+  | inl e ↦ absurd (written_clear made kind c contents lines start (omega (arith, place)) e)
   | inr e ↦ (let behind = rw e at place in
       let n = length-append (c ++ ending_bytes (Some kind)) (ended_by kind contents) in
       let m = length-append (c ++ ending_bytes (Some kind)) (text_of (ended_lines kind contents ++ lines)) in
@@ -92,14 +101,19 @@ open_written made kind (c ∷ contents) lines start are whole place = elim (trut
       rw e (ap (λ (cs : List (List ℕ)). c ∷ cs) deep))
 ]
 
--- the lines of the neighbour that was made
+-- the lines of a neighbour that begins with what is written
+lines_made : Laws → (made rest : List ℕ) (kind : LineKind) (contents : List (List ℕ)) → after_mark made ≡ ended_by kind contents ++ rest → AreContents kind contents
+    → lines_of (after_mark made) ≡ ended_lines kind contents ++ lines_of rest
+lines_made laws made rest kind contents is good =
+    let lines = ended_lines kind contents ++ lines_of rest in
+    let text : text_of lines ≡ after_mark made = written_text kind contents (lines_of rest) ∙ ap (λ (xs : List ℕ). ended_by kind contents ++ xs) (laws.joined rest) ∙ sym is in
+    sym (laws.only (after_mark made) lines (written_are kind contents (lines_of rest) good (laws.well rest)) text)
+
+-- the contents of the neighbour that was made
 open_made : Laws → (made rest : List ℕ) (kind : LineKind) (contents : List (List ℕ)) → after_mark made ≡ ended_by kind contents ++ rest → AreContents kind contents
     → neighbour_end made ≡ mark_len_of made + length (ended_by kind contents) → open_contents (file_lines made) ≡ contents
 open_made laws made rest kind contents is good place =
-    let ls = ended_lines kind contents ++ lines_of rest in
-    let are = written_are kind contents (lines_of rest) good (laws.well rest) in
-    let text : text_of ls ≡ after_mark made = written_text kind contents (lines_of rest) ∙ ap (λ (xs : List ℕ). ended_by kind contents ++ xs) (laws.joined rest) ∙ sym is in
-    let same : lines_of (after_mark made) ≡ ls = sym (laws.only (after_mark made) ls are text) in
+    let same = lines_made laws made rest kind contents is good in
     let size = file_size made (laws.joined (after_mark made)) in
     let n = ap (λ (xs : List TextLine). length (text_of xs)) same in
     let at = ap (λ (xs : List TextLine). place_in made (closed_lines (placed (mark_len_of made) xs))) (sym same) in
@@ -113,25 +127,18 @@ open_inserted : (made : List ℕ) (kind : LineKind) (contents : List (List ℕ))
 unfolding ended_lines
 open_inserted made kind [] lines start place = (open_contents (placed start lines), refl)
 open_inserted made kind (c ∷ contents) lines start place = elim (truth (is_barrier c)) [
-  | inl e ↦ (let first = rw e at place in
-      let n = length-append (c ++ ending_bytes (Some kind)) (ended_by kind contents) in
-      let m = length-append c (ending_bytes (Some kind)) in
-      let some = ending_some kind in
-      absurd (omega (arith, first, n, m, some)))
+  | inl e ↦ absurd (written_clear made kind c contents lines start place e)
   | inr e ↦ (let behind = rw e at place in
       let n = length-append (c ++ ending_bytes (Some kind)) (ended_by kind contents) in
       let deep = open_inserted made kind contents lines (start + length (c ++ ending_bytes (Some kind))) (omega (arith, behind, n)) in
       rw e (deep.0, ap (λ (cs : List (List ℕ)). c ∷ cs) deep.1))
 ]
 
--- the lines of the neighbour that was made, behind which others may stand
+-- the same, where others may stand behind what is written
 open_begun : Laws → (made rest : List ℕ) (kind : LineKind) (contents : List (List ℕ)) → after_mark made ≡ ended_by kind contents ++ rest → AreContents kind contents
     → mark_len_of made + length (ended_by kind contents) ≤ neighbour_end made → (more : List (List ℕ)) × (open_contents (file_lines made) ≡ contents ++ more)
 open_begun laws made rest kind contents is good place =
-    let ls = ended_lines kind contents ++ lines_of rest in
-    let are = written_are kind contents (lines_of rest) good (laws.well rest) in
-    let text : text_of ls ≡ after_mark made = written_text kind contents (lines_of rest) ∙ ap (λ (xs : List ℕ). ended_by kind contents ++ xs) (laws.joined rest) ∙ sym is in
-    let same : lines_of (after_mark made) ≡ ls = sym (laws.only (after_mark made) ls are text) in
+    let same = lines_made laws made rest kind contents is good in
     let at = ap (λ (xs : List TextLine). place_in made (closed_lines (placed (mark_len_of made) xs))) same in
     let begun = open_inserted made kind contents (lines_of rest) (mark_len_of made) (omega (arith, at, place)) in
     (begun.0, ap (λ (xs : List TextLine). open_contents (placed (mark_len_of made) xs)) same ∙ begun.1)
@@ -198,49 +205,55 @@ read_back laws info s =
     ap (λ (lines : List (List ℕ)). info_of [] (map without_returns lines)) (append-nil (inner_lines neighbour_marks info))
     ∙ reads_back laws.sets [] (λ line. without_returns line) neighbour_marks info neighbour_reader s
 
--- what is read of the neighbour that was made, where the block is replaced
-pub neighbour_opened : Known → Laws → (how : How) (arguments : Arguments) (file : List ℕ) (edit : Edit) → how.replace ≡ true → ArePlain (additions_of arguments)
-    → neighbour_annotation_of how (additions_of arguments) file ≡ Ok edit → info_of [] (neighbour_contents (edited file edit)) ≡ neighbour_info_written how (additions_of arguments) file
-neighbour_opened known laws how arguments file edit replace plain e =
-    let info = neighbour_info_written how (additions_of arguments) file in
-    let made = edited file edit in
-    let kind = kind_of_file file in
-    let lines = block_lines neighbour_marks info in
-    let w = neighbour_ok how (additions_of arguments) file edit e in
-    let written = neighbour_sayable known laws.well how arguments file kind plain in
-    let same = w.same ∙ is_replacement how.replace file (block_text neighbour_marks kind info) replace in
-    let text_is : edit.text ≡ ended_by kind lines = ap (λ (x : Edit). x.text) same ∙ text_lines neighbour_marks kind info in
-    let there = standing how.replace made (text_start edit) (text_end edit) replace w.stands in
-    let d = edit.back ++ drop (edit.start + edit.old_len) file in
-    let after = text_behind file made edit refl (ap (λ (x : Edit). x.start) same) (ap (λ (x : Edit). x.front) same) there.0 ∙ ap (λ (t : List ℕ). t ++ d) text_is in
-    let wide = ap length text_is in
-    ap (λ (cs : List (List ℕ)). info_of [] (map without_returns cs)) (open_made laws made d kind lines after written.1 (omega (arith, there.0, there.1, wide)))
-    ∙ read_back laws info written.0
+-- what is read of the neighbour that was made
+module _ (known : Known) (laws : Laws) (how : How) (arguments : Arguments) (file : List ℕ) (edit : Edit) (plain : ArePlain (additions_of arguments)) (ok : neighbour_annotation_of how (additions_of arguments) file ≡ Ok edit) where
+  abbrev info : Info
+  info = neighbour_info_written how (additions_of arguments) file
 
--- and where it is put in front of others
-pub neighbour_begun : Known → Laws → (how : How) (arguments : Arguments) (file : List ℕ) (edit : Edit) → how.replace ≡ false → ArePlain (additions_of arguments)
-    → neighbour_annotation_of how (additions_of arguments) file ≡ Ok edit
-    → (let info = neighbour_info_written how (additions_of arguments) file in info_of [] (take (length (block_lines neighbour_marks info)) (neighbour_contents (edited file edit))) ≡ info)
-neighbour_begun known laws how arguments file edit add plain e =
-    let info = neighbour_info_written how (additions_of arguments) file in
-    let made = edited file edit in
-    let kind = kind_of_file file in
-    let lines = block_lines neighbour_marks info in
-    let w = neighbour_ok how (additions_of arguments) file edit e in
-    let written = neighbour_sayable known laws.well how arguments file kind plain in
-    let is = is_insertion how.replace file (block_text neighbour_marks kind info) add in
-    let text_is : edit.text ≡ ended_by kind lines = ap (λ (x : Edit). x.text) w.same ∙ is.2 ∙ text_lines neighbour_marks kind info in
-    let there = standing_first how.replace made (text_start edit) (text_end edit) add w.stands in
-    let d = edit.back ++ drop (edit.start + edit.old_len) file in
-    let after = text_behind file made edit refl (ap (λ (x : Edit). x.start) w.same ∙ is.0) (ap (λ (x : Edit). x.front) w.same ∙ is.1) there.0 ∙ ap (λ (t : List ℕ). t ++ d) text_is in
-    let wide = ap length text_is in
-    let begun = open_begun laws made d kind lines after written.1 (omega (arith, there.0, there.1, wide)) in
-    let contents : neighbour_contents made ≡ map without_returns lines ++ map without_returns begun.0 = ap (map without_returns) begun.1 ∙ map-append without_returns lines begun.0 in
-    let n : length lines ≡ length (map without_returns lines) = sym (length-map lines without_returns) in
-    ap (λ (cs : List (List ℕ)). info_of [] (take (length lines) cs)) contents
-    ∙ ap (λ (k : ℕ). info_of [] (take k (map without_returns lines ++ map without_returns begun.0))) n
-    ∙ ap (info_of []) (take-append_seam (map without_returns lines) (map without_returns begun.0))
-    ∙ read_back laws info written.0
+  abbrev made : List ℕ
+  made = edited file edit
+
+  abbrev kind : LineKind
+  kind = kind_of_file file
+
+  abbrev lines : List (List ℕ)
+  lines = block_lines neighbour_marks info
+
+  abbrev behind : List ℕ
+  behind = edit.back ++ drop (edit.start + edit.old_len) file
+
+  written : NeighbourWritten how (additions_of arguments) file edit
+  written = neighbour_ok how (additions_of arguments) file edit ok
+
+  sayable : IsSayable [] info × AreContents kind lines
+  sayable = neighbour_sayable known laws.well how arguments file kind plain
+
+  -- where the block is replaced
+  pub neighbour_opened : how.replace ≡ true → info_of [] (neighbour_contents made) ≡ info
+  neighbour_opened replace =
+      let same = written.same ∙ is_replacement how.replace file (block_text neighbour_marks kind info) replace in
+      let text_is : edit.text ≡ ended_by kind lines = ap (λ (x : Edit). x.text) same ∙ text_lines neighbour_marks kind info in
+      let there = standing how.replace made (text_start edit) (text_end edit) replace written.stands in
+      let after = text_behind file made edit refl (ap (λ (x : Edit). x.start) same) (ap (λ (x : Edit). x.front) same) there.0 ∙ ap (λ (t : List ℕ). t ++ behind) text_is in
+      let wide = ap length text_is in
+      ap (λ (cs : List (List ℕ)). info_of [] (map without_returns cs)) (open_made laws made behind kind lines after sayable.1 (omega (arith, there.0, there.1, wide)))
+      ∙ read_back laws info sayable.0
+
+  -- and where it is put in front of others
+  pub neighbour_begun : how.replace ≡ false → info_of [] (take (length lines) (neighbour_contents made)) ≡ info
+  neighbour_begun add =
+      let is = is_insertion how.replace file (block_text neighbour_marks kind info) add in
+      let text_is : edit.text ≡ ended_by kind lines = ap (λ (x : Edit). x.text) written.same ∙ is.2 ∙ text_lines neighbour_marks kind info in
+      let there = standing_first how.replace made (text_start edit) (text_end edit) add written.stands in
+      let after = text_behind file made edit refl (ap (λ (x : Edit). x.start) written.same ∙ is.0) (ap (λ (x : Edit). x.front) written.same ∙ is.1) there.0 ∙ ap (λ (t : List ℕ). t ++ behind) text_is in
+      let wide = ap length text_is in
+      let begun = open_begun laws made behind kind lines after sayable.1 (omega (arith, there.0, there.1, wide)) in
+      let contents : neighbour_contents made ≡ map without_returns lines ++ map without_returns begun.0 = ap (map without_returns) begun.1 ∙ map-append without_returns lines begun.0 in
+      let n : length lines ≡ length (map without_returns lines) = sym (length-map lines without_returns) in
+      ap (λ (cs : List (List ℕ)). info_of [] (take (length lines) cs)) contents
+      ∙ ap (λ (k : ℕ). info_of [] (take k (map without_returns lines ++ map without_returns begun.0))) n
+      ∙ ap (info_of []) (take-append_seam (map without_returns lines) (map without_returns begun.0))
+      ∙ read_back laws info sayable.0
 
 quiet_edit : (made text : List ℕ) (start end : ℕ) → spliced made start (end - start) ([] ++ (text ++ [])) ≡ made
     → (let edit = replacement start end text in (edited made edit ≡ made) × (answer_of made (Ok edit) ≡ Ok None) × (text_start edit ≡ start) × (text_end edit ≡ start + length text))
@@ -267,7 +280,7 @@ edit_again known laws how arguments file edit replace plain is_text_too e =
     let size = length-append (take edit.start file) edit.front in
     let parts : made ≡ a ++ (edit.text ++ d) = parts_again (take edit.start file) edit.front edit.text edit.back (drop (edit.start + edit.old_len) file) in
     let at : mark_len_of made ≡ length a = omega (arith, there.0, n, size) in
-    let reads = ap (λ (r : Bool). info_of [] (replaced_contents r made)) replace ∙ neighbour_opened known laws how arguments file edit replace plain e in
+    let reads = ap (λ (r : Bool). info_of [] (replaced_contents r made)) replace ∙ neighbour_opened known laws how arguments file edit plain e replace in
     let says = same_info laws [] (replaced_contents how.replace file) (replaced_contents how.replace made) how.merge additions reads in
     let begins = subst (Begins kind) (sym front) (replacement_begins kind) in
     let plain_front : Feedless (take edit.start file) → ends_in_return (take edit.start file) ≡ false = λ f. ap (λ (k : ℕ). ends_in_return (take k file)) start ∙ (mark_plain file).1 in

@@ -17,7 +17,8 @@ use Rattle.reuse_header.specs.declared.style.Style.TheVariants.{Python, C, Css, 
 use Rattle.reuse_header.specs.Styles.{punctuation_of}
 use Rattle.reuse_header.specs.Reading.{AreSayable}
 use Rattle.std.proofs.lemmas.Bool.{cases_Bool as truth}
-use Rattle.reuse_header.proofs.SayableLemmas.{IsValue, Each, all_of_each, each_of_all, each_front, end_all, end_again, end_behind, value_whole, contributor_again, licence_again}
+use Rattle.reuse_header.proofs.SayableLemmas.{IsValue, Each, all_of_each, each_of_all, each_front, end_behind, value_whole, contributor_again, licence_again}
+use Rattle.reuse_notice.proofs.BlankLemmas.{drop_end-twice, drop_end-all}
 
 -- ---- plain texts have spaces alone as blank bytes
 
@@ -169,7 +170,7 @@ notice_reads : (punct : List ℕ) → NoFillers punct → ((text : List ℕ) (pr
 notice_reads punct letters none prefix rest ends =
     let f = facts prefix rest in
     let some : all_blank (32 ∷ rest) ≡ false = elim (truth (all_blank (32 ∷ rest))) [
-      | inl e ↦ absurd (not_longer (prefix_text prefix) rest 32 (sym f.whole ∙ sym (end_all is_blank (prefix_text prefix) (32 ∷ rest) e) ∙ ends))
+      | inl e ↦ absurd (not_longer (prefix_text prefix) rest 32 (sym f.whole ∙ sym (drop_end-all is_blank (prefix_text prefix) (32 ∷ rest) e) ∙ ends))
       | inr e ↦ e
     ] in
     let whole : stripped punct (prefix_text prefix ++ 32 ∷ rest) ≡ prefix_text prefix ++ 32 ∷ rest = ap (drop_end is_blank) (first_stays punct letters prefix (32 ∷ rest)) ∙ ends in
@@ -194,7 +195,7 @@ plain_notice : (punct : List ℕ) → NoFillers punct → ((text : List ℕ) (pr
     → notice_text (tag_of punct (notice_written prefix years holder)) ≡ Some (notice_written prefix years holder)
 plain_notice punct letters none prefix years holder plain =
     let t = notice_written prefix years holder in
-    notice_said punct letters none prefix years holder (ap (drop_end is_blank) (sym (plain_trimmed t plain)) ∙ end_again is_blank (drop_front is_blank t) ∙ plain_trimmed t plain)
+    notice_said punct letters none prefix years holder (ap (drop_end is_blank) (sym (plain_trimmed t plain)) ∙ drop_end-twice is_blank (drop_front is_blank t) ∙ plain_trimmed t plain)
 
 -- what a notice says before its holder
 pub before_holder : (prefix : Prefix) (years : Option Years) (holder : List ℕ) → (front : List ℕ) × (notice_written prefix years holder ≡ front ++ holder)

@@ -16,8 +16,8 @@ use Rattle.reuse_header.specs.Annotation.{Edit, edited, kind_of_file, chosen_for
 use Rattle.reuse_header.specs.Neighbour.{neighbour_annotation_of}
 use Rattle.reuse_header.specs.Laws.{info_written, neighbour_info_written, information_in}
 use Rattle.reuse_header.proofs.LawLemmas.{written_block, read_again}
-use Rattle.reuse_header.proofs.LinesLemmas.{Known, written_sayable}
-use Rattle.reuse_header.proofs.RepeatLemmas.{Laws}
+use Rattle.reuse_header.proofs.LinesLemmas.{written_sayable}
+use Rattle.reuse_header.specs.LowerLaws.{Known, Laws}
 use Rattle.reuse_header.proofs.OpenLemmas.{neighbour_opened, neighbour_begun}
 use Rattle.reuse_header.proofs.WrittenLemmas.{error_is_ok}
 
@@ -56,7 +56,7 @@ pub neighbour_read : Known → Laws → (how : How) (arguments : Arguments) (fil
     → made_by file (neighbour_annotation_of how (additions_of arguments) file) ≡ Ok made → info_of [] (neighbour_contents made) ≡ neighbour_info_written how (additions_of arguments) file
 neighbour_read known laws how arguments file made replace plain =
     of_edit file made (λ (m : List ℕ). info_of [] (neighbour_contents m) ≡ neighbour_info_written how (additions_of arguments) file) (neighbour_annotation_of how (additions_of arguments) file)
-    (λ edit e. neighbour_opened known laws how arguments file edit replace plain e)
+    (λ edit e. neighbour_opened known laws how arguments file edit plain e replace)
 
 pub neighbour_first_read : Known → Laws → (how : How) (arguments : Arguments) (file made : List ℕ) → how.replace ≡ false → ArePlain (additions_of arguments)
     → made_by file (neighbour_annotation_of how (additions_of arguments) file) ≡ Ok made
@@ -64,4 +64,4 @@ pub neighbour_first_read : Known → Laws → (how : How) (arguments : Arguments
 neighbour_first_read known laws how arguments file made add plain =
     let info = neighbour_info_written how (additions_of arguments) file in
     of_edit file made (λ (m : List ℕ). info_of [] (take (length (block_lines neighbour_marks info)) (neighbour_contents m)) ≡ info) (neighbour_annotation_of how (additions_of arguments) file)
-    (λ edit e. neighbour_begun known laws how arguments file edit add plain e)
+    (λ edit e. neighbour_begun known laws how arguments file edit plain e add)

@@ -1,16 +1,15 @@
 -- The same call on the file that annotating made.
 use Rattle.std.proofs.Common.{◌≡◌, ℕ, ◌+◌, ◌-◌, Bool, true, false, List, [], ◌∷◌, ◌++◌, length, length-append, length-take, append_assoc, take, drop, Option, None, Some, refl, sym, ap, subst, ◌∙◌, arith}
-use Rattle.std.specs.Prelude.{Result, Ok, Err, if◌then◌else◌, Contains, ◌↔◌, not, nat_lt}
+use Rattle.std.specs.Prelude.{Result, Ok, Err, if◌then◌else◌, not, nat_lt}
 use Rattle.std.specs.Option.{option_map}
 use Rattle.std.proofs.lemmas.Slice.Eq.{bytes_eq-Decides}
 use Rattle.std.proofs.lemmas.List.{append-nil}
 use Rattle.std.proofs.Math.Seq.{drop-append_seam, take-append_seam}
 use Rattle.reuse_text.specs.declared.LineKind.{LineKind}
-use Rattle.reuse_text.specs.Text.{TextLine, AreLines, lines_of, file_lines, after_mark, text_of, spliced}
+use Rattle.reuse_text.specs.Text.{file_lines, after_mark, spliced}
 use Rattle.reuse_notice.specs.declared.infos.Info.{Info}
 use Rattle.reuse_notice.specs.declared.adding.Additions.{Additions}
 use Rattle.reuse_notice.specs.Infos.{info_of, union_of, merged_of}
-use Rattle.reuse_notice.specs.Sets.{set_of, IsSorted}
 use Rattle.reuse_notice.specs.Adding.{Arguments, additions_of}
 use Rattle.reuse_notice.specs.Plain.{ArePlain}
 use Rattle.reuse_header.specs.declared.style.Style.{Style}
@@ -29,21 +28,13 @@ use Rattle.reuse_header.specs.Laws.{IsBlockText, AreContents, EndsPlainly, info_
 use Rattle.reuse_header.proofs.WrittenLemmas.{error_is_ok}
 use Rattle.reuse_header.proofs.LawLemmas.{annotated_ok, read_again, text_lines, start_within}
 use Rattle.reuse_header.proofs.AgainLemmas.{parts_again}
-use Rattle.reuse_header.proofs.LinesLemmas.{Known, written_sayable}
+use Rattle.reuse_header.specs.LowerLaws.{Known, Laws}
+use Rattle.reuse_header.proofs.LinesLemmas.{written_sayable}
 use Rattle.reuse_header.proofs.FeedLemmas.{Feedless}
 use Rattle.reuse_header.proofs.KindLemmas.{Begins, kind_kept, span_plain, body_plain, insertion_begins, replacement_begins}
 use Rattle.reuse_text.specs.Text.{ends_in_return}
 
 -- ---- the parts of a second call
-
--- what is known of lines, of sets and of notices
-pub record Laws : Type 0 where
-  pub joined : (text : List ℕ) → text_of (lines_of text) ≡ text
-  pub well : (text : List ℕ) → AreLines (lines_of text)
-  pub only : (text : List ℕ) (lines : List TextLine) → AreLines lines → text_of lines ≡ text → lines ≡ lines_of text
-  pub sets : (texts other : List (List ℕ)) → IsSorted other → ((text : List ℕ) → (Contains other text) ↔ (Contains texts text)) → other ≡ set_of texts
-  pub united : (info : Info) (additions : Additions) → union_of (union_of info additions) additions ≡ union_of info additions
-  pub merged : (info : Info) (additions : Additions) → merged_of (union_of (merged_of (union_of info additions) additions) additions) additions ≡ merged_of (union_of info additions) additions
 
 pub same_info : Laws → (punct : List ℕ) (contents later : List (List ℕ)) (merge : Bool) (additions : Additions) → info_of punct later ≡ new_info punct contents merge additions
     → new_info punct later merge additions ≡ new_info punct contents merge additions

@@ -27,6 +27,7 @@ use Rattle.reuse_header.proofs.SplitLemmas.{split_found}
 use Rattle.reuse_header.specs.Writing.{contributor_text, licence_text}
 use Rattle.reuse_header.specs.Reading.{IsSayable, AreSayable}
 use Rattle.std.proofs.lemmas.Bool.{cases_Bool as truth}
+use Rattle.reuse_notice.proofs.BlankLemmas.{drop_end-twice}
 
 -- ---- lists without what passes a test at their ends
 
@@ -44,29 +45,8 @@ module _ {X : Type 0} (front back : X → Bool) where
   ]
 
 module _ {X : Type 0} (test : X → Bool) where
-  all_behind : (xs ys : List X) → list_all test ys ≡ true → list_all test (xs ++ ys) ≡ list_all test xs
-  all_behind [] ys q = q
-  all_behind (x ∷ xs) ys q = ap (λ (b : Bool). test x && b) (all_behind xs ys q)
-
-  pub end_all : (xs ys : List X) → list_all test ys ≡ true → drop_end test (xs ++ ys) ≡ drop_end test xs
-  unfolding drop_end
-  end_all [] [] q = refl
-  end_all [] (y ∷ ys) q = rw q refl
-  end_all (x ∷ xs) ys q = let e = all_behind (x ∷ xs) ys q in rw (e, end_all xs ys q) refl
-
-  end_dropped : (xs : List X) → (tail : List X) × (xs ≡ drop_end test xs ++ tail) × (list_all test tail ≡ true)
-  unfolding drop_end
-  end_dropped [] = ([], refl, refl)
-  end_dropped (x ∷ xs) = elim (truth (list_all test (x ∷ xs))) [
-    | inl e ↦ (x ∷ xs, rw e refl, e)
-    | inr e ↦ (let rest = end_dropped xs in (rest.0, (rw e (ap (λ (ys : List X). x ∷ ys) rest.1)), rest.2))
-  ]
-
-  pub end_again : (xs : List X) → drop_end test (drop_end test xs) ≡ drop_end test xs
-  end_again xs = let d = end_dropped xs in sym (ap (drop_end test) d.1 ∙ end_all (drop_end test xs) d.0 d.2)
-
   trimmed_again : (xs : List X) → trimmed test (trimmed test xs) ≡ trimmed test xs
-  trimmed_again xs = ap (drop_end test) (front_again test test xs) ∙ end_again (drop_front test xs)
+  trimmed_again xs = ap (drop_end test) (front_again test test xs) ∙ drop_end-twice test (drop_front test xs)
 
   none_behind : (xs ys : List X) → list_all test ys ≡ false → list_all test (xs ++ ys) ≡ false
   none_behind [] ys q = q
@@ -95,6 +75,11 @@ module _ {X : Type 0} (test : X → Bool) where
     | inl e ↦ (let h = rw e at q in rw (q, e) (some_end xs h))
     | inr e ↦ rw (q, e) refl
   ]
+
+-- what holds of both holds of the one that a test picks
+pub of_picked : {X : Type 0} (P : X → Type 0) (b : Bool) (x y : X) → P x → P y → P (if b then x else y)
+of_picked P true x y p q = p
+of_picked P false x y p q = q
 
 -- ---- facts on each element
 
@@ -172,7 +157,7 @@ notice_whole text t e = by_tags (value_after licence_lead text) (value_after con
 notice_again : (punct content t : List ℕ) → notice_text (tag_of punct content) ≡ Some t → notice_text (tag_of punct t) ≡ Some t
 notice_again punct content t e =
     let whole = notice_whole (stripped punct content) t e in
-    let again : stripped punct (stripped punct content) ≡ stripped punct content = ap (drop_end is_blank) (front_again (is_filler punct) is_blank content) ∙ end_again is_blank (drop_front (is_filler punct) content) in
+    let again : stripped punct (stripped punct content) ≡ stripped punct content = ap (drop_end is_blank) (front_again (is_filler punct) is_blank content) ∙ drop_end-twice is_blank (drop_front (is_filler punct) content) in
     ap (λ (s : List ℕ). notice_text (tag_of punct s)) whole ∙ ap (λ (s : List ℕ). notice_text (tag_in s)) again ∙ e
 
 -- a value without outer blank bytes
@@ -222,7 +207,7 @@ licence_read text v e = value_read licence_lead text v (licence_is text v e)
 
 -- a value has no blank bytes at its end
 pub value_whole : (v : List ℕ) → IsValue v → drop_end is_blank v ≡ v
-value_whole v is = ap (drop_end is_blank) (sym is.trim) ∙ end_again is_blank (drop_front is_blank v) ∙ is.trim
+value_whole v is = ap (drop_end is_blank) (sym is.trim) ∙ drop_end-twice is_blank (drop_front is_blank v) ∙ is.trim
 
 -- a value behind its tag, where the first letter of the tag is no punctuation
 value_stripped : (punct lead v : List ℕ) → is_filler punct 83 ≡ false → IsValue v → stripped punct ((83 ∷ lead) ++ v) ≡ (83 ∷ lead) ++ v
@@ -298,7 +283,7 @@ clean content = without_returns content ≡ content
 
 returns_clean : (content : List ℕ) → clean (without_returns content)
 unfolding clean
-returns_clean content = end_again is_return content
+returns_clean content = drop_end-twice is_return content
 
 line_clean : (style : Style) (form : Form) (is_first is_last : Bool) (line : List ℕ) → Each clean (option_to_list (line_content style form is_first is_last line))
 unfolding Each single_content multi_content

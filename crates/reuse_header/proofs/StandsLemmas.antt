@@ -21,7 +21,7 @@ some_same x y e = cc
 
 -- ---- the front of bytes
 
-begins_stands : (text bytes : List ℕ) → starts_with nat_eq bytes text ≡ true → (back : List ℕ) × (bytes ≡ text ++ back)
+pub begins_stands : (text bytes : List ℕ) → starts_with nat_eq bytes text ≡ true → (back : List ℕ) × (bytes ≡ text ++ back)
 begins_stands [] bytes e = (bytes, refl)
 begins_stands (t ∷ text) [] e = absurd (false≢true e)
 begins_stands (t ∷ text) (b ∷ bytes) e =

@@ -1,5 +1,5 @@
 -- Reading a project's file of styles: its texts one by one, and the first refusal among its names.
-use Rattle.std.proofs.Common.{◌≡◌, ℕ, Bool, true, false, cond, List, [], ◌∷◌, ◌++◌, map, append_assoc, append-nil, length, get_or, drop, drop-cons, add-one, ◌+◌, ◌<◌, ◌≤◌, Option, Some, None, Result, Ok, Err, refl, sym, ap, ◌∙◌, subst}
+use Rattle.std.proofs.Common.{◌≡◌, ℕ, Bool, false, cond, List, [], ◌∷◌, ◌++◌, map, append_assoc, append-nil, length, get_or, drop, drop-cons, add-one, ◌+◌, ◌<◌, ◌≤◌, Option, Some, None, Result, Ok, Err, refl, sym, ap, ◌∙◌, subst}
 use Rattle.std.specs.Prelude.{is_none, is_some, if◌then◌else◌}
 use Rattle.std.specs.List.{list_any, cons_option}
 use Rattle.std.specs.List.Sorted.{IsStrictlySortedBy}
@@ -8,11 +8,11 @@ use Rattle.std.specs.Ordering.{nat_cmp}
 use Rattle.std.specs.Cmp.Lexicographic.{slice_cmp}
 use Rattle.std.specs.Map.{keys_of}
 use Rattle.std.specs.BTreeMap.{BTreeMap, get, is_at, insert_entry}
-use Rattle.std.specs.Str.{is_utf8, IsUtf8, str_to_ascii_lowercase, str_eq_ignore_ascii_case}
+use Rattle.std.specs.Str.{IsUtf8, str_to_ascii_lowercase, str_eq_ignore_ascii_case}
 use Rattle.std.proofs.lemmas.List.{drop_all, map-append}
-use Rattle.std.proofs.lemmas.Str.{IsUtf8-from_is_utf8, is_utf8-from_IsUtf8}
 use Rattle.toml.specs.Data.{Data, string, integer, float, boolean, datetime, array, table, as_str, Members, member}
 use Rattle.toml.specs.Parse.{parse_document}
+use Rattle.reuse_text.proofs.Utf8Lemmas.{read_if_utf8}
 use Rattle.reuse_header.specs.declared.style.Kind.{Kind}
 use Rattle.reuse_header.specs.declared.style_refusal.StylesRefusal.{StylesRefusal}
 use Rattle.reuse_header.specs.declared.style_refusal.StylesRefusal.TheVariants.{NotToml, BadShape, BadName, BadStyle, Repeated, Memory}
@@ -121,19 +121,6 @@ added names new earlier entries name text key kind keyed good is lower before ab
           (inserted ∙ ap (λ (k : List ℕ). insert_entry (slice_cmp nat_cmp) names.entries k kind) lower) ordered,
     )
 
--- ---- the document
-
--- bytes that are the text of a document, and bytes that are none
-pub document_is : (bytes : List ℕ) (document : Members) → IsUtf8 bytes → parse_document bytes ≡ Some document → read_document bytes ≡ Some document
-document_is bytes document text e = rw (is_utf8-from_IsUtf8 bytes text) e
-
-pub document_none : (bytes : List ℕ) → (IsUtf8 bytes → parse_document bytes ≡ None) → read_document bytes ≡ None
-document_none bytes unread = by_test (is_utf8 bytes) refl
-  where
-    by_test : (b : Bool) → is_utf8 bytes ≡ b → cond b (parse_document bytes) None ≡ None
-    by_test true e = unread (IsUtf8-from_is_utf8 bytes e)
-    by_test false e = refl
-
 -- ---- the same, at a place among texts as the code has them
 
 module _ {X : Type 0} (seen : X → NamedText) where
@@ -194,7 +181,7 @@ no_keys = record { lowered = refl; ordered = tt }
 -- the answer of a file is that of the texts of its document
 pub answer_by : (bytes : List ℕ) (document : Members) (texts : Option (List NamedText)) → IsUtf8 bytes → parse_document bytes ≡ Some document → texts_of_document document ≡ texts
     → styles_in (read_document bytes) ≡ own_names texts
-answer_by bytes document texts utf8 parsed are = ap styles_in (document_is bytes document utf8 parsed) ∙ ap own_names are
+answer_by bytes document texts utf8 parsed are = ap styles_in (read_if_utf8 parse_document bytes (Some document) utf8 parsed) ∙ ap own_names are
 
 -- the same, of texts that the code lends
 pub answer_lent : {X : Type 0} (seen : X → NamedText) (bytes : List ℕ) (document : Members) (texts lent : List X) → IsUtf8 bytes → parse_document bytes ≡ Some document → texts_of_document document ≡ Some (map seen texts)

@@ -5,9 +5,9 @@ ghost use Rattle.reuse_header.specs.Search.{holds};
 ghost use Rattle.reuse_header.specs.Marks.{marks_view};
 ghost use Rattle.reuse_header.specs.Writing.{holds_closer, inner_lines, no_lines};
 
-use crate::search::{holds, trim_blank_end};
+use crate::search::holds;
 use crate::writer::{Marks, is_joined};
-use reuse_notice::Info;
+use reuse_notice::{Info, trim_blank_end};
 use reuse_text::Bytes;
 use std::alloc::{AllocError, Global};
 

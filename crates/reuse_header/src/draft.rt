@@ -1,5 +1,6 @@
 //! The edit that writes a header block, before it is seen whether the block would be found again.
-ghost use Rattle.std.specs.Prelude.{◌+◌, ◌≤◌, length};
+ghost use Rattle.std.specs.Prelude.{◌≡◌, ◌+◌, ◌-◌, ◌^◌, ◌<◌, ◌≤◌, IfOk, length};
+ghost use Rattle.reuse_text.specs.Text.{spliced};
 ghost use Rattle.reuse_header.specs.Marks.{marks_view};
 ghost use Rattle.reuse_header.specs.Writing.{block_text};
 ghost use Rattle.reuse_header.specs.Annotation.{size_limit};
@@ -9,8 +10,8 @@ use crate::annotation::HeaderRefusal;
 use crate::place::Place;
 use crate::writer::{Format, LineWriter, Marks};
 use reuse_notice::Info;
-use reuse_text::{Bytes, LineKind};
-use std::alloc::Global;
+use reuse_text::{Bytes, LineKind, splice};
+use std::alloc::{AllocError, Global};
 
 // The longest file, 16 MiB.
 const SIZE_LIMIT: usize = 16_777_216;
@@ -23,6 +24,17 @@ pub(crate) struct Draft {
     pub(crate) new: Bytes,
     pub(crate) text_start: usize,
     pub(crate) text_end: usize,
+}
+
+impl Draft {
+    // The file that the edit makes.
+    pub(crate) fn made(&self, alloc: Global, file: &[u8]) -> Result<Vec<u8>, AllocError>
+        requires within { self.now.start + self.now.old_len ≤ length file.now }
+        requires fits { length file.now - self.now.old_len + length self.now.new < 2 ^ 64 }
+        ensures { IfOk result (λ made. made.items ≡ spliced file.now self.now.start self.now.old_len self.now.new) }
+    {
+        splice(alloc, file, self.start, self.old_len, self.new.as_slice())
+    }
 }
 
 // The edit that writes a block into a place, unless it makes the file too long.

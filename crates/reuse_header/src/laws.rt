@@ -24,6 +24,7 @@ ghost use Rattle.reuse_notice.specs.Infos.{info_of, union_of, merged_of};
 ghost use Rattle.reuse_text.specs.declared.LineKind.{LineKind};
 ghost use Rattle.reuse_text.specs.Text.{file_lines, mark_len_of};
 ghost use Rattle.reuse_header.specs.Laws.{part, IsFirstPlace, StandsNowhere, IsEndedBy, IsEnclosed, IsCutAtBarrier, IsInsertion, Keeps, IsBlockText, ReadsAs, AreContents, EndsPlainly, information_in, info_written, neighbour_info_written};
+ghost use Rattle.reuse_header.specs.LowerLaws.{Known, Laws};
 ghost use Rattle.reuse_header.specs.Splices.{answer_of};
 ghost use Rattle.reuse_header.specs.Split.{AreCommentBlocks, comment_blocks, IsSplit, IsHeaderBlock, HasNoHeader};
 ghost use Rattle.std.specs.List.{after_last};
@@ -38,6 +39,19 @@ use reuse_notice::{
     repeating_adds_nothing, sets_are_one,
 };
 use reuse_text::lines_are_one;
+
+// What the laws of the crates below say, as the proofs of this crate's laws take it.
+fn lower_laws()
+    ensures known { Known }
+    ensures laws { Laws }
+{
+    lines_are_one();
+    sets_are_one();
+    longest_prefix_counts();
+    merged_notices_are_written();
+    holders_are_values();
+    repeating_adds_nothing();
+}
 
 /// The comment blocks of open lines are one answer: the block whose form begins at a line, unless the line
 /// is a later line of another block.
@@ -172,10 +186,7 @@ pub fn information_is_sayable()
     ensures added { (style : Style) (arguments : Arguments) → ArePlain (additions_of arguments)
         → AreSayable (punctuation_of style) (additions_of arguments) × AreSayable [] (additions_of arguments) }
 {
-    longest_prefix_counts();
-    sets_are_one();
-    merged_notices_are_written();
-    holders_are_values();
+    lower_laws();
 }
 
 /// The information that annotating writes reads back, and its lines are the contents of lines: they hold no
@@ -188,11 +199,7 @@ pub fn written_information_is_sayable()
         → let info = neighbour_info_written how (additions_of arguments) file in
         (IsSayable [] info) × (AreContents kind (block_lines neighbour_marks info)) }
 {
-    lines_are_one();
-    sets_are_one();
-    longest_prefix_counts();
-    merged_notices_are_written();
-    holders_are_values();
+    lower_laws();
 }
 
 /// What is read of the file that annotating made is the information that was to be written: its header block says that, or a
@@ -206,12 +213,7 @@ pub fn annotated_files_read_back()
         → let info = neighbour_info_written how (additions_of arguments) file in
         info_of [] (take (length (block_lines neighbour_marks info)) (neighbour_contents made)) ≡ info }
 {
-    lines_are_one();
-    sets_are_one();
-    longest_prefix_counts();
-    merged_notices_are_written();
-    holders_are_values();
-    repeating_adds_nothing();
+    lower_laws();
 }
 
 /// What annotating makes of text is text, UTF-8 without a NUL byte, where the additions are plain and UTF-8, as `Additions::new` makes
@@ -222,9 +224,7 @@ pub fn annotated_texts_are_texts()
     ensures neighbours { (how : How) (additions : Additions) (file made : List ℕ) → ArePlain additions → AreUtf8 additions → neighbour_annotated how additions file ≡ Ok made
         → (is_text file ≡ true) × (is_text made ≡ true) }
 {
-    lines_are_one();
-    merged_notices_are_written();
-    holders_are_values();
+    lower_laws();
 }
 
 /// Where old blocks are replaced, the same call on the file that annotating made changes nothing. One file is
@@ -237,12 +237,7 @@ pub fn annotating_again_changes_nothing()
     ensures neighbours { (how : How) (arguments : Arguments) (file made : List ℕ) → how.replace ≡ true → ArePlain (additions_of arguments) → AreUtf8 (additions_of arguments)
         → neighbour_annotated how (additions_of arguments) file ≡ Ok made → answer_of made (neighbour_annotation_of how (additions_of arguments) made) ≡ Ok None }
 {
-    lines_are_one();
-    sets_are_one();
-    longest_prefix_counts();
-    merged_notices_are_written();
-    holders_are_values();
-    repeating_adds_nothing();
+    lower_laws();
     annotated_texts_are_texts();
 }
 

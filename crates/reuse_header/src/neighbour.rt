@@ -14,7 +14,7 @@ use crate::place::{neighbour_end, neighbour_place};
 use crate::search::trim_returns;
 use crate::writer::Marks;
 use reuse_notice::{Additions, Info};
-use reuse_text::{Lines, is_text, line_kind, mark_len, splice};
+use reuse_text::{Lines, is_text, line_kind, mark_len};
 use std::alloc::{AllocError, Global};
 
 // A neighbour file has no marks of a comment.
@@ -70,13 +70,7 @@ fn write_neighbour(
 {
     let place = neighbour_place(file, replace);
     let draft = make_draft(alloc, file, place, line_kind(file), NEIGHBOUR_MARKS, info)?;
-    let made = splice(
-        alloc,
-        file,
-        draft.start,
-        draft.old_len,
-        draft.new.as_slice(),
-    )?;
+    let made = draft.made(alloc, file)?;
     if !neighbour_stands(replace, made.as_slice(), draft.text_start, draft.text_end) {
         return Err(HeaderRefusal::Unsettled);
     }

@@ -14,6 +14,9 @@ use std::alloc::{AllocError, Global};
 use std::collections::BTreeMap;
 use toml::{Table, Value};
 
+// Names, each with the text that stands for its kind.
+type NamedTexts<'t> = Vec<(&'t str, &'t str)>;
+
 /// The names of a file in lower case, with their kinds.
 pub(crate) fn read_names(alloc: Global, file: &[u8]) -> Result<BTreeMap<Bytes, Kind>, StylesRefusal>
     ensures ok { IfOk result (λ names. (own : List ℕ → Option Kind) × (styles_in (read_document file.now) ≡ Ok own) × IsKeyed names own) }
@@ -39,7 +42,7 @@ pub(crate) fn read_names(alloc: Global, file: &[u8]) -> Result<BTreeMap<Bytes, K
 fn texts_of_document<'t>(
     alloc: Global,
     document: &'t Table,
-) -> Result<Option<Vec<(&'t str, &'t str)>>, AllocError>
+) -> Result<Option<NamedTexts<'t>>, AllocError>
     ensures { IfOk result (λ texts. texts_of_document (table_view document.now) ≡ option_map (λ v. map (λ t. (t.0.now, t.1.now)) v.items) texts) }
 {
     let mut entries = document.iter();
@@ -74,10 +77,7 @@ fn is_version(version: &Value) -> bool
 
 // The names and texts of a table, where each value is a text.
 #[tactic(auto, unfolding(crate::specs::StyleFile::texts_in))]
-fn texts_of_table<'t>(
-    alloc: Global,
-    names: &'t Table,
-) -> Result<Option<Vec<(&'t str, &'t str)>>, AllocError>
+fn texts_of_table<'t>(alloc: Global, names: &'t Table) -> Result<Option<NamedTexts<'t>>, AllocError>
     ensures { IfOk result (λ texts. texts_in (table_view names.now) ≡ option_map (λ v. map (λ t. (t.0.now, t.1.now)) v.items) texts) }
 {
     let mut texts = Vec::new(alloc);

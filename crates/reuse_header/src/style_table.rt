@@ -8,10 +8,10 @@ ghost use Rattle.reuse_header.specs.Names.{lookup, joined, kind_in};
 ghost use Rattle.reuse_header.specs.StyleFile.{styles_of, IsRefused};
 ghost use Rattle.reuse_header.specs.Keyed.{AreKeys};
 
-use crate::style::{Kind, NAMES, ending, last_part, lookup};
+use crate::style::{Kind, NAMES, ending, lookup};
 use crate::style_file::read_names;
 use crate::style_refusal::StylesRefusal;
-use reuse_text::Bytes;
+use reuse_text::{Bytes, last_part};
 use std::alloc::{AllocError, Global};
 use std::cmp::Ordering;
 use std::collections::BTreeMap;
@@ -62,7 +62,6 @@ impl StyleTable {
 
     /// The kind of a path's last part, by its whole name or else by its ending, where letters of either case are the
     /// same, and the project's own names come before the table's.
-    #[tactic(auto, unfolding(crate::specs::Names::kind_in))]
     pub fn style_of(&self, name: &str) -> Kind
         ensures { result ≡ kind_in (lookup self.now) name.now }
     {

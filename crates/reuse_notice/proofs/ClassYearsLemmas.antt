@@ -74,45 +74,39 @@ module _ (a b : Years) (ys : List (Option Years)) where
   unfolding joint
   joint_high = refl
 
-  low_of : (w : Years) → Has (Some joint ∷ ys) w → (v : Years) × Has all v × (v.low ≡ w.low)
-  low_of w (inl e) =
-      let low : joint.low ≡ w.low = ap (λ (z : Years). z.low) (joint_is w e) in
-      elim (lower_is a.low b.low) [
-        | inl m ↦ (a, inl refl, sym m ∙ sym joint_low ∙ low)
-        | inr m ↦ (b, inr (inl refl), sym m ∙ sym joint_low ∙ low)
-      ]
-  low_of w (inr h) = (w, inr (inr h), refl)
+  lower : (a.low ≡ joint.low) ⊎ (b.low ≡ joint.low)
+  lower = elim (lower_is a.low b.low) [ inl m ↦ inl (sym m ∙ sym joint_low) | inr m ↦ inr (sym m ∙ sym joint_low) ]
 
-  high_of : (w : Years) → Has (Some joint ∷ ys) w → (v : Years) × Has all v × (v.high ≡ w.high)
-  high_of w (inl e) =
-      let high : joint.high ≡ w.high = ap (λ (z : Years). z.high) (joint_is w e) in
-      elim (higher_is a.high b.high) [
-        | inl m ↦ (a, inl refl, sym m ∙ sym joint_high ∙ high)
-        | inr m ↦ (b, inr (inl refl), sym m ∙ sym joint_high ∙ high)
-      ]
-  high_of w (inr h) = (w, inr (inr h), refl)
+  higher : (a.high ≡ joint.high) ⊎ (b.high ≡ joint.high)
+  higher = elim (higher_is a.high b.high) [ inl m ↦ inl (sym m ∙ sym joint_high) | inr m ↦ inr (sym m ∙ sym joint_high) ]
+
+  -- an end that one of the two shares with the joint years is an end of one of all
+  end_of : (end : Years → ℕ) → (end a ≡ end joint) ⊎ (end b ≡ end joint) → (w : Years) → Has (Some joint ∷ ys) w → (v : Years) × Has all v × (end v ≡ end w)
+  end_of end shared w (inl e) = let same = ap end (joint_is w e) in elim shared [ inl m ↦ (a, inl refl, m ∙ same) | inr m ↦ (b, inr (inl refl), m ∙ same) ]
+  end_of end shared w (inr h) = (w, inr (inr h), refl)
 
   -- each is within one of the others
   within_joint : (span w : Years) → ((v : Years) → Has (Some joint ∷ ys) v → (span.low ≤ v.low) × (v.high ≤ span.high)) → Has all w → (span.low ≤ w.low) × (w.high ≤ span.high)
-  within_joint span w f (inl e) =
-      let g = f joint (inl refl) in
-      let same : a ≡ w = cc e in
-      let low = ap (λ (z : Years). z.low) same in
-      let high = ap (λ (z : Years). z.high) same in
-      (omega (arith, g.0, low, joint_low), omega (arith, g.1, high, joint_high))
-  within_joint span w f (inr (inl e)) =
-      let g = f joint (inl refl) in
-      let same : b ≡ w = cc e in
-      let low = ap (λ (z : Years). z.low) same in
-      let high = ap (λ (z : Years). z.high) same in
-      (omega (arith, g.0, low, joint_low), omega (arith, g.1, high, joint_high))
-  within_joint span w f (inr (inr h)) = f w (inr h)
+  within_joint span w f h = by h
+    where
+      part : (c : Years) → joint.low ≤ c.low → c.high ≤ joint.high → Some c ≡ Some w → (span.low ≤ w.low) × (w.high ≤ span.high)
+      part c low high e =
+          let g = f joint (inl refl) in
+          let same : c ≡ w = cc e in
+          let lows = ap (λ (z : Years). z.low) same in
+          let highs = ap (λ (z : Years). z.high) same in
+          (omega (arith, g.0, low, lows), omega (arith, g.1, high, highs))
+
+      by : Has all w → (span.low ≤ w.low) × (w.high ≤ span.high)
+      by (inl e) = part a (omega (arith, joint_low)) (omega (arith, joint_high)) e
+      by (inr (inl e)) = part b (omega (arith, joint_low)) (omega (arith, joint_high)) e
+      by (inr (inr h)) = f w (inr h)
 
   apart : (o : Option Years) → AreTogether (Some joint ∷ ys) o → AreTogether all o
   apart None h = absurd (h joint (inl refl))
   apart (Some span) h =
-      let low = low_of h.lowest.0 h.lowest.1 in
-      let high = high_of h.highest.0 h.highest.1 in
+      let low = end_of (λ z. z.low) lower h.lowest.0 h.lowest.1 in
+      let high = end_of (λ z. z.high) higher h.highest.0 h.highest.1 in
       record {
         lowest = (low.0, low.1, low.2 ∙ h.lowest.2);
         highest = (high.0, high.1, high.2 ∙ h.highest.2);

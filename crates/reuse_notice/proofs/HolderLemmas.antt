@@ -11,10 +11,11 @@ use Rattle.reuse_notice.specs.Tags.{NoticeText, is_blank, all_blank, drop_front,
 use Rattle.reuse_notice.specs.Merging.{class_of, class_text, class_prefix, class_years, merged_as, merged}
 use Rattle.reuse_notice.specs.Keeping.{IsWrittenOf}
 use Rattle.std.proofs.lemmas.Bool.{cases_Bool as truth}
-use Rattle.reuse_notice.proofs.PlainLemmas.{class-digits, and-parts, all-drop_end, drop_end-twice, drop_front-kept}
+use Rattle.reuse_notice.proofs.PlainLemmas.{class-digits, and-parts, drop_front-kept}
+use Rattle.reuse_notice.proofs.BlankLemmas.{all-drop_end, drop_end-twice}
 use Rattle.reuse_notice.proofs.PrefixLemmas.{found_passes}
 use Rattle.reuse_notice.proofs.SetLemmas.{In-from_contains, Contains-from_in, In-set_of}
-use Rattle.reuse_notice.proofs.RepeatLemmas.{In-from_map, class_text-is}
+use Rattle.reuse_notice.proofs.ClassLemmas.{In-from_map, class_text-is}
 
 -- ---- what is left is not blank
 

@@ -16,7 +16,7 @@ use Rattle.reuse_notice.proofs.BlankLemmas.{truth}
 use Rattle.reuse_notice.proofs.SetLemmas.{In, In-from_contains, Contains-from_in, above, sorted-head, sorted-tail}
 use Rattle.reuse_notice.proofs.KeepingLemmas.{Among, among-class}
 use Rattle.reuse_notice.proofs.ClassYearsLemmas.{Has, AreTogether, class_together, has_notice, notice_has}
-use Rattle.reuse_notice.proofs.RepeatLemmas.{among_yes, among_in, text_kept, named}
+use Rattle.reuse_notice.proofs.ClassLemmas.{among_yes, among_in, text_kept, named}
 
 -- ---- the notices of a class
 

@@ -22,29 +22,11 @@ use Rattle.reuse_notice.specs.Texts.{texts_of}
 use Rattle.reuse_notice.specs.Adding.{is_space, is_control, is_bad_text, holds, ignore_start, snippet_begin, without_spaces, four_digits, years_text, chosen_years, notice_written}
 use Rattle.reuse_notice.specs.Plain.{IsPlain}
 use Rattle.std.proofs.lemmas.Bool.{cases_Bool as truth}
+use Rattle.reuse_notice.proofs.BlankLemmas.{drop_end-twice}
 
 -- ---- what is left at the ends
 
 module _ {X : Type 0} (test : X → Bool) where
-  pub all-drop_end : (xs : List X) → list_all test (drop_end test xs) ≡ list_all test xs
-  unfolding drop_end
-  all-drop_end [] = refl
-  all-drop_end (x ∷ xs) = elim (truth (list_all test (x ∷ xs))) [
-    | inl e ↦ rw e refl
-    | inr e ↦ (let f : list_all test (cond (list_all test (x ∷ xs)) [] (x ∷ drop_end test xs)) ≡ list_all test (x ∷ drop_end test xs) = rw e refl in
-        f ∙ ap (λ b. test x && b) (all-drop_end xs))
-  ]
-
-  -- what is dropped at the end is dropped once
-  pub drop_end-twice : (xs : List X) → drop_end test (drop_end test xs) ≡ drop_end test xs
-  unfolding drop_end
-  drop_end-twice [] = refl
-  drop_end-twice (x ∷ xs) = elim (truth (list_all test (x ∷ xs))) [
-    | inl e ↦ rw e refl
-    | inr e ↦ (let f : list_all test (x ∷ drop_end test xs) ≡ false = ap (λ b. test x && b) (all-drop_end xs) ∙ e in
-        rw e (rw f (ap (λ ys. x ∷ ys) (drop_end-twice xs))))
-  ]
-
   -- the first element that is kept stays the first
   pub drop_front-kept : (xs : List X) → drop_front test (drop_end test (drop_front test xs)) ≡ drop_end test (drop_front test xs)
   unfolding drop_front drop_end

@@ -13,6 +13,7 @@ use Rattle.std.proofs.lemmas.Str.{IsUtf8-nil, IsUtf8-append, IsUtf8-take, IsUtf8
 use Rattle.reuse_notice.specs.Adding.{is_space, without_spaces}
 use Rattle.reuse_notice.specs.Tags.{drop_front, drop_end, trimmed}
 use Rattle.reuse_notice.proofs.NoneLemmas.{none_append, none_front, none_end}
+use Rattle.reuse_notice.proofs.BlankLemmas.{dropped_end}
 
 abbrev pub is_nul : ℕ → Bool
 is_nul b = b == 0
@@ -115,16 +116,8 @@ module _ (test : ℕ → Bool) (low : (b : ℕ) → test b ≡ true → is_low b
       and_true true b e f = f
       and_true false b e f = absurd (false≢true e)
 
-  end_parts : (xs : List ℕ) → (rest : List ℕ) × (xs ≡ drop_end test xs ++ rest) × (list_all test rest ≡ true)
-  unfolding drop_end
-  end_parts [] = ([], refl, refl)
-  end_parts (x ∷ xs) = elim (truth (list_all test (x ∷ xs))) [
-    | inl e ↦ rw e (x ∷ xs, refl, e)
-    | inr e ↦ (let deep = end_parts xs in rw e (deep.0, ap (λ (ys : List ℕ). x ∷ ys) deep.1, deep.2))
-  ]
-
   utf8_end : (xs : List ℕ) → IsUtf8 xs → IsUtf8 (drop_end test xs)
-  utf8_end xs u = let parts = end_parts xs in utf8_before (drop_end test xs) parts.0 (subst IsUtf8 parts.1 u) (low_utf8 parts.0 (all_low parts.0 parts.2))
+  utf8_end xs u = let parts = dropped_end test xs in utf8_before (drop_end test xs) parts.0 (subst IsUtf8 parts.1 u) (low_utf8 parts.0 (all_low parts.0 parts.2))
 
   pub utf8_trimmed : (xs : List ℕ) → IsUtf8 xs → IsUtf8 (trimmed test xs)
   utf8_trimmed xs u = utf8_end (drop_front test xs) (utf8_front xs u)

@@ -11,6 +11,7 @@ use crate::expressions::find_fault;
 use crate::prefixes::Prefix;
 use crate::tags::{Years, parse_year};
 use crate::text_lists::Texts;
+use crate::trims::{trim_end_with, trim_start_with};
 use reuse_text::Bytes;
 use std::alloc::{AllocError, Global};
 use thiserror::Error;
@@ -185,37 +186,8 @@ fn trim_spaces(text: &str) -> &[u8]
     ensures value { result.now ≡ without_spaces text.now }
     ensures utf8 { IsUtf8 result.now }
 {
-    trim_spaces_end(trim_spaces_start(text.as_bytes()))
-}
-
-// Whether a byte is a space.
-fn is_space_byte(b: u8) -> bool
-    ensures { result ≡ is_space b }
-{
-    b == b' '
-}
-
-// The bytes from the first one on that is no space.
-fn trim_spaces_start(bytes: &[u8]) -> &[u8]
-    ensures { result.now ≡ drop_front is_space bytes.now }
-{
-    for (i, b) in bytes.iter().enumerate() {
-        if !is_space_byte(*b) {
-            return &bytes[i..];
-        }
-    }
-    &[]
-}
-
-// The bytes up to the last one that is no space.
-fn trim_spaces_end(bytes: &[u8]) -> &[u8]
-    ensures { result.now ≡ drop_end is_space bytes.now }
-{
-    let mut end = bytes.len();
-    while end > 0 && is_space_byte(bytes[end - 1]) {
-        end -= 1;
-    }
-    &bytes[..end]
+    let text = trim_start_with(text.as_bytes(), |b| b == b' ');
+    trim_end_with(text, |b| b == b' ')
 }
 
 // The years from the lowest to the highest, or else the current one, unless they are excluded.

@@ -64,18 +64,8 @@ impl Info {
     pub fn merge(self, alloc: Global, additions: &Additions) -> Result<Info, AllocError>
         ensures { IfOk result (λ info. info ≡ merged_of self additions.now) }
     {
-        let Info {
-            notices,
-            contributors,
-            licences,
-            free,
-        } = self;
-        Ok(Info {
-            notices: merge_notices(alloc, notices.as_slice(), additions.notices.as_slice())?,
-            contributors,
-            licences,
-            free,
-        })
+        let notices = merge_notices(alloc, self.notices.as_slice(), additions.notices.as_slice())?;
+        Ok(Info { notices, ..self })
     }
 
     /// The texts of the notices, in byte order.

@@ -11,8 +11,10 @@ mod merging;
 mod prefixes;
 mod tags;
 mod text_lists;
+mod trims;
 
 pub use adding::{Additions, NoticeRefusal};
+pub use blanks::{is_all_blank, is_all_filler, trim_blank_end};
 pub use expressions::{BadExpression, check_expression};
 pub use infos::Info;
 pub use laws::{
@@ -22,3 +24,4 @@ pub use laws::{
 pub use prefixes::Prefix;
 pub use tags::{Notice, Tag, Years, read_tag};
 pub use text_lists::{TextSet, Texts};
+pub use trims::{trim_end_with, trim_start_with};

@@ -4,8 +4,9 @@ use Rattle.std.specs.Prelude.{unwrap_or}
 use Rattle.std.specs.Option.{option_map}
 use Rattle.std.specs.Str.{bytes_eq}
 use Rattle.std.specs.FinMap.{get}
-use Rattle.std.proofs.lemmas.Bool.{false≢true}
+use Rattle.std.proofs.lemmas.Bool.{false≢true, not-false, and_parts}
 use Rattle.std.proofs.lemmas.Slice.Eq.{bytes_eq-Decides}
+use Rattle.std.proofs.lemmas.Option.{same_Some, none-some}
 use Rattle.reuse_text.specs.Text.{mark_len_of, file_lines}
 use Rattle.reuse_notice.specs.declared.adding.Additions.{Additions}
 use Rattle.reuse_header.specs.declared.style.Style.{Style}
@@ -30,27 +31,15 @@ use Rattle.reuse_session.specs.declared.target.Target.{Target}
 use Rattle.reuse_session.specs.declared.target.Target.TheVariants.{Inside, Beside, Nowhere}
 use Rattle.reuse_session.specs.declared.reply.Refusal.{Refusal}
 use Rattle.reuse_session.specs.declared.reply.Refusal.TheVariants as refusals
-use Rattle.reuse_session.proofs.AnnotationPlaces.{some_is_none, comment_not_skipped, beside_not_skipped}
-use Rattle.reuse_session.proofs.TargetReasons.{err_or, both, Takes, takes}
+use Rattle.reuse_session.proofs.Annotating.{both_err}
+use Rattle.reuse_session.proofs.Results.{err_or, same_Ok}
+use Rattle.reuse_session.proofs.AnnotationPlaces.{comment_not_skipped, beside_not_skipped}
+use Rattle.reuse_session.proofs.TargetReasons.{Takes, takes}
 
 -- ---- tests
 
 abbrev done : Option Edit → Result (Option Edit) Refusal
 done given = Ok given
-
-both_err : {A : Type 0} (b : Bool) (r s : Refusal) (x : A) → cond b (Err r) (Err s) ≡ Ok x → ⊥
-both_err true r s x e = absurd (cc)
-both_err false r s x e = absurd (cc)
-
-same_given : (one other : Option Edit) → done one ≡ done other → one ≡ other
-same_given one other e = cc
-
-is_true : (b : Bool) → not b ≡ false → b ≡ true
-is_true true e = refl
-is_true false e = absurd (false≢true (sym e))
-
-same_bytes : (bytes other : List ℕ) → Some bytes ≡ Some other → bytes ≡ other
-same_bytes bytes other e = cc
 
 -- ---- what an edit leaves
 
@@ -78,8 +67,8 @@ makes_by path at bytes (Ok edit) given h = (edit, refl, of_test (bytes_eq (heade
     it = record { path = at; removed = take edit.old_len (drop edit.start bytes); written = header.new_bytes edit; file = Some (header.edited bytes edit) }
 
     of_test : (b : Bool) → bytes_eq (header.edited bytes edit) bytes ≡ b → cond b (done None) (done (Some it)) ≡ done given → Makes at bytes (header.edited bytes edit) given
-    of_test true e k = subst (Makes at bytes (header.edited bytes edit)) (same_given None given k) ((bytes_eq-Decides (header.edited bytes edit) bytes).0 e)
-    of_test false e k = subst (Makes at bytes (header.edited bytes edit)) (same_given (Some it) given k) (refl, refl, e)
+    of_test true e k = subst (Makes at bytes (header.edited bytes edit)) (same_Ok None given k) ((bytes_eq-Decides (header.edited bytes edit) bytes).0 e)
+    of_test false e k = subst (Makes at bytes (header.edited bytes edit)) (same_Ok (Some it) given k) (refl, refl, e)
 
 module _ (tree : Files) (at bytes made : List ℕ) where
   then_here : (given : Option Edit) → Makes at bytes made given → get tree at ≡ Some bytes → file_then tree given at ≡ Some made
@@ -188,8 +177,8 @@ module _ (replaces : ReplacesBlock) (inserts : InsertsBlock) (replaces_beside : 
     inside : (style : Style) → TakesTo (Inside style) → (b : Bool) → (scope.skip_existing && is_some (header_of style bytes)) ≡ b → (given : Option Edit)
         → cond b (done None) (edit_by path path bytes (header.annotation_of style how additions bytes)) ≡ Ok given → Becomes (pair_then tree given path)
     inside style reason true e given h =
-        let tests = both scope.skip_existing (is_some (header_of style bytes)) e in
-        skipped given (same_given None given h) (inr (tests.0, inl (style, reason, tests.1)))
+        let tests = and_parts scope.skip_existing (is_some (header_of style bytes)) e in
+        skipped given (same_Ok None given h) (inr (tests.0, inl (style, reason, tests.1)))
     inside style reason false e given h = commented style reason e given h
 
     -- it is accompanied, unless it is skipped
@@ -213,18 +202,18 @@ module _ (replaces : ReplacesBlock) (inserts : InsertsBlock) (replaces_beside : 
     beside_there : (beside : List ℕ) → get tree (neighbour_of path) ≡ Some beside → TakesTo Beside → (b : Bool) → (scope.skip_existing && neighbour_is_tagged beside) ≡ b → (given : Option Edit)
         → cond b (done None) (edit_by path (neighbour_of path) beside (neighbour_annotation_of how additions beside)) ≡ Ok given → Becomes (pair_then tree given path)
     beside_there beside is reason true e given h =
-        let tests = both scope.skip_existing (neighbour_is_tagged beside) e in
-        skipped given (same_given None given h) (inr (tests.0, inr (beside, is, tests.1)))
+        let tests = and_parts scope.skip_existing (neighbour_is_tagged beside) e in
+        skipped given (same_Ok None given h) (inr (tests.0, inr (beside, is, tests.1)))
     beside_there beside is reason false e given h =
         let made = makes_by path (neighbour_of path) beside (neighbour_annotation_of how additions beside) given h in
-        let kept = λ (other : List ℕ) (there : get tree (neighbour_of path) ≡ Some other). subst (λ f. (scope.skip_existing && neighbour_is_tagged f) ≡ false) (same_bytes beside other (sym is ∙ there)) e in
+        let kept = λ (other : List ℕ) (there : get tree (neighbour_of path) ≡ Some other). subst (λ f. (scope.skip_existing && neighbour_is_tagged f) ≡ false) (same_Some beside other (sym is ∙ there)) e in
         accompanied (Some beside) is reason (beside_not_skipped scope own path bytes old reason kept) given made.0 made.1 made.2 (then_here tree (neighbour_of path) beside (header.edited beside made.0) given made.2 is)
 
     beside : (file : Option (List ℕ)) → get tree (neighbour_of path) ≡ file → TakesTo Beside → (given : Option Edit) → edit_neighbour how scope additions tree path file ≡ Ok given → Becomes (pair_then tree given path)
     beside None is reason given h =
         let free = err_or (is_clash tree (neighbour_of path)) (refusals.Clash (neighbour_of path)) (edit_by path (neighbour_of path) [] (neighbour_annotation_of how additions [])) given h in
         let made = makes_by path (neighbour_of path) [] (neighbour_annotation_of how additions []) given free.1 in
-        let kept = λ (other : List ℕ) (there : get tree (neighbour_of path) ≡ Some other). absurd (some_is_none other (sym is ∙ there)) in
+        let kept = λ (other : List ℕ) (there : get tree (neighbour_of path) ≡ Some other). absurd (none-some other (sym is ∙ there)) in
         accompanied None is reason (beside_not_skipped scope own path bytes old reason kept) given made.0 made.1 made.2 (then_made tree (neighbour_of path) (header.edited [] made.0) given made.2 is)
     beside (Some there) is reason given h =
         let short = err_or (nat_lt 16_777_216 (length there)) (refusals.TooLong path) (cond (scope.skip_existing && neighbour_is_tagged there) (done None) (edit_by path (neighbour_of path) there (neighbour_annotation_of how additions there))) given h in
@@ -235,7 +224,7 @@ module _ (replaces : ReplacesBlock) (inserts : InsertsBlock) (replaces_beside : 
     by_target Beside reason given h =
         let short = err_or (nat_lt 4096 (length (neighbour_of path))) (refusals.TooLong path) (edit_neighbour how scope additions tree path (get tree (neighbour_of path))) given h in
         beside (get tree (neighbour_of path)) refl reason given short.1
-    by_target Nowhere reason given h = skipped given (same_given None given h) (inl reason)
+    by_target Nowhere reason given h = skipped given (same_Ok None given h) (inl reason)
 
     becomes : (aim : Result Target Refusal) → ((target : Target) → aim ≡ Ok target → TakesTo target) → (given : Option Edit) → edit_target how scope additions tree path bytes aim ≡ Ok given → Becomes (pair_then tree given path)
     becomes (Err refusal) reason given h = absurd (cc)
@@ -254,6 +243,6 @@ module _ (replaces : ReplacesBlock) (inserts : InsertsBlock) (replaces_beside : 
           record {
             bytes = bytes;
             there = is;
-            covered = is_true (is_covered path) covered.0;
+            covered = not-false (is_covered path) covered.0;
             becomes = becomes additions how scope own tree path bytes is (target_of scope own tree path bytes) (takes scope own tree path bytes (goes_beside scope own tree path) refl) given covered.1;
           }

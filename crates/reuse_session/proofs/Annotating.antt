@@ -231,12 +231,12 @@ is_none_of : (file : Option (List ℕ)) → is_some file ≡ false → file ≡ 
 is_none_of None h = refl
 is_none_of (Some bytes) h = absurd (false≢true (sym h))
 
-module _ (how : How) (scope : Scope) (additions : Additions) (tree : Files) (path : List ℕ) (paths : List (List ℕ)) (are : paths ≡ keys tree) where
+module _ (tree : Files) (path : List ℕ) (paths : List (List ℕ)) (are : paths ≡ keys tree) where
   pub is_absent : is_among paths path ≡ false → get tree path ≡ None
   is_absent none = is_none_of (get tree path) (sym (among_keys tree path) ∙ ap (λ ps. is_among ps path) (sym are) ∙ none)
 
-  pub absent_answer : (own : OwnNames) (b : Bool) → is_among paths path ≡ false → is_folder_of paths path ≡ b → annotated_at how scope additions own tree path ≡ cond b (refused (refusals.IsFolder (place.Path path))) (refused (refusals.NoSuchPath path))
-  absent_answer own b none folder =
+  pub absent_answer : (how : How) (scope : Scope) (additions : Additions) (own : OwnNames) (b : Bool) → is_among paths path ≡ false → is_folder_of paths path ≡ b → annotated_at how scope additions own tree path ≡ cond b (refused (refusals.IsFolder (place.Path path))) (refused (refusals.NoSuchPath path))
+  absent_answer how scope additions own b none folder =
       ap (annotated_where how scope additions own tree path) (is_absent none)
       ∙ ap (λ t. cond t (refused (refusals.IsFolder (place.Path path))) (refused (refusals.NoSuchPath path))) (ap (λ ps. is_folder_of ps path) (sym are) ∙ folder)
 

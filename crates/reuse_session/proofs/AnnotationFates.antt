@@ -4,6 +4,8 @@ use Rattle.std.specs.Prelude.{flat_map}
 use Rattle.std.specs.List.{Contains}
 use Rattle.std.proofs.lemmas.List.Elements.{Contains-append_cases, Contains-append_left}
 use Rattle.std.specs.FinMap.{get}
+use Rattle.std.proofs.lemmas.Option.{same_Some, none-some}
+use Rattle.std.proofs.lemmas.Bool.{and_parts, and_right}
 use Rattle.reuse_notice.specs.declared.adding.Additions.{Additions}
 use Rattle.reuse_notice.proofs.SetLemmas.{In, In-from_contains, Contains-from_in, sorted-set_of}
 use Rattle.reuse_header.specs.declared.annotation.How.{How}
@@ -30,11 +32,12 @@ use Rattle.reuse_session.specs.declared.reply.Refusal.{Refusal}
 use Rattle.reuse_session.specs.declared.reply.Refusal.TheVariants as refusals
 use Rattle.reuse_session.specs.declared.target.Target.{Target}
 use Rattle.reuse_session.specs.declared.target.Target.TheVariants.{Inside, Beside, Nowhere}
+use Rattle.reuse_session.proofs.Results.{err_or}
 use Rattle.reuse_session.proofs.AnnotatedFiles.{ReplacesBlock, InsertsBlock, ReplacesNeighbour, InsertsNeighbour, file_then}
 use Rattle.reuse_session.proofs.AnnotatedTrees.{each_done, all_done}
 use Rattle.reuse_session.proofs.Annotating.{both_err, if_not}
-use Rattle.reuse_session.proofs.AnnotationPlaces.{some_is_none, comment_not_skipped, beside_not_skipped}
-use Rattle.reuse_session.proofs.TargetReasons.{err_or, both, Takes, takes}
+use Rattle.reuse_session.proofs.AnnotationPlaces.{comment_not_skipped, beside_not_skipped}
+use Rattle.reuse_session.proofs.TargetReasons.{Takes, takes}
 use Rattle.reuse_session.proofs.TextsPut.{edits_of_tree}
 
 -- ---- one path
@@ -56,23 +59,19 @@ module _ (how : How) (scope : Scope) (additions : Additions) (own : OwnNames) (t
 
   inside : (style : Style) → Takes scope own tree path bytes (Inside style) → (rest : Result (Option Edit) Refusal) (b : Bool) → (scope.skip_existing && is_some (header_of style bytes)) ≡ b
       → cond b (done None) rest ≡ Ok given → TellsOf b
-  inside style reason rest true e h = let tests = both scope.skip_existing (is_some (header_of style bytes)) e in (inr (tests.0, inl (style, reason, tests.1)), is_none given h)
+  inside style reason rest true e h = let tests = and_parts scope.skip_existing (is_some (header_of style bytes)) e in (inr (tests.0, inl (style, reason, tests.1)), is_none given h)
   inside style reason rest false e h = comment_not_skipped scope own path bytes (pair_at tree path) style reason e
 
   tagged : (there : List ℕ) → get tree (neighbour_of path) ≡ Some there → Takes scope own tree path bytes Beside → (rest : Result (Option Edit) Refusal) (b : Bool) → (scope.skip_existing && neighbour_is_tagged there) ≡ b
       → cond b (done None) rest ≡ Ok given → TellsOf b
-  tagged there is reason rest true e h = let tests = both scope.skip_existing (neighbour_is_tagged there) e in (inr (tests.0, inr (there, is, tests.1)), is_none given h)
+  tagged there is reason rest true e h = let tests = and_parts scope.skip_existing (neighbour_is_tagged there) e in (inr (tests.0, inr (there, is, tests.1)), is_none given h)
   tagged there is reason rest false e h =
       beside_not_skipped scope own path bytes (pair_at tree path) reason (λ other is_other. ap (λ f. scope.skip_existing && has_tagged f) (sym is_other ∙ is) ∙ e)
-
-  and_false : (b : Bool) → (b && false) ≡ false
-  and_false true = refl
-  and_false false = refl
 
   beside : (file : Option (List ℕ)) → get tree (neighbour_of path) ≡ file → Takes scope own tree path bytes Beside → edit_neighbour how scope additions tree path file ≡ Ok given
       → TellsOf (scope.skip_existing && has_tagged file)
   beside None is reason h =
-      subst TellsOf (sym (and_false scope.skip_existing)) (beside_not_skipped scope own path bytes (pair_at tree path) reason (λ other there. absurd (some_is_none other (sym is ∙ there))))
+      subst TellsOf (sym (and_right scope.skip_existing false refl)) (beside_not_skipped scope own path bytes (pair_at tree path) reason (λ other there. absurd (none-some other (sym is ∙ there))))
   beside (Some there) is reason h =
       tagged there is reason _ (scope.skip_existing && neighbour_is_tagged there) refl (if_not (nat_lt 16_777_216 (length there)) (refusals.TooLong path) _ given h)
 
@@ -85,9 +84,6 @@ module _ (how : How) (scope : Scope) (additions : Additions) (own : OwnNames) (t
   by_aim (Ok Nowhere) reason h = (inl (reason Nowhere refl), is_none given h)
 
 module _ (how : How) (scope : Scope) (additions : Additions) (own : OwnNames) (tree : Files) (path : List ℕ) where
-  same_bytes : (one other : List ℕ) → Some one ≡ Some other → one ≡ other
-  same_bytes one other e = cc
-
   told_of : (given : Option Edit) → annotated_at how scope additions own tree path ≡ Ok given → (bytes : List ℕ) × (get tree path ≡ Some bytes) × Tells given (IsSkipped scope own path bytes (pair_at tree path)) (is_skipped scope own tree path)
   told_of given h = of_file (get tree path) refl h
     where
@@ -112,7 +108,7 @@ module _ (how : How) (scope : Scope) (additions : Additions) (own : OwnNames) (t
   is_told : (given : Option Edit) → annotated_at how scope additions own tree path ≡ Ok given → IsSkippedAt scope own tree path → fate_at how scope additions own tree path ≡ fate.Skipped path
   is_told given h skipped =
       let told = told_of given h in
-      let is : IsSkipped scope own path told.0 (pair_at tree path) = subst (λ bs. IsSkipped scope own path bs (pair_at tree path)) (same_bytes skipped.0 told.0 (sym skipped.1 ∙ told.1)) skipped.2 in
+      let is : IsSkipped scope own path told.0 (pair_at tree path) = subst (λ bs. IsSkipped scope own path bs (pair_at tree path)) (same_Some skipped.0 told.0 (sym skipped.1 ∙ told.1)) skipped.2 in
       let by = of_test (is_skipped scope own tree path) told.2 is in
       ap (λ b. fate_by path b (annotated_at how scope additions own tree path)) by.0 ∙ ap (fate_by path true) (h ∙ ap done by.1)
     where

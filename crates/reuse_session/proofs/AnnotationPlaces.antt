@@ -1,6 +1,7 @@
 -- Where the licensing information of a file goes: into one place.
 use Rattle.std.proofs.Common.{◌≡◌, ◌⊎◌, inl, inr, ℕ, Bool, true, false, ◌&&◌, List, Some, None, IsSome, is_some, sym, ap, subst, ◌∙◌}
 use Rattle.std.proofs.lemmas.Bool.{false≢true}
+use Rattle.std.proofs.lemmas.Option.{same_Some, none-some}
 use Rattle.reuse_header.specs.declared.style.Style.{Style}
 use Rattle.reuse_header.specs.declared.style.Kind.{Kind}
 use Rattle.reuse_header.specs.declared.style.Kind.TheVariants as kind
@@ -47,10 +48,7 @@ no_neighbour_too scope own path bytes pair style takes = no_call scope own path 
 
 -- it has one style
 pub one_style : (scope : Scope) (own : OwnNames) (path : List ℕ) (style other : Style) → IsStyleOf scope own path style → IsStyleOf scope own path other → style ≡ other
-one_style scope own path style other (inl e) (inl f) = some_same style other (sym e ∙ f)
-  where
-    some_same : (one two : Style) → Some one ≡ Some two → one ≡ two
-    some_same one two h = cc
+one_style scope own path style other (inl e) (inl f) = same_Some style other (sym e ∙ f)
 one_style scope own path style other (inl e) (inr f) = absurd (style_is_none style (sym e ∙ f.0))
 one_style scope own path style other (inr e) (inl f) = absurd (style_is_none other (sym f ∙ e.0))
 one_style scope own path style other (inr e) (inr f) = kind_same style other (sym e.1 ∙ f.1)
@@ -62,9 +60,6 @@ and_true : (a b : Bool) → (a && b) ≡ false → a ≡ true → b ≡ true →
 and_true true b e f g = false≢true (sym e ∙ g)
 and_true false b e f g = false≢true f
 
-pub some_is_none : (bytes : List ℕ) → None ≡ Some bytes → ⊥
-some_is_none bytes e = cc
-
 -- a file that takes a comment, and isn't passed over for its header, isn't skipped
 pub comment_not_skipped : (scope : Scope) (own : OwnNames) (path bytes : List ℕ) (pair : Pair) (style : Style) → TakesComment scope own path bytes pair style
     → (scope.skip_existing && is_some (header_of style bytes)) ≡ false → IsSkipped scope own path bytes pair → ⊥
@@ -75,7 +70,7 @@ comment_not_skipped scope own path bytes pair style takes kept (inl nameless) = 
 comment_not_skipped scope own path bytes pair style takes kept (inr (skip, inl (other, too, tagged))) =
     let same = one_style scope own path other style too.of_style takes.of_style in
     and_true scope.skip_existing (is_some (header_of style bytes)) kept skip (subst (λ s. IsSome (header_of s bytes)) same tagged)
-comment_not_skipped scope own path bytes pair style takes kept (inr (skip, inr (beside, there, tagged))) = some_is_none beside (sym takes.alone ∙ there)
+comment_not_skipped scope own path bytes pair style takes kept (inr (skip, inr (beside, there, tagged))) = none-some beside (sym takes.alone ∙ there)
 
 -- nor is one that takes a neighbour, which isn't passed over for its tags
 pub beside_not_skipped : (scope : Scope) (own : OwnNames) (path bytes : List ℕ) (pair : Pair) → TakesNeighbour scope own path bytes pair

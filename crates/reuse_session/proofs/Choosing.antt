@@ -1,11 +1,11 @@
 -- Which paths are gone through where files are chosen.
-use Rattle.std.proofs.Common.{◌≡◌, ◌↔◌, ◌⊎◌, inl, inr, ℕ, Bool, true, false, not, ◌&&◌, ◌||◌, cond, List, [], ◌∷◌, ◌++◌, Option, Some, None, filter, refl, sym, ap, subst, ◌∙◌, arith, suc}
+use Rattle.std.proofs.Common.{◌≡◌, ◌↔◌, ◌⊎◌, inl, inr, ℕ, Bool, true, false, not, ◌&&◌, ◌||◌, cond, List, [], ◌∷◌, Option, Some, None, filter, refl, sym, ap, subst, ◌∙◌, arith, suc}
 use Rattle.std.specs.Prelude.{flat_map}
 use Rattle.std.specs.Str.{chars}
 use Rattle.std.specs.List.{Contains, list_any}
 use Rattle.std.specs.FinMap.{keys}
 use Rattle.std.specs.Cmp.Lexicographic.{nat_list_eq_equiv}
-use Rattle.std.proofs.lemmas.Bool.{false≢true}
+use Rattle.std.proofs.lemmas.Bool.{false≢true, or_right}
 use Rattle.std.proofs.lemmas.List.Elements.{All-nil, All-cons}
 use Rattle.std.proofs.lemmas.Map.Views.{Contains-from_any, list_any-from_Contains}
 use Rattle.std.proofs.lemmas.Slice.Eq.{bytes_eq-Decides}
@@ -14,6 +14,7 @@ use Rattle.reuse_dep5.specs.GlobMatch.{GlobMatches, matches_glob}
 use Rattle.reuse_dep5.proofs.GlobTests.{match_from_test, test_from_match}
 use Rattle.reuse_dep5.proofs.ReadGlobLemmas.{both_parts, both_true}
 use Rattle.reuse_notice.specs.Sets.{set_of}
+use Rattle.reuse_notice.proofs.ClassLemmas.{In-append, In-left, In-right}
 use Rattle.reuse_notice.proofs.SetLemmas.{In, In-from_contains, Contains-from_in, In-set_of, set_of-has}
 use Rattle.reuse_tree.specs.Path.{lies_under}
 use Rattle.reuse_tree.specs.Files.{Files}
@@ -55,29 +56,7 @@ module _ (test : List ℕ → Bool) (t : List ℕ) where
   any_has : (xs : List (List ℕ)) → In t xs → test t ≡ true → list_any test xs ≡ true
   any_has [] h e = absurd h
   any_has (x ∷ xs) (inl is) e = ap (λ b. b || list_any test xs) (ap test (sym is) ∙ e)
-  any_has (x ∷ xs) (inr k) e = or_true (test x) (list_any test xs) (any_has xs k e)
-    where
-      or_true : (a b : Bool) → b ≡ true → (a || b) ≡ true
-      or_true true b h = refl
-      or_true false b h = h
-
-In-append : (xs ys : List (List ℕ)) (t : List ℕ) → In t (xs ++ ys) → In t xs ⊎ In t ys
-In-append [] ys t h = inr h
-In-append (x ∷ xs) ys t (inl e) = inl (inl e)
-In-append (x ∷ xs) ys t (inr h) = elim (In-append xs ys t h) [ inl k ↦ inl (inr k) | inr k ↦ inr k ]
-
-In-joined : (xs ys : List (List ℕ)) (t : List ℕ) → In t xs ⊎ In t ys → In t (xs ++ ys)
-In-joined [] ys t (inl h) = absurd h
-In-joined [] ys t (inr h) = h
-In-joined (x ∷ xs) ys t (inl (inl e)) = inl e
-In-joined (x ∷ xs) ys t (inl (inr h)) = inr (In-joined xs ys t (inl h))
-In-joined (x ∷ xs) ys t (inr h) = inr (In-joined xs ys t (inr h))
-
-append-left : (xs ys : List (List ℕ)) (t : List ℕ) → In t xs → In t (xs ++ ys)
-append-left xs ys t h = In-joined xs ys t (inl h)
-
-append-right : (xs ys : List (List ℕ)) (t : List ℕ) → In t ys → In t (xs ++ ys)
-append-right xs ys t h = In-joined xs ys t (inr h)
+  any_has (x ∷ xs) (inr k) e = or_right (test x) (list_any test xs) (any_has xs k e)
 
 -- ---- what stands in the place of places
 
@@ -123,32 +102,32 @@ module _ (scope : Scope) (tree : Files) (t : List ℕ) where
 
   named_expanded : (places : List Place) → In t (paths_among places) → is_folder tree t ≡ false → In t (flat_map (expanded scope tree) places)
   named_expanded [] h e = absurd h
-  named_expanded (Root ∷ places) h e = append-right (filter (is_chosen scope) (keys tree)) (flat_map (expanded scope tree) places) t (named_expanded places h e)
+  named_expanded (Root ∷ places) h e = In-right (filter (is_chosen scope) (keys tree)) (flat_map (expanded scope tree) places) t (named_expanded places h e)
   named_expanded (Path path ∷ places) (inl is) e =
-      append-left (for_folder path (is_folder tree path)) (flat_map (expanded scope tree) places) t
+      In-left (for_folder path (is_folder tree path)) (flat_map (expanded scope tree) places) t
       (subst (λ b. In t (for_folder path b)) (sym (ap (is_folder tree) (sym is) ∙ e)) (inl is))
   named_expanded (Path path ∷ places) (inr h) e =
-      append-right (for_folder path (is_folder tree path)) (flat_map (expanded scope tree) places) t (named_expanded places h e)
+      In-right (for_folder path (is_folder tree path)) (flat_map (expanded scope tree) places) t (named_expanded places h e)
 
   root_expanded : (places : List Place) → has_root places ≡ true → In t (keys tree) → is_chosen scope t ≡ true → In t (flat_map (expanded scope tree) places)
   root_expanded [] root there chosen = absurd (false≢true root)
   root_expanded (Root ∷ places) root there chosen =
-      append-left (filter (is_chosen scope) (keys tree)) (flat_map (expanded scope tree) places) t (filter-has (is_chosen scope) t (keys tree) there chosen)
+      In-left (filter (is_chosen scope) (keys tree)) (flat_map (expanded scope tree) places) t (filter-has (is_chosen scope) t (keys tree) there chosen)
   root_expanded (Path path ∷ places) root there chosen =
-      append-right (for_folder path (is_folder tree path)) (flat_map (expanded scope tree) places) t (root_expanded places root there chosen)
+      In-right (for_folder path (is_folder tree path)) (flat_map (expanded scope tree) places) t (root_expanded places root there chosen)
 
   beneath_expanded : (places : List Place) (folder : List ℕ) → In folder (paths_among places) → lies_under t folder ≡ true → In t (keys tree) → is_chosen scope t ≡ true
       → In t (flat_map (expanded scope tree) places)
   beneath_expanded [] folder h under there chosen = absurd h
   beneath_expanded (Root ∷ places) folder h under there chosen =
-      append-right (filter (is_chosen scope) (keys tree)) (flat_map (expanded scope tree) places) t (beneath_expanded places folder h under there chosen)
+      In-right (filter (is_chosen scope) (keys tree)) (flat_map (expanded scope tree) places) t (beneath_expanded places folder h under there chosen)
   beneath_expanded (Path path ∷ places) folder (inl is) under there chosen =
       let under' : lies_under t path ≡ true = ap (lies_under t) (sym is) ∙ under in
-      append-left (for_folder path (is_folder tree path)) (flat_map (expanded scope tree) places) t
+      In-left (for_folder path (is_folder tree path)) (flat_map (expanded scope tree) places) t
       (subst (λ b. In t (for_folder path b)) (sym (any_has (λ other. lies_under other path) t (keys tree) there under'))
       (filter-has (is_chosen scope) t (filter (λ other. lies_under other path) (keys tree)) (filter-has (λ other. lies_under other path) t (keys tree) there under') chosen))
   beneath_expanded (Path path ∷ places) folder (inr h) under there chosen =
-      append-right (for_folder path (is_folder tree path)) (flat_map (expanded scope tree) places) t (beneath_expanded places folder h under there chosen)
+      In-right (for_folder path (is_folder tree path)) (flat_map (expanded scope tree) places) t (beneath_expanded places folder h under there chosen)
 
   to_expanded : (places : List Place) → Worked places → In t (flat_map (expanded scope tree) places)
   to_expanded places (inl named) = named_expanded places named.0 named.1

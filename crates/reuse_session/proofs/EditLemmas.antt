@@ -4,10 +4,7 @@ use Rattle.std.specs.Option.{option_map}
 use Rattle.std.specs.Str.{bytes_eq}
 use Rattle.std.specs.FinMap.{get}
 use Rattle.std.proofs.lemmas.Bool.{false≢true}
-use Rattle.reuse_notice.specs.declared.adding.Additions.{Additions}
 use Rattle.reuse_header.specs.declared.style.Style.{Style}
-use Rattle.reuse_session.specs.TreeStyles.{OwnNames}
-use Rattle.reuse_header.specs.declared.annotation.How.{How}
 use Rattle.reuse_header.specs.declared.annotation.HeaderRefusal.{HeaderRefusal}
 use Rattle.reuse_header.specs.declared.annotation.Splice.{Splice}
 use Rattle.reuse_header.specs.Annotation as header
@@ -18,7 +15,8 @@ use Rattle.reuse_tree.specs.Change.{sealed_make, sealed_splice}
 use Rattle.sha2.specs.Sha256.{sha256}
 use Rattle.reuse_session.specs.Edit.{Edit}
 use Rattle.reuse_header.specs.Neighbour.{neighbour_annotation_of}
-use Rattle.reuse_session.specs.Annotate.{neighbour_of, neighbour_is_tagged, goes_beside, target_by_bytes, target_of, edit_by, edit_inside, edit_neighbour, edit_beside, edit_target, annotated_where, annotated_at}
+use Rattle.reuse_session.specs.Annotate.{neighbour_of, neighbour_is_tagged, goes_beside, target_of, edit_by, annotated_where}
+use Rattle.reuse_session.specs.AnnotationPlan.{own_of, annotated_by, beside_by, neighbour_by, inside_by, place_by, edit_by_place}
 use Rattle.reuse_session.specs.Clash.{is_clash}
 use Rattle.reuse_session.specs.Covered.{is_covered}
 use Rattle.reuse_session.specs.declared.reply.Refusal.TheVariants as refusals
@@ -26,7 +24,8 @@ use Rattle.reuse_session.specs.declared.target.Target.{Target}
 use Rattle.reuse_session.specs.declared.target.Target.TheVariants.{Beside}
 use Rattle.reuse_session.specs.Annotations.{Due, Fits}
 use Rattle.reuse_session.specs.Plan.{Makes, MakesEdit}
-use Rattle.reuse_session.specs.declared.command.Scope.{Scope}
+use Rattle.reuse_session.specs.Steps.{short_file}
+use Rattle.reuse_session.specs.declared.annotation.Annotation.{Annotation}
 use Rattle.reuse_session.specs.declared.reply.Refusal.{Refusal}
 use Rattle.reuse_session.proofs.SpliceLemmas.{makes_splice}
 
@@ -135,9 +134,31 @@ same_some f g (Some x) (Some y) e = refl
 same_some f g None (Some y) e = absurd (cc)
 same_some f g (Some x) None e = absurd (cc)
 
-pub inside_is : (how : How) (scope : Scope) (additions : Additions) (path bytes : List ℕ) (style : Style) → (scope.skip_existing && is_some (header_of style bytes)) ≡ false
-    → edit_inside how scope additions path bytes style ≡ edit_by path path bytes (header.annotation_of style how additions bytes)
-inside_is how scope additions path bytes style e = ap (λ b. cond b (edited_to None) (edit_by path path bytes (header.annotation_of style how additions bytes))) e
+pub inside_is : (asked : Annotation) (path bytes : List ℕ) (style : Style) → (asked.scope.now.skip_existing && is_some (header_of style bytes)) ≡ false
+    → inside_by asked path bytes style ≡ edit_by path path bytes (header.annotation_of style asked.how.now asked.additions.now bytes)
+inside_is asked path bytes style e = ap (λ b. cond b (edited_to None) (edit_by path path bytes (header.annotation_of style asked.how.now asked.additions.now bytes))) e
+
+-- ---- a file that was read
+
+abbrev found : List ℕ → Result (List ℕ) Refusal
+found bytes = Ok bytes
+
+-- where its bytes were found, they are not too many
+pub short_is : (path file bytes : List ℕ) → short_file path file ≡ found bytes → (nat_lt 16_777_216 (length file) ≡ false) × (file ≡ bytes)
+short_is path file bytes e = by_test (nat_lt 16_777_216 (length file)) e
+  where
+    by_test : (b : Bool) → cond b (Err (refusals.TooLong path)) (found file) ≡ found bytes → (b ≡ false) × (file ≡ bytes)
+    by_test true h = absurd (cc)
+    by_test false h = (refl, cc)
+
+-- where they are too many, nothing else is made of them
+pub long_is : {A : Type 0} (path file : List ℕ) (rest : Result A Refusal) (refusal : Refusal) → short_file path file ≡ Err refusal
+    → cond (nat_lt 16_777_216 (length file)) (Err (refusals.TooLong path)) rest ≡ Err refusal
+long_is path file rest refusal e = by_test (nat_lt 16_777_216 (length file)) e
+  where
+    by_test : (b : Bool) → cond b (Err (refusals.TooLong path)) (found file) ≡ Err refusal → cond b (Err (refusals.TooLong path)) rest ≡ Err refusal
+    by_test true h = cc
+    by_test false h = absurd (cc)
 
 -- ---- the edit of a neighbour, and of a file, by the tests of the code
 
@@ -151,34 +172,34 @@ pub some_bytes : (file : Option (List ℕ)) → IsSome file → (bytes : List �
 some_bytes (Some bytes) some = (bytes, refl)
 some_bytes None some = absurd (false≢true some)
 
-module _ (how : How) (scope : Scope) (additions : Additions) (tree : Files) (path : List ℕ) where
+module _ (asked : Annotation) (tree : Files) (path : List ℕ) where
   abbrev by_neighbour : List ℕ → Result (Option Edit) Refusal
-  by_neighbour bytes = edit_by path (neighbour_of path) bytes (neighbour_annotation_of how additions bytes)
+  by_neighbour bytes = edit_by path (neighbour_of path) bytes (neighbour_annotation_of asked.how.now asked.additions.now bytes)
 
-  pub neighbour_is : (bytes : List ℕ) → nat_lt 16_777_216 (length bytes) ≡ false → (scope.skip_existing && neighbour_is_tagged bytes) ≡ false
-      → edit_neighbour how scope additions tree path (Some bytes) ≡ edit_by path (neighbour_of path) bytes (neighbour_annotation_of how additions bytes)
+  pub neighbour_is : (bytes : List ℕ) → nat_lt 16_777_216 (length bytes) ≡ false → (asked.scope.now.skip_existing && neighbour_is_tagged bytes) ≡ false
+      → neighbour_by asked tree path (Some bytes) ≡ edit_by path (neighbour_of path) bytes (neighbour_annotation_of asked.how.now asked.additions.now bytes)
   neighbour_is bytes short kept =
-      ap (λ b. cond b (refused (refusals.TooLong path)) (cond (scope.skip_existing && neighbour_is_tagged bytes) (edited_to None) (by_neighbour bytes))) short
+      ap (λ b. cond b (refused (refusals.TooLong path)) (cond (asked.scope.now.skip_existing && neighbour_is_tagged bytes) (edited_to None) (by_neighbour bytes))) short
       ∙ ap (λ b. cond b (edited_to None) (by_neighbour bytes)) kept
 
-  pub new_clashes : is_clash tree (neighbour_of path) ≡ true → edit_neighbour how scope additions tree path None ≡ refused (refusals.Clash (neighbour_of path))
+  pub new_clashes : is_clash tree (neighbour_of path) ≡ true → neighbour_by asked tree path None ≡ refused (refusals.Clash (neighbour_of path))
   new_clashes e = ap (λ b. cond b (refused (refusals.Clash (neighbour_of path))) (by_neighbour [])) e
 
-  pub new_is : is_clash tree (neighbour_of path) ≡ false → edit_neighbour how scope additions tree path None ≡ edit_by path (neighbour_of path) [] (neighbour_annotation_of how additions [])
+  pub new_is : is_clash tree (neighbour_of path) ≡ false → neighbour_by asked tree path None ≡ edit_by path (neighbour_of path) [] (neighbour_annotation_of asked.how.now asked.additions.now [])
   new_is e = ap (λ b. cond b (refused (refusals.Clash (neighbour_of path))) (by_neighbour [])) e
 
-  pub beside_is : (file : Option (List ℕ)) → nat_lt 4096 (length (neighbour_of path)) ≡ false → get tree (neighbour_of path) ≡ file → edit_beside how scope additions tree path ≡ edit_neighbour how scope additions tree path file
+  pub beside_is : (file : Option (List ℕ)) → nat_lt 4096 (length (neighbour_of path)) ≡ false → get tree (neighbour_of path) ≡ file → beside_by asked tree path ≡ neighbour_by asked tree path file
   beside_is file short is =
-      ap (λ b. cond b (refused (refusals.TooLong path)) (edit_neighbour how scope additions tree path (get tree (neighbour_of path)))) short ∙ ap (edit_neighbour how scope additions tree path) is
+      ap (λ b. cond b (refused (refusals.TooLong path)) (neighbour_by asked tree path (get tree (neighbour_of path)))) short ∙ ap (neighbour_by asked tree path) is
 
-  pub uncovered_is : (own : OwnNames) (file : Option (List ℕ)) → IsSome file → is_covered path ≡ false → annotated_where how scope additions own tree path file ≡ refused (refusals.NotCovered path)
-  uncovered_is own None some e = absurd (false≢true some)
-  uncovered_is own (Some bytes) some e =
-      ap (λ b. cond (not b) (refused (refusals.NotCovered path)) (edit_target how scope additions tree path bytes (target_of scope own tree path bytes))) e
+  pub uncovered_is : (file : Option (List ℕ)) → IsSome file → is_covered path ≡ false → annotated_where asked.how.now asked.scope.now asked.additions.now (own_of asked) tree path file ≡ refused (refusals.NotCovered path)
+  uncovered_is None some e = absurd (false≢true some)
+  uncovered_is (Some bytes) some e =
+      ap (λ b. cond (not b) (refused (refusals.NotCovered path)) (edit_by_place asked tree path bytes (target_of asked.scope.now (own_of asked) tree path bytes))) e
 
-  pub covered_is : (own : OwnNames) (bytes : List ℕ) (b : Bool) → get tree path ≡ Some bytes → is_covered path ≡ true → goes_beside scope own tree path ≡ b
-      → annotated_at how scope additions own tree path ≡ edit_target how scope additions tree path bytes (cond b (aimed Beside) (target_by_bytes scope own path bytes))
-  covered_is own bytes b here covered beside =
-      ap (annotated_where how scope additions own tree path) here
-      ∙ ap (λ t. cond (not t) (refused (refusals.NotCovered path)) (edit_target how scope additions tree path bytes (target_of scope own tree path bytes))) covered
-      ∙ ap (λ t. edit_target how scope additions tree path bytes (cond t (aimed Beside) (target_by_bytes scope own path bytes))) beside
+  pub covered_is : (bytes : List ℕ) (b : Bool) → get tree path ≡ Some bytes → is_covered path ≡ true → goes_beside asked.scope.now (own_of asked) tree path ≡ b
+      → annotated_by asked tree path ≡ edit_by_place asked tree path bytes (cond b (aimed Beside) (place_by asked path bytes))
+  covered_is bytes b here covered beside =
+      ap (annotated_where asked.how.now asked.scope.now asked.additions.now (own_of asked) tree path) here
+      ∙ ap (λ t. cond (not t) (refused (refusals.NotCovered path)) (edit_by_place asked tree path bytes (target_of asked.scope.now (own_of asked) tree path bytes))) covered
+      ∙ ap (λ t. edit_by_place asked tree path bytes (cond t (aimed Beside) (place_by asked path bytes))) beside

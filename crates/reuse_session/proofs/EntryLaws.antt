@@ -24,14 +24,14 @@ use Rattle.reuse_session.specs.Format.{format_number}
 use Rattle.reuse_tree.specs.Change.{is_sealed}
 use Rattle.reuse_tree.specs.declared.digest.Seal.{Seal}
 use Rattle.std.specs.Option.{option_map}
-use Rattle.reuse_session.specs.EntryText.{command_name, hex_text, digest_text, is_any_sealed, change_text, entry_text, AreDigestBytes, IsHex, IsHexDigest, IsChangeValue, IsChangeInMemory, IsEntryInMemory, IsSoundEntry, IsGoodEntry}
+use Rattle.reuse_session.specs.EntryText.{command_name, hex_text, digest_text, whole_text, is_any_sealed, change_text, entry_text, AreDigestBytes, IsHex, IsHexDigest, IsChangeValue, IsChangeInMemory, IsEntryInMemory, IsSoundEntry, IsGoodEntry}
 use Rattle.reuse_tree.specs.declared.change.Change.{Change}
 use Rattle.reuse_tree.specs.declared.change.Change.TheVariants.{Make, Drop, Splice}
 use Rattle.reuse_session.specs.declared.journal.entry.Entry.{Entry}
 use Rattle.reuse_session.specs.declared.command.CommandName.{CommandName}
 use Rattle.reuse_session.specs.declared.command.CommandName.TheVariants.{Annotate, ConvertDep5, Download, Revert}
 use Rattle.reuse_session.proofs.JsonPrinting.{IsReadable, read-compact_text}
-use Rattle.reuse_session.proofs.JoinedTexts.{length-join-le, IsUtf8-join, AllByRecursion-weaker}
+use Rattle.reuse_session.proofs.JoinedTexts.{◌⊹◌, length-join-le, IsUtf8-join, AllByRecursion-weaker}
 use Rattle.reuse_session.proofs.EntryTexts.{entry_compact}
 use Rattle.reuse_session.proofs.EntryValues.{hex_value, change_value, entry_value}
 use Rattle.reuse_session.proofs.PlainTexts.{escape_plain, plain_digits}
@@ -64,9 +64,6 @@ change_plain (Splice path at old new rest (Some seal)) = (refl, refl)
 changes_no_float : (cs : List Change) → items_have_float (items_of (map change_value cs)) ≡ false
 changes_no_float [] = refl
 changes_no_float (c ∷ cs) = rw ((change_plain c).0) (changes_no_float cs)
-
-pub entry_no_float : (e : Entry) → has_float (entry_value e) ≡ false
-entry_no_float e = rw (changes_no_float e.changes) refl
 
 -- ---- the value is read back from its text
 
@@ -143,53 +140,25 @@ ascii xs e = IsUtf8-are_ascii xs e
 
 digest_utf8 : (key : List ℕ) (digest : Option (List ℕ)) → IsUtf8 key → IsUtf8 (digest_text key digest)
 digest_utf8 key None h = ascii [] refl
-digest_utf8 key (Some digest) h =
-    IsUtf8-append _ (codes ",") (IsUtf8-append _ (hex_text digest) (IsUtf8-append _ (codes "\":") (IsUtf8-append (codes "\"") key (ascii _ refl) h) (ascii _ refl)) (hex_utf8 digest)) (ascii _ refl)
+digest_utf8 key (Some digest) h = IsUtf8-append (codes "\"") key (ascii _ refl) h ⊹ ascii (codes "\":") refl ⊹ hex_utf8 digest ⊹ ascii (codes ",") refl
 
 -- a change's text up to the digest that stands first
 front_utf8 : (key : List ℕ) (digest : Option (List ℕ)) → IsUtf8 key → IsUtf8 (codes "{" ++ digest_text key digest)
 front_utf8 key digest h = IsUtf8-append (codes "{") (digest_text key digest) (ascii _ refl) (digest_utf8 key digest h)
 
--- a change's text from its bytes on
-ended_utf8 : (front bytes path : List ℕ) → IsUtf8 front → IsUtf8 path → IsUtf8 (front ++ hex_text bytes ++ codes ",\"path\":" ++ quoted path ++ codes "}")
-ended_utf8 front bytes path h p =
-    IsUtf8-append _ (codes "}") (IsUtf8-append _ (quoted path) (IsUtf8-append _ (codes ",\"path\":") (IsUtf8-append front (hex_text bytes) h (hex_utf8 bytes)) (ascii _ refl)) (IsUtf8-quoted path p)) (ascii _ refl)
+whole_utf8 : (key : List ℕ) (digest : Option (List ℕ)) (kind bytes path : List ℕ) → IsUtf8 key → IsUtf8 kind → IsUtf8 path → IsUtf8 (whole_text key digest kind bytes path)
+whole_utf8 key digest kind bytes path k n p = front_utf8 key digest k ⊹ n ⊹ hex_utf8 bytes ⊹ ascii (codes ",\"path\":") refl ⊹ IsUtf8-quoted path p ⊹ ascii (codes "}") refl
 
 change_utf8 : (c : Change) → IsWritable c → IsUtf8 (change_text c)
-change_utf8 (Make path new after) h =
-    ended_utf8 _ new path (IsUtf8-append (codes "{" ++ digest_text (codes "after") after) (codes "\"kind\":\"make\",\"new\":") (front_utf8 (codes "after") after (ascii _ refl)) (ascii _ refl)) h.in_memory.utf8
-change_utf8 (Drop path old before) h =
-    ended_utf8 _ old path (IsUtf8-append (codes "{" ++ digest_text (codes "before") before) (codes "\"kind\":\"drop\",\"old\":") (front_utf8 (codes "before") before (ascii _ refl)) (ascii _ refl)) h.in_memory.utf8
+change_utf8 (Make path new after) h = whole_utf8 (codes "after") after (codes "\"kind\":\"make\",\"new\":") new path (ascii _ refl) (ascii _ refl) h.in_memory.utf8
+change_utf8 (Drop path old before) h = whole_utf8 (codes "before") before (codes "\"kind\":\"drop\",\"old\":") old path (ascii _ refl) (ascii _ refl) h.in_memory.utf8
 change_utf8 (Splice path at old new rest seal) h =
-    let after = option_map (λ (s : Seal). s.after) seal in
-    let before = option_map (λ (s : Seal). s.before) seal in
-    let low : at < 2 ^ 64 = omega (arith, h.small.0) in
-    let high : rest < 2 ^ 64 = omega (arith, h.small.0) in
-    IsUtf8-append _ (codes "}")
-    (IsUtf8-append _ (decimal rest)
-    (IsUtf8-append _ (codes ",\"rest\":")
-    (IsUtf8-append _ (quoted path)
-    (IsUtf8-append _ (codes ",\"path\":")
-    (IsUtf8-append _ (hex_text old)
-    (IsUtf8-append _ (codes ",\"old\":")
-    (IsUtf8-append _ (hex_text new)
-    (IsUtf8-append _ (codes "\"kind\":\"splice\",\"new\":")
-    (IsUtf8-append _ (digest_text (codes "before") before)
-    (IsUtf8-append _ (codes ",")
-    (IsUtf8-append _ (decimal at)
-    (IsUtf8-append (codes "{" ++ digest_text (codes "after") after) (codes "\"at\":") (front_utf8 (codes "after") after (ascii _ refl)) (ascii _ refl))
-    (number_utf8 at low))
-    (ascii _ refl))
-    (digest_utf8 (codes "before") before (ascii _ refl)))
-    (ascii _ refl))
-    (hex_utf8 new))
-    (ascii _ refl))
-    (hex_utf8 old))
-    (ascii _ refl))
-    (IsUtf8-quoted path h.in_memory.utf8))
-    (ascii _ refl))
-    (number_utf8 rest high))
-    (ascii _ refl)
+    front_utf8 (codes "after") (option_map (λ (s : Seal). s.after) seal) (ascii _ refl)
+    ⊹ ascii (codes "\"at\":") refl ⊹ number_utf8 at (omega (arith, h.small.0)) ⊹ ascii (codes ",") refl
+    ⊹ digest_utf8 (codes "before") (option_map (λ (s : Seal). s.before) seal) (ascii _ refl)
+    ⊹ ascii (codes "\"kind\":\"splice\",\"new\":") refl ⊹ hex_utf8 new ⊹ ascii (codes ",\"old\":") refl ⊹ hex_utf8 old
+    ⊹ ascii (codes ",\"path\":") refl ⊹ IsUtf8-quoted path h.in_memory.utf8
+    ⊹ ascii (codes ",\"rest\":") refl ⊹ number_utf8 rest (omega (arith, h.small.0)) ⊹ ascii (codes "}") refl
 
 name_utf8 : (w : CommandName) → IsUtf8 (command_name w)
 name_utf8 Annotate = IsUtf8-are_ascii _ refl
@@ -201,21 +170,10 @@ entry_utf8 : (e : Entry) → IsEntryInMemory e → IsUtf8 (entry_text e)
 entry_utf8 e sound =
     let second = is_any_sealed e.changes in
     let each = AllByRecursion-weaker IsWritable (λ c. IsUtf8 (change_text c)) change_utf8 e.changes (all_writable e sound) in
-    IsUtf8-append _ (codes "}")
-    (IsUtf8-append _ (decimal e.when)
-    (IsUtf8-append _ (codes ",\"when\":")
-    (IsUtf8-append _ (decimal (format_number second))
-    (IsUtf8-append _ (codes "\",\"format\":")
-    (IsUtf8-append _ (command_name e.command)
-    (IsUtf8-append _ (codes "],\"command\":\"")
-    (IsUtf8-append (codes "{\"changes\":[") (join_with_byte 44 (map change_text e.changes)) (ascii _ refl) (IsUtf8-join change_text e.changes each))
-    (ascii _ refl))
-    (name_utf8 e.command))
-    (ascii _ refl))
-    (number_utf8 (format_number second) (few_formats second)))
-    (ascii _ refl))
-    (number_utf8 e.when (omega (arith, sound.when))))
-    (ascii _ refl)
+    IsUtf8-append (codes "{\"changes\":[") (join_with_byte 44 (map change_text e.changes)) (ascii _ refl) (IsUtf8-join change_text e.changes each)
+    ⊹ ascii (codes "],\"command\":\"") refl ⊹ name_utf8 e.command
+    ⊹ ascii (codes "\",\"format\":") refl ⊹ number_utf8 (format_number second) (few_formats second)
+    ⊹ ascii (codes ",\"when\":") refl ⊹ number_utf8 e.when (omega (arith, sound.when)) ⊹ ascii (codes "}") refl
 
 -- ---- the lengths
 
@@ -239,11 +197,8 @@ length-hex bytes h = omega (arith, length-append (escape (encode_lower bytes)) (
 number_length : (n : ℕ) → n < 2 ^ 64 → length (decimal n) ≤ 20
 number_length n h = length-decimal-le 20 n (omega arith) (omega arith) h
 
-make_length : (digest new path : List ℕ) → length (codes "{" ++ digest ++ codes "\"kind\":\"make\",\"new\":" ++ new ++ codes ",\"path\":" ++ path ++ codes "}") ≤ 30 + (length digest + length new + length path)
-make_length digest new path = simp length-append (omega arith)
-
-drop_length : (digest old path : List ℕ) → length (codes "{" ++ digest ++ codes "\"kind\":\"drop\",\"old\":" ++ old ++ codes ",\"path\":" ++ path ++ codes "}") ≤ 30 + (length digest + length old + length path)
-drop_length digest old path = simp length-append (omega arith)
+whole_length : (digest kind bytes path : List ℕ) → length (codes "{" ++ digest ++ kind ++ bytes ++ codes ",\"path\":" ++ path ++ codes "}") ≡ 10 + (length digest + length kind + length bytes + length path)
+whole_length digest kind bytes path = simp length-append (omega arith)
 
 splice_length : (after at before new old path rest : List ℕ)
     → length (codes "{" ++ after ++ codes "\"at\":" ++ at ++ codes "," ++ before ++ codes "\"kind\":\"splice\",\"new\":" ++ new ++ codes ",\"old\":" ++ old ++ codes ",\"path\":" ++ path ++ codes ",\"rest\":" ++ rest ++ codes "}")
@@ -287,13 +242,17 @@ splice_fits sealed path at old new rest after before low high old_bytes new_byte
       splice_length after (decimal at) before (hex_text new) (hex_text old) (quoted path) (decimal rest),
     )
 
+whole_fits : (key : List ℕ) (digest : Option (List ℕ)) (kind bytes path : List ℕ) → length key ≤ 6 → length kind ≤ 20 → AreDigestBytes digest → IsBytes bytes
+    → length (whole_text key digest kind bytes path) + 1 ≤ fixed_size (is_some digest) + 6 * length path + 2 * length bytes
+whole_fits key digest kind bytes path short named is_digest are_bytes =
+    let front = digest_length key digest short is_digest in
+    omega (arith, room_fits (is_some digest), front, length-hex bytes are_bytes, length-quoted-le path, whole_length (digest_text key digest) kind (hex_text bytes) (quoted path))
+
 change_length : (c : Change) → IsWritable c → length (change_text c) + 1 ≤ change_size c
 change_length (Make path new after) h =
-    let digest = digest_length (codes "after") after (omega arith) h.in_memory.after in
-    omega (arith, room_fits (is_some after), digest, length-hex new h.in_memory.written, length-quoted-le path, make_length (digest_text (codes "after") after) (hex_text new) (quoted path))
+    omega (arith, whole_fits (codes "after") after (codes "\"kind\":\"make\",\"new\":") new path (omega arith) (omega arith) h.in_memory.after h.in_memory.written)
 change_length (Drop path old before) h =
-    let digest = digest_length (codes "before") before (omega arith) h.in_memory.before in
-    omega (arith, room_fits (is_some before), digest, length-hex old h.in_memory.removed, length-quoted-le path, drop_length (digest_text (codes "before") before) (hex_text old) (quoted path))
+    omega (arith, whole_fits (codes "before") before (codes "\"kind\":\"drop\",\"old\":") old path (omega arith) (omega arith) h.in_memory.before h.in_memory.removed)
 change_length (Splice path at old new rest None) h =
     splice_fits false path at old new rest [] [] (omega (arith, h.small.0)) (omega (arith, h.small.0)) h.in_memory.removed h.in_memory.written (omega arith) (omega arith)
 change_length (Splice path at old new rest (Some seal)) h =

@@ -1,5 +1,5 @@
 -- What is read of an entry's value is the entry, and nothing else is.
-use Rattle.std.proofs.Common.{◌≡◌, ℕ, ◌≤◌, Bool, true, false, cond, ◌==◌, eqb-true, eq-eqb, List, [], ◌∷◌, length, codes, Option, Some, None, refl, sym, ap, ap₂, ◌∙◌, subst, le-leb, leb-true, Result, Ok, Err, ◌⊎◌, inl, inr}
+use Rattle.std.proofs.Common.{◌≡◌, ℕ, ◌≤◌, Bool, true, false, cond, ◌==◌, eqb-true, eq-eqb, List, [], ◌∷◌, length, codes, Option, Some, None, is_some, refl, sym, ap, ap₂, ◌∙◌, subst, le-leb, leb-true, Result, Ok, Err, ◌⊎◌, inl, inr}
 use Rattle.std.specs.Prelude.{IsTrue, IfOk}
 use Rattle.reuse_session.specs.declared.journal.fault.DecodeFault.{DecodeFault}
 use Rattle.reuse_session.specs.Decoded.{Gives, IsAnswer}
@@ -20,16 +20,16 @@ use Rattle.reuse_tree.specs.Change.{path_of, is_sealed}
 use Rattle.reuse_tree.specs.declared.digest.Seal.{Seal}
 use Rattle.reuse_session.specs.Entry.{AreAllSealed}
 use Rattle.reuse_session.specs.Json.{count, array_of, members_of, IsJson}
-use Rattle.reuse_session.specs.Format.{knows}
-use Rattle.reuse_session.specs.EntryText.{command_name, make_members, drop_members, splice_members, IsHex, IsHexDigest, IsChangeValue, IsEntryValue, HavePaths, IsJsonEntry, IsGoodEntry}
-use Rattle.reuse_session.specs.JsonReading.{first_member, if_none_left, format_in, number_in, read_items}
-use Rattle.reuse_session.specs.EntryReading.{if_text, digest_in, first_digest, seal_of, hex_in, path_in, command_from, if_known, moment_in, make_in, drop_in, splice_in, splice_bytes_in, splice_end_in, change_in, changes_in, entry_in}
+use Rattle.reuse_session.specs.Format.{knows, format_number}
+use Rattle.reuse_session.specs.EntryText.{command_name, whole_members, splice_members, IsWholeValue, IsHex, IsHexDigest, IsChangeValue, IsEntryValue, HavePaths, IsJsonEntry, IsGoodEntry}
+use Rattle.reuse_session.specs.JsonReading.{first_member, field_in, if_none_left, format_in, number_in, read_items}
+use Rattle.reuse_session.specs.EntryReading.{if_text, digest_in, first_digest, seal_of, hex_in, path_in, command_from, command_in, if_known, moment_in, whole_in, make_in, drop_in, splice_in, splice_bytes_in, splice_end_in, change_in, changes_in, entry_in}
 use Rattle.reuse_tree.specs.declared.change.Change.{Change}
 use Rattle.reuse_tree.specs.declared.change.Change.TheVariants.{Make, Drop, Splice}
 use Rattle.reuse_session.specs.declared.journal.entry.Entry.{Entry}
 use Rattle.reuse_session.specs.declared.command.CommandName.{CommandName}
 use Rattle.reuse_session.specs.declared.command.CommandName.TheVariants.{Annotate, ConvertDep5, Download, Revert}
-use Rattle.reuse_session.proofs.JsonParts.{either, named, bind_some, first_member_found, none_left_found, object_found, array_found, string_found, number_found, format_found, format_again, IfOk-from_gives, IsAnswer-from_gives, same_json}
+use Rattle.reuse_session.proofs.JsonParts.{either, named, bind_some, first_member_found, field_found, field_is, none_left_found, object_found, array_found, string_found, number_found, format_found, format_again, IfOk-from_gives, IsAnswer-from_gives, same_json}
 
 -- ---- parts
 
@@ -56,9 +56,6 @@ path_found d path e =
     let s = bind_some _ (as_str d) path e in
     let t = cond_some (is_path s.0) s.0 path s.2 in
     (string_found d s.0 s.1 ∙ ap string t.1, subst (λ (p : List ℕ). is_path p ≡ true) t.1 t.0)
-
-path_again : (path : List ℕ) → is_path path ≡ true → path_in (string path) ≡ Some path
-path_again path is = ap (λ b. cond b (Some path) None) is
 
 moment_found : (d : Data) (n : ℕ) → moment_in d ≡ Some n → (d ≡ count n) × (n ≤ 250_000_000_000)
 moment_found d n e =
@@ -88,6 +85,12 @@ command_again ConvertDep5 = refl
 command_again Download = refl
 command_again Revert = refl
 
+command_there : (d : Data) (w : CommandName) → command_in d ≡ Some w → d ≡ string (command_name w)
+command_there d w e = let name = bind_some _ (as_str d) w e in string_found d name.0 name.1 ∙ ap string (command_found name.0 w name.2)
+
+path_there : (d : Data) (path : List ℕ) → path_in d ≡ Some path → d ≡ string path
+path_there d path e = (path_found d path e).0
+
 -- ---- a change
 
 digest_found : (d : Data) (digest : List ℕ) → digest_in d ≡ Some digest → IsHexDigest digest d
@@ -108,76 +111,56 @@ first_digest_found : (sealed : Bool) (key : List ℕ) (fields : Members) (p : Op
 unfolding first_digest
 first_digest_found false key fields p e = subst (λ (q : Option (List ℕ) × Members). IsInFront false key q.0 fields q.1) (same_Some (None, fields) p e) (refl, refl)
 first_digest_found true key fields p e =
-    let first = bind_some _ (first_member key fields) p e in
-    let digest = bind_some _ (digest_in first.0.0) p first.2 in
-    subst (λ (q : Option (List ℕ) × Members). IsInFront true key q.0 fields q.1) (same_Some (Some digest.0, first.0.1) p digest.2)
-    (refl, first.0.0, digest_found first.0.0 digest.0 digest.1, first_member_found key fields first.0 first.1)
+    let first = bind_some _ (field_in digest_in key fields) p e in
+    let digest = field_found digest_in key fields first.0 first.1 in
+    subst (λ (q : Option (List ℕ) × Members). IsInFront true key q.0 fields q.1) (same_Some (Some first.0.0, first.0.1) p first.2) (refl, digest.0, digest_found digest.0 first.0.0 digest.1, digest.2)
 
 -- a value of a change, sealed or not as all are
 abbrev IsValueIn : Bool → Change → Data → Type 0
 IsValueIn sealed c d = IsChangeValue c d × (is_sealed c ≡ sealed)
 
-make_value : (sealed : Bool) (after : Option (List ℕ)) (path new : List ℕ) (n : Data) (fields rest : Members) → IsInFront sealed (codes "after") after fields rest → IsHex new n
-    → rest ≡ members_of (make_members path n) → IsValueIn sealed (Make path new after) (object fields)
-make_value sealed None path new n fields rest front is e = ((n, is, ap object (front.1 ∙ e)), sym front.0)
-make_value sealed (Some after) path new n fields rest front is e = ((n, is, front.1, front.2, ap object (front.3 ∙ ap (member (codes "after") front.1) e)), sym front.0)
+whole_value : (sealed : Bool) (key : List ℕ) (digest : Option (List ℕ)) (kind name bytes path : List ℕ) (b : Data) (fields rest : Members) → IsInFront sealed key digest fields rest → IsHex bytes b
+    → rest ≡ members_of (whole_members kind name path b) → IsWholeValue key digest kind name bytes path (object fields) × (is_some digest ≡ sealed)
+whole_value sealed key None kind name bytes path b fields rest front is e = ((b, is, ap object (front.1 ∙ e)), sym front.0)
+whole_value sealed key (Some digest) kind name bytes path b fields rest front is e = ((b, is, front.1, front.2, ap object (front.3 ∙ ap (member key front.1) e)), sym front.0)
+
+whole_found : (sealed : Bool) (key kind name : List ℕ) (d : Data) (w : List ℕ × List ℕ × Option (List ℕ)) → whole_in sealed key kind name d ≡ Some w → IsWholeValue key w.2 kind name w.1 w.0 d × (is_some w.2 ≡ sealed)
+unfolding whole_in
+whole_found sealed key kind name d w e =
+    let fields = bind_some _ (as_object d) w e in
+    let digest = bind_some _ (first_digest sealed key fields.0) w fields.2 in
+    let named = bind_some _ (field_in (if_text kind) (codes "kind") digest.0.1) w digest.2 in
+    let bytes = bind_some _ (field_in hex_in name named.0.1) w named.2 in
+    let path = bind_some _ (field_in path_in (codes "path") bytes.0.1) w bytes.2 in
+    let end = bind_some _ (if_none_left path.0.1) w path.2 in
+    let held = field_found hex_in name named.0.1 bytes.0 bytes.1 in
+    let third = field_is path_in string path_there (codes "path") bytes.0.1 path.0 path.1 ∙ ap (member (codes "path") (string path.0.0)) (none_left_found path.0.1 end.0 end.1) in
+    let first = field_is (if_text kind) (λ _. string kind) (if_text_found kind) (codes "kind") digest.0.1 named.0 named.1 ∙ ap (member (codes "kind") (string kind)) (held.2 ∙ ap (member name held.0) third) in
+    subst (λ (q : List ℕ × List ℕ × Option (List ℕ)). IsWholeValue key q.2 kind name q.1 q.0 d × (is_some q.2 ≡ sealed)) (same_Some (path.0.0, bytes.0.0, digest.0.0) w end.2)
+    (subst (λ (x : Data). IsWholeValue key digest.0.0 kind name bytes.0.0 path.0.0 x × (is_some digest.0.0 ≡ sealed)) (sym (object_found d fields.0 fields.1))
+    (whole_value sealed key digest.0.0 kind name bytes.0.0 path.0.0 held.0 fields.0 digest.0.1 (first_digest_found sealed key fields.0 digest.0 digest.1) (hex_found held.0 bytes.0.0 held.1) first))
 
 make_found : (sealed : Bool) (d : Data) (c : Change) → make_in sealed d ≡ Some c → IsValueIn sealed c d
 unfolding make_in
 make_found sealed d c e =
-    let fields = bind_some _ (as_object d) c e in
-    let after = bind_some _ (first_digest sealed (codes "after") fields.0) c fields.2 in
-    let kind = bind_some _ (first_member (codes "kind") after.0.1) c after.2 in
-    let make = bind_some _ (if_text (codes "make") kind.0.0) c kind.2 in
-    let new = bind_some _ (first_member (codes "new") kind.0.1) c make.2 in
-    let n = bind_some _ (hex_in new.0.0) c new.2 in
-    let path = bind_some _ (first_member (codes "path") new.0.1) c n.2 in
-    let p = bind_some _ (path_in path.0.0) c path.2 in
-    let end = bind_some _ (if_none_left path.0.1) c p.2 in
-    let third = first_member_found (codes "path") new.0.1 path.0 path.1 ∙ ap₂ (member (codes "path")) (path_found path.0.0 p.0 p.1).0 (none_left_found path.0.1 end.0 end.1) in
-    let second = first_member_found (codes "new") kind.0.1 new.0 new.1 ∙ ap (member (codes "new") new.0.0) third in
-    let first = first_member_found (codes "kind") after.0.1 kind.0 kind.1 ∙ ap₂ (member (codes "kind")) (if_text_found (codes "make") kind.0.0 make.0 make.1) second in
-    let front = first_digest_found sealed (codes "after") fields.0 after.0 after.1 in
-    subst (λ (x : Change). IsValueIn sealed x d) (same_Some (Make p.0 n.0 after.0.0) c end.2)
-    (subst (IsValueIn sealed (Make p.0 n.0 after.0.0)) (sym (object_found d fields.0 fields.1))
-    (make_value sealed after.0.0 p.0 n.0 new.0.0 fields.0 after.0.1 front (hex_found new.0.0 n.0 n.1) first))
-
-drop_value : (sealed : Bool) (before : Option (List ℕ)) (path old : List ℕ) (o : Data) (fields rest : Members) → IsInFront sealed (codes "before") before fields rest → IsHex old o
-    → rest ≡ members_of (drop_members path o) → IsValueIn sealed (Drop path old before) (object fields)
-drop_value sealed None path old o fields rest front is e = ((o, is, ap object (front.1 ∙ e)), sym front.0)
-drop_value sealed (Some before) path old o fields rest front is e = ((o, is, front.1, front.2, ap object (front.3 ∙ ap (member (codes "before") front.1) e)), sym front.0)
+    let w = bind_some _ (whole_in sealed (codes "after") (codes "make") (codes "new") d) c e in
+    subst (λ (x : Change). IsValueIn sealed x d) (same_Some (Make w.0.0 w.0.1 w.0.2) c w.2) (whole_found sealed (codes "after") (codes "make") (codes "new") d w.0 w.1)
 
 drop_found : (sealed : Bool) (d : Data) (c : Change) → drop_in sealed d ≡ Some c → IsValueIn sealed c d
 unfolding drop_in
 drop_found sealed d c e =
-    let fields = bind_some _ (as_object d) c e in
-    let before = bind_some _ (first_digest sealed (codes "before") fields.0) c fields.2 in
-    let kind = bind_some _ (first_member (codes "kind") before.0.1) c before.2 in
-    let is = bind_some _ (if_text (codes "drop") kind.0.0) c kind.2 in
-    let old = bind_some _ (first_member (codes "old") kind.0.1) c is.2 in
-    let o = bind_some _ (hex_in old.0.0) c old.2 in
-    let path = bind_some _ (first_member (codes "path") old.0.1) c o.2 in
-    let p = bind_some _ (path_in path.0.0) c path.2 in
-    let end = bind_some _ (if_none_left path.0.1) c p.2 in
-    let third = first_member_found (codes "path") old.0.1 path.0 path.1 ∙ ap₂ (member (codes "path")) (path_found path.0.0 p.0 p.1).0 (none_left_found path.0.1 end.0 end.1) in
-    let second = first_member_found (codes "old") kind.0.1 old.0 old.1 ∙ ap (member (codes "old") old.0.0) third in
-    let first = first_member_found (codes "kind") before.0.1 kind.0 kind.1 ∙ ap₂ (member (codes "kind")) (if_text_found (codes "drop") kind.0.0 is.0 is.1) second in
-    let front = first_digest_found sealed (codes "before") fields.0 before.0 before.1 in
-    subst (λ (x : Change). IsValueIn sealed x d) (same_Some (Drop p.0 o.0 before.0.0) c end.2)
-    (subst (IsValueIn sealed (Drop p.0 o.0 before.0.0)) (sym (object_found d fields.0 fields.1))
-    (drop_value sealed before.0.0 p.0 o.0 old.0.0 fields.0 before.0.1 front (hex_found old.0.0 o.0 o.1) first))
+    let w = bind_some _ (whole_in sealed (codes "before") (codes "drop") (codes "old") d) c e in
+    subst (λ (x : Change). IsValueIn sealed x d) (same_Some (Drop w.0.0 w.0.1 w.0.2) c w.2) (whole_found sealed (codes "before") (codes "drop") (codes "old") d w.0 w.1)
 
 splice_end_found : (at : ℕ) (new old : List ℕ) (seal : Option Seal) (fields : Members) (c : Change) → splice_end_in at new old seal fields ≡ Some c
     → (p : List ℕ) × (r : ℕ) × (c ≡ Splice p at old new r seal) × (fields ≡ member (codes "path") (string p) (member (codes "rest") (count r) no_members))
 unfolding splice_end_in
 splice_end_found at new old seal fields c e =
-    let path = bind_some _ (first_member (codes "path") fields) c e in
-    let p = bind_some _ (path_in path.0.0) c path.2 in
-    let rest = bind_some _ (first_member (codes "rest") path.0.1) c p.2 in
-    let r = bind_some _ (number_in rest.0.0) c rest.2 in
-    let end = bind_some _ (if_none_left rest.0.1) c r.2 in
-    let sixth = first_member_found (codes "rest") path.0.1 rest.0 rest.1 ∙ ap₂ (member (codes "rest")) (number_found rest.0.0 r.0 r.1) (none_left_found rest.0.1 end.0 end.1) in
-    (p.0, r.0, sym (same_Some (Splice p.0 at old new r.0 seal) c end.2), first_member_found (codes "path") fields path.0 path.1 ∙ ap₂ (member (codes "path")) (path_found path.0.0 p.0 p.1).0 sixth)
+    let path = bind_some _ (field_in path_in (codes "path") fields) c e in
+    let rest = bind_some _ (field_in number_in (codes "rest") path.0.1) c path.2 in
+    let end = bind_some _ (if_none_left rest.0.1) c rest.2 in
+    let sixth = field_is number_in count number_found (codes "rest") path.0.1 rest.0 rest.1 ∙ ap (member (codes "rest") (count rest.0.0)) (none_left_found rest.0.1 end.0 end.1) in
+    (path.0.0, rest.0.0, sym (same_Some (Splice path.0.0 at old new rest.0.0 seal) c end.2), field_is path_in string path_there (codes "path") fields path.0 path.1 ∙ ap (member (codes "path") (string path.0.0)) sixth)
 
 -- the members of a splice from its kind on
 pub record SpliceBytes (at : ℕ) (seal : Option Seal) (fields : Members) (c : Change) : Type 0 where
@@ -195,26 +178,24 @@ pub record SpliceBytes (at : ℕ) (seal : Option Seal) (fields : Members) (c : C
 splice_bytes_found : (at : ℕ) (seal : Option Seal) (fields : Members) (c : Change) → splice_bytes_in at seal fields ≡ Some c → SpliceBytes at seal fields c
 unfolding splice_bytes_in
 splice_bytes_found at seal fields c e =
-    let kind = bind_some _ (first_member (codes "kind") fields) c e in
-    let is = bind_some _ (if_text (codes "splice") kind.0.0) c kind.2 in
-    let new = bind_some _ (first_member (codes "new") kind.0.1) c is.2 in
-    let n = bind_some _ (hex_in new.0.0) c new.2 in
-    let old = bind_some _ (first_member (codes "old") new.0.1) c n.2 in
-    let o = bind_some _ (hex_in old.0.0) c old.2 in
-    let end = splice_end_found at n.0 o.0 seal old.0.1 c o.2 in
-    let third = first_member_found (codes "old") new.0.1 old.0 old.1 ∙ ap (member (codes "old") old.0.0) end.3 in
-    let second = first_member_found (codes "new") kind.0.1 new.0 new.1 ∙ ap (member (codes "new") new.0.0) third in
+    let kind = bind_some _ (field_in (if_text (codes "splice")) (codes "kind") fields) c e in
+    let new = bind_some _ (field_in hex_in (codes "new") kind.0.1) c kind.2 in
+    let old = bind_some _ (field_in hex_in (codes "old") new.0.1) c new.2 in
+    let written = field_found hex_in (codes "new") kind.0.1 new.0 new.1 in
+    let removed = field_found hex_in (codes "old") new.0.1 old.0 old.1 in
+    let end = splice_end_found at new.0.0 old.0.0 seal old.0.1 c old.2 in
+    let second = written.2 ∙ ap (member (codes "new") written.0) (removed.2 ∙ ap (member (codes "old") removed.0) end.3) in
     record {
       path = end.0;
       rest = end.1;
-      new_bytes = n.0;
-      old_bytes = o.0;
-      new = new.0.0;
-      old = old.0.0;
-      is_new = hex_found new.0.0 n.0 n.1;
-      is_old = hex_found old.0.0 o.0 o.1;
+      new_bytes = new.0.0;
+      old_bytes = old.0.0;
+      new = written.0;
+      old = removed.0;
+      is_new = hex_found written.0 new.0.0 written.1;
+      is_old = hex_found removed.0 old.0.0 removed.1;
       change = end.2;
-      all = first_member_found (codes "kind") fields kind.0 kind.1 ∙ ap₂ (member (codes "kind")) (if_text_found (codes "splice") kind.0.0 is.0 is.1) second;
+      all = field_is (if_text (codes "splice")) (λ _. string (codes "splice")) (if_text_found (codes "splice")) (codes "kind") fields kind.0 kind.1 ∙ ap (member (codes "kind") (string (codes "splice"))) second;
     }
 
 -- a splice's members, given what stands in front of its kind
@@ -236,13 +217,11 @@ unfolding splice_in
 splice_found sealed d c e =
     let fields = bind_some _ (as_object d) c e in
     let after = bind_some _ (first_digest sealed (codes "after") fields.0) c fields.2 in
-    let at = bind_some _ (first_member (codes "at") after.0.1) c after.2 in
-    let a = bind_some _ (number_in at.0.0) c at.2 in
-    let before = bind_some _ (first_digest sealed (codes "before") at.0.1) c a.2 in
-    let place = first_member_found (codes "at") after.0.1 at.0 at.1 ∙ ap (λ (x : Data). member (codes "at") x at.0.1) (number_found at.0.0 a.0 a.1) in
-    splice_value sealed after.0.0 before.0.0 a.0 d fields.0 after.0.1 at.0.1 before.0.1 c
-    (first_digest_found sealed (codes "after") fields.0 after.0 after.1) place (first_digest_found sealed (codes "before") at.0.1 before.0 before.1)
-    (splice_bytes_found a.0 (seal_of before.0.0 after.0.0) before.0.1 c before.2) (object_found d fields.0 fields.1)
+    let at = bind_some _ (field_in number_in (codes "at") after.0.1) c after.2 in
+    let before = bind_some _ (first_digest sealed (codes "before") at.0.1) c at.2 in
+    splice_value sealed after.0.0 before.0.0 at.0.0 d fields.0 after.0.1 at.0.1 before.0.1 c
+    (first_digest_found sealed (codes "after") fields.0 after.0 after.1) (field_is number_in count number_found (codes "at") after.0.1 at.0 at.1) (first_digest_found sealed (codes "before") at.0.1 before.0 before.1)
+    (splice_bytes_found at.0.0 (seal_of before.0.0 after.0.0) before.0.1 c before.2) (object_found d fields.0 fields.1)
 
 -- one of three readers gave the value
 of_kind : (b1 b2 b3 : Bool) (x y z : Option Change) (c : Change) → cond b1 x (cond b2 y (cond b3 z None)) ≡ Some c → (x ≡ Some c) ⊎ ((y ≡ Some c) ⊎ (z ≡ Some c))
@@ -262,7 +241,7 @@ change_found sealed d c e =
     ]
 
 change_again : (c : Change) (d : Data) → IsChangeValue c d → is_path (path_of c) ≡ true → change_in (is_sealed c) d ≡ Some c
-unfolding change_in make_in drop_in splice_in splice_bytes_in splice_end_in first_digest
+unfolding change_in make_in drop_in whole_in splice_in splice_bytes_in splice_end_in first_digest
 change_again (Make path new None) d h is = rw h.2 (rw (hex_again h.0 new h.1, is) refl)
 change_again (Make path new (Some after)) d h is = rw h.4 (rw (digest_again h.2 after h.3, hex_again h.0 new h.1, is) refl)
 change_again (Drop path old None) d h is = rw h.2 (rw (hex_again h.0 old h.1, is) refl)
@@ -318,27 +297,23 @@ unfolding entry_in
 entry_found d entry e =
     let fields = bind_some _ (as_object d) entry e in
     let changes = bind_some _ (first_member (codes "changes") fields.0) entry fields.2 in
-    let command = bind_some _ (first_member (codes "command") changes.0.1) entry changes.2 in
-    let text = bind_some _ (as_str command.0.0) entry command.2 in
-    let name = bind_some _ (command_from text.0) entry text.2 in
-    let format = bind_some _ (first_member (codes "format") command.0.1) entry name.2 in
-    let sealed = bind_some _ (format_in format.0.0) entry format.2 in
-    let known = bind_some _ (if_known sealed.0 name.0) entry sealed.2 in
-    let when = bind_some _ (first_member (codes "when") format.0.1) entry known.2 in
-    let w = bind_some _ (moment_in when.0.0) entry when.2 in
-    let end = bind_some _ (if_none_left when.0.1) entry w.2 in
-    let cs = bind_some _ (changes_in sealed.0 changes.0.0) entry end.2 in
-    let moment = moment_found when.0.0 w.0 w.1 in
-    let values = changes_found sealed.0 changes.0.0 cs.0 cs.1 in
-    let IsAs : Change → Type 0 = λ c. is_sealed c ≡ sealed.0 in
-    let in_command = string_found command.0.0 text.0 text.1 ∙ ap string (command_found text.0 name.0 name.1) in
-    let fourth = first_member_found (codes "when") format.0.1 when.0 when.1 ∙ ap₂ (member (codes "when")) moment.0 (none_left_found when.0.1 end.0 end.1) in
-    let third = first_member_found (codes "format") command.0.1 format.0 format.1 ∙ ap₂ (member (codes "format")) (format_found format.0.0 sealed.0 sealed.1) fourth in
-    let second = first_member_found (codes "command") changes.0.1 command.0 command.1 ∙ ap₂ (member (codes "command")) in_command third in
+    let command = bind_some _ (field_in command_in (codes "command") changes.0.1) entry changes.2 in
+    let format = bind_some _ (field_in format_in (codes "format") command.0.1) entry command.2 in
+    let known = bind_some _ (if_known format.0.0 command.0.0) entry format.2 in
+    let when = bind_some _ (field_in moment_in (codes "when") format.0.1) entry known.2 in
+    let end = bind_some _ (if_none_left when.0.1) entry when.2 in
+    let cs = bind_some _ (changes_in format.0.0 changes.0.0) entry end.2 in
+    let told = field_found moment_in (codes "when") format.0.1 when.0 when.1 in
+    let moment = moment_found told.0 when.0.0 told.1 in
+    let values = changes_found format.0.0 changes.0.0 cs.0 cs.1 in
+    let IsAs : Change → Type 0 = λ c. is_sealed c ≡ format.0.0 in
+    let fourth = told.2 ∙ ap₂ (member (codes "when")) moment.0 (none_left_found when.0.1 end.0 end.1) in
+    let third = field_is format_in (λ b. count (format_number b)) format_found (codes "format") command.0.1 format.0 format.1 ∙ ap (member (codes "format") (count (format_number format.0.0))) fourth in
+    let second = field_is command_in (λ w. string (command_name w)) command_there (codes "command") changes.0.1 command.0 command.1 ∙ ap (member (codes "command") (string (command_name command.0.0))) third in
     let first = first_member_found (codes "changes") fields.0 changes.0 changes.1 ∙ ap₂ (member (codes "changes")) values.1 second in
-    let found : Entry = record { changes = cs.0; command = name.0; when = w.0 } in
+    let found : Entry = record { changes = cs.0; command = command.0.0; when = when.0.0 } in
     subst (λ (x : Entry). IsEntryValue x d × (x.when ≤ 250_000_000_000)) (same_Some found entry cs.2)
-    ((sealed.0, values.0, All-from_recursion IsAs cs.0 values.2.0, (cond_some (knows sealed.0 name.0) tt known.0 known.1).0, values.2.1, object_found d fields.0 fields.1 ∙ ap object first), moment.1)
+    ((format.0.0, values.0, All-from_recursion IsAs cs.0 values.2.0, (cond_some (knows format.0.0 command.0.0) tt known.0 known.1).0, values.2.1, object_found d fields.0 fields.1 ∙ ap object first), moment.1)
 
 -- a value of an entry is read as the entry
 entry_again : (d : Data) (entry : Entry) → HavePaths entry.changes → entry.when ≤ 250_000_000_000 → IsEntryValue entry d → entry_in d ≡ Some entry

@@ -1,5 +1,5 @@
 -- The ascending paths of changes, and the folders among them.
-use Rattle.std.proofs.Common.{◌≡◌, ℕ, zero, suc, ◌+◌, ◌-◌, ◌<◌, ◌≤◌, Bool, true, false, ◌||◌, ltb, lt-ltb, le-ltb, eqb, nat_lt, List, [], ◌∷◌, ◌++◌, length, get_or, take, drop, map, Less, Equal, Greater, Ordering, nat_cmp, None, refl, sym, ap, ap₂, ◌∙◌, subst, arith, length-append, add-one, ◌⊎◌, inl, inr}
+use Rattle.std.proofs.Common.{◌≡◌, ℕ, zero, suc, ◌+◌, ◌-◌, ◌<◌, ◌≤◌, Bool, true, false, ◌||◌, ltb, lt-ltb, le-ltb, eqb, List, [], ◌∷◌, ◌++◌, length, get_or, drop, map, Less, Equal, Greater, Ordering, nat_cmp, None, refl, sym, ap, ap₂, ◌∙◌, subst, arith, length-append, add-one, ◌⊎◌, inl, inr}
 use Rattle.std.specs.Prelude.{IsTrue, ◌↔◌}
 use Rattle.std.specs.Cmp.Lexicographic.{slice_cmp}
 use Rattle.std.specs.Ordering.{ordering_then, ordering_reverse, MatchOrdering, is_lt}
@@ -8,8 +8,8 @@ use Rattle.std.specs.List.Sorted.{IsStrictlySortedBy, IsPartitionPoint, IsPartit
 use Rattle.std.specs.Str.{bytes_eq}
 use Rattle.std.proofs.lemmas.Bool.{false≢true, false_from_ne_true, cases_lt, or_cases, or_parts, or_from, or_right}
 use Rattle.std.proofs.lemmas.Bool.Decides.{Decides-eqb}
-use Rattle.std.proofs.lemmas.Cmp.{nat_list_cmp_total, nat_cmp_total, ranked, tied_itself}
-use Rattle.std.proofs.lemmas.List.{drop_more, take_all, length-map, length-drop, drop-map, get_or-map}
+use Rattle.std.proofs.lemmas.Cmp.{nat_list_cmp_total, ranked}
+use Rattle.std.proofs.lemmas.List.{drop_more, length-map, drop-map, get_or-map}
 use Rattle.std.proofs.lemmas.List.Elements.{All-weaker}
 use Rattle.std.proofs.lemmas.Map.Keys.{Less-from_sorted, sorted_head, sorted_tail}
 use Rattle.std.proofs.lemmas.Slice.Eq.{starts_is, bytes_eq-Decides}
@@ -22,7 +22,7 @@ use Rattle.reuse_session.specs.Entry.{touches, AreAllSealed, HasOwnDigest, IsEnt
 use Rattle.reuse_session.specs.EntryText.{HavePaths}
 use Rattle.reuse_session.specs.EntryTests.{AreApart, IsSoundChange, Passes}
 use Rattle.reuse_session.specs.Listing.{ArePaths, is_among, is_folder_of}
-use Rattle.reuse_session.proofs.ListingLemmas.{under_from_test, below_first, folder_found, folder_none}
+use Rattle.reuse_session.proofs.ListingLemmas.{under_from_test, below_first, folder_found, folder_none, same_number, get_or_after, before_front, before_nothing}
 
 abbrev pub before : List ℕ → List ℕ → Ordering
 before = slice_cmp nat_cmp
@@ -81,12 +81,9 @@ folder_among folder cs i c r sorted point within is e =
     folder_found (map path_of cs) folder i [] r sorted (point_of_paths (folder ++ 47 ∷ []) cs i (omega arith) point) (omega (arith, length-map cs path_of, within))
     (e ∙ ap (λ (p : List ℕ). lies_under p folder) (sym (path_at cs i c within is)))
 
-none_below : (i n : ℕ) → n ≤ i → nat_lt i n ≡ false
-none_below i n h = le-ltb i n h
-
 pub no_folder_among : (folder : List ℕ) (cs : List Change) (i : ℕ) → ArePaths (map path_of cs) → IsFirstInside folder cs i → i ≤ length cs → length cs ≤ i → false ≡ is_folder_of (map path_of cs) folder
 no_folder_among folder cs i sorted point within past =
-    sym (none_below i (length (map path_of cs)) (omega (arith, length-map cs path_of, past)))
+    sym (le-ltb i (length (map path_of cs)) (omega (arith, length-map cs path_of, past)))
     ∙ folder_none (map path_of cs) folder i sorted (point_of_paths (folder ++ 47 ∷ []) cs i within point) (omega (arith, length-map cs path_of, past))
 
 -- ---- below all that lie under a folder
@@ -99,26 +96,10 @@ not_begun folder path r is failed rest e = false≢true (sym failed ∙ (starts_
 pub begun : (folder path : List ℕ) (r : Bool) → r ≡ starts_with eqb path folder → r ≡ true → path ≡ folder ++ drop (length folder) path
 begun folder path r is passed = (starts_is Decides-eqb path folder r is).0 passed
 
-same_number : (a : ℕ) → nat_cmp a a ≡ Equal
-same_number a = tied_itself nat_cmp_total a
-
-get_or_after : (p : List ℕ) (x : ℕ) (rest : List ℕ) → get_or (p ++ x ∷ rest) (length p) 0 ≡ x
-get_or_after [] x rest = refl
-get_or_after (a ∷ p) x rest = get_or_after p x rest
-
--- what both begin with does not count
-before_front : (p x y : List ℕ) → before (p ++ x) (p ++ y) ≡ before x y
-before_front [] x y = refl
-before_front (a ∷ p) x y = rw (same_number a) (before_front p x y)
-
 then_greater_or_equal : (o : Ordering) → (o ≡ Less → ⊥) → is_lt o ≡ false
 then_greater_or_equal Less h = absurd (h refl)
 then_greater_or_equal Equal h = refl
 then_greater_or_equal Greater h = refl
-
-before_nothing : (xs : List ℕ) → before xs [] ≡ Less → ⊥
-before_nothing [] e = absurd (cc)
-before_nothing (x ∷ xs) e = absurd (cc)
 
 slash_at : (r : Ordering) (b : ℕ) (o : Ordering) → MatchOrdering r (b < 47) (b ≡ 47) (47 < b) → (o ≡ Less → ⊥) → is_lt (ordering_then r o) ≡ ltb b 47
 slash_at Less b o m not_less = sym (lt-ltb b 47 m)
@@ -225,10 +206,6 @@ apart_step cs i c within is sorted none =
 
 pub not_apart_from : (cs : List Change) (i : ℕ) (c : Change) → i < length cs → c ≡ get_or cs i c → is_folder_of (map path_of (drop (i + 1) cs)) (path_of c) ≡ true → AreApart (drop i (map path_of cs)) → ⊥
 not_apart_from cs i c within is found h = not_apart (path_of c) (map path_of (drop (i + 1) cs)) found (subst AreApart (drop_path cs i c within is) h).0
-
--- the part of a slice from j on
-pub part_from : (cs : List Change) (j : ℕ) → take (length cs - j) (drop j cs) ≡ drop j cs
-part_from cs j = take_all _ _ (omega (arith, length-drop j cs))
 
 -- ---- what the tests say of an entry
 

@@ -5,21 +5,18 @@ use Rattle.json.specs.Print.{escape_byte, quoted}
 use Rattle.serde_json.specs.Written.{compact_text, items_text}
 use Rattle.serde_json.specs.View.{items_of}
 use Rattle.reuse_session.specs.EntryText.{command_name, hex_text, digest_text, is_any_sealed, change_text, entry_text}
-use Rattle.reuse_session.proofs.EntryValues.{change_value, entry_value}
 use Rattle.reuse_session.specs.Format.{format_number}
 use Rattle.reuse_tree.specs.declared.change.Change.{Change}
 use Rattle.reuse_tree.specs.declared.change.Change.TheVariants.{Make, Drop, Splice}
 use Rattle.reuse_session.specs.declared.journal.entry.Entry.{Entry}
 use Rattle.reuse_session.specs.declared.command.CommandName.{CommandName}
 use Rattle.reuse_session.specs.declared.command.CommandName.TheVariants.{Annotate, ConvertDep5, Download, Revert}
+use Rattle.reuse_session.proofs.EntryValues.{change_value, entry_value}
 use Rattle.reuse_session.proofs.JsonPrinting.{items_text-map}
 
 -- the members of a change from its kind on, one after another
-unfoldable make_end : (new path : List ℕ) → List ℕ
-make_end new path = codes "\"kind\":\"make\",\"new\":" ++ (new ++ (codes ",\"path\":" ++ (path ++ codes "}")))
-
-unfoldable drop_end : (old path : List ℕ) → List ℕ
-drop_end old path = codes "\"kind\":\"drop\",\"old\":" ++ (old ++ (codes ",\"path\":" ++ (path ++ codes "}")))
+unfoldable whole_end : (kind bytes path : List ℕ) → List ℕ
+whole_end kind bytes path = kind ++ (bytes ++ (codes ",\"path\":" ++ (path ++ codes "}")))
 
 unfoldable splice_end : (new old path rest : List ℕ) → List ℕ
 splice_end new old path rest = codes "\"kind\":\"splice\",\"new\":" ++ (new ++ (codes ",\"old\":" ++ (old ++ (codes ",\"path\":" ++ (path ++ (codes ",\"rest\":" ++ (rest ++ codes "}")))))))
@@ -28,13 +25,9 @@ splice_end new old path rest = codes "\"kind\":\"splice\",\"new\":" ++ (new ++ (
 unfoldable at_end : (at digest end : List ℕ) → List ℕ
 at_end at digest end = codes "\"at\":" ++ (at ++ (codes "," ++ (digest ++ end)))
 
-make_regroup : (digest new path : List ℕ) → codes "{" ++ (digest ++ make_end new path) ≡ codes "{" ++ digest ++ codes "\"kind\":\"make\",\"new\":" ++ new ++ codes ",\"path\":" ++ path ++ codes "}"
-unfolding make_end
-make_regroup digest new path = simp append_assoc
-
-drop_regroup : (digest old path : List ℕ) → codes "{" ++ (digest ++ drop_end old path) ≡ codes "{" ++ digest ++ codes "\"kind\":\"drop\",\"old\":" ++ old ++ codes ",\"path\":" ++ path ++ codes "}"
-unfolding drop_end
-drop_regroup digest old path = simp append_assoc
+whole_regroup : (digest kind bytes path : List ℕ) → codes "{" ++ (digest ++ whole_end kind bytes path) ≡ codes "{" ++ digest ++ kind ++ bytes ++ codes ",\"path\":" ++ path ++ codes "}"
+unfolding whole_end
+whole_regroup digest kind bytes path = simp append_assoc
 
 splice_regroup : (after at before new old path rest : List ℕ)
     → codes "{" ++ (after ++ at_end at before (splice_end new old path rest))
@@ -57,14 +50,20 @@ digest_regroup key digest rest = front_regroup (codes "\"") key (codes "\":") (h
 fronted : (text key digest rest : List ℕ) → text ≡ codes "{" ++ digest_front key (hex_text digest) rest → text ≡ codes "{" ++ (digest_text key (Some digest) ++ rest)
 fronted text key digest rest is = is ∙ ap (λ l. codes "{" ++ l) (digest_regroup key digest rest)
 
+abbrev made : List ℕ
+made = codes "\"kind\":\"make\",\"new\":"
+
+abbrev dropped : List ℕ
+dropped = codes "\"kind\":\"drop\",\"old\":"
+
 pub change_compact : (c : Change) → compact_text (change_value c) ≡ change_text c
-unfolding escape_byte make_end drop_end splice_end at_end digest_front
-change_compact (Make path new None) = make_regroup [] (hex_text new) (quoted path)
+unfolding escape_byte whole_end splice_end at_end digest_front
+change_compact (Make path new None) = whole_regroup [] made (hex_text new) (quoted path)
 change_compact (Make path new (Some after)) =
-    fronted (compact_text (change_value (Make path new (Some after)))) (codes "after") after (make_end (hex_text new) (quoted path)) refl ∙ make_regroup (digest_text (codes "after") (Some after)) (hex_text new) (quoted path)
-change_compact (Drop path old None) = drop_regroup [] (hex_text old) (quoted path)
+    fronted (compact_text (change_value (Make path new (Some after)))) (codes "after") after (whole_end made (hex_text new) (quoted path)) refl ∙ whole_regroup (digest_text (codes "after") (Some after)) made (hex_text new) (quoted path)
+change_compact (Drop path old None) = whole_regroup [] dropped (hex_text old) (quoted path)
 change_compact (Drop path old (Some before)) =
-    fronted (compact_text (change_value (Drop path old (Some before)))) (codes "before") before (drop_end (hex_text old) (quoted path)) refl ∙ drop_regroup (digest_text (codes "before") (Some before)) (hex_text old) (quoted path)
+    fronted (compact_text (change_value (Drop path old (Some before)))) (codes "before") before (whole_end dropped (hex_text old) (quoted path)) refl ∙ whole_regroup (digest_text (codes "before") (Some before)) dropped (hex_text old) (quoted path)
 change_compact (Splice path at old new rest None) =
     let end = splice_end (hex_text new) (hex_text old) (quoted path) (decimal rest) in
     let whole : compact_text (change_value (Splice path at old new rest None)) ≡ codes "{" ++ ([] ++ at_end (decimal at) [] end) = refl in

@@ -5,7 +5,7 @@ use Rattle.hex.specs.Hex.{encode_lower}
 use Rattle.serde_json.specs.Data.{Data, string}
 use Rattle.reuse_tree.specs.declared.change.Change.{Change}
 use Rattle.reuse_tree.specs.declared.change.Change.TheVariants.{Make, Drop, Splice}
-use Rattle.reuse_session.specs.EntryText.{command_name, is_any_sealed, make_members, drop_members, splice_members}
+use Rattle.reuse_session.specs.EntryText.{command_name, is_any_sealed, whole_members, splice_members}
 use Rattle.reuse_session.specs.Format.{format_number}
 use Rattle.reuse_session.specs.Json.{count, object_of, array_of}
 use Rattle.reuse_session.specs.declared.journal.entry.Entry.{Entry}
@@ -21,8 +21,8 @@ digest_members key (Some digest) = (key, hex_value digest) ∷ []
 
 -- the value that is written for a change, with small digits
 abbrev pub change_value : Change → Data
-change_value (Make path new after) = object_of (digest_members (codes "after") after ++ make_members path (hex_value new))
-change_value (Drop path old before) = object_of (digest_members (codes "before") before ++ drop_members path (hex_value old))
+change_value (Make path new after) = object_of (digest_members (codes "after") after ++ whole_members (codes "make") (codes "new") path (hex_value new))
+change_value (Drop path old before) = object_of (digest_members (codes "before") before ++ whole_members (codes "drop") (codes "old") path (hex_value old))
 change_value (Splice path at old new rest seal) = object_of (
     digest_members (codes "after") (option_map (λ s. s.after) seal) ++ (codes "at", count at) ∷ digest_members (codes "before") (option_map (λ s. s.before) seal) ++ splice_members path (hex_value old) (hex_value new) rest)
 

@@ -1,8 +1,6 @@
 -- A tree and a journal follow the machine of whole trees.
-use Rattle.std.proofs.Common.{◌≡◌, ◌⊎◌, ⊎_elim, ℕ, suc, ◌+◌, ◌<◌, ◌≤◌, true, false, cond, List, [], ◌∷◌, ◌++◌, length, map, reverse, Result, Ok, Err, IsOk, OnOk, refl, sym, ap, subst, ◌∙◌, arith}
-use Rattle.std.proofs.lemmas.Bool.{false≢true}
-use Rattle.std.proofs.lemmas.Bool.Decides.{nat_tests}
-use Rattle.std.proofs.lemmas.List.{map-append, reverse-append, length-map}
+use Rattle.std.proofs.Common.{◌≡◌, ◌⊎◌, ⊎_elim, ℕ, suc, ◌+◌, ◌<◌, true, false, cond, List, [], ◌∷◌, ◌++◌, length, map, reverse, Result, Ok, Err, refl, sym, ap, subst, ◌∙◌, arith}
+use Rattle.std.proofs.lemmas.List.{map-append, reverse-append, length-map, nil_from_length}
 use Rattle.reuse_tree.specs.Files.{Files, AreFiles}
 use Rattle.reuse_tree.specs.declared.change.Change.{Change}
 use Rattle.reuse_tree.specs.Change.{path_of}
@@ -13,7 +11,6 @@ use Rattle.reuse_session.specs.declared.reply.Reply.{Reply}
 use Rattle.reuse_session.specs.declared.reply.Reply.TheVariants.{Changed, NothingChanged, Undone, Redone}
 use Rattle.reuse_session.specs.declared.reply.Refusal.{Refusal}
 use Rattle.reuse_session.specs.declared.reply.Refusal.TheVariants.{JournalFull, Moved, Memory, Fault}
-use Rattle.reuse_session.specs.declared.reply.Cause.{Cause}
 use Rattle.reuse_session.specs.Answer.{TellsNoFault, IsTestRefusal}
 use Rattle.reuse_session.specs.Command.{name_of}
 use Rattle.reuse_session.specs.Outcome.{outcome_of}
@@ -33,12 +30,18 @@ length_up_to tree [] (kept ∷ past) h = absurd h
 length_up_to tree (step ∷ steps) [] h = absurd h
 
 module _ (held : State) (state : Snapshots) (holds : Holds held state) where
+  -- changes that lead to the machine's tree lead back from the tree that is held
+  pub back_from : (changes : List Change) (tree : Files) → LeadsAll changes tree state.tree → LeadsBy way.Undo changes held.tree tree
+  back_from changes tree leads = subst (λ t. LeadsBy way.Undo changes t tree) (sym holds.tree) (leads_back changes tree state.tree leads)
+
+  pub on_from : (changes : List Change) (tree : Files) → LeadsAll changes state.tree tree → LeadsBy way.Do changes held.tree tree
+  on_from changes tree leads = subst (λ t. LeadsBy way.Do changes t tree) (sym holds.tree) leads
+
   undo_by_cases : (new : State) (result : Result Reply Refusal) (done : List Recorded) (past : List Kept) → LeadUpTo state.tree done past → Undoes done held result new → state.past ≡ past
       → (result ≡ (undone state past).0) × Holds new (undone state past).1
   undo_by_cases new result [] [] h u e = (u.0, subst (λ s. Holds s state) (sym u.1) holds)
   undo_by_cases new (Ok given) (step ∷ steps) (kept ∷ past) h u e =
-      let back : LeadsBy way.Undo step.changes held.tree kept.tree = subst (λ t. LeadsBy way.Undo step.changes t kept.tree) (sym holds.tree) (leads_back step.changes kept.tree state.tree h.1.leads) in
-      let tree : new.tree ≡ kept.tree = leads_once way.Undo step.changes held.tree new.tree kept.tree u.2 back in (
+      let tree : new.tree ≡ kept.tree = leads_once way.Undo step.changes held.tree new.tree kept.tree u.2 (back_from step.changes kept.tree h.1.leads) in (
         ap (λ r. Ok r) (u.0 ∙ ap Undone (sym (changed_by_entry step.changes kept.tree state.tree h.1.good h.1.leads))),
         record {
           tree = tree;
@@ -48,8 +51,7 @@ module _ (held : State) (state : Snapshots) (holds : Holds held state) where
         },
       )
   undo_by_cases new (Err refusal) (step ∷ steps) (kept ∷ past) h u e =
-      let back : LeadsBy way.Undo step.changes held.tree kept.tree = subst (λ t. LeadsBy way.Undo step.changes t kept.tree) (sym holds.tree) (leads_back step.changes kept.tree state.tree h.1.leads) in
-      absurd (none_stuck way.Undo held.tree step.changes u.0.0 (can_lead way.Undo step.changes held.tree kept.tree h.1.good h.1.are_files.0 back) u.0.2)
+      absurd (none_stuck way.Undo held.tree step.changes u.0.0 (can_lead way.Undo step.changes held.tree kept.tree h.1.good h.1.are_files.0 (back_from step.changes kept.tree h.1.leads)) u.0.2)
   undo_by_cases new result [] (kept ∷ past) h u e = absurd h
   undo_by_cases new result (step ∷ steps) [] h u e = absurd h
 
@@ -61,8 +63,7 @@ module _ (held : State) (state : Snapshots) (holds : Holds held state) where
       → (result ≡ (redone state future).0) × Holds new (redone state future).1
   redo_by_cases new result [] [] h u = (u.0, subst (λ s. Holds s state) (sym u.1) holds)
   redo_by_cases new (Ok given) (step ∷ steps) (kept ∷ future) h u =
-      let on : LeadsBy way.Do step.changes held.tree kept.tree = subst (λ t. LeadsBy way.Do step.changes t kept.tree) (sym holds.tree) h.1.leads in
-      let tree : new.tree ≡ kept.tree = leads_once way.Do step.changes held.tree new.tree kept.tree u.2 on in (
+      let tree : new.tree ≡ kept.tree = leads_once way.Do step.changes held.tree new.tree kept.tree u.2 (on_from step.changes kept.tree h.1.leads) in (
         ap (λ r. Ok r) (u.0 ∙ ap Redone (sym (changed_by_entry step.changes state.tree kept.tree h.1.good h.1.leads))),
         record {
           tree = tree;
@@ -72,8 +73,7 @@ module _ (held : State) (state : Snapshots) (holds : Holds held state) where
         },
       )
   redo_by_cases new (Err refusal) (step ∷ steps) (kept ∷ future) h u =
-      let on : LeadsBy way.Do step.changes held.tree kept.tree = subst (λ t. LeadsBy way.Do step.changes t kept.tree) (sym holds.tree) h.1.leads in
-      absurd (none_stuck way.Do held.tree step.changes u.0.0 (can_lead way.Do step.changes held.tree kept.tree h.1.good h.1.are_files.1 on) u.0.2)
+      absurd (none_stuck way.Do held.tree step.changes u.0.0 (can_lead way.Do step.changes held.tree kept.tree h.1.good h.1.are_files.1 (on_from step.changes kept.tree h.1.leads)) u.0.2)
   redo_by_cases new result [] (kept ∷ future) h u = absurd h
   redo_by_cases new result (step ∷ steps) [] h u = absurd h
 
@@ -170,16 +170,6 @@ log_follows held state holds =
     ap (λ rows. rows ++ map (λ step. row_of step.label (length step.changes) false) held.journal.undone) (before_rows state.tree held.journal.done state.past holds.past)
     ∙ ap (λ rows. rows_before state.tree state.past ++ rows) (behind_rows state.tree held.journal.undone state.future holds.future)
 
--- whether a journal is full
-pub full_by_done : (n u : ℕ) → 4096 ≤ n → is_full n u ≡ true
-full_by_done n u h = grind (arith, nat_tests)
-
-pub full_by_used : (n u : ℕ) → 999_999 ≤ u → is_full n u ≡ true
-full_by_used n u h = grind (arith, nat_tests)
-
-pub room_left : (n u : ℕ) → n < 4096 → u < 999_999 → is_full n u ≡ false
-room_left n u h k = grind (arith, nat_tests)
-
 -- a refusal of the test that is neither memory's nor the store's names a path
 pub names_path : (refusal : Refusal) → IsTestRefusal refusal → TellsNoFault {A = Reply} (Err refusal) → (path : List ℕ) × (refusal ≡ Moved path)
 names_path Memory h told = absurd told
@@ -191,21 +181,8 @@ names_path refusal h told = absurd h
 pub entry_of_plan : (changes : List Change) → 0 < length changes → (changes ≡ []) ⊎ IsEntry changes → IsEntry changes
 entry_of_plan changes some good = ⊎_elim (λ none. absurd (omega (arith, some, ap length none))) (λ entry. entry) good
 
-pub no_changes : (changes : List Change) → length changes ≡ 0 → changes ≡ []
-no_changes [] e = refl
-no_changes (change ∷ changes) e = absurd (omega arith)
-
 -- a run that changes nothing
 pub run_nothing : (held : State) (state : Snapshots) (holds : Holds held state) (command : Command) (when : ℕ) (changes : List Change) (after : Files) → is_full (length held.journal.done) held.journal.used ≡ false
     → outcome_of command held.tree ≡ Ok after → length changes ≡ 0 → LeadsAll changes held.tree after → ran_by state command when ≡ (Ok NothingChanged, state)
 run_nothing held state holds command when changes after room outcome none leads =
-    run_planned held state holds command when [] after room outcome (changed_by_none held.tree after (subst (λ cs. LeadsAll cs held.tree after) (no_changes changes none) leads))
-
--- an answer that is no error is one
-pub perform_ok : {A : Type 0} (r : Result A Cause) → ((cause : Cause) → r ≡ Err cause → ⊥) → IsOk r
-perform_ok (Ok x) h = refl
-perform_ok (Err cause) h = absurd (h cause refl)
-
-pub on_ok : {A E P : Type 0} (r : Result A E) → IsOk r → OnOk r P → P
-on_ok (Ok x) is h = h
-on_ok (Err e) is h = absurd (false≢true is)
+    run_planned held state holds command when [] after room outcome (changed_by_none held.tree after (subst (λ cs. LeadsAll cs held.tree after) (nil_from_length changes none) leads))

@@ -1,7 +1,6 @@
 -- A tree that no session has worked on holds the machine's first state.
-use Rattle.std.proofs.Common.{◌≡◌, ℕ, Bool, true, false, cond, not, List, [], Option, Some, None, IsSome, is_some, refl, sym, ap, subst, ◌∙◌}
+use Rattle.std.proofs.Common.{◌≡◌, ℕ, Bool, true, false, cond, not, List, [], Option, Some, None, IsSome, refl, sym, subst, ◌∙◌}
 use Rattle.std.specs.FinMap.{get}
-use Rattle.std.proofs.lemmas.Bool.{false≢true}
 use Rattle.std.proofs.lemmas.List.Elements.{All-nil}
 use Rattle.reuse_tree.specs.Path.{lies_under, journal_folder}
 use Rattle.reuse_tree.specs.Files.{Files, tree_of}
@@ -12,7 +11,9 @@ use Rattle.reuse_session.specs.JournalFiles.{head_path, IsFree, IsKeptIn, HeadSa
 use Rattle.reuse_session.specs.Standing.{IsStanding}
 use Rattle.reuse_session.specs.Stops.{HoldState}
 use Rattle.reuse_session.specs.Tree.{undo_folder_of}
-use Rattle.reuse_session.proofs.OfTree.{get-tree, get-folder}
+use Rattle.reuse_session.proofs.Results.{none_is_some}
+use Rattle.reuse_session.proofs.TreeLemmas.{tree_file}
+use Rattle.reuse_session.proofs.OfTree.{get-folder}
 
 abbrev no_steps : Journal
 no_steps = record { done = []; undone = []; used = 0 }
@@ -21,15 +22,12 @@ no_file : (file : Option (List ℕ)) → (IsSome file → ⊥) → file ≡ None
 no_file None none = refl
 no_file (Some bytes) none = absurd (none refl)
 
-some_is_none : (file : Option (List ℕ)) → file ≡ None → IsSome file → ⊥
-some_is_none file none some = false≢true (sym (ap is_some none) ∙ some)
-
 module _ (files : Files) (fresh : IsFresh files) where
   none_under : (path : List ℕ) → lies_under path journal_folder ≡ true → get files path ≡ None
   none_under path under = no_file (get files path) (λ some. fresh.no_journal path some under)
 
   all_tree : tree_of files ≡ files
-  all_tree = same_files (tree_of files) files (λ path. get-tree files path ∙ of_test path (lies_under path journal_folder) refl)
+  all_tree = same_files (tree_of files) files (λ path. tree_file files path ∙ of_test path (lies_under path journal_folder) refl)
     where
       of_test : (path : List ℕ) (b : Bool) → lies_under path journal_folder ≡ b → cond (not b) (get files path) None ≡ get files path
       of_test path true under = sym (none_under path under)
@@ -57,4 +55,4 @@ module _ (files : Files) (fresh : IsFresh files) where
   fresh_holds = (record { tree = files; journal = no_steps }, stands, record { tree = refl; past = tt; future = tt; used = refl })
 
   pub fresh_is_free : IsFree (undo_folder_of files)
-  fresh_is_free path other is some under = some_is_none (get (undo_folder_of files) other) (empty_folder other) some
+  fresh_is_free path other is some under = none_is_some (get (undo_folder_of files) other) (empty_folder other) some

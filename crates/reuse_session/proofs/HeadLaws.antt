@@ -1,13 +1,12 @@
 -- The text of a sound head is good, and short.
-use Rattle.std.proofs.Common.{◌≡◌, ℕ, ◌+◌, ◌*◌, ◌^◌, ◌<◌, ◌≤◌, List, [], ◌∷◌, ◌++◌, length, map, codes, decimal, Option, Some, None, false, true, refl, sym, ap, ◌∙◌, subst, arith, length-append, option_map}
+use Rattle.std.proofs.Common.{◌≡◌, ℕ, ◌+◌, ◌*◌, ◌^◌, ◌<◌, ◌≤◌, List, [], ◌∷◌, ◌++◌, length, map, codes, decimal, Option, Some, None, false, true, refl, sym, ap, ◌∙◌, subst, arith, length-append}
 use Rattle.std.specs.Prelude.{IsUtf8}
 use Rattle.std.specs.List.{AllByRecursion, join_with_byte}
 use Rattle.std.proofs.lemmas.Fmt.{length-decimal-le, IsAscii-decimal}
 use Rattle.std.proofs.lemmas.Str.{IsUtf8-append, IsUtf8-from_ascii}
 use Rattle.json.specs.Tree as tree
-use Rattle.json.proofs.Printed.Utf8.{IsUtf8-are_ascii, are_ascii}
+use Rattle.json.proofs.Printed.Utf8.{IsUtf8-are_ascii}
 use Rattle.json.proofs.Printed.Decimals.{IsNumber-decimal}
-use Rattle.serde_json.specs.Data.{number}
 use Rattle.serde_json.specs.Read.{read, of_json, of_items}
 use Rattle.serde_json.specs.View.{items_of}
 use Rattle.serde_json.specs.Written.{outline, items_outline, has_float, items_have_float}
@@ -19,14 +18,11 @@ use Rattle.reuse_session.specs.declared.journal.head.Pending.{Pending}
 use Rattle.reuse_session.specs.declared.journal.head.PendingWay.{PendingWay}
 use Rattle.reuse_session.specs.declared.journal.head.PendingWay.TheVariants.{Do, Undo, Redo}
 use Rattle.reuse_session.proofs.JsonPrinting.{IsReadable, read-compact_text}
-use Rattle.reuse_session.proofs.JoinedTexts.{length-join-le, IsUtf8-join, sum_by-constant, AllByRecursion-weaker}
+use Rattle.reuse_session.proofs.JoinedTexts.{◌⊹◌, length-join-le, IsUtf8-join, sum_by-constant, AllByRecursion-weaker}
 use Rattle.reuse_session.proofs.HeadTexts.{head_compact, head_shape, regroup}
 use Rattle.reuse_session.proofs.HeadParts.{IsSmallHead, small_from_sound, FitsSmall, FitsSix, six_from_sound}
 
 -- ---- numbers
-
-pub count_read : (n : ℕ) → n < 2 ^ 64 → of_json (outline (count n)) ≡ Some (count n)
-count_read n h = ap (option_map number) (number_of-decimal n h)
 
 counts_no_float : (ns : List ℕ) → items_have_float (items_of (map count ns)) ≡ false
 counts_no_float [] = refl
@@ -82,9 +78,7 @@ number_utf8 n h = IsUtf8-from_ascii (decimal n) (IsAscii-decimal n (omega arith)
 
 numbers_utf8 : (ns : List ℕ) → AllByRecursion (λ n. n < 2 ^ 32) ns → IsUtf8 (numbers_text ns)
 numbers_utf8 ns h =
-    IsUtf8-append (codes "[" ++ join_with_byte 44 (map decimal ns)) (codes "]")
-    (IsUtf8-append (codes "[") (join_with_byte 44 (map decimal ns)) (IsUtf8-are_ascii _ refl) (IsUtf8-join decimal ns (AllByRecursion-weaker (λ n. n < 2 ^ 32) (λ n. IsUtf8 (decimal n)) number_utf8 ns h)))
-    (IsUtf8-are_ascii _ refl)
+    IsUtf8-append (codes "[") (join_with_byte 44 (map decimal ns)) (IsUtf8-are_ascii _ refl) (IsUtf8-join decimal ns (AllByRecursion-weaker (λ n. n < 2 ^ 32) (λ n. IsUtf8 (decimal n)) number_utf8 ns h)) ⊹ IsUtf8-are_ascii (codes "]") refl
 
 way_utf8 : (w : PendingWay) → IsUtf8 (way_name w)
 way_utf8 Do = IsUtf8-are_ascii _ refl
@@ -94,26 +88,14 @@ way_utf8 Redo = IsUtf8-are_ascii _ refl
 pending_utf8 : (o : Option Pending) → FitsSmall o → IsUtf8 (pending_text o)
 pending_utf8 None h = IsUtf8-are_ascii _ refl
 pending_utf8 (Some p) h =
-    IsUtf8-append _ (codes "\"}") (IsUtf8-append _ (way_name p.way) (IsUtf8-append _ (codes ",\"way\":\"") (IsUtf8-append (codes "{\"entry\":") (decimal p.entry) (IsUtf8-are_ascii _ refl) (number_utf8 p.entry h)) (IsUtf8-are_ascii _ refl)) (way_utf8 p.way)) (IsUtf8-are_ascii _ refl)
+    IsUtf8-append (codes "{\"entry\":") (decimal p.entry) (IsUtf8-are_ascii _ refl) (number_utf8 p.entry h) ⊹ IsUtf8-are_ascii (codes ",\"way\":\"") refl ⊹ way_utf8 p.way ⊹ IsUtf8-are_ascii (codes "\"}") refl
 
 head_utf8 : (h : Head) → IsSmallHead h → IsUtf8 (head_text h)
 head_utf8 h small =
-    let ascii = λ (xs : List ℕ) (e : are_ascii xs ≡ true). IsUtf8-are_ascii xs e in
-    IsUtf8-append _ (codes "}")
-    (IsUtf8-append _ (numbers_text h.undone)
-    (IsUtf8-append _ (codes ",\"undone\":")
-    (IsUtf8-append _ (pending_text h.pending)
-    (IsUtf8-append _ (codes ",\"pending\":")
-    (IsUtf8-append _ (decimal h.next)
-    (IsUtf8-append _ (codes ",\"format\":2,\"next\":")
-    (IsUtf8-append (codes "{\"done\":") (numbers_text h.done) (ascii _ refl) (numbers_utf8 h.done small.done))
-    (ascii _ refl))
-    (number_utf8 h.next small.next))
-    (ascii _ refl))
-    (pending_utf8 h.pending small.pending))
-    (ascii _ refl))
-    (numbers_utf8 h.undone small.undone))
-    (ascii _ refl)
+    IsUtf8-append (codes "{\"done\":") (numbers_text h.done) (IsUtf8-are_ascii _ refl) (numbers_utf8 h.done small.done)
+    ⊹ IsUtf8-are_ascii (codes ",\"format\":2,\"next\":") refl ⊹ number_utf8 h.next small.next
+    ⊹ IsUtf8-are_ascii (codes ",\"pending\":") refl ⊹ pending_utf8 h.pending small.pending
+    ⊹ IsUtf8-are_ascii (codes ",\"undone\":") refl ⊹ numbers_utf8 h.undone small.undone ⊹ IsUtf8-are_ascii (codes "}") refl
 
 -- ---- its length
 

@@ -1,5 +1,5 @@
 -- What is read of a head's value is the head, and nothing else is.
-use Rattle.std.proofs.Common.{◌≡◌, ℕ, ◌^◌, ◌<◌, ◌≤◌, Bool, List, [], ◌∷◌, codes, Option, Some, None, option_map, refl, sym, ap, ap₂, ◌∙◌, subst, arith, inl, inr, length, ◌-◌, ◌++◌, Result}
+use Rattle.std.proofs.Common.{◌≡◌, ℕ, ◌^◌, ◌<◌, ◌≤◌, Bool, List, [], ◌∷◌, codes, Option, Some, None, option_map, refl, sym, ap, ◌∙◌, subst, arith, inl, inr, length, ◌-◌, ◌++◌, Result}
 use Rattle.std.specs.Prelude.{⊤, IfOk}
 use Rattle.reuse_session.specs.declared.journal.fault.DecodeFault.{DecodeFault}
 use Rattle.reuse_session.specs.Decoded.{Gives, IsAnswer}
@@ -7,18 +7,19 @@ use Rattle.std.specs.List.{AllByRecursion, All, slice_get}
 use Rattle.std.proofs.lemmas.List.Elements.{All-get_or, All-weaker, recursion_from_All, All-nil, All-cons, All-head, All-tail}
 use Rattle.std.proofs.lemmas.Option.{none-some, same_Some, cond_some, slice_get_within, get_or_from_slice_get}
 use Rattle.std.specs.Str.{bytes_eq}
-use Rattle.serde_json.specs.Data.{Data, null, boolean, number, string, array, object, member}
+use Rattle.reuse_session.specs.Format.{format_number}
+use Rattle.serde_json.specs.Data.{Data, null, string, object, member}
 use Rattle.serde_json.specs.Find.{as_object, as_str}
-use Rattle.reuse_session.specs.Json.{IsJson}
+use Rattle.reuse_session.specs.Json.{count, counts, IsJson}
 use Rattle.reuse_session.specs.Head.{way_name, pending_value, head_value, FitsWay, PendingFits, IsJsonHead, IsSoundHead, IsGoodHead}
-use Rattle.reuse_session.specs.JsonReading.{first_member, if_none_left, small_in, smalls_in, format_in}
+use Rattle.reuse_session.specs.JsonReading.{field_in, if_none_left, small_in, smalls_in, format_in}
 use Rattle.reuse_session.specs.HeadReading.{way_from, way_in, some_pending_in, pending_in, head_in}
 use Rattle.reuse_session.specs.declared.journal.head.Head.{Head}
 use Rattle.reuse_session.specs.declared.journal.head.Pending.{Pending}
 use Rattle.reuse_session.specs.declared.journal.head.PendingWay.{PendingWay}
 use Rattle.reuse_session.specs.declared.journal.head.PendingWay.TheVariants.{Do, Undo, Redo}
 use Rattle.reuse_session.proofs.JoinedTexts.{AllByRecursion-weaker}
-use Rattle.reuse_session.proofs.JsonParts.{either, named, bind_some, first_member_found, none_left_found, object_found, string_found, small_found, small_again, smalls_found, smalls_again, format_found, format_again, IfOk-from_gives, IsAnswer-from_gives, same_json}
+use Rattle.reuse_session.proofs.JsonParts.{either, named, bind_some, field_is, none_left_found, object_found, string_found, small_found, small_again, smalls_found, smalls_again, format_found, format_again, IfOk-from_gives, IsAnswer-from_gives, same_json}
 
 way_found : (name : List ℕ) (w : PendingWay) → way_from name ≡ Some w → name ≡ way_name w
 way_found name w e = elim (either (bytes_eq name (codes "do")) Do w _ e) [
@@ -34,24 +35,22 @@ way_again Do = refl
 way_again Undo = refl
 way_again Redo = refl
 
+way_there : (d : Data) (w : PendingWay) → way_in d ≡ Some w → d ≡ string (way_name w)
+way_there d w e = let name = bind_some _ (as_str d) w e in string_found d name.0 name.1 ∙ ap string (way_found name.0 w name.2)
+
+small_there : (d : Data) (n : ℕ) → small_in d ≡ Some n → d ≡ count n
+small_there d n e = (small_found d n e).0
+
 some_pending_found : (d : Data) (p : Pending) → some_pending_in d ≡ Some p → d ≡ pending_value (Some p)
 unfolding some_pending_in
 some_pending_found d p e =
     let fields = bind_some _ (as_object d) p e in
-    let entry = bind_some _ (first_member (codes "entry") fields.0) p fields.2 in
-    let n = bind_some _ (small_in entry.0.0) p entry.2 in
-    let way = bind_some _ (first_member (codes "way") entry.0.1) p n.2 in
-    let w = bind_some _ (way_in way.0.0) p way.2 in
-    let end = bind_some _ (if_none_left way.0.1) p w.2 in
-    let name = bind_some _ (as_str way.0.0) w.0 w.1 in
-    let last = same_Some _ p end.2 in
-    let is_object = object_found d fields.0 fields.1 in
-    let first = first_member_found (codes "entry") fields.0 entry.0 entry.1 in
-    let second = first_member_found (codes "way") entry.0.1 way.0 way.1 in
-    let none = none_left_found way.0.1 end.0 end.1 in
-    let number_is = (small_found entry.0.0 n.0 n.1).0 in
-    let name_is = string_found way.0.0 name.0 name.1 ∙ ap string (way_found name.0 w.0 name.2) in
-    is_object ∙ ap object (first ∙ ap₂ (member (codes "entry")) number_is (second ∙ ap₂ (member (codes "way")) name_is none)) ∙ ap (λ (q : Pending). pending_value (Some q)) last
+    let entry = bind_some _ (field_in small_in (codes "entry") fields.0) p fields.2 in
+    let way = bind_some _ (field_in way_in (codes "way") entry.0.1) p entry.2 in
+    let end = bind_some _ (if_none_left way.0.1) p way.2 in
+    let second = field_is way_in (λ w. string (way_name w)) way_there (codes "way") entry.0.1 way.0 way.1 ∙ ap (member (codes "way") (string (way_name way.0.0))) (none_left_found way.0.1 end.0 end.1) in
+    let first = field_is small_in count small_there (codes "entry") fields.0 entry.0 entry.1 ∙ ap (member (codes "entry") (count entry.0.0)) second in
+    object_found d fields.0 fields.1 ∙ ap object first ∙ ap (λ (q : Pending). pending_value (Some q)) (same_Some _ p end.2)
 
 some_pending_again : (p : Pending) → p.entry < 2 ^ 32 → some_pending_in (pending_value (Some p)) ≡ Some p
 unfolding some_pending_in
@@ -82,41 +81,25 @@ pending_again (Some p) h = ap (option_map Some) (some_pending_again p h)
 
 pending_found : (d : Data) (o : Option Pending) → pending_in d ≡ Some o → d ≡ pending_value o
 pending_found null o e = ap pending_value (same_Some None o e)
-pending_found (boolean b) o e = not_null (boolean b) o e
-pending_found (number n) o e = not_null (number n) o e
-pending_found (string s) o e = not_null (string s) o e
-pending_found (array ds) o e = not_null (array ds) o e
-pending_found (object ms) o e = not_null (object ms) o e
+pending_found d o e = not_null d o e
 
 -- what is read as a head is its value
 pub head_found : (d : Data) (h : Head) → head_in d ≡ Some h → (second : Bool) × (d ≡ head_value second h)
 unfolding head_in
 head_found d h e =
     let fields = bind_some _ (as_object d) h e in
-    let done = bind_some _ (first_member (codes "done") fields.0) h fields.2 in
-    let dones = bind_some _ (smalls_in done.0.0) h done.2 in
-    let format = bind_some _ (first_member (codes "format") done.0.1) h dones.2 in
-    let second_one = bind_some _ (format_in format.0.0) h format.2 in
-    let next = bind_some _ (first_member (codes "next") format.0.1) h second_one.2 in
-    let n = bind_some _ (small_in next.0.0) h next.2 in
-    let pending = bind_some _ (first_member (codes "pending") next.0.1) h n.2 in
-    let p = bind_some _ (pending_in pending.0.0) h pending.2 in
-    let undone = bind_some _ (first_member (codes "undone") pending.0.1) h p.2 in
-    let undones = bind_some _ (smalls_in undone.0.0) h undone.2 in
-    let end = bind_some _ (if_none_left undone.0.1) h undones.2 in
-    let last = same_Some _ h end.2 in
-    let in_done = smalls_found done.0.0 dones.0 dones.1 in
-    let in_format = format_found format.0.0 second_one.0 second_one.1 in
-    let in_next = (small_found next.0.0 n.0 n.1).0 in
-    let in_pending = pending_found pending.0.0 p.0 p.1 in
-    let in_undone = smalls_found undone.0.0 undones.0 undones.1 in
-    let none = none_left_found undone.0.1 end.0 end.1 in
-    let fifth = first_member_found (codes "undone") pending.0.1 undone.0 undone.1 ∙ ap₂ (member (codes "undone")) in_undone none in
-    let fourth = first_member_found (codes "pending") next.0.1 pending.0 pending.1 ∙ ap₂ (member (codes "pending")) in_pending fifth in
-    let third = first_member_found (codes "next") format.0.1 next.0 next.1 ∙ ap₂ (member (codes "next")) in_next fourth in
-    let second = first_member_found (codes "format") done.0.1 format.0 format.1 ∙ ap₂ (member (codes "format")) in_format third in
-    let first = first_member_found (codes "done") fields.0 done.0 done.1 ∙ ap₂ (member (codes "done")) in_done second in
-    (second_one.0, object_found d fields.0 fields.1 ∙ ap object first ∙ ap (head_value second_one.0) last)
+    let done = bind_some _ (field_in smalls_in (codes "done") fields.0) h fields.2 in
+    let format = bind_some _ (field_in format_in (codes "format") done.0.1) h done.2 in
+    let next = bind_some _ (field_in small_in (codes "next") format.0.1) h format.2 in
+    let pending = bind_some _ (field_in pending_in (codes "pending") next.0.1) h next.2 in
+    let undone = bind_some _ (field_in smalls_in (codes "undone") pending.0.1) h pending.2 in
+    let end = bind_some _ (if_none_left undone.0.1) h undone.2 in
+    let fifth = field_is smalls_in counts smalls_found (codes "undone") pending.0.1 undone.0 undone.1 ∙ ap (member (codes "undone") (counts undone.0.0)) (none_left_found undone.0.1 end.0 end.1) in
+    let fourth = field_is pending_in pending_value pending_found (codes "pending") next.0.1 pending.0 pending.1 ∙ ap (member (codes "pending") (pending_value pending.0.0)) fifth in
+    let third = field_is small_in count small_there (codes "next") format.0.1 next.0 next.1 ∙ ap (member (codes "next") (count next.0.0)) fourth in
+    let second = field_is format_in (λ b. count (format_number b)) format_found (codes "format") done.0.1 format.0 format.1 ∙ ap (member (codes "format") (count (format_number format.0.0))) third in
+    let first = field_is smalls_in counts smalls_found (codes "done") fields.0 done.0 done.1 ∙ ap (member (codes "done") (counts done.0.0)) second in
+    (format.0.0, object_found d fields.0 fields.1 ∙ ap object first ∙ ap (head_value format.0.0) (same_Some _ h end.2))
 
 All-front : (P : ℕ → Type 0) (xs ys : List ℕ) → All P (xs ++ ys) → All P xs
 All-front P [] ys h = All-nil P

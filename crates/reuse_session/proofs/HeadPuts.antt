@@ -1,17 +1,16 @@
 -- Puts of the journal's head beside the changes of a tree.
-use Rattle.std.proofs.Common.{◌≡◌, ℕ, Bool, true, false, cond, not, ◌||◌, List, get_or, Option, Some, None, is_some, refl, sym, ap, subst, ◌∙◌}
-use Rattle.std.specs.Str.{bytes_eq}
+use Rattle.std.proofs.Common.{◌≡◌, ℕ, Bool, true, false, cond, not, ◌||◌, List, Option, Some, None, is_some, refl, sym, ap, subst, ◌∙◌, inl, inr}
 use Rattle.std.specs.FinMap.{get}
-use Rattle.std.proofs.lemmas.List.Folds.{Any-from_list_any}
-use Rattle.std.proofs.lemmas.Slice.Eq.{bytes_eq-Decides}
+use Rattle.std.proofs.lemmas.Bool.{or_cases, or_right, or_left}
 use Rattle.reuse_tree.specs.Path.{lies_under, journal_folder}
 use Rattle.reuse_tree.specs.Files.{Files, Clashes, AreFiles, tree_of}
 use Rattle.reuse_tree.specs.declared.change.Change.{Change}
-use Rattle.reuse_tree.specs.Change.{path_of}
 use Rattle.reuse_session.specs.Entry.{touches, IsEntry}
 use Rattle.reuse_session.specs.JournalFiles.{head_path}
 use Rattle.reuse_session.specs.Tree.{is_of_tree, undo_folder_of, Sets}
-use Rattle.reuse_session.proofs.OfTree.{get-tree, get-folder, apart_from_journal}
+use Rattle.reuse_session.proofs.Differ.{touching}
+use Rattle.reuse_session.proofs.TreeLemmas.{tree_file}
+use Rattle.reuse_session.proofs.OfTree.{get-folder, apart_from_journal}
 use Rattle.reuse_session.proofs.JournalLemmas.{head_in_folder, sets_in_folder}
 
 -- the head is put: the folder has it, and the tree stays
@@ -32,7 +31,7 @@ in_folder : (files : Files) (path : List ℕ) → lies_under path journal_folder
 in_folder files path under = get-folder files path ∙ ap (λ b. cond b (get files path) None) under
 
 in_tree : (files : Files) (path : List ℕ) → lies_under path journal_folder ≡ false → get (tree_of files) path ≡ get files path
-in_tree files path outside = get-tree files path ∙ ap (λ b. cond (not b) (get files path) None) outside
+in_tree files path outside = tree_file files path ∙ ap (λ b. cond (not b) (get files path) None) outside
 
 -- a head that is there doesn't clash
 pub head_is_free : (files : Files) (text : List ℕ) → AreFiles files → get (undo_folder_of files) head_path ≡ Some text → Clashes files head_path → ⊥
@@ -42,18 +41,14 @@ head_is_free files text are there clash = are.apart head_path (ap is_some (sym (
 module _ (changes : List Change) (good : IsEntry changes) (old now : Files) (others : (path : List ℕ) → touches changes path ≡ false → get (tree_of now) path ≡ get (tree_of old) path) (folder : undo_folder_of now ≡ undo_folder_of old) where
   touched_of_tree : (path : List ℕ) → touches changes path ≡ true → is_of_tree path ≡ true
   touched_of_tree path e =
-      let found = Any-from_list_any (λ change. bytes_eq path (path_of change)) changes e in
-      let here : path ≡ path_of (get_or changes found.0 found.1) = (bytes_eq-Decides path (path_of found.1)).0 found.4 ∙ ap path_of (sym found.3) in
-      subst (λ p. is_of_tree p ≡ true) (sym here) (good.of_tree found.0 found.1 found.2)
+      let found = touching changes path e in
+      subst (λ p. is_of_tree p ≡ true) (sym found.3) (good.of_tree found.0 found.1 found.2)
 
   pub head_clashed : Clashes now head_path → Clashes old head_path
   head_clashed clash = record { other = clash.other; is_file = ap is_some (sym (of_folder (lies_under clash.other journal_folder) refl)) ∙ clash.is_file; nested = clash.nested }
     where
       swapped : (a b : Bool) → (a || b) ≡ true → (b || a) ≡ true
-      swapped true true e = refl
-      swapped true false e = refl
-      swapped false true e = refl
-      swapped false false e = e
+      swapped a b e = elim (or_cases a b e) [ inl here ↦ or_right b a here | inr there ↦ or_left b a there ]
 
       of_change : (b : Bool) → touches changes clash.other ≡ b → get (tree_of now) clash.other ≡ get (tree_of old) clash.other
       of_change true e = absurd (apart_from_journal clash.other head_path (touched_of_tree clash.other e) head_in_folder (swapped (lies_under clash.other head_path) (lies_under head_path clash.other) clash.nested))

@@ -6,7 +6,7 @@ use Rattle.std.specs.Str.{bytes_eq}
 use Rattle.std.specs.List.{All, AllByRecursion, IsDistinct}
 use Rattle.std.specs.List.Sorted.{IsStrictlySortedBy, IsPermutation}
 use Rattle.std.specs.FinMap.{get}
-use Rattle.std.proofs.lemmas.Bool.{false≢true}
+use Rattle.std.proofs.lemmas.Bool.{false≢true, or_parts}
 use Rattle.std.proofs.lemmas.Cmp.{tied_itself}
 use Rattle.std.proofs.lemmas.List.Elements.{All-cons, All-nil}
 use Rattle.std.proofs.lemmas.List.Sorted.{All-permutation, IsPermutation-sym, list_any-IsPermutation}
@@ -23,7 +23,7 @@ use Rattle.reuse_session.specs.Entry.{touches, paths_of, IsEntry, TurnsBy, Leads
 use Rattle.reuse_session.specs.InTurn.{LeadsInTurn}
 use Rattle.reuse_session.specs.Outcome.{with_file}
 use Rattle.reuse_session.proofs.Planning.{with_same, with_other}
-use Rattle.reuse_session.proofs.Walk.{of_no_change, or_left, or_right}
+use Rattle.reuse_session.proofs.Walk.{of_no_change}
 
 -- ---- one change before others of other paths
 
@@ -69,8 +69,8 @@ module _ (change : Change) (changes : List Change) (apart : touches changes (pat
         (subst (Turns change (get before (path_of change))) (sym (rest.others (path_of change) apart)) first.here)
         (λ k d lt. let next = get_or changes k d in subst (λ f. Turns next f (get after (path_of next))) (first.elsewhere (path_of next) (other_path k d lt)) (rest.each k d lt));
     others = λ path none.
-        rest.others path (or_right (bytes_eq path (path_of change)) (touches changes path) none)
-        ∙ first.elsewhere path (λ same. false≢true (sym (or_left (bytes_eq path (path_of change)) (touches changes path) none) ∙ (bytes_eq-Decides path (path_of change)).1 same));
+        let parts = or_parts (bytes_eq path (path_of change)) (touches changes path) none in
+        rest.others path parts.1 ∙ first.elsewhere path (λ same. false≢true (sym parts.0 ∙ (bytes_eq-Decides path (path_of change)).1 same));
   }
 
 -- ---- changes of distinct paths

@@ -8,6 +8,11 @@ use Rattle.std.proofs.lemmas.Str.{IsUtf8-append, IsUtf8-nil}
 use Rattle.json.proofs.Printed.Utf8.{IsUtf8-are_ascii}
 use Rattle.reuse_session.specs.EntryText.{comma_before}
 
+-- a text of UTF-8 behind another
+infixl 10 ◌⊹◌
+pub ◌⊹◌ : {a b : List ℕ} → IsUtf8 a → IsUtf8 b → IsUtf8 (a ++ b)
+x ⊹ y = IsUtf8-append _ _ x y
+
 module _ {A : Type 0} (text : A → List ℕ) where
   -- each text with its comma is no longer than its size
   pub length-join-le : (size : A → ℕ) (xs : List A) → AllByRecursion (λ x. length (text x) + 1 ≤ size x) xs → length (join_with_byte 44 (map text xs)) ≤ sum_by size xs

@@ -1,5 +1,5 @@
 -- The files of the journal: their paths, what a change of one of them leaves, and when they keep a journal.
-use Rattle.std.proofs.Common.{◌≡◌, ◌≢◌, inl, inr, ⊎_elim, ℕ, ◌+◌, ◌*◌, ◌/◌, ◌%◌, ◌<◌, ◌≤◌, Bool, false, true, not, cond, ◌||◌, nat_eq, List, ◌∷◌, ◌++◌, codes, drop, get_or, Option, Some, None, IsSome, is_some, refl, sym, ap, ◌∙◌, subst, append_assoc, arith}
+use Rattle.std.proofs.Common.{◌≡◌, ◌≢◌, ◌⊎◌, inl, inr, ⊎_elim, ℕ, ◌+◌, ◌*◌, ◌/◌, ◌%◌, ◌<◌, ◌≤◌, Bool, false, true, not, cond, ◌||◌, nat_eq, List, ◌∷◌, ◌++◌, codes, drop, get_or, Option, Some, None, IsSome, is_some, refl, sym, ap, ◌∙◌, subst, append_assoc, arith}
 use Rattle.std.specs.List.{All, list_any}
 use Rattle.std.proofs.lemmas.Bool.{false≢true, or_from}
 use Rattle.std.proofs.lemmas.Bool.Decides.{nat_tests}
@@ -8,9 +8,6 @@ use Rattle.std.specs.FinMap.{get}
 use Rattle.reuse_tree.specs.Path.{lies_under, journal_folder}
 use Rattle.reuse_tree.specs.Files.{Files, Clashes, tree_of}
 use Rattle.reuse_tree.proofs.FileMaps.{same_files, same_or_other}
-use Rattle.reuse_session.proofs.EntryParts.{one_entry}
-use Rattle.reuse_session.proofs.HeadMoves.{each_listed}
-use Rattle.reuse_session.proofs.OfTree.{under_parts, under_from_parts, fronts, slash_inside, above_journal, get-tree, get-folder}
 use Rattle.reuse_session.specs.Entry.{IsEntry}
 use Rattle.reuse_session.specs.Head.{IsGoodHead, IsSoundHead}
 use Rattle.reuse_session.specs.Journal.{Recorded, Journal}
@@ -23,6 +20,11 @@ use Rattle.reuse_session.specs.declared.journal.head.Pending.{Pending}
 use Rattle.reuse_session.specs.declared.journal.head.PendingWay.{PendingWay}
 use Rattle.reuse_session.specs.declared.journal.head.PendingWay.TheVariants.{Do, Undo, Redo}
 use Rattle.reuse_session.specs.declared.journal.head.Head.{Head}
+use Rattle.reuse_session.proofs.TreeLemmas.{tree_file}
+use Rattle.reuse_session.proofs.ListingLemmas.{under_from_test, test_from_under}
+use Rattle.reuse_session.proofs.EntryParts.{one_entry}
+use Rattle.reuse_session.proofs.HeadMoves.{each_listed}
+use Rattle.reuse_session.proofs.OfTree.{fronts, slash_inside, above_journal, get-folder}
 
 -- ---- their paths
 
@@ -68,19 +70,27 @@ name_of_entry n =
     or_from _ _ (no_slash (n / 100_000 % 10)) (or_from _ _ (no_slash (n / 10_000 % 10)) (or_from _ _ (no_slash (n / 1_000 % 10))
     (or_from _ _ (no_slash (n / 100 % 10)) (or_from _ _ (no_slash (n / 10 % 10)) (or_from _ _ (no_slash (n / 1 % 10)) refl)))))
 
--- a path of the journal is the folder, a slash, and a name without one
-name_in : (path : List ℕ) → IsJournalPath path → (name : List ℕ) × (path ≡ journal_folder ++ 47 ∷ name) × (list_any (λ byte. nat_eq byte 47) name ≡ false)
+-- the path is that of the head, or one that an entry of some number would have
+abbrev pub IsLikeJournalPath : List ℕ → Type 0
+IsLikeJournalPath path = (path ≡ head_path) ⊎ ((number : ℕ) × (path ≡ entry_path number))
+
+pub like : (path : List ℕ) → IsJournalPath path → IsLikeJournalPath path
+like path (inl is) = inl is
+like path (inr is) = inr (is.0, is.3)
+
+-- such a path is the folder, a slash, and a name without one
+name_in : (path : List ℕ) → IsLikeJournalPath path → (name : List ℕ) × (path ≡ journal_folder ++ 47 ∷ name) × (list_any (λ byte. nat_eq byte 47) name ≡ false)
 name_in path (inl is) = (codes "head.json", is, refl)
 name_in path (inr is) = (six_digits is.0 ++ codes ".json", is.1, name_of_entry is.0)
 
 no_folder : (name front x : List ℕ) → list_any (λ byte. nat_eq byte 47) name ≡ false → name ≡ front ++ 47 ∷ x → ⊥
 no_folder name front x none is = false≢true (sym none ∙ ap (list_any (λ byte. nat_eq byte 47)) is ∙ slash_inside front x)
 
-in_folder : (path : List ℕ) → IsJournalPath path → lies_under path journal_folder ≡ true
-in_folder path is = let parts = name_in path is in under_from_parts path journal_folder parts.0 parts.1
+in_folder : (path : List ℕ) → IsLikeJournalPath path → lies_under path journal_folder ≡ true
+in_folder path is = let parts = name_in path is in test_from_under path journal_folder (parts.0, parts.1)
 
 -- none is a folder of another
-pub paths_apart : (p q : List ℕ) → IsJournalPath p → IsJournalPath q → lies_under p q ≡ false
+pub paths_apart : (p q : List ℕ) → IsLikeJournalPath p → IsLikeJournalPath q → lies_under p q ≡ false
 paths_apart p q is_p is_q = test (lies_under p q) refl
   where
     test : (b : Bool) → lies_under p q ≡ b → lies_under p q ≡ false
@@ -88,7 +98,7 @@ paths_apart p q is_p is_q = test (lies_under p q) refl
     test true e =
         let a = name_in p is_p in
         let b = name_in q is_q in
-        let below = under_parts p q e in
+        let below = under_from_test p q e in
         let whole : journal_folder ++ 47 ∷ a.0 ≡ journal_folder ++ 47 ∷ (b.0 ++ 47 ∷ below.0) =
         sym a.1 ∙ below.1 ∙ ap (λ path. path ++ 47 ∷ below.0) b.1 ∙ append_assoc journal_folder (47 ∷ b.0) (47 ∷ below.0) in
         absurd (no_folder a.0 b.0 below.0 a.2 (ap (drop 12) whole))
@@ -96,7 +106,7 @@ paths_apart p q is_p is_q = test (lies_under p q) refl
 -- ---- the folder of the journal
 
 -- where the folders above it are no files, a path of the journal clashes only with a file beneath it
-pub clash_beneath : (files : Files) (path : List ℕ) → IsTree (tree_of files) → IsJournalPath path → Clashes files path
+pub clash_beneath : (files : Files) (path : List ℕ) → IsTree (tree_of files) → IsLikeJournalPath path → Clashes files path
     → (other : List ℕ) × IsSome (get (undo_folder_of files) other) × (lies_under other path ≡ true)
 clash_beneath files path tree is clash = test (lies_under clash.other path) refl
   where
@@ -105,12 +115,12 @@ clash_beneath files path tree is clash = test (lies_under clash.other path) refl
 
     absent : (folder : List ℕ) → clash.other ≡ folder → lies_under folder journal_folder ≡ false → get (tree_of files) folder ≡ None → ⊥
     absent folder here outside none =
-        let there : get files folder ≡ None = ap (λ b. cond (not b) (get files folder) None) (sym outside) ∙ sym (get-tree files folder) ∙ none in
+        let there : get files folder ≡ None = ap (λ b. cond (not b) (get files folder) None) (sym outside) ∙ sym (tree_file files folder) ∙ none in
         false≢true (ap is_some (sym there) ∙ ap (λ p. is_some (get files p)) (sym here) ∙ clash.is_file)
 
     above : lies_under path clash.other ≡ true → ⊥
     above e =
-        let over = under_parts path clash.other e in
+        let over = under_from_test path clash.other e in
         ⊎_elim (λ (same : clash.other ≡ journal_folder). absent journal_folder same refl tree.no_undo)
         (λ r. ⊎_elim
         (λ (u : (z : List ℕ) × (clash.other ≡ journal_folder ++ 47 ∷ z)).
@@ -122,9 +132,9 @@ clash_beneath files path tree is clash = test (lies_under clash.other path) refl
 
     test : (b : Bool) → lies_under clash.other path ≡ b → (other : List ℕ) × IsSome (get (undo_folder_of files) other) × (lies_under other path ≡ true)
     test true e =
-        let below = under_parts clash.other path e in
+        let below = under_from_test clash.other path e in
         let under : lies_under clash.other journal_folder ≡ true =
-        under_from_parts clash.other journal_folder (name.0 ++ 47 ∷ below.0) (below.1 ∙ ap (λ p. p ++ 47 ∷ below.0) name.1 ∙ append_assoc journal_folder (47 ∷ name.0) (47 ∷ below.0)) in
+        test_from_under clash.other journal_folder (name.0 ++ 47 ∷ below.0, below.1 ∙ ap (λ p. p ++ 47 ∷ below.0) name.1 ∙ append_assoc journal_folder (47 ∷ name.0) (47 ∷ below.0)) in
         (clash.other, ap is_some (get-folder files clash.other ∙ ap (λ b. cond b (get files clash.other) None) under) ∙ clash.is_file, e)
     test false e = absurd (above (sym (ap (λ b. b || lies_under path clash.other) e) ∙ clash.nested))
 
@@ -134,13 +144,13 @@ pub same_but_in_folder : (files after : Files) (path : List ℕ) → lies_under 
 same_but_in_folder files after path under same = (
   λ other ne. get-folder after other ∙ ap (λ file. cond (lies_under other journal_folder) file None) (same other ne) ∙ sym (get-folder files other),
   same_files _ _ (λ other.
-      get-tree after other ∙ ⊎_elim
+      tree_file after other ∙ ⊎_elim
       (λ (here : other ≡ path).
       let inside : lies_under other journal_folder ≡ true = ap (λ p. lies_under p journal_folder) here ∙ under in
       ap (λ b. cond (not b) (get after other) None) inside ∙ sym (ap (λ b. cond (not b) (get files other) None) inside))
       (λ (ne : other ≢ path). ap (λ file. cond (not (lies_under other journal_folder)) file None) (same other ne))
       (same_or_other other path)
-      ∙ sym (get-tree files other)),
+      ∙ sym (tree_file files other)),
 )
 
 pub sets_in_folder : (files after : Files) (path : List ℕ) (file : Option (List ℕ)) → lies_under path journal_folder ≡ true → Sets path file files after
@@ -149,9 +159,9 @@ sets_in_folder files after path file under sets =
     let same = same_but_in_folder files after path under sets.elsewhere in
     (record { here = get-folder after path ∙ ap (λ b. cond b (get after path) None) under ∙ sets.here; elsewhere = same.0 }, same.1)
 
-pub free_stays : (folder after : Files) (path : List ℕ) → IsJournalPath path → IsSameBut path folder after → IsFree folder → IsFree after
+pub free_stays : (folder after : Files) (path : List ℕ) → IsLikeJournalPath path → IsSameBut path folder after → IsFree folder → IsFree after
 free_stays folder after path is same free p other is_p some below = ⊎_elim
-    (λ (here : other ≡ path). false≢true (sym (ap (λ o. lies_under o p) here ∙ paths_apart path p is is_p) ∙ below))
+    (λ (here : other ≡ path). false≢true (sym (ap (λ o. lies_under o p) here ∙ paths_apart path p is (like p is_p)) ∙ below))
     (λ (ne : other ≢ path). free p other is_p (ap is_some (sym (same other ne)) ∙ some) below)
     (same_or_other other path)
 

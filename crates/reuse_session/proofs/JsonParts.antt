@@ -6,7 +6,7 @@ use Rattle.std.proofs.lemmas.List.{drop_more, drop_all}
 use Rattle.std.proofs.lemmas.Option.{none-some, same_Some, cond_some}
 use Rattle.std.specs.Str.{bytes_eq}
 use Rattle.std.proofs.lemmas.Slice.Eq.{bytes_eq-Decides}
-use Rattle.serde_json.specs.Data.{Num, unsigned, negative, float, Data, null, boolean, number, string, array, object, Items, no_items, item, Members, no_members, member}
+use Rattle.serde_json.specs.Data.{Num, unsigned, Data, number, string, array, object, Items, no_items, item, Members, no_members, member}
 use Rattle.serde_json.specs.Find.{as_array, as_object, as_str, as_u64}
 use Rattle.serde_json.specs.View.{view, items_of, items_view}
 use Rattle.serde_json.specs.declared.value.Value.{Value}
@@ -14,7 +14,7 @@ use Rattle.reuse_session.specs.declared.journal.fault.DecodeFault.{DecodeFault}
 use Rattle.reuse_session.specs.declared.journal.fault.DecodeFault.TheVariants.{NotGood, Memory}
 use Rattle.reuse_session.specs.Decoded.{Fails, Gives, IsAnswer}
 use Rattle.reuse_session.specs.Json.{count, counts, IsJson}
-use Rattle.reuse_session.specs.JsonReading.{first_member, if_none_left, number_in, small_in, smalls_in, read_items, format_of_number, format_in, with_front}
+use Rattle.reuse_session.specs.JsonReading.{first_member, field_in, if_none_left, number_in, small_in, smalls_in, read_items, format_of_number, format_in, with_front}
 use Rattle.reuse_session.specs.Format.{format_number}
 
 -- the two steps of a bind that gave a value
@@ -38,49 +38,41 @@ first_member_found key (member k d rest) p e =
     let same : k ≡ key = (bytes_eq-Decides k key).0 t.0 in
     ap (λ l. member l d rest) same ∙ ap (λ (q : Data × Members). member key q.0 q.1) t.1
 
-pub first_member_here : (key : List ℕ) (d : Data) (rest : Members) → first_member key (member key d rest) ≡ Some (d, rest)
-first_member_here key d rest = rw ((bytes_eq-Decides key key).1 refl) refl
+-- what was read of the first member
+pub field_found : {A : Type 0} (f : Data → Option A) (key : List ℕ) (ms : Members) (p : A × Members) → field_in f key ms ≡ Some p → (d : Data) × (f d ≡ Some p.0) × (ms ≡ member key d p.1)
+field_found {A} f key ms p e =
+    let first = bind_some _ (first_member key ms) p e in
+    let value = bind_some _ (f first.0.0) p first.2 in
+    subst (λ (q : A × Members). (d : Data) × (f d ≡ Some q.0) × (ms ≡ member key d q.1)) (same_Some (value.0, first.0.1) p value.2) (first.0.0, value.1, first_member_found key ms first.0 first.1)
+
+-- where that tells the member's value
+pub field_is : {A : Type 0} (f : Data → Option A) (value : A → Data) → ((d : Data) (x : A) → f d ≡ Some x → d ≡ value x) → (key : List ℕ) (ms : Members) (p : A × Members)
+    → field_in f key ms ≡ Some p → ms ≡ member key (value p.0) p.1
+field_is f value found key ms p e = let field = field_found f key ms p e in field.2 ∙ ap (λ (d : Data). member key d p.1) (found field.0 p.0 field.1)
 
 pub none_left_found : (ms : Members) (u : Unit) → if_none_left ms ≡ Some u → ms ≡ no_members
 none_left_found no_members u e = refl
 none_left_found (member k d rest) u e = absurd (none-some u e)
 
 pub object_found : (d : Data) (ms : Members) → as_object d ≡ Some ms → d ≡ object ms
-object_found null ms e = absurd (none-some ms e)
-object_found (boolean b) ms e = absurd (none-some ms e)
-object_found (number n) ms e = absurd (none-some ms e)
-object_found (string s) ms e = absurd (none-some ms e)
-object_found (array ds) ms e = absurd (none-some ms e)
 object_found (object found) ms e = ap object (same_Some found ms e)
+object_found d ms e = absurd (none-some ms e)
 
 pub array_found : (d : Data) (ds : Items) → as_array d ≡ Some ds → d ≡ array ds
-array_found null ds e = absurd (none-some ds e)
-array_found (boolean b) ds e = absurd (none-some ds e)
-array_found (number n) ds e = absurd (none-some ds e)
-array_found (string s) ds e = absurd (none-some ds e)
 array_found (array found) ds e = ap array (same_Some found ds e)
-array_found (object ms) ds e = absurd (none-some ds e)
+array_found d ds e = absurd (none-some ds e)
 
 pub string_found : (d : Data) (s : List ℕ) → as_str d ≡ Some s → d ≡ string s
-string_found null s e = absurd (none-some s e)
-string_found (boolean b) s e = absurd (none-some s e)
-string_found (number n) s e = absurd (none-some s e)
 string_found (string found) s e = ap string (same_Some found s e)
-string_found (array ds) s e = absurd (none-some s e)
-string_found (object ms) s e = absurd (none-some s e)
+string_found d s e = absurd (none-some s e)
 
 unsigned_found : (x : Num) (n : ℕ) → as_u64 x ≡ Some n → number x ≡ count n
 unsigned_found (unsigned m) n e = ap count (same_Some m n e)
-unsigned_found (negative z) n e = absurd (none-some n e)
-unsigned_found (float x) n e = absurd (none-some n e)
+unsigned_found x n e = absurd (none-some n e)
 
 pub number_found : (d : Data) (n : ℕ) → number_in d ≡ Some n → d ≡ count n
-number_found null n e = absurd (none-some n e)
-number_found (boolean b) n e = absurd (none-some n e)
 number_found (number x) n e = unsigned_found x n e
-number_found (string s) n e = absurd (none-some n e)
-number_found (array ds) n e = absurd (none-some n e)
-number_found (object ms) n e = absurd (none-some n e)
+number_found d n e = absurd (none-some n e)
 
 pub small_found : (d : Data) (n : ℕ) → small_in d ≡ Some n → (d ≡ count n) × (n < 2 ^ 32)
 small_found d n e =

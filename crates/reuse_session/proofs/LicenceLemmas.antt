@@ -4,7 +4,7 @@ use Rattle.std.specs.Char.{is_ascii_alphanumeric}
 use Rattle.std.specs.Int.{is_in_range}
 use Rattle.std.specs.List.{list_all, slice_split, All}
 use Rattle.std.specs.Str.{bytes_eq, IsAscii, IsUtf8}
-use Rattle.std.proofs.lemmas.Bool.{false≢true, and_parts, and_from, or_cases}
+use Rattle.std.proofs.lemmas.Bool.{false≢true, and_parts, and_from, or_cases, not-true, le-leb, lt-ltb, and_right}
 use Rattle.std.proofs.lemmas.Bool.Decides.{nat_tests}
 use Rattle.std.proofs.lemmas.List.Elements.{All-nil, All-cons}
 use Rattle.std.proofs.lemmas.List.Folds.{list_all-append}
@@ -104,15 +104,11 @@ not_slash b plain = ap not plain.2
 no_slashes : (id : List ℕ) → list_all is_id_byte id ≡ true → list_all (λ b. not (b == 47)) (id ++ codes ".txt") ≡ true
 no_slashes id h = name_bytes (λ b. not (b == 47)) not_slash refl id h
 
-is_false : (b : Bool) → not b ≡ true → b ≡ false
-is_false false e = refl
-is_false true e = absurd (false≢true e)
-
 each_fails : (xs : List ℕ) → list_all (λ b. not (b == 47)) xs ≡ true → All (λ x. (x == 47) ≡ false) xs
 each_fails [] h = All-nil (λ x. (x == 47) ≡ false)
 each_fails (x ∷ xs) h =
     let parts = and_parts (not (x == 47)) (list_all (λ b. not (b == 47)) xs) h in
-    All-cons (λ y. (y == 47) ≡ false) x xs (is_false (x == 47) parts.0) (each_fails xs parts.1)
+    All-cons (λ y. (y == 47) ≡ false) x xs (not-true (x == 47) parts.0) (each_fails xs parts.1)
 
 other_length : (xs ys : List ℕ) → length ys < length xs → not (bytes_eq xs ys) ≡ true
 other_length xs ys longer = of_test (bytes_eq xs ys) refl
@@ -130,19 +126,13 @@ name_is_part id =
     and_from _ _ (and_from _ _ (some_bytes (length (id ++ codes ".txt")) (omega (arith, n)))
     (other_length (id ++ codes ".txt") (codes ".") (omega (arith, n)))) (other_length (id ++ codes ".txt") (codes "..") (omega (arith, n)))
 
-at_most : (m n : ℕ) → m ≤ n → nat_le m n ≡ true
-at_most m n h = grind (arith, nat_tests)
-
 -- ---- the path
 
 path_is_short : (id : List ℕ) → is_id id ≡ true → nat_le (length (licence_path id)) 4096 ≡ true
-path_is_short id h = let n = name_length id in at_most (length (licence_path id)) 4096 (omega (arith, n, id_length id h))
-
-more_than_none : (n : ℕ) → 0 < n → nat_lt 0 n ≡ true
-more_than_none n h = grind (arith, nat_tests)
+path_is_short id h = let n = name_length id in le-leb (length (licence_path id)) 4096 (omega (arith, n, id_length id h))
 
 path_has_bytes : (id : List ℕ) → nat_lt 0 (length (licence_path id)) ≡ true
-path_has_bytes id = let n = name_length id in more_than_none (length (licence_path id)) (omega (arith, n))
+path_has_bytes id = let n = name_length id in lt-ltb 0 (length (licence_path id)) (omega (arith, n))
 
 path_has_no_nul : (id : List ℕ) → list_all is_id_byte id ≡ true → has_no_nul (licence_path id) ≡ true
 path_has_no_nul id h = name_bytes (λ b. not (b == 0)) not_zero refl id h
@@ -167,11 +157,7 @@ paths_apart id other h = of_test (lies_under (licence_path id) (licence_path oth
   where
     slash : (xs rest : List ℕ) → list_all (λ b. not (b == 47)) (xs ++ 47 ∷ rest) ≡ false
     slash [] rest = refl
-    slash (x ∷ xs) rest = ap (λ b. not (x == 47) && b) (slash xs rest) ∙ and_false (not (x == 47))
-      where
-        and_false : (b : Bool) → (b && false) ≡ false
-        and_false true = refl
-        and_false false = refl
+    slash (x ∷ xs) rest = ap (λ b. not (x == 47) && b) (slash xs rest) ∙ and_right (not (x == 47)) false refl
 
     of_test : (b : Bool) → lies_under (licence_path id) (licence_path other) ≡ b → b ≡ false
     of_test false e = refl

@@ -6,7 +6,7 @@ use Rattle.std.specs.List.{AllByRecursion, starts_with, list_any, take_while}
 use Rattle.std.proofs.lemmas.List.Sums.{take_while-cons}
 use Rattle.std.specs.List.Sorted.{IsPartitionPoint, IsPartitionedBy}
 use Rattle.std.specs.Str.{bytes_eq}
-use Rattle.std.proofs.lemmas.Bool.{false≢true, false_from_ne_true, and_parts, and_from}
+use Rattle.std.proofs.lemmas.Bool.{false≢true, false_from_ne_true, and_parts, and_from, le-ltb, lt-ltb, eqb-true}
 use Rattle.std.proofs.lemmas.Bool.Decides.{nat_tests, Decides-eqb}
 use Rattle.std.proofs.lemmas.Cmp.{nat_list_cmp_total, nat_cmp_total, ranked, tied_itself}
 use Rattle.std.proofs.lemmas.List.{drop_more}
@@ -39,7 +39,7 @@ not_itself x e = let s = sym e ∙ tied_itself nat_list_cmp_total x in cc
 abbrev LiesUnder : List ℕ → List ℕ → Type 0
 LiesUnder folder path = (rest : List ℕ) × (path ≡ folder ++ 47 ∷ rest)
 
-get_or_after : (p : List ℕ) (x : ℕ) (rest : List ℕ) → get_or (p ++ x ∷ rest) (length p) 0 ≡ x
+pub get_or_after : (p : List ℕ) (x : ℕ) (rest : List ℕ) → get_or (p ++ x ∷ rest) (length p) 0 ≡ x
 get_or_after [] x rest = refl
 get_or_after (a ∷ p) x rest = get_or_after p x rest
 
@@ -48,14 +48,11 @@ slash_within [] k e = absurd (false≢true e)
 slash_within (x ∷ path) zero e = omega arith
 slash_within (x ∷ path) (suc k) e = let h = slash_within path k e in omega arith
 
-is_slash : (n : ℕ) → nat_eq n 47 ≡ true → n ≡ 47
-is_slash n e = grind (arith, nat_tests)
-
 pub under_from_test : (path folder : List ℕ) → lies_under path folder ≡ true → LiesUnder folder path
 under_from_test path folder h =
     let parts = and_parts (starts_with nat_eq path folder) _ h in
     let begun : path ≡ folder ++ drop (length folder) path = (starts_is Decides-eqb path folder (starts_with nat_eq path folder) refl).0 parts.0 in
-    (drop (length folder + 1) path, begun ∙ ap (λ l. folder ++ l) (drop_more path (length folder) 0 (slash_within path (length folder) parts.1) ∙ ap (λ (n : ℕ). n ∷ drop (length folder + 1) path) (is_slash _ parts.1)))
+    (drop (length folder + 1) path, begun ∙ ap (λ l. folder ++ l) (drop_more path (length folder) 0 (slash_within path (length folder) parts.1) ∙ ap (λ (n : ℕ). n ∷ drop (length folder + 1) path) (eqb-true _ 47 parts.1)))
 
 pub test_from_under : (path folder : List ℕ) → LiesUnder folder path → lies_under path folder ≡ true
 test_from_under path folder h =
@@ -96,15 +93,15 @@ begins_between (a ∷ p) (b ∷ x) (c ∷ q) rest low high is =
           ]
     ]
 
-same_number : (a : ℕ) → nat_cmp a a ≡ Equal
+pub same_number : (a : ℕ) → nat_cmp a a ≡ Equal
 same_number a = tied_itself nat_cmp_total a
 
 -- what both begin with does not count
-before_front : (p x y : List ℕ) → before (p ++ x) (p ++ y) ≡ before x y
+pub before_front : (p x y : List ℕ) → before (p ++ x) (p ++ y) ≡ before x y
 before_front [] x y = refl
 before_front (a ∷ p) x y = rw (same_number a) (before_front p x y)
 
-before_nothing : (xs : List ℕ) → before xs [] ≡ Less → ⊥
+pub before_nothing : (xs : List ℕ) → before xs [] ≡ Less → ⊥
 before_nothing [] e = absurd (cc)
 before_nothing (x ∷ xs) e = absurd (cc)
 
@@ -143,12 +140,6 @@ below_first target (x ∷ xs) sorted zero (suc j) d low high e =
 below_first target (x ∷ xs) sorted (suc i) zero d low high e = absurd (omega arith)
 below_first target (x ∷ xs) sorted (suc i) (suc j) d low high e = below_first target xs (sorted_tail before x xs sorted) i j d (omega arith) (omega arith) e
 
-none_below : (i n : ℕ) → n ≤ i → nat_lt i n ≡ false
-none_below i n h = grind (arith, nat_tests)
-
-some_below : (i n : ℕ) → i < n → nat_lt i n ≡ true
-some_below i n h = grind (arith, nat_tests)
-
 one_more_below : (i n : ℕ) → nat_lt (suc i) (suc n) ≡ nat_lt i n
 one_more_below i n = grind (arith, nat_tests)
 
@@ -165,8 +156,8 @@ module _ (test : List ℕ → Bool) (target : List ℕ)
       of_test false e rest = rest
 
   pub any_at : (ks : List (List ℕ)) (i : ℕ) (d : List ℕ) → ArePaths ks → IsPartitionPoint (λ k. is_lt (before k target) ≡ true) (λ k. is_lt (before k target) ≡ false) ks i → list_any test ks ≡ (nat_lt i (length ks) && test (get_or ks i d))
-  any_at [] i d sorted point = sym (ap (λ b. b && test (get_or [] i d)) (none_below i 0 (omega arith)))
-  any_at (x ∷ xs) zero d sorted point = of_test (test x) refl ∙ sym (ap (λ b. b && test x) (some_below 0 (length (x ∷ xs)) (omega arith)))
+  any_at [] i d sorted point = sym (ap (λ b. b && test (get_or [] i d)) (le-ltb i 0 (omega arith)))
+  any_at (x ∷ xs) zero d sorted point = of_test (test x) refl ∙ sym (ap (λ b. b && test x) (lt-ltb 0 (length (x ∷ xs)) (omega arith)))
     where
       of_test : (b : Bool) → test x ≡ b → (b || list_any test xs) ≡ test x
       of_test true e = sym e
@@ -176,49 +167,6 @@ module _ (test : List ℕ → Bool) (target : List ℕ)
       ∙ any_at xs i d (sorted_tail before x xs sorted) (λ k e from to. point.0 (suc k) e (omega arith) (omega arith), λ k e from to. point.1 (suc k) e (omega arith) (omega arith))
       ∙ sym (ap (λ b. b && test (get_or xs i d)) (one_more_below i (length xs)))
 
-pub among_at : (ks : List (List ℕ)) (path : List ℕ) (i : ℕ) (d : List ℕ) → ArePaths ks → IsPartitionPoint (λ k. is_lt (before k path) ≡ true) (λ k. is_lt (before k path) ≡ false) ks i
-    → is_among ks path ≡ (nat_lt i (length ks) && bytes_eq path (get_or ks i d))
-among_at ks path i d sorted point = any_at (λ other. bytes_eq path other) path low high ks i d sorted point
-  where
-    low : (x : List ℕ) → before x path ≡ Less → bytes_eq path x ≡ false
-    low x less = of_test (bytes_eq path x) refl
-      where
-        of_test : (b : Bool) → bytes_eq path x ≡ b → b ≡ false
-        of_test false e = refl
-        of_test true e = absurd (not_itself x (ap (before x) (sym ((bytes_eq-Decides path x).0 e)) ∙ less))
-
-    high : (x y : List ℕ) → is_lt (before x path) ≡ false → before x y ≡ Less → bytes_eq path y ≡ true → bytes_eq path x ≡ true
-    high x y from less e = absurd (false≢true (sym from ∙ ap is_lt (ap (before x) ((bytes_eq-Decides path y).0 e) ∙ less)))
-
-pub folder_at : (ks : List (List ℕ)) (folder : List ℕ) (i : ℕ) (d : List ℕ) → ArePaths ks → IsPartitionPoint (λ k. is_lt (before k (folder ++ 47 ∷ [])) ≡ true) (λ k. is_lt (before k (folder ++ 47 ∷ [])) ≡ false) ks i
-    → is_folder_of ks folder ≡ (nat_lt i (length ks) && lies_under (get_or ks i d) folder)
-folder_at ks folder i d sorted point =
-    any_at (λ other. lies_under other folder) (folder ++ 47 ∷ []) (under_not_below folder) (under_between folder) ks i d sorted point
-
-pub among_found : (ks : List (List ℕ)) (path : List ℕ) (i : ℕ) (d : List ℕ) (r : Bool) → ArePaths ks → IsPartitionPoint (λ k. is_lt (before k path) ≡ true) (λ k. is_lt (before k path) ≡ false) ks i
-    → i < length ks → r ≡ bytes_eq path (get_or ks i d) → r ≡ is_among ks path
-among_found ks path i d r sorted point within e = e ∙ sym (among_at ks path i d sorted point ∙ ap (λ b. b && bytes_eq path (get_or ks i d)) (some_below i (length ks) within))
-
-pub among_none : (ks : List (List ℕ)) (path : List ℕ) (i : ℕ) → ArePaths ks → IsPartitionPoint (λ k. is_lt (before k path) ≡ true) (λ k. is_lt (before k path) ≡ false) ks i
-    → length ks ≤ i → nat_lt i (length ks) ≡ is_among ks path
-among_none ks path i sorted point past =
-    none_below i (length ks) past ∙ sym (among_at ks path i [] sorted point ∙ ap (λ b. b && bytes_eq path (get_or ks i [])) (none_below i (length ks) past))
-
-pub folder_found : (ks : List (List ℕ)) (folder : List ℕ) (i : ℕ) (d : List ℕ) (r : Bool) → ArePaths ks → IsPartitionPoint (λ k. is_lt (before k (folder ++ 47 ∷ [])) ≡ true) (λ k. is_lt (before k (folder ++ 47 ∷ [])) ≡ false) ks i
-    → i < length ks → r ≡ lies_under (get_or ks i d) folder → r ≡ is_folder_of ks folder
-folder_found ks folder i d r sorted point within e =
-    e ∙ sym (folder_at ks folder i d sorted point ∙ ap (λ b. b && lies_under (get_or ks i d) folder) (some_below i (length ks) within))
-
-pub folder_none : (ks : List (List ℕ)) (folder : List ℕ) (i : ℕ) → ArePaths ks → IsPartitionPoint (λ k. is_lt (before k (folder ++ 47 ∷ [])) ≡ true) (λ k. is_lt (before k (folder ++ 47 ∷ [])) ≡ false) ks i
-    → length ks ≤ i → nat_lt i (length ks) ≡ is_folder_of ks folder
-folder_none ks folder i sorted point past =
-    none_below i (length ks) past ∙ sym (folder_at ks folder i [] sorted point ∙ ap (λ b. b && lies_under (get_or ks i []) folder) (none_below i (length ks) past))
-
--- ---- the paths beneath a folder
-
-module _ (test : List ℕ → Bool) (target : List ℕ)
-    (low : (x : List ℕ) → before x target ≡ Less → test x ≡ false)
-    (high : (x y : List ℕ) → is_lt (before x target) ≡ false → before x y ≡ Less → test y ≡ true → test x ≡ true) where
   none_kept : (x : List ℕ) (xs : List (List ℕ)) → AllByRecursion (λ y. before x y ≡ Less) xs → is_lt (before x target) ≡ false → test x ≡ false → filter test xs ≡ []
   none_kept x [] each from fails = refl
   none_kept x (y ∷ ys) each from fails = of_test (test y) refl (none_kept x ys each.1 from fails)
@@ -241,6 +189,46 @@ module _ (test : List ℕ → Bool) (target : List ℕ)
   filter_at (x ∷ xs) (suc i) sorted point =
       ap (λ b. cond b (x ∷ filter test xs) (filter test xs)) (low x (is_less _ (point.0 0 x (omega arith) (omega arith))))
       ∙ filter_at xs i (sorted_tail before x xs sorted) (λ k e from to. point.0 (suc k) e (omega arith) (omega arith), λ k e from to. point.1 (suc k) e (omega arith) (omega arith))
+
+pub among_at : (ks : List (List ℕ)) (path : List ℕ) (i : ℕ) (d : List ℕ) → ArePaths ks → IsPartitionPoint (λ k. is_lt (before k path) ≡ true) (λ k. is_lt (before k path) ≡ false) ks i
+    → is_among ks path ≡ (nat_lt i (length ks) && bytes_eq path (get_or ks i d))
+among_at ks path i d sorted point = any_at (λ other. bytes_eq path other) path low high ks i d sorted point
+  where
+    low : (x : List ℕ) → before x path ≡ Less → bytes_eq path x ≡ false
+    low x less = of_test (bytes_eq path x) refl
+      where
+        of_test : (b : Bool) → bytes_eq path x ≡ b → b ≡ false
+        of_test false e = refl
+        of_test true e = absurd (not_itself x (ap (before x) (sym ((bytes_eq-Decides path x).0 e)) ∙ less))
+
+    high : (x y : List ℕ) → is_lt (before x path) ≡ false → before x y ≡ Less → bytes_eq path y ≡ true → bytes_eq path x ≡ true
+    high x y from less e = absurd (false≢true (sym from ∙ ap is_lt (ap (before x) ((bytes_eq-Decides path y).0 e) ∙ less)))
+
+pub folder_at : (ks : List (List ℕ)) (folder : List ℕ) (i : ℕ) (d : List ℕ) → ArePaths ks → IsPartitionPoint (λ k. is_lt (before k (folder ++ 47 ∷ [])) ≡ true) (λ k. is_lt (before k (folder ++ 47 ∷ [])) ≡ false) ks i
+    → is_folder_of ks folder ≡ (nat_lt i (length ks) && lies_under (get_or ks i d) folder)
+folder_at ks folder i d sorted point =
+    any_at (λ other. lies_under other folder) (folder ++ 47 ∷ []) (under_not_below folder) (under_between folder) ks i d sorted point
+
+pub among_found : (ks : List (List ℕ)) (path : List ℕ) (i : ℕ) (d : List ℕ) (r : Bool) → ArePaths ks → IsPartitionPoint (λ k. is_lt (before k path) ≡ true) (λ k. is_lt (before k path) ≡ false) ks i
+    → i < length ks → r ≡ bytes_eq path (get_or ks i d) → r ≡ is_among ks path
+among_found ks path i d r sorted point within e = e ∙ sym (among_at ks path i d sorted point ∙ ap (λ b. b && bytes_eq path (get_or ks i d)) (lt-ltb i (length ks) within))
+
+pub among_none : (ks : List (List ℕ)) (path : List ℕ) (i : ℕ) → ArePaths ks → IsPartitionPoint (λ k. is_lt (before k path) ≡ true) (λ k. is_lt (before k path) ≡ false) ks i
+    → length ks ≤ i → nat_lt i (length ks) ≡ is_among ks path
+among_none ks path i sorted point past =
+    le-ltb i (length ks) past ∙ sym (among_at ks path i [] sorted point ∙ ap (λ b. b && bytes_eq path (get_or ks i [])) (le-ltb i (length ks) past))
+
+pub folder_found : (ks : List (List ℕ)) (folder : List ℕ) (i : ℕ) (d : List ℕ) (r : Bool) → ArePaths ks → IsPartitionPoint (λ k. is_lt (before k (folder ++ 47 ∷ [])) ≡ true) (λ k. is_lt (before k (folder ++ 47 ∷ [])) ≡ false) ks i
+    → i < length ks → r ≡ lies_under (get_or ks i d) folder → r ≡ is_folder_of ks folder
+folder_found ks folder i d r sorted point within e =
+    e ∙ sym (folder_at ks folder i d sorted point ∙ ap (λ b. b && lies_under (get_or ks i d) folder) (lt-ltb i (length ks) within))
+
+pub folder_none : (ks : List (List ℕ)) (folder : List ℕ) (i : ℕ) → ArePaths ks → IsPartitionPoint (λ k. is_lt (before k (folder ++ 47 ∷ [])) ≡ true) (λ k. is_lt (before k (folder ++ 47 ∷ [])) ≡ false) ks i
+    → length ks ≤ i → nat_lt i (length ks) ≡ is_folder_of ks folder
+folder_none ks folder i sorted point past =
+    le-ltb i (length ks) past ∙ sym (folder_at ks folder i [] sorted point ∙ ap (λ b. b && lies_under (get_or ks i []) folder) (le-ltb i (length ks) past))
+
+-- ---- the paths beneath a folder
 
 pub beneath_at : (ks : List (List ℕ)) (folder : List ℕ) (i : ℕ) → ArePaths ks → IsPartitionPoint (λ k. is_lt (before k (folder ++ 47 ∷ [])) ≡ true) (λ k. is_lt (before k (folder ++ 47 ∷ [])) ≡ false) ks i
     → filter (λ other. lies_under other folder) ks ≡ take_while (λ other. lies_under other folder) (drop i ks)

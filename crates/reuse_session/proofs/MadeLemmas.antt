@@ -1,14 +1,11 @@
 -- Some changes of an entry are made, and taken back.
-use Rattle.std.proofs.Common.{◌≡◌, ◌≢◌, ◌⊎◌, inl, inr, ⊎_elim, ℕ, zero, suc, ◌+◌, ◌<◌, ◌≤◌, Bool, true, false, ◌||◌, List, [], ◌∷◌, length, get_or, take, Option, Some, None, is_some, refl, sym, ap, subst, ◌∙◌, arith}
-use Rattle.std.specs.Str.{bytes_eq}
+use Rattle.std.proofs.Common.{◌≡◌, ◌≢◌, ◌⊎◌, inl, inr, ⊎_elim, ℕ, zero, suc, ◌+◌, ◌<◌, ◌≤◌, Bool, true, false, List, [], ◌∷◌, length, get_or, take, Option, Some, None, is_some, refl, sym, ap, subst, ◌∙◌, arith}
 use Rattle.std.specs.List.{All}
 use Rattle.std.specs.FinMap.{get, insert, remove}
 use Rattle.std.proofs.Math.Seq.{take-length}
 use Rattle.std.proofs.lemmas.Bool.{false≢true, cases_lt}
 use Rattle.std.proofs.lemmas.List.{get_or-take, length-take, take-take}
 use Rattle.std.proofs.lemmas.List.Elements.{All-more}
-use Rattle.std.proofs.lemmas.List.Folds.{list_any_more, Any-from_list_any}
-use Rattle.std.proofs.lemmas.Slice.Eq.{bytes_eq-Decides}
 use Rattle.reuse_tree.specs.Files.{Files, Clashes, AreFiles, tree_of}
 use Rattle.reuse_tree.specs.declared.change.Change.{Change}
 use Rattle.reuse_tree.specs.Change.{path_of, IsProper}
@@ -19,8 +16,9 @@ use Rattle.reuse_session.specs.declared.entry.Way.TheVariants.{Do, Undo}
 use Rattle.reuse_session.specs.Carried.{IsSetBack}
 use Rattle.reuse_session.specs.Entry.{touches, IsEntry, TurnsBy, Steps, LeadsBy, SomeMade, IsReady, CanBeMade, CanBeSetBack, opposite, makes}
 use Rattle.reuse_session.specs.Tree.{is_of_tree, undo_folder_of}
+use Rattle.reuse_session.proofs.Differ.{touching}
 use Rattle.reuse_session.proofs.OfTree.{tree_at, step_of_tree, folder_stays}
-use Rattle.reuse_session.proofs.Walk.{front_touches, not_touched, touched, of_no_change, turns_once_by, or_left, or_right, leads_none, leads_more, ready_now, made_is_file}
+use Rattle.reuse_session.proofs.Walk.{front_touches, not_touched, touched, of_no_change, turns_once_by, untouched_more, leads_none, leads_more, ready_now, made_is_file}
 
 -- what the changes don't touch, no front of them touches
 front_leaves : (changes : List Change) (count : ℕ) (path : List ℕ) → touches changes path ≡ false → touches (take count changes) path ≡ false
@@ -164,15 +162,10 @@ module _ (way : Way) (changes : List Change) (good : IsEntry changes) (i : ℕ) 
       let made_before : All Made (take i changes) = λ k d h.
       let c = get_or (take i changes) k d in
       subst (λ f. (get old (path_of c) ≡ f) ⊎ TurnsBy way c f (get old (path_of c))) (same k d h) (back.made.each k d h) in
-      let ready_before : All Ready (take i changes) = λ k d h. let c = get_or (take i changes) k d in subst (IsReady way c) (same k d h) (back.ready k d h) in
-      let more : (path : List ℕ) → touches (take (i + 1) changes) path ≡ (touches (take i changes) path || bytes_eq path (path_of change)) =
-      λ path. list_any_more (λ c. bytes_eq path (path_of c)) changes i change lt ∙ ap (λ c. touches (take i changes) path || bytes_eq path (path_of c)) (sym is) in record {
+      let ready_before : All Ready (take i changes) = λ k d h. let c = get_or (take i changes) k d in subst (IsReady way c) (same k d h) (back.ready k d h) in record {
         made = record {
           each = All-more Made changes i change lt made_before (subst Made is made);
-          others = λ path e.
-              let both = sym (more path) ∙ e in
-              back.made.others path (or_left _ _ both)
-              ∙ sym (elsewhere path (λ same. false≢true (sym (or_right _ _ both) ∙ (bytes_eq-Decides path (path_of change)).1 same)));
+          others = λ path e. let both = untouched_more changes i lt change is path e in back.made.others path both.0 ∙ sym (elsewhere path both.1);
         };
         ready = All-more Ready changes i change lt ready_before (subst Ready is ready);
       }
@@ -237,10 +230,9 @@ module _ (way : Way) (changes : List Change) (good : IsEntry changes) (start old
       at_test : (path : List ℕ) (b : Bool) → touches changes path ≡ b → get now path ≡ get start path
       at_test path false e = sym (back.made.others path e) ∙ some.others path e
       at_test path true e =
-          let found = Any-from_list_any (λ change. bytes_eq path (path_of change)) changes e in
+          let found = touching changes path e in
           let c = get_or changes found.0 found.1 in
-          let here : path ≡ path_of c = (bytes_eq-Decides path (path_of found.1)).0 found.4 ∙ ap path_of (sym found.3) in
-          subst (λ p. get now p ≡ get start p) (sym here)
+          subst (λ p. get now p ≡ get start p) (sym found.3)
           (one_start way c (get old (path_of c)) (get now (path_of c)) (get start (path_of c)) (good.proper found.0 found.1 found.2) (back.ready found.0 found.1 found.2) (ready found.0 found.1 found.2) (back.made.each found.0 found.1 found.2) (some.each found.0 found.1 found.2))
 
 -- on the way from a tree, each change can be set back

@@ -72,6 +72,3 @@ none_ahead way memory journal remembers = none_listed (entries_ahead way memory)
 
 pub count_done : (memory : Memory) (journal : Journal) → Remembers memory journal → length memory.done ≡ length journal.done
 count_done memory journal remembers = count_listed memory.done journal.done remembers.done
-
-pub count_undone : (memory : Memory) (journal : Journal) → Remembers memory journal → length memory.undone ≡ length journal.undone
-count_undone memory journal remembers = count_listed memory.undone journal.undone remembers.undone

@@ -1,54 +1,22 @@
 -- What a path of the tree holds, beside the folder of the journal.
-use Rattle.std.proofs.Common.{◌≡◌, ◌≢◌, ◌⊎◌, inl, inr, ⊎_elim, ℕ, ◌+◌, Bool, true, false, cond, not, ◌&&◌, ◌||◌, List, [], ◌∷◌, ◌++◌, length, drop, get_or, None, IsSome, is_some, codes, nat_eq, refl, sym, ap, subst, ◌∙◌, append_assoc, arith}
+use Rattle.std.proofs.Common.{◌≡◌, ◌≢◌, ◌⊎◌, inl, inr, ⊎_elim, ℕ, Bool, true, false, cond, not, ◌&&◌, ◌||◌, List, [], ◌∷◌, ◌++◌, drop, None, is_some, codes, nat_eq, refl, sym, ap, subst, ◌∙◌, append_assoc}
 use Rattle.std.specs.Str.{bytes_eq}
 use Rattle.std.specs.List.{list_any}
 use Rattle.std.specs.FinMap.{get, get-retain_keys, slice_cmp-IsAntisymmetric, nat_cmp-IsAntisymmetric}
-use Rattle.std.proofs.lemmas.Bool.{false≢true, eqb-true, eq-eqb, and_parts, and_from}
-use Rattle.std.proofs.lemmas.Bool.Decides.{Decides-eqb}
-use Rattle.std.proofs.lemmas.Slice.Eq.{starts_is, bytes_eq-Decides}
-use Rattle.std.proofs.lemmas.List.{get_or-append-add}
+use Rattle.std.proofs.lemmas.Bool.{false≢true, and_parts, or_cases, not-true}
+use Rattle.std.proofs.lemmas.Slice.Eq.{bytes_eq-Decides}
 use Rattle.reuse_tree.specs.Path.{lies_under, journal_folder}
-use Rattle.reuse_tree.specs.Files.{Files, Clashes, AreFiles, tree_of}
+use Rattle.reuse_tree.specs.Files.{Files, Clashes, tree_of}
 use Rattle.reuse_tree.specs.Change.{path_of}
 use Rattle.reuse_tree.specs.declared.change.Change.{Change}
 use Rattle.reuse_tree.proofs.FileMaps.{same_files, same_or_other}
 use Rattle.reuse_session.specs.declared.entry.Way.{Way}
 use Rattle.reuse_session.specs.Tree.{is_of_tree, undo_folder_of}
 use Rattle.reuse_session.specs.Entry.{TurnsBy, Steps}
-
--- ---- tests
-
-or_either : (a b : Bool) → (a || b) ≡ true → (a ≡ true) ⊎ (b ≡ true)
-or_either true b e = inl refl
-or_either false b e = inr e
-
-not_true : (a : Bool) → not a ≡ true → a ≡ false
-not_true true e = absurd (false≢true e)
-not_true false e = refl
+use Rattle.reuse_session.proofs.TreeLemmas.{tree_file, some_in_store}
+use Rattle.reuse_session.proofs.ListingLemmas.{under_from_test, test_from_under}
 
 -- ---- a path and a folder
-
-at_end : (folder rest : List ℕ) → get_or (folder ++ rest) (length folder) 0 ≡ get_or rest 0 0
-at_end folder rest = ap (λ n. get_or (folder ++ rest) n 0) (sym (add-zero-right (length folder))) ∙ get_or-append-add folder rest 0 0
-  where
-    add-zero-right : (n : ℕ) → n + 0 ≡ n
-    add-zero-right n = omega arith
-
-slash_first : (rest : List ℕ) → get_or rest 0 0 ≡ 47 → (x : List ℕ) × (rest ≡ 47 ∷ x)
-slash_first [] e = absurd (omega arith)
-slash_first (b ∷ x) e = (x, ap (λ c. c ∷ x) e)
-
--- a path under a folder is the folder, a slash and more
-pub under_parts : (path folder : List ℕ) → lies_under path folder ≡ true → (x : List ℕ) × (path ≡ folder ++ 47 ∷ x)
-under_parts path folder e =
-    let front : path ≡ folder ++ drop (length folder) path = (starts_is Decides-eqb path folder _ refl).0 (and_parts _ _ e).0 in
-    let slash : get_or path (length folder) 0 ≡ 47 = eqb-true _ _ (and_parts _ _ e).1 in
-    let more = slash_first (drop (length folder) path) (sym (at_end folder (drop (length folder) path)) ∙ ap (λ p. get_or p (length folder) 0) (sym front) ∙ slash) in
-    (more.0, front ∙ ap (λ r. folder ++ r) more.1)
-
-pub under_from_parts : (path folder x : List ℕ) → path ≡ folder ++ 47 ∷ x → lies_under path folder ≡ true
-under_from_parts path folder x e =
-    and_from _ _ ((starts_is Decides-eqb path folder _ refl).1 (47 ∷ x) e) (eq-eqb _ _ (ap (λ p. get_or p (length folder) 0) e ∙ at_end folder (47 ∷ x)))
 
 -- of two fronts of a list that a slash follows, one lies under the other or they are one
 pub fronts : (f p x y : List ℕ) → f ++ 47 ∷ x ≡ p ++ 47 ∷ y → (p ≡ f) ⊎ ((z : List ℕ) × (p ≡ f ++ 47 ∷ z)) ⊎ ((z : List ℕ) × (f ≡ p ++ 47 ∷ z))
@@ -89,59 +57,49 @@ module _ (path : List ℕ) (here : is_of_tree path ≡ true) where
   is_neither = (and_parts (not (bytes_eq path (codes ".reuse")) && not (bytes_eq path journal_folder)) (not (lies_under path journal_folder)) here).0
 
   pub outside : lies_under path journal_folder ≡ false
-  outside = not_true (lies_under path journal_folder) (and_parts (not (bytes_eq path (codes ".reuse")) && not (bytes_eq path journal_folder)) (not (lies_under path journal_folder)) here).1
+  outside = not-true (lies_under path journal_folder) (and_parts (not (bytes_eq path (codes ".reuse")) && not (bytes_eq path journal_folder)) (not (lies_under path journal_folder)) here).1
 
   not_reuse : path ≢ codes ".reuse"
   not_reuse same =
-      false≢true (sym (not_true (bytes_eq path (codes ".reuse")) (and_parts (not (bytes_eq path (codes ".reuse"))) (not (bytes_eq path journal_folder)) is_neither).0)
+      false≢true (sym (not-true (bytes_eq path (codes ".reuse")) (and_parts (not (bytes_eq path (codes ".reuse"))) (not (bytes_eq path journal_folder)) is_neither).0)
       ∙ (bytes_eq-Decides path (codes ".reuse")).1 same)
 
   not_journal : path ≢ journal_folder
   not_journal same =
-      false≢true (sym (not_true (bytes_eq path journal_folder) (and_parts (not (bytes_eq path (codes ".reuse"))) (not (bytes_eq path journal_folder)) is_neither).1)
+      false≢true (sym (not-true (bytes_eq path journal_folder) (and_parts (not (bytes_eq path (codes ".reuse"))) (not (bytes_eq path journal_folder)) is_neither).1)
       ∙ (bytes_eq-Decides path journal_folder).1 same)
 
 -- a file of the journal's folder neither lies under a path of the tree nor has it beneath it
 pub apart_from_journal : (path other : List ℕ) → is_of_tree path ≡ true → lies_under other journal_folder ≡ true → (lies_under other path || lies_under path other) ≡ true → ⊥
 apart_from_journal path other here there nested =
-    let x = under_parts other journal_folder there in
+    let x = under_from_test other journal_folder there in
     ⊎_elim
     (λ (below : lies_under other path ≡ true).
-    let y = under_parts other path below in
+    let y = under_from_test other path below in
     ⊎_elim (λ same. not_journal path here same)
     (λ r. ⊎_elim
-    (λ (u : (z : List ℕ) × (path ≡ journal_folder ++ 47 ∷ z)). false≢true (sym (outside path here) ∙ under_from_parts path journal_folder u.0 u.1))
+    (λ (u : (z : List ℕ) × (path ≡ journal_folder ++ 47 ∷ z)). false≢true (sym (outside path here) ∙ test_from_under path journal_folder u))
     (λ (u : (z : List ℕ) × (journal_folder ≡ path ++ 47 ∷ z)). not_reuse path here (above_journal path u.0 u.1)) r)
     (fronts journal_folder path x.0 y.0 (sym x.1 ∙ y.1)))
     (λ (above : lies_under path other ≡ true).
-    let y = under_parts path other above in
+    let y = under_from_test path other above in
     let whole : path ≡ journal_folder ++ 47 ∷ (x.0 ++ 47 ∷ y.0) = y.1 ∙ ap (λ o. o ++ 47 ∷ y.0) x.1 ∙ append_assoc journal_folder (47 ∷ x.0) (47 ∷ y.0) in
-    false≢true (sym (outside path here) ∙ under_from_parts path journal_folder (x.0 ++ 47 ∷ y.0) whole))
-    (or_either _ _ nested)
+    false≢true (sym (outside path here) ∙ test_from_under path journal_folder (x.0 ++ 47 ∷ y.0, whole)))
+    (or_cases _ _ nested)
 
 -- ---- files and their tree
-
-pub get-tree : (files : Files) (path : List ℕ) → get (tree_of files) path ≡ cond (not (lies_under path journal_folder)) (get files path) None
-get-tree files path = get-retain_keys files (λ p. not (lies_under p journal_folder)) path (λ x e. ap (λ p. not (lies_under p journal_folder)) (sym (slice_cmp-IsAntisymmetric nat_cmp-IsAntisymmetric path x e)))
 
 pub get-folder : (files : Files) (path : List ℕ) → get (undo_folder_of files) path ≡ cond (lies_under path journal_folder) (get files path) None
 get-folder files path = get-retain_keys files (λ p. lies_under p journal_folder) path (λ x e. ap (λ p. lies_under p journal_folder) (sym (slice_cmp-IsAntisymmetric nat_cmp-IsAntisymmetric path x e)))
 
 pub tree_at : (files : Files) (path : List ℕ) → is_of_tree path ≡ true → get (tree_of files) path ≡ get files path
-tree_at files path e = get-tree files path ∙ ap (λ b. cond (not b) (get files path) None) (outside path e)
-
-file_of_tree : (files : Files) (path : List ℕ) → IsSome (get (tree_of files) path) → (b : Bool) → lies_under path journal_folder ≡ b → (b ≡ false) × IsSome (get files path)
-file_of_tree files path some true e = absurd (false≢true (sym (ap is_some (get-tree files path ∙ ap (λ b. cond (not b) (get files path) None) e)) ∙ some))
-file_of_tree files path some false e = (refl, sym (ap is_some (get-tree files path ∙ ap (λ b. cond (not b) (get files path) None) e)) ∙ some)
-
-pub is_file : (files : Files) (path : List ℕ) → IsSome (get (tree_of files) path) → IsSome (get files path)
-is_file files path some = (file_of_tree files path some (lies_under path journal_folder) refl).1
+tree_at files path e = tree_file files path ∙ ap (λ b. cond (not b) (get files path) None) (outside path e)
 
 -- a path of the tree clashes with files exactly if it clashes with their tree
 pub clash_in_tree : (files : Files) (path : List ℕ) → is_of_tree path ≡ true → Clashes files path → Clashes (tree_of files) path
 clash_in_tree files path here clash = record {
   other = clash.other;
-  is_file = ap is_some (get-tree files clash.other ∙ ap (λ b. cond (not b) (get files clash.other) None) (test (lies_under clash.other journal_folder) refl)) ∙ clash.is_file;
+  is_file = ap is_some (tree_file files clash.other ∙ ap (λ b. cond (not b) (get files clash.other) None) (test (lies_under clash.other journal_folder) refl)) ∙ clash.is_file;
   nested = clash.nested;
 }
   where
@@ -150,20 +108,13 @@ clash_in_tree files path here clash = record {
     test false e = e
 
 pub clash_in_files : (files : Files) (path : List ℕ) → Clashes (tree_of files) path → Clashes files path
-clash_in_files files path clash = record { other = clash.other; is_file = is_file files clash.other clash.is_file; nested = clash.nested }
-
--- the tree of files is a tree
-pub are_tree : (files : Files) → AreFiles files → AreFiles (tree_of files)
-are_tree files are = record {
-  are_paths = λ path some. are.are_paths path (is_file files path some);
-  apart = λ path some clash. are.apart path (is_file files path some) (clash_in_files files path clash);
-}
+clash_in_files files path clash = record { other = clash.other; is_file = some_in_store files clash.other clash.is_file; nested = clash.nested }
 
 -- a step at a path of the tree is one of the tree, and leaves the journal's folder
 pub step_of_tree : (way : Way) (change : Change) (m n : Files) → is_of_tree (path_of change) ≡ true → Steps way change m n → Steps way change (tree_of m) (tree_of n)
 step_of_tree way change m n e step = record {
   here = subst (λ f. TurnsBy way change f (get (tree_of n) (path_of change))) (sym (tree_at m (path_of change) e)) (subst (λ f. TurnsBy way change (get m (path_of change)) f) (sym (tree_at n (path_of change) e)) step.here);
-  elsewhere = λ path other. get-tree n path ∙ ap (λ f. cond (not (lies_under path journal_folder)) f None) (step.elsewhere path other) ∙ sym (get-tree m path);
+  elsewhere = λ path other. tree_file n path ∙ ap (λ f. cond (not (lies_under path journal_folder)) f None) (step.elsewhere path other) ∙ sym (tree_file m path);
 }
 
 pub folder_stays : (way : Way) (change : Change) (m n : Files) → is_of_tree (path_of change) ≡ true → Steps way change m n → undo_folder_of n ≡ undo_folder_of m

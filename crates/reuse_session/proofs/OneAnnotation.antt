@@ -1,14 +1,14 @@
 -- What annotate makes of a tree, said in other words, is one tree.
-use Rattle.std.proofs.Common.{◌≡◌, ◌≢◌, ◌⊎◌, inl, inr, ℕ, Bool, true, false, List, [], ◌∷◌, Some, None, Result, Ok, refl, sym, ap, subst, ◌∙◌}
+use Rattle.std.proofs.Common.{◌≡◌, ◌≢◌, ◌⊎◌, inl, inr, ℕ, Bool, true, false, List, [], ◌∷◌, Some, None, refl, sym, ap, subst, ◌∙◌}
 use Rattle.std.specs.List.{Contains}
 use Rattle.std.specs.Str.{bytes_eq}
 use Rattle.std.specs.FinMap.{get}
 use Rattle.std.proofs.lemmas.Bool.{false≢true}
 use Rattle.std.proofs.lemmas.Slice.Eq.{bytes_eq-Decides}
+use Rattle.std.proofs.lemmas.Option.{same_Some}
 use Rattle.reuse_notice.specs.declared.adding.Additions.{Additions}
 use Rattle.reuse_notice.proofs.SetLemmas.{In, In-from_contains, Contains-from_in}
 use Rattle.reuse_header.specs.declared.annotation.How.{How}
-use Rattle.reuse_header.specs.declared.annotation.HeaderRefusal.{HeaderRefusal}
 use Rattle.reuse_header.specs.Annotation.{annotated}
 use Rattle.reuse_tree.specs.Files.{Files}
 use Rattle.reuse_tree.proofs.FileMaps.{same_files}
@@ -18,23 +18,8 @@ use Rattle.reuse_session.specs.TreeStyles.{OwnNames}
 use Rattle.reuse_session.specs.Worked.{worked_paths}
 use Rattle.reuse_session.specs.declared.command.Place.{Place}
 use Rattle.reuse_session.specs.declared.command.Scope.{Scope}
-use Rattle.reuse_session.specs.declared.reply.Refusal.{Refusal}
+use Rattle.reuse_session.proofs.Results.{same_Ok}
 use Rattle.reuse_session.proofs.AnnotationPlaces.{no_neighbour_too, one_style}
-
-same_bytes : (one two : List ℕ) → Some one ≡ Some two → one ≡ two
-same_bytes one two e = cc
-
-abbrev made_text : List ℕ → Result (List ℕ) HeaderRefusal
-made_text bytes = Ok bytes
-
-same_made : (one two : List ℕ) → made_text one ≡ made_text two → one ≡ two
-same_made one two e = cc
-
-abbrev names : OwnNames → Result OwnNames Refusal
-names own = Ok own
-
-same_names : (one two : OwnNames) → names one ≡ names two → one ≡ two
-same_names one two e = cc
 
 -- ---- one file
 
@@ -42,12 +27,12 @@ module _ (additions : Additions) (how : How) (scope : Scope) (own : OwnNames) (p
   both_commented : IsCommented additions how scope own path bytes old new → IsCommented additions how scope own path bytes old other → new ≡ other
   both_commented one two =
       let style = one_style scope own path one.style two.style one.takes.of_style two.takes.of_style in
-      let made = same_made one.made two.made (sym one.by_rules ∙ ap (λ s. annotated s how additions bytes) style ∙ two.by_rules) in
+      let made = same_Ok one.made two.made (sym one.by_rules ∙ ap (λ s. annotated s how additions bytes) style ∙ two.by_rules) in
       one.holds ∙ ap (λ (m : List ℕ). record { file = Some m; neighbour = None }) made ∙ sym two.holds
 
   both_accompanied : IsAccompanied additions how scope own path bytes old new → IsAccompanied additions how scope own path bytes old other → new ≡ other
   both_accompanied one two =
-      let made = same_made one.made two.made (sym one.by_rules ∙ two.by_rules) in
+      let made = same_Ok one.made two.made (sym one.by_rules ∙ two.by_rules) in
       one.holds ∙ ap (λ (m : List ℕ). record { file = old.file; neighbour = file_written old.neighbour m }) made ∙ sym two.holds
 
   abbrev Written : Pair → Type 0
@@ -70,7 +55,7 @@ module _ (additions : Additions) (how : How) (scope : Scope) (own : OwnNames) (p
 
 annotated_one : (additions : Additions) (how : How) (scope : Scope) (own : OwnNames) (path : List ℕ) (old new other : Pair) → IsAnnotated additions how scope own path old new → IsAnnotated additions how scope own path old other → new ≡ other
 annotated_one additions how scope own path old new other one two =
-    let same = same_bytes two.bytes one.bytes (sym two.there ∙ one.there) in
+    let same = same_Some two.bytes one.bytes (sym two.there ∙ one.there) in
     becomes_one additions how scope own path one.bytes old new other one.becomes (subst (λ bytes. Becomes additions how scope own path bytes old new other other) same two.becomes)
 
 -- ---- the tree
@@ -102,7 +87,7 @@ module _ (places : List Place) (additions : Additions) (how : How) (scope : Scop
   same_pair : (path : List ℕ) → In path paths → (get after path ≡ get other path) × (get after (neighbour_of path) ≡ get other (neighbour_of path))
   same_pair path there =
       let here = Contains-from_in paths path there in
-      let own = same_names two.own one.own (sym two.styles ∙ one.styles) in
+      let own = same_Ok two.own one.own (sym two.styles ∙ one.styles) in
       let same = annotated_one additions how scope one.own path _ _ _ (one.worked path here) (subst (λ names. IsAnnotated additions how scope names path _ _) own (two.worked path here)) in
       (ap (λ (pair : Pair). pair.file) same, ap (λ (pair : Pair). pair.neighbour) same)
 

@@ -63,8 +63,5 @@ module _ (scope : Scope) (tree : Files) (path : List ℕ) (beneath : List (List 
       ap (λ b. cond b (filter (is_chosen scope) (filter (λ other. lies_under other path) (keys tree))) (path ∷ [])) (one_passes (λ other. lies_under other path) (keys tree) (λ e. h (ap length are ∙ e)))
       ∙ ap (filter (is_chosen scope)) (sym are)
 
-pub is_zero : (n : ℕ) → (n == 0) ≡ true → n ≡ 0
-is_zero n h = grind (arith, nat_tests)
-
 pub not_zero : (n : ℕ) → (n == 0) ≡ false → n ≡ 0 → ⊥
 not_zero n h e = absurd (grind (arith, nat_tests))

@@ -8,7 +8,7 @@ use Rattle.reuse_tree.specs.declared.change.Change.{Change}
 use Rattle.reuse_tree.specs.declared.fault.StoreFault.TheVariants as faults
 use Rattle.reuse_tree.specs.declared.store.Store.{Ghosts}
 use Rattle.reuse_session.specs.Answer.{IsEarly, IsNoClash, HasCause, RefusedAsRead, TellsNoFault}
-use Rattle.reuse_session.specs.Entry.{paths_of, LeadsBy, CanBeMade}
+use Rattle.reuse_session.specs.Entry.{paths_of, CanBeMade}
 use Rattle.reuse_session.specs.Fates.{fates_of, IsFateOf, AreFatesOf}
 use Rattle.reuse_session.specs.Journal.{Recorded, State}
 use Rattle.reuse_session.specs.Machine.{Kept, Snapshots, is_full, run_fates, undo_fates, redo_fates}
@@ -23,9 +23,10 @@ use Rattle.reuse_session.specs.declared.reply.Cause.{Cause}
 use Rattle.reuse_session.specs.declared.reply.Refusal.{Refusal}
 use Rattle.reuse_session.specs.declared.reply.Refusal.TheVariants as refusals
 use Rattle.reuse_session.specs.declared.session.Session.{Session}
+use Rattle.reuse_session.proofs.Following.{back_from, on_from}
 use Rattle.reuse_session.proofs.Differ.{changed_by_entry}
 use Rattle.reuse_session.proofs.Driving.{stands_still}
-use Rattle.reuse_session.proofs.Walk.{leads_back, can_lead}
+use Rattle.reuse_session.proofs.Walk.{can_lead}
 
 -- ---- the fates of changes
 
@@ -57,8 +58,7 @@ module _ (held : State) (state : Snapshots) (holds : Holds held state) where
   undo_by_cases : (answer : Result (List Fate) Refusal) (done : List Recorded) (past : List Kept) → LeadUpTo state.tree done past → Foresees way.Undo done held.tree answer → answer ≡ undo_fates state.tree past
   undo_by_cases answer [] [] h told = told
   undo_by_cases (Ok fates) (step ∷ steps) (kept ∷ past) h told =
-      let back : LeadsBy way.Undo step.changes held.tree kept.tree = subst (λ t. LeadsBy way.Undo step.changes t kept.tree) (sym holds.tree) (leads_back step.changes kept.tree state.tree h.1.leads) in
-      ap (λ fs. Ok fs) (all_change way.Undo held.tree step.changes fates (can_lead way.Undo step.changes held.tree kept.tree h.1.good h.1.are_files.0 back) told
+      ap (λ fs. Ok fs) (all_change way.Undo held.tree step.changes fates (can_lead way.Undo step.changes held.tree kept.tree h.1.good h.1.are_files.0 (back_from held state holds step.changes kept.tree h.1.leads)) told
       ∙ ap (map fate.Changes) (sym (changed_by_entry step.changes kept.tree state.tree h.1.good h.1.leads)))
   undo_by_cases (Err refusal) (step ∷ steps) (kept ∷ past) h told = absurd told
   undo_by_cases answer [] (kept ∷ past) h told = absurd h
@@ -70,8 +70,7 @@ module _ (held : State) (state : Snapshots) (holds : Holds held state) where
   redo_by_cases : (answer : Result (List Fate) Refusal) (steps : List Recorded) (future : List Kept) → LeadOn state.tree steps future → Foresees way.Do steps held.tree answer → answer ≡ redo_fates state.tree future
   redo_by_cases answer [] [] h told = told
   redo_by_cases (Ok fates) (step ∷ steps) (kept ∷ future) h told =
-      let on : LeadsBy way.Do step.changes held.tree kept.tree = subst (λ t. LeadsBy way.Do step.changes t kept.tree) (sym holds.tree) h.1.leads in
-      ap (λ fs. Ok fs) (all_change way.Do held.tree step.changes fates (can_lead way.Do step.changes held.tree kept.tree h.1.good h.1.are_files.1 on) told
+      ap (λ fs. Ok fs) (all_change way.Do held.tree step.changes fates (can_lead way.Do step.changes held.tree kept.tree h.1.good h.1.are_files.1 (on_from held state holds step.changes kept.tree h.1.leads)) told
       ∙ ap (map fate.Changes) (sym (changed_by_entry step.changes state.tree kept.tree h.1.good h.1.leads)))
   redo_by_cases (Err refusal) (step ∷ steps) (kept ∷ future) h told = absurd told
   redo_by_cases answer [] (kept ∷ future) h told = absurd h
@@ -92,12 +91,21 @@ any_told A B (refusals.Interrupted cause) told = told
 any_told A B refusals.Memory told = told
 any_told A B refusal told = tt
 
+-- on a tree, with a journal that is full or not
+foretold : (command : Command) (now tree : Files) (due full : Bool) (answer : Result (List Fate) Refusal) → now ≡ tree → due ≡ full
+    → cond full (answer ≡ Err refusals.JournalFull) (IfOk answer (λ fates. fates ≡ fates_of command now) × IfErr answer IsLookRefusal) → TellsNoFault answer → answer ≡ cond due (Err refusals.JournalFull) (Ok (fates_of command tree))
+foretold command now tree due true answer same full is told = is ∙ sym (ap (λ b. cond b (Err refusals.JournalFull) (Ok (fates_of command tree))) full)
+foretold command now tree due false (Ok fates) same full is told =
+    ap (λ fs. Ok fs) (is.0 ∙ ap (fates_of command) same) ∙ sym (ap (λ b. cond b (Err refusals.JournalFull) (Ok (fates_of command tree))) full)
+foretold command now tree due false (Err refusal) same full is told = absurd (look_told (List Fate) refusal is.1 told)
+
 pub run_foretold : (command : Command) (tree : Files) (state : Snapshots) (full : Bool) (answer : Result (List Fate) Refusal) → tree ≡ state.tree → is_full (length state.past) state.used ≡ full
     → cond full (answer ≡ Err refusals.JournalFull) (IfOk answer (λ fates. fates ≡ fates_of command tree) × IfErr answer IsLookRefusal) → TellsNoFault answer → answer ≡ run_fates state command
-run_foretold command tree state true answer same full is told = is ∙ sym (ap (λ b. cond b (Err refusals.JournalFull) (Ok (fates_of command state.tree))) full)
-run_foretold command tree state false (Ok fates) same full is told =
-    ap (λ fs. Ok fs) (is.0 ∙ ap (fates_of command) same) ∙ sym (ap (λ b. cond b (Err refusals.JournalFull) (Ok (fates_of command state.tree))) full)
-run_foretold command tree state false (Err refusal) same full is told = absurd (look_told (List Fate) refusal is.1 told)
+run_foretold command tree state full = foretold command tree state.tree (is_full (length state.past) state.used) full
+
+pub run_foretold_on : (command : Command) (held : State) (full : Bool) (answer : Result (List Fate) Refusal) → is_full (length held.journal.done) held.journal.used ≡ full
+    → cond full (answer ≡ Err refusals.JournalFull) (IfOk answer (λ fates. fates ≡ fates_of command held.tree) × IfErr answer IsLookRefusal) → TellsNoFault answer → answer ≡ run_fates_on held command
+run_foretold_on command held full answer = foretold command held.tree held.tree (is_full (length held.journal.done) held.journal.used) full answer refl
 
 pub travel_foretold : (way : Way) (step : Recorded) (steps : List Recorded) (made : List Change) (tree now : Files) (answer : Result (List Fate) Refusal) → step.changes ≡ made → now ≡ tree
     → IfOk answer (AreFatesOf way now made) → IfErr answer IsLookRefusal → TellsNoFault answer → Foresees way (step ∷ steps) tree answer
@@ -132,10 +140,3 @@ looks_no_clash store old new (Err refusal) fails honest kind = tt
 
 pub looks_no_stop : {A : Type 0} (answer : Result A Refusal) (cause : Cause) → IfErr answer IsPreviewRefusal → answer ≡ Err (refusals.Interrupted cause) → ⊥
 looks_no_stop answer cause kind is = subst (λ a. IfErr a IsPreviewRefusal) is kind
-
--- the same on a standing
-pub run_foretold_on : (command : Command) (held : State) (full : Bool) (answer : Result (List Fate) Refusal) → is_full (length held.journal.done) held.journal.used ≡ full
-    → cond full (answer ≡ Err refusals.JournalFull) (IfOk answer (λ fates. fates ≡ fates_of command held.tree) × IfErr answer IsLookRefusal) → TellsNoFault answer → answer ≡ run_fates_on held command
-run_foretold_on command held true answer full is told = is ∙ sym (ap (λ b. cond b (Err refusals.JournalFull) (Ok (fates_of command held.tree))) full)
-run_foretold_on command held false (Ok fates) full is told = ap (λ fs. Ok fs) is.0 ∙ sym (ap (λ b. cond b (Err refusals.JournalFull) (Ok (fates_of command held.tree))) full)
-run_foretold_on command held false (Err refusal) full is told = absurd (look_told (List Fate) refusal is.1 told)

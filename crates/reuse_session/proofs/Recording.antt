@@ -87,13 +87,16 @@ module _ {S : Type 0} {store : Ghosts S} {old : Session S} {command : Command} {
     still : store.honest put → (held : State) → StandsOn store.files old held → StandsOn store.files (record old { store = put }) held
     still honest held stands = stands_beside store.files old put held (below (length (memory_of old).done) (memory_of old).used p.room).1 (others honest) stands
 
-    at_most_recorded : store.honest put → (held : State) → StandsOn store.files old held → store.written put ≤ store.written (store_of old) + recorded_size (edits_of command held.tree)
-    at_most_recorded honest held stands =
+    -- what the entry takes is what the command's changes count for
+    size_here : store.honest put → store.written put ≤ store.written (store_of old) + recorded_size (edits_of command (tree_of (files_of store old)))
+    size_here honest =
         let tree = tree_of (files_of store old) in
         let good : IsEntry entry.changes = subst (λ (e : Entry). IsEntry e.changes) (sym p.is_entry) (here honest).entry in
-        let size : entry_size changes ≡ recorded_size (edits_of command held.tree) =
-        size_recorded tree (edits_of command tree) changes (here honest).recorded ∙ ap (λ t. recorded_size (edits_of command t)) stands.standing.tree in
-        omega (arith, p.at_most good, size, ap (λ (e : Entry). entry_size e.changes) p.is_entry)
+        omega (arith, p.at_most good, size_recorded tree (edits_of command tree) changes (here honest).recorded, ap (λ (e : Entry). entry_size e.changes) p.is_entry)
+
+    at_most_recorded : store.honest put → (held : State) → StandsOn store.files old held → store.written put ≤ store.written (store_of old) + recorded_size (edits_of command held.tree)
+    at_most_recorded honest held stands =
+        subst (λ t. store.written put ≤ store.written (store_of old) + recorded_size (edits_of command t)) stands.standing.tree (size_here honest)
 
     -- the entry is sealed, and so is of a format that knows each command
     known : store.honest put → knows (is_any_sealed entry.changes) entry.command ≡ true
@@ -200,9 +203,9 @@ module _ {S : Type 0} {store : Ghosts S} {old : Session S} {command : Command} {
               let many : listed_count moved ≡ length (memory_of old).done + 1 = ap listed_count l.is_moved ∙ omega (arith, length-append (memory_of old).done (listed ∷ [])) in
               omega (arith, written between second (made_good (was_put honest)), many, at_most_recorded (was_put honest) held stands)
 
-          pub record_leaves : (store.honest put → HasEntryText (number + 1) entry (store.files put)) → (store.honest (store_of new) → IsEntry made → HasHeadText (memory_of new) (files_of store new))
+          pub record_leaves : store.written put ≡ store.written (store_of old) + length (entry_text entry) → (store.honest put → HasEntryText (number + 1) entry (store.files put)) → (store.honest (store_of new) → IsEntry made → HasHeadText (memory_of new) (files_of store new))
               → LeavesRun store command when (Ok (Changed (paths_of changes))) old new
-          record_leaves entry_text_put head_text_put = record {
+          record_leaves counted entry_text_put head_text_put = record {
             unchanged = λ honest. tt;
             stands = λ honest held stands. tt;
             early = λ honest held stands. tt;
@@ -216,6 +219,7 @@ module _ {S : Type 0} {store : Ghosts S} {old : Session S} {command : Command} {
                 (refl, refl, (here (was_put honest)).recorded),
                 entry_text_stays (store.files put) (files_of store new) ((memory_of old).used + 1) (record { changes = changes; command = name_of command; when = when }) (stepped honest (made_good (was_put honest)))
                     (subst (λ e. HasEntryText ((memory_of old).used + 1) e (store.files put)) p.is_entry (subst (λ n. HasEntryText (n + 1) entry (store.files put)) p.is_number (entry_text_put (was_put honest)))),
+                omega (arith, counted, size_here (was_put honest), ap (λ e. length (entry_text e)) p.is_entry),
               ),
             );
             written = written_left;
@@ -265,7 +269,8 @@ after_reading store old new read reads was_honest command when result leaves = r
       (subst (λ n. IfErr result (λ refusal. IsStop refusal → (entry : Entry) × IsRecordOf command when (tree_of (store.files read)) entry × (n + length (entry_text entry) < store.written (store_of new)))) reads.written (leaves.late honest));
   folder = λ honest. subst (λ f. IsSameButTwo (next_path old) head_path (undo_folder_of f) (folder_of store new)) (same honest) (leaves.folder honest);
   texts = λ honest paths e. subst
-      (λ f. HasHeadText (memory_of new) (files_of store new) × ((entry : Entry) × IsRecordOf command when (tree_of f) entry × HasEntryText ((memory_of old).used + 1) entry (files_of store new))) (same honest)
+      (λ f. HasHeadText (memory_of new) (files_of store new) × ((entry : Entry) × IsRecordOf command when (tree_of f) entry × HasEntryText ((memory_of old).used + 1) entry (files_of store new)
+      × (length (entry_text entry) ≤ recorded_size (edits_of command (tree_of f))))) (same honest)
       (leaves.texts honest paths e);
   written = λ honest held stands. subst (λ n. store.written (store_of new) ≤ n + recorded_size (edits_of command held.tree) + head_room (listed_count (memory_of old)) + head_room (length (memory_of old).done + 1)) reads.written
       (leaves.written honest held (still honest held stands));

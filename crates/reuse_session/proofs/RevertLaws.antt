@@ -2,15 +2,14 @@
 use Rattle.std.proofs.Common.{◌≡◌, ◌≢◌, ℕ, ◌+◌, ◌-◌, ◌≤◌, Bool, true, false, cond, not, ◌&&◌, ◌||◌, nat_eq, nat_le, nat_lt, List, [], ◌∷◌, ◌++◌, length, take, drop, sum_by, get_or, Option, Some, None, is_some, Ok, Err, refl, sym, ap, ap₂, subst, ◌∙◌, arith, length-append, append_assoc, le-leb}
 use Rattle.sha2.specs.Sha256.{sha256}
 use Rattle.std.specs.Option.{option_map}
-use Rattle.std.specs.FinMap.{empty}
+use Rattle.std.specs.FinMap.{empty, get}
 use Rattle.std.proofs.lemmas.Option.{same_Some, cond_some}
 use Rattle.std.specs.List.{AllByRecursion, cons_option, starts_with}
 use Rattle.std.specs.Str.{bytes_eq}
-use Rattle.std.specs.FinMap.{get}
 use Rattle.std.proofs.Math.Seq.{drop-append_seam, take-append_seam}
-use Rattle.std.proofs.lemmas.Bool.{false≢true}
+use Rattle.std.proofs.lemmas.Bool.{false≢true, and_from}
 use Rattle.std.proofs.lemmas.Bool.Decides.{Decides-eqb, nat_tests}
-use Rattle.std.proofs.lemmas.List.{drop-drop, length-drop, append-nil}
+use Rattle.std.proofs.lemmas.List.{drop-drop, length-drop, append-nil, nil_from_length}
 use Rattle.std.proofs.lemmas.List.Elements.{recursion_from_All}
 use Rattle.std.proofs.lemmas.List.Sums.{sum_by-cons}
 use Rattle.std.proofs.lemmas.Slice.Eq.{bytes_eq-Decides, starts_is}
@@ -45,10 +44,6 @@ all_true true true false e f g = g
 all_true true false c e f g = absurd (false≢true f)
 all_true false b c e f g = absurd (false≢true e)
 
-both_true : (a b : Bool) → a ≡ true → b ≡ true → (a && b) ≡ true
-both_true true b e f = f
-both_true false b e f = absurd (false≢true e)
-
 module _ (path front old new behind : List ℕ) (rest : ℕ) (seal : Option Seal) where
   abbrev file : List ℕ
   file = front ++ new ++ behind
@@ -57,7 +52,7 @@ module _ (path front old new behind : List ℕ) (rest : ℕ) (seal : Option Seal
   beyond = ap (drop (length front)) (append_assoc front new behind) ∙ drop-append_seam front (new ++ behind)
 
   stands : stands_at file new (length front) ≡ true
-  stands = both_true (nat_le (length front) (length file)) (starts_with nat_eq (drop (length front) file) new)
+  stands = and_from (nat_le (length front) (length file)) (starts_with nat_eq (drop (length front) file) new)
       (le-leb (length front) (length file) (omega (arith, length-append (front ++ new) behind, length-append front new)))
       ((starts_is Decides-eqb (drop (length front) file) new _ refl).1 behind beyond)
 
@@ -71,7 +66,7 @@ module _ (path front old new behind : List ℕ) (rest : ℕ) (seal : Option Seal
   put_back_there told short fits =
       ap (λ b. cond b (Some (put_back path file (length front) old new)) None)
       (all_true (stands_as_written file (length front) old new rest seal) (is_short file) (is_short (spliced file (length front) (length new) old))
-      (both_true (stands_at file new (length front)) (not (starts_with nat_eq old new) || is_as_left file (length front) new rest seal) stands told) (le-leb (length file) 16_777_216 short)
+      (and_from (stands_at file new (length front)) (not (starts_with nat_eq old new) || is_as_left file (length front) new rest seal) stands told) (le-leb (length file) 16_777_216 short)
       (ap is_short spliced_is ∙ le-leb (length (front ++ old ++ behind)) 16_777_216 fits))
       ∙ ap (λ f. Some (record { path = path; removed = new; written = old; file = Some f })) spliced_is
 
@@ -92,7 +87,7 @@ module _ (path front old new behind : List ℕ) (rest : ℕ) (seal : Option Seal
   put_back_left end digest short fits =
       put_back_there
       (or_left (starts_with nat_eq old new) (is_as_left file (length front) new rest seal)
-      (both_true (nat_eq (length file - length front - length new) rest) (has_digest file seal)
+      (and_from (nat_eq (length file - length front - length new) rest) (has_digest file seal)
       ((Decides-eqb (length file - length front - length new) rest).1 (omega (arith, end, length-append (front ++ new) behind, length-append front new))) (recorded seal digest)))
       short fits
 
@@ -107,11 +102,7 @@ longer : (old new : List ℕ) → starts_with nat_eq old new ≡ true → old �
 longer old new begins apart same =
     let whole : old ≡ new ++ drop (length new) old = (starts_is Decides-eqb old new _ refl).0 begins in
     let none : length (drop (length new) old) ≡ 0 = omega (arith, same, length-drop (length new) old) in
-    apart (whole ∙ ap (λ l. new ++ l) (no_bytes (drop (length new) old) none) ∙ append-nil new)
-  where
-    no_bytes : (xs : List ℕ) → length xs ≡ 0 → xs ≡ []
-    no_bytes [] e = refl
-    no_bytes (x ∷ xs) e = absurd (omega (arith, e))
+    apart (whole ∙ ap (λ l. new ++ l) (nil_from_length (drop (length new) old) none) ∙ append-nil new)
 
 module _ (path old new file : List ℕ) (at rest : ℕ) (seal : Option Seal) where
   pub once : (edit : Edit) → starts_with nat_eq old new ≡ true → old ≢ new → taken_back (Splice path at old new rest seal) (Some file) ≡ Some edit

@@ -16,7 +16,7 @@ use Rattle.reuse_tree.specs.Change.{path_of, sealed_make, sealed_drop, sealed_sp
 use Rattle.reuse_tree.specs.declared.change.Change.{Change}
 use Rattle.reuse_tree.specs.declared.change.Change.TheVariants.{Make, Drop, Splice}
 use Rattle.reuse_tree.specs.declared.digest.Seal.{Seal}
-use Rattle.reuse_session.specs.Answer.{IsFailure, IsOfPlan, IsTestRefusal}
+use Rattle.reuse_session.specs.Answer.{IsTestRefusal}
 use Rattle.reuse_session.specs.Clash.{is_clash}
 use Rattle.reuse_session.specs.Edit.{Edit, made, dropped}
 use Rattle.reuse_session.specs.Entry.{makes}
@@ -24,7 +24,7 @@ use Rattle.reuse_session.specs.Plan.{IsRefusalOf, Makes, MakesEach, MakesEdit, M
 use Rattle.reuse_session.specs.Reverting.{stands_at, is_as_left, stands_as_written, is_short, put_back, taken_back, taken_back_on, stuck_on, unless_stuck, revert_edits}
 use Rattle.reuse_session.specs.declared.entry.Way.TheVariants.{Undo}
 use Rattle.reuse_session.specs.declared.reply.Refusal.{Refusal}
-use Rattle.reuse_session.specs.declared.reply.Refusal.TheVariants.{Fault, Interrupted, Memory, Moved}
+use Rattle.reuse_session.specs.declared.reply.Refusal.TheVariants.{Fault, Memory, Moved}
 
 abbrev pub found : Option Edit → Result (Option Edit) Refusal
 found edit = Ok edit
@@ -260,10 +260,3 @@ module _ (tree : Files) (skip : Bool) (all : List Change) where
       let m = moved path refl in
       at_refusal c left taken m.2 so (subst (MakesEdit tree (found (taken_back_on tree c))) m.1 makes) ∙ ap (λ p. Err (Moved p)) (sym m.0)
   back_refused c left taken given refusal so makes is moved = absurd is
-
--- a failure of a reading is a refusal of any plan
-pub failure_refused : {A : Type 0} (given : Result A Refusal) (refusal : Refusal) → IsFailure refusal → IsOfPlan refusal → IsRefusalOf given refusal
-failure_refused given Memory is of = tt
-failure_refused given (Fault fault) is of = tt
-failure_refused given (Interrupted cause) is of = absurd of
-failure_refused given refusal is of = absurd is

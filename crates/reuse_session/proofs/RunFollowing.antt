@@ -1,6 +1,7 @@
 -- What a run answers and leaves from any standing, and that it follows the machine of whole trees.
 use Rattle.std.proofs.Common.{◌≡◌, ℕ, ◌+◌, false, List, [], ◌∷◌, length, Result, Ok, Err, refl, sym, ap, subst, ◌∙◌}
 use Rattle.std.proofs.lemmas.List.Elements.{All-nil}
+use Rattle.std.proofs.lemmas.List.{nil_from_length}
 use Rattle.reuse_tree.specs.Files.{Files, AreFiles}
 use Rattle.reuse_tree.specs.declared.change.Change.{Change}
 use Rattle.reuse_session.specs.Answer.{TellsNoFault, IsOfPlan}
@@ -19,7 +20,7 @@ use Rattle.reuse_session.specs.declared.reply.Refusal.{Refusal}
 use Rattle.reuse_session.specs.declared.reply.Refusal.TheVariants.{JournalFull, Memory, Fault, Interrupted}
 use Rattle.reuse_session.specs.declared.session.Session.{Session}
 use Rattle.reuse_session.proofs.Differ.{changed_by_entry}
-use Rattle.reuse_session.proofs.Following.{journal_full, run_refused, run_nothing, run_follows, no_changes}
+use Rattle.reuse_session.proofs.Following.{journal_full, run_refused, run_nothing, run_follows}
 use Rattle.reuse_session.proofs.Walk.{leads_once}
 
 -- no change leads from files to the same
@@ -41,7 +42,7 @@ runs_refused command when held refusal room planned told due = (room, due, refl)
 pub runs_nothing : (command : Command) (when : ℕ) (held : State) (changes : List Change) (after : Files) → is_full (length held.journal.done) held.journal.used ≡ false
     → outcome_of command held.tree ≡ Ok after → length changes ≡ 0 → LeadsAll changes held.tree after → Runs command when held (Ok NothingChanged) held
 runs_nothing command when held changes after room outcome none leads =
-    let same : after ≡ held.tree = leads_once way.Do [] held.tree after held.tree (subst (λ cs. LeadsAll cs held.tree after) (no_changes changes none) leads) (stays_by_none held.tree) in
+    let same : after ≡ held.tree = leads_once way.Do [] held.tree after held.tree (subst (λ cs. LeadsAll cs held.tree after) (nil_from_length changes none) leads) (stays_by_none held.tree) in
     (room, outcome ∙ ap (λ t. Ok t) same, refl)
 
 -- a step

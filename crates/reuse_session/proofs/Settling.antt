@@ -25,30 +25,31 @@ use Rattle.reuse_session.specs.declared.journal.head.PendingWay.{PendingWay}
 use Rattle.reuse_session.specs.declared.reply.Cause.{Cause}
 use Rattle.reuse_session.specs.declared.reply.Refusal.{Refusal}
 use Rattle.reuse_session.specs.declared.reply.Refusal.TheVariants as refusals
+use Rattle.reuse_session.proofs.TreeLemmas.{tree_file, tree_are_files}
 use Rattle.reuse_session.proofs.HeadMoves.{sound_unpended}
 use Rattle.reuse_session.proofs.JournalLemmas.{head_in_folder, same_entry, entry_good, sound_head, keeps_again}
 use Rattle.reuse_session.proofs.MadeLemmas.{back_at_start}
 use Rattle.reuse_session.proofs.MemoryLemmas.{listing_of}
-use Rattle.reuse_session.proofs.OfTree.{get-tree, get-folder, are_tree}
+use Rattle.reuse_session.proofs.OfTree.{get-folder}
 use Rattle.reuse_session.proofs.OpeningLemmas.{recorded, same_journal}
 use Rattle.reuse_session.proofs.Walk.{none_outside}
 
 -- ---- the folders above the journal
 
 pub none_in_tree : (files : Files) (path : List ℕ) → get files path ≡ None → get (tree_of files) path ≡ None
-none_in_tree files path none = get-tree files path ∙ at_test (not (lies_under path journal_folder))
+none_in_tree files path none = tree_file files path ∙ at_test (not (lies_under path journal_folder))
   where
     at_test : (b : Bool) → cond b (get files path) None ≡ None
     at_test true = none
     at_test false = refl
 
 pub none_in_files : (files : Files) (path : List ℕ) → lies_under path journal_folder ≡ false → get (tree_of files) path ≡ None → get files path ≡ None
-none_in_files files path outside none = ap (λ b. cond (not b) (get files path) None) (sym outside) ∙ sym (get-tree files path) ∙ none
+none_in_files files path outside none = ap (λ b. cond (not b) (get files path) None) (sym outside) ∙ sym (tree_file files path) ∙ none
 
 -- files without those folders are a tree beside the journal
 pub is_tree : (files : Files) → AreFiles files → get files (codes ".reuse") ≡ None → get files journal_folder ≡ None → IsTree (tree_of files)
 is_tree files are no_reuse no_undo = record {
-  are_files = are_tree files are;
+  are_files = tree_are_files files are;
   no_reuse = none_in_tree files (codes ".reuse") no_reuse;
   no_undo = none_in_tree files journal_folder no_undo;
 }
@@ -77,7 +78,7 @@ module _ (before : Files) (pending : Pending) (memory : Memory) (journal : Journ
       let still : (path : List ℕ) → is_of_tree path ≡ false → get before path ≡ None → get (tree_of after) path ≡ None =
       λ path out none. sym (rolled.tree.others path (none_outside entry.changes path is_entry out)) ∙ none_in_tree before path none in
       let tree : IsTree (tree_of after) = record {
-        are_files = are_tree after are;
+        are_files = tree_are_files after are;
         no_reuse = still (codes ".reuse") refl read.no_reuse;
         no_undo = still journal_folder refl read.no_undo;
       } in (

@@ -2,18 +2,16 @@
 use Rattle.std.proofs.Common.{◌≡◌, ℕ, ◌<◌, Bool, true, false, cond, not, ◌&&◌, ◌||◌, List, length, Option, Some, None, is_some, nat_le, nat_lt, Result, Ok, Err, refl, sym, ap, ◌∙◌, arith}
 use Rattle.std.proofs.lemmas.Bool.Decides.{nat_tests}
 use Rattle.std.specs.FinMap.{get}
-use Rattle.reuse_notice.specs.declared.adding.Additions.{Additions}
-use Rattle.reuse_header.specs.declared.annotation.How.{How}
 use Rattle.reuse_tree.specs.Files.{Files}
 use Rattle.reuse_tree.specs.Store.{reading_of}
 use Rattle.reuse_tree.specs.declared.store.Reading.TheVariants.{Found, TooLong}
-use Rattle.reuse_session.specs.Annotate.{neighbour_of, neighbour_is_tagged, goes_beside_unread, goes_beside, target_by_bytes, target_of, edit_neighbour, edit_beside, edit_target, annotated_where, annotated_at}
+use Rattle.reuse_session.specs.Annotate.{neighbour_of, neighbour_is_tagged, goes_beside_unread, goes_beside, target_of, annotated_where}
+use Rattle.reuse_session.specs.AnnotationPlan.{own_of, annotated_by, beside_by, neighbour_by, place_by, edit_by_place, skipped_by}
 use Rattle.reuse_session.specs.Covered.{is_covered}
 use Rattle.reuse_session.specs.Edit.{Edit}
-use Rattle.reuse_session.specs.Fates.{has_tagged, is_skipped_at, is_skipped_where, is_skipped}
+use Rattle.reuse_session.specs.Fates.{has_tagged, is_skipped_at, is_skipped_where}
 use Rattle.reuse_session.specs.Listing.{is_folder}
-use Rattle.reuse_session.specs.TreeStyles.{OwnNames}
-use Rattle.reuse_session.specs.declared.command.Scope.{Scope}
+use Rattle.reuse_session.specs.declared.annotation.Annotation.{Annotation}
 use Rattle.reuse_session.specs.declared.target.Target.{Target}
 use Rattle.reuse_session.specs.declared.target.Target.TheVariants.{Beside}
 use Rattle.reuse_session.specs.declared.reply.Refusal.{Refusal}
@@ -35,52 +33,52 @@ and_false : (a b : Bool) → b ≡ false → (a && b) ≡ false
 and_false true b e = e
 and_false false b e = refl
 
-module _ (how : How) (scope : Scope) (additions : Additions) (own : OwnNames) (tree : Files) (path : List ℕ) where
+module _ (asked : Annotation) (tree : Files) (path : List ℕ) where
   -- what is known of a file where nothing is done
   pub record IsLeft (file : Option (List ℕ)) : Type 0 where
     pub bytes : List ℕ
     pub here : file ≡ Some bytes
     pub covered : is_covered path ≡ true
-    pub none : edit_target how scope additions tree path bytes (target_of scope own tree path bytes) ≡ Ok None
+    pub none : edit_by_place asked tree path bytes (target_of asked.scope.now (own_of asked) tree path bytes) ≡ Ok None
 
-  left_where : (file : Option (List ℕ)) → annotated_where how scope additions own tree path file ≡ no_edit → IsLeft file
+  left_where : (file : Option (List ℕ)) → annotated_where asked.how.now asked.scope.now asked.additions.now (own_of asked) tree path file ≡ no_edit → IsLeft file
   left_where None e = absurd (both_err (is_folder tree path) _ _ None e)
   left_where (Some bytes) e = record {
     bytes = bytes;
     here = refl;
-    covered = passes (is_covered path) (refusals.NotCovered path) (edit_target how scope additions tree path bytes (target_of scope own tree path bytes)) e;
-    none = if_not (not (is_covered path)) (refusals.NotCovered path) (edit_target how scope additions tree path bytes (target_of scope own tree path bytes)) None e;
+    covered = passes (is_covered path) (refusals.NotCovered path) (edit_by_place asked tree path bytes (target_of asked.scope.now (own_of asked) tree path bytes)) e;
+    none = if_not (not (is_covered path)) (refusals.NotCovered path) (edit_by_place asked tree path bytes (target_of asked.scope.now (own_of asked) tree path bytes)) None e;
   }
 
-  pub left_at : annotated_at how scope additions own tree path ≡ no_edit → IsLeft (get tree path)
+  pub left_at : annotated_by asked tree path ≡ no_edit → IsLeft (get tree path)
   left_at e = left_where (get tree path) e
 
-  pub left_beside : (bytes : List ℕ) → goes_beside scope own tree path ≡ true → edit_target how scope additions tree path bytes (target_of scope own tree path bytes) ≡ no_edit → edit_beside how scope additions tree path ≡ no_edit
-  left_beside bytes beside e = sym (ap (λ t. edit_target how scope additions tree path bytes (cond t (aimed Beside) (target_by_bytes scope own path bytes))) beside) ∙ e
+  pub left_beside : (bytes : List ℕ) → goes_beside asked.scope.now (own_of asked) tree path ≡ true → edit_by_place asked tree path bytes (target_of asked.scope.now (own_of asked) tree path bytes) ≡ no_edit → beside_by asked tree path ≡ no_edit
+  left_beside bytes beside e = sym (ap (λ t. edit_by_place asked tree path bytes (cond t (aimed Beside) (place_by asked path bytes))) beside) ∙ e
 
-  pub skipped_is : (bytes : List ℕ) (b : Bool) → get tree path ≡ Some bytes → goes_beside scope own tree path ≡ b
-      → is_skipped scope own tree path ≡ is_skipped_at scope tree path bytes (cond b (aimed Beside) (target_by_bytes scope own path bytes))
+  pub skipped_is : (bytes : List ℕ) (b : Bool) → get tree path ≡ Some bytes → goes_beside asked.scope.now (own_of asked) tree path ≡ b
+      → skipped_by asked tree path ≡ is_skipped_at asked.scope.now tree path bytes (cond b (aimed Beside) (place_by asked path bytes))
   skipped_is bytes b here beside =
-      ap (is_skipped_where scope own tree path) here ∙ ap (λ t. is_skipped_at scope tree path bytes (cond t (aimed Beside) (target_by_bytes scope own path bytes))) beside
+      ap (is_skipped_where asked.scope.now (own_of asked) tree path) here ∙ ap (λ t. is_skipped_at asked.scope.now tree path bytes (cond t (aimed Beside) (place_by asked path bytes))) beside
 
-module _ (how : How) (scope : Scope) (additions : Additions) (tree : Files) (path : List ℕ) where
+module _ (asked : Annotation) (tree : Files) (path : List ℕ) where
   -- no file that is left has a neighbour that is too long
-  pub unread_beside : (file : Option (List ℕ)) → get tree (neighbour_of path) ≡ file → edit_beside how scope additions tree path ≡ no_edit
-      → ((bytes : List ℕ) → reading_of file 16_777_216 ≡ Found bytes → ⊥) → (scope.skip_existing && has_tagged file) ≡ false
-  unread_beside None is none unread = and_false scope.skip_existing false refl
+  pub unread_beside : (file : Option (List ℕ)) → get tree (neighbour_of path) ≡ file → beside_by asked tree path ≡ no_edit
+      → ((bytes : List ℕ) → reading_of file 16_777_216 ≡ Found bytes → ⊥) → (asked.scope.now.skip_existing && has_tagged file) ≡ false
+  unread_beside None is none unread = and_false asked.scope.now.skip_existing false refl
   unread_beside (Some bytes) is none unread = by_test (nat_le (length bytes) 16_777_216) refl unread
     where
       long : (n : ℕ) → nat_le n 16_777_216 ≡ false → nat_lt 16_777_216 n ≡ true
       long n t = grind (arith, nat_tests)
 
-      edit : edit_neighbour how scope additions tree path (Some bytes) ≡ no_edit
-      edit = ap (edit_neighbour how scope additions tree path) (sym is) ∙ if_not (nat_lt 4096 (length (neighbour_of path))) (refusals.TooLong path) (edit_neighbour how scope additions tree path (get tree (neighbour_of path))) None none
+      edit : neighbour_by asked tree path (Some bytes) ≡ no_edit
+      edit = ap (neighbour_by asked tree path) (sym is) ∙ if_not (nat_lt 4096 (length (neighbour_of path))) (refusals.TooLong path) (neighbour_by asked tree path (get tree (neighbour_of path))) None none
 
       too_long : (b : Bool) (rest : Result (Option Edit) Refusal) → b ≡ true → cond b (Err (refusals.TooLong path)) rest ≡ no_edit → ⊥
       too_long true rest t e = cc
       too_long false rest t e = absurd (cc)
 
-      by_test : (b : Bool) → nat_le (length bytes) 16_777_216 ≡ b → ((found : List ℕ) → cond b (Found bytes) TooLong ≡ Found found → ⊥) → (scope.skip_existing && neighbour_is_tagged bytes) ≡ false
+      by_test : (b : Bool) → nat_le (length bytes) 16_777_216 ≡ b → ((found : List ℕ) → cond b (Found bytes) TooLong ≡ Found found → ⊥) → (asked.scope.now.skip_existing && neighbour_is_tagged bytes) ≡ false
       by_test true t unread = absurd (unread bytes refl)
       by_test false t unread = absurd (too_long (nat_lt 16_777_216 (length bytes)) _ (long (length bytes) t) edit)
 
@@ -88,21 +86,21 @@ no_file : (file : Option (List ℕ)) (b : Bool) → (is_some file || b) ≡ fals
 no_file None b e = refl
 no_file (Some bytes) b e = absurd (cc)
 
-pub no_neighbour : (scope : Scope) (own : OwnNames) (tree : Files) (path : List ℕ) → goes_beside scope own tree path ≡ false → get tree (neighbour_of path) ≡ None
-no_neighbour scope own tree path e = no_file (get tree (neighbour_of path)) (goes_beside_unread scope own path) e
+pub no_neighbour : (asked : Annotation) (tree : Files) (path : List ℕ) → goes_beside asked.scope.now (own_of asked) tree path ≡ false → get tree (neighbour_of path) ≡ None
+no_neighbour asked tree path e = no_file (get tree (neighbour_of path)) (goes_beside_unread asked.scope.now (own_of asked) path) e
 
 -- a target that is refused skips nothing
-pub skips_none : (scope : Scope) (tree : Files) (path bytes : List ℕ) (given : Result Target Refusal) (refusal : Refusal) → given ≡ Err refusal → is_skipped_at scope tree path bytes given ≡ false
-skips_none scope tree path bytes given refusal e = ap (is_skipped_at scope tree path bytes) e
+pub skips_none : (asked : Annotation) (tree : Files) (path bytes : List ℕ) (given : Result Target Refusal) (refusal : Refusal) → given ≡ Err refusal → is_skipped_at asked.scope.now tree path bytes given ≡ false
+skips_none asked tree path bytes given refusal e = ap (is_skipped_at asked.scope.now tree path bytes) e
 
 -- a file that is too long isn't skipped
-pub unread_alone : (scope : Scope) (own : OwnNames) (tree : Files) (path bytes : List ℕ) → ((found : List ℕ) → reading_of (Some bytes) 16_777_216 ≡ Found found → ⊥)
-    → is_skipped_at scope tree path bytes (target_by_bytes scope own path bytes) ≡ false
-unread_alone scope own tree path bytes unread = by_test (nat_le (length bytes) 16_777_216) refl unread
+pub unread_alone : (asked : Annotation) (tree : Files) (path bytes : List ℕ) → ((found : List ℕ) → reading_of (Some bytes) 16_777_216 ≡ Found found → ⊥)
+    → is_skipped_at asked.scope.now tree path bytes (place_by asked path bytes) ≡ false
+unread_alone asked tree path bytes unread = by_test (nat_le (length bytes) 16_777_216) refl unread
   where
     past : (n : ℕ) → nat_le n 16_777_216 ≡ false → 16_777_216 < n
     past n t = grind (arith, nat_tests)
 
-    by_test : (b : Bool) → nat_le (length bytes) 16_777_216 ≡ b → ((found : List ℕ) → cond b (Found bytes) TooLong ≡ Found found → ⊥) → is_skipped_at scope tree path bytes (target_by_bytes scope own path bytes) ≡ false
+    by_test : (b : Bool) → nat_le (length bytes) 16_777_216 ≡ b → ((found : List ℕ) → cond b (Found bytes) TooLong ≡ Found found → ⊥) → is_skipped_at asked.scope.now tree path bytes (place_by asked path bytes) ≡ false
     by_test true t unread = absurd (unread bytes refl)
-    by_test false t unread = skips_none scope tree path bytes (target_by_bytes scope own path bytes) (refusals.TooLong path) (long_bytes scope own path bytes (past (length bytes) t))
+    by_test false t unread = skips_none asked tree path bytes (place_by asked path bytes) (refusals.TooLong path) (long_bytes asked.scope.now (own_of asked) path bytes (past (length bytes) t))

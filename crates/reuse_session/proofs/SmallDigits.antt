@@ -1,12 +1,8 @@
 -- Bytes and the small hexadecimal digits that spell them.
-use Rattle.std.proofs.Common.{◌≡◌, ℕ, ◌+◌, ◌*◌, ◌/◌, ◌%◌, ◌<◌, List, [], ◌∷◌, ◌++◌, length, take, set, get_or, slice_index, refl, sym, ap, ap₂, ◌∙◌, append_assoc, arith}
+use Rattle.std.proofs.Common.{◌≡◌, ℕ, ◌+◌, ◌*◌, ◌/◌, ◌%◌, ◌<◌, List, [], ◌∷◌, ◌++◌, length, take, set, get_or, slice_index, sym, ap, ap₂, ◌∙◌, append_assoc, arith}
 use Rattle.std.proofs.lemmas.List.{take_more, take_more_set}
 use Rattle.hex.specs.Hex.{encode_with, encode_lower, lower_digits}
-
-pub encode_with-append : (table xs ys : List ℕ) → encode_with table (xs ++ ys) ≡ encode_with table xs ++ encode_with table ys
-unfolding encode_with
-encode_with-append table [] ys = refl
-encode_with-append table (x ∷ xs) ys = ap (λ l. slice_index table (x / 16) ∷ slice_index table (x % 16) ∷ l) (encode_with-append table xs ys)
+use Rattle.reuse_session.proofs.PlainTexts.{encode_with-append}
 
 -- the digits of the byte of these two values
 one_byte : (high low : ℕ) → high < 16 → low < 16 → encode_lower ((high % 16 * 16 + low % 16) ∷ []) ≡ slice_index lower_digits high ∷ slice_index lower_digits low ∷ []

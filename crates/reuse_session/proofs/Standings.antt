@@ -12,7 +12,7 @@ use Rattle.reuse_session.specs.Standing.{IsTree, IsStanding, IsStep, InDoubt}
 use Rattle.reuse_session.specs.Tree.{undo_folder_of}
 use Rattle.reuse_session.specs.declared.journal.head.PendingWay.{PendingWay}
 use Rattle.reuse_tree.specs.declared.change.Change.{Change}
-use Rattle.reuse_session.proofs.OfTree.{are_tree}
+use Rattle.reuse_session.proofs.TreeLemmas.{tree_are_files}
 use Rattle.reuse_session.proofs.Walk.{leads_once, none_outside}
 use Rattle.reuse_session.proofs.JournalLemmas.{entry_in_folder, same_but_in_folder, keeps_beside, keeps_pending, keeps_settled, kept_stays}
 use Rattle.reuse_session.proofs.MadeLemmas.{reach_ready}
@@ -45,7 +45,7 @@ module _ (files after : Files) (way : PendingWay) (step : Recorded) (first secon
       let tree : tree_of after ≡ second.tree = leads_once (way_of way) step.changes (tree_of files) (tree_of after) second.tree out.tree start in
       record {
         tree = tree;
-        good = still_tree way step.changes first.tree second.tree good is_step.leads standing.good (subst AreFiles tree (are_tree after are));
+        good = still_tree way step.changes first.tree second.tree good is_step.leads standing.good (subst AreFiles tree (tree_are_files after are));
         journal = keeps_settled (undo_folder_of files) (undo_folder_of after) first.journal second.journal None way step settled standing.journal kept is_step.moves out.sets head;
       }
 

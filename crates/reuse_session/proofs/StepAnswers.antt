@@ -1,5 +1,5 @@
 -- What the functions of a step answer, from what they call.
-use Rattle.std.proofs.Common.{◌≡◌, ◌≢◌, inl, inr, ℕ, ◌+◌, ◌<◌, ◌≤◌, false, ◌||◌, List, [], ◌∷◌, ◌++◌, length, map, reverse, get_or, cond, None, is_some, Result, Ok, Err, IfErr, refl, sym, ap, subst, ◌∙◌, arith, IsErrAnd}
+use Rattle.std.proofs.Common.{◌≡◌, ◌≢◌, inl, inr, ℕ, ◌+◌, ◌<◌, ◌≤◌, Bool, true, false, ◌||◌, List, [], ◌∷◌, ◌++◌, length, map, reverse, get_or, cond, None, is_some, Result, Ok, Err, IfErr, refl, sym, ap, subst, ◌∙◌, arith, IsErrAnd}
 use Rattle.std.proofs.lemmas.Bool.{false≢true, or_from}
 use Rattle.std.proofs.lemmas.List.{length-append, length-map, length-reverse, get_or-append-add, append-nil}
 use Rattle.std.specs.FinMap.{get}
@@ -10,6 +10,7 @@ use Rattle.reuse_session.specs.Answer.{IsEarly, TellsNoFault, IsReadRefusal, IsP
 use Rattle.reuse_session.specs.Head.{IsSoundHead}
 use Rattle.reuse_session.specs.History.{Memory}
 use Rattle.reuse_session.specs.Journal.{Recorded, Journal, State, ahead, moved_on}
+use Rattle.reuse_session.specs.Machine.{is_full}
 use Rattle.reuse_session.specs.JournalFiles.{head_path, entry_path, head_of, number_of, EntrySays, IsFree, IsJournalPath}
 use Rattle.reuse_session.specs.declared.journal.entry.Entry.{Entry}
 use Rattle.reuse_session.specs.Session.{store_of, memory_of, listed_as, listed_count, IsSameBut, Remembers, StandsOn}
@@ -21,9 +22,10 @@ use Rattle.reuse_session.specs.declared.entry.Way.TheVariants.{Do, Undo}
 use Rattle.reuse_session.specs.declared.reply.Cause.TheVariants as causes
 use Rattle.reuse_session.specs.declared.reply.Reply.{Reply}
 use Rattle.reuse_session.specs.declared.reply.Refusal.{Refusal}
-use Rattle.reuse_session.specs.declared.reply.Refusal.TheVariants.{Memory as OutOfMemory, Fault, Interrupted, BadJournal}
+use Rattle.reuse_session.specs.declared.reply.Refusal.TheVariants.{Memory as OutOfMemory, Fault, Interrupted, BadJournal, JournalFull}
 use Rattle.reuse_session.proofs.OnlyReading.{is_refused}
-use Rattle.reuse_session.proofs.JournalLemmas.{clash_beneath, entry_in_folder, paths_apart}
+use Rattle.reuse_session.proofs.HeadMoves.{below}
+use Rattle.reuse_session.proofs.JournalLemmas.{clash_beneath, entry_in_folder, like, paths_apart}
 use Rattle.reuse_session.proofs.OfTree.{get-folder}
 use Rattle.reuse_session.proofs.Standings.{after_entry}
 use Rattle.reuse_session.proofs.Stepping.{last_number}
@@ -108,7 +110,7 @@ module _ (entry head : Type 0) where
 -- no path of a file of the journal clashes where none is a folder
 pub no_clash_at : (files : Files) (path : List ℕ) → IsTree (tree_of files) → IsJournalPath path → IsFree (undo_folder_of files) → Clashes files path → ⊥
 no_clash_at files path tree is free clash =
-    let beneath = clash_beneath files path tree is clash in
+    let beneath = clash_beneath files path tree (like path is) clash in
     free path beneath.0 is beneath.1 beneath.2
 
 -- the file of an entry makes no folder of the head
@@ -127,9 +129,17 @@ module _ (files : Files) (held : State) (standing : IsStanding files held) (free
   head_free : Clashes files head_path → ⊥
   head_free clash = no_clash_at files head_path (tree_of_standing files held standing) (inl refl) free clash
 
-  pub run_no_clash : (number : ℕ) → IfErr answer (HasClash (Clashes files (entry_path number)) (Clashes files head_path)) → IfErr answer IsNoClash
-  run_no_clash number told =
-      never_clashes (Clashes files (entry_path number)) (Clashes files head_path) (no_clash_at files (entry_path number) (tree_of_standing files held standing) (inr (number, refl)) free) head_free answer told
+  -- a run puts an entry only where the journal isn't full, so that its number is given out
+  pub run_no_clash : (done used : ℕ) → (is_full done used ≡ true → answer ≡ Err JournalFull)
+      → IfErr answer (HasClash (Clashes files (entry_path (used + 1))) (Clashes files head_path)) → IfErr answer IsNoClash
+  run_no_clash done used full told = test (is_full done used) refl
+    where
+      entry_free : is_full done used ≡ false → Clashes files (entry_path (used + 1)) → ⊥
+      entry_free room = no_clash_at files (entry_path (used + 1)) (tree_of_standing files held standing) (inr (used + 1, omega arith, omega (arith, (below done used room).1), refl)) free
+
+      test : (b : Bool) → is_full done used ≡ b → IfErr answer IsNoClash
+      test true is = subst (λ a. IfErr a IsNoClash) (sym (full is)) tt
+      test false room = never_clashes (Clashes files (entry_path (used + 1))) (Clashes files head_path) (entry_free room) head_free answer told
 
   pub back_no_clash : IfErr answer (HasClash ⊥ (Clashes files head_path)) → IfErr answer IsNoClash
   back_no_clash told = never_clashes ⊥ (Clashes files head_path) (λ none. none) head_free answer told

@@ -1,7 +1,7 @@
 -- An undo or a redo follows the fates that its preview tells.
-use Rattle.std.proofs.Common.{◌≡◌, ◌↔◌, ◌⊎◌, inl, inr, ℕ, List, [], ◌∷◌, ◌++◌, map, Option, Some, None, Result, Ok, Err, refl, sym, ap, subst, ◌∙◌}
+use Rattle.std.proofs.Common.{◌≡◌, ◌↔◌, ◌⊎◌, inl, inr, ℕ, List, [], ◌∷◌, map, Option, Some, None, Result, Ok, Err, refl, sym, ap, ◌∙◌}
 use Rattle.std.specs.List.{All}
-use Rattle.std.proofs.lemmas.List.Elements.{All-cons, All-head, All-nil, All-tail}
+use Rattle.std.proofs.lemmas.List.Elements.{All-cons, All-nil}
 use Rattle.std.proofs.lemmas.Option.{none-some, same_Some}
 use Rattle.reuse_tree.specs.Files.{Files}
 use Rattle.reuse_tree.specs.Change.{path_of}
@@ -16,6 +16,7 @@ use Rattle.reuse_session.specs.declared.fate.Fate.TheVariants as fate
 use Rattle.reuse_session.specs.declared.reply.Refusal.{Refusal}
 use Rattle.reuse_session.specs.declared.reply.Refusal.TheVariants as refusals
 use Rattle.reuse_session.specs.declared.reply.Reply.{Reply}
+use Rattle.reuse_session.proofs.Walk.{none_stuck}
 use Rattle.reuse_session.proofs.OneOpening.{without_once}
 use Rattle.reuse_session.proofs.Previewing.{all_change}
 
@@ -31,13 +32,6 @@ later Holds change changes path holds first = record {
   passed = All-cons Holds change first.before holds first.passed;
   stuck = first.stuck;
 }
-
-none_stuck : (Holds : Change → Type 0) (before : List Change) (change : Change) (behind : List Change) → All Holds (before ++ change ∷ behind) → Holds change
-none_stuck Holds [] change behind all = All-head Holds change behind all
-none_stuck Holds (c ∷ before) change behind all = none_stuck Holds before change behind (All-tail Holds c (before ++ change ∷ behind) all)
-
-none_first : (Holds : Change → Type 0) (changes : List Change) (path : List ℕ) → All Holds changes → IsFirstWithout Holds changes path → ⊥
-none_first Holds changes path all first = first.stuck (none_stuck Holds first.before first.change first.behind (subst (All Holds) first.list all))
 
 -- ---- the first refusal
 
@@ -99,7 +93,7 @@ module _ (way : Way) (tree : Files) where
   first_told changes fates path are stuck = of_first (first_refusal fates) refl
     where
       of_first : (first : Option Refusal) → first_refusal fates ≡ first → first ≡ Some (refusals.Moved path)
-      of_first None h = absurd (none_first (CanBeMade way tree) changes path (all_made changes fates are h) stuck)
+      of_first None h = absurd (none_stuck way tree changes path (all_made changes fates are h) stuck)
       of_first (Some refusal) h =
           let found = stuck_first changes fates refusal are h in
           ap (λ r. Some r) (found.1 ∙ ap refusals.Moved (without_once (CanBeMade way tree) changes found.0 path found.2 stuck))
@@ -122,7 +116,7 @@ pub calls_foretold : (way : Way) (steps : List Recorded) (old new : State) (fate
 calls_foretold way [] old new fates result refusal told goes = absurd (cc)
 calls_foretold way (step ∷ steps) old new fates (Ok reply) refusal told goes = (
   λ e. absurd (cc),
-  λ h. let found = stuck_first way old.tree step.changes fates refusal told h in absurd (none_first (CanBeMade way old.tree) step.changes found.0 goes.1 found.2),
+  λ h. let found = stuck_first way old.tree step.changes fates refusal told h in absurd (none_stuck way old.tree step.changes found.0 goes.1 found.2),
 )
 calls_foretold way (step ∷ steps) old new fates (Err other) refusal told goes =
     let first : first_refusal fates ≡ Some other = first_told way old.tree step.changes fates goes.0.0 told goes.0.2 ∙ ap (λ r. Some r) (sym goes.0.1) in (

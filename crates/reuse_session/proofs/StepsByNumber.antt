@@ -2,7 +2,7 @@
 use Rattle.std.proofs.Common.{◌≡◌, ◌⊎◌, inl, inr, ℕ, zero, suc, ◌<◌, Bool, true, false, cond, ◌==◌, ◌||◌, eqb-true, eq-eqb, List, [], ◌∷◌, length, map, reverse, get_or, Option, Some, None, is_some, refl, sym, ap, subst, ◌∙◌, arith}
 use Rattle.std.specs.List.{All, Contains}
 use Rattle.std.specs.FinMap.{get}
-use Rattle.std.proofs.lemmas.Bool.{false≢true}
+use Rattle.std.proofs.lemmas.Bool.{false≢true, or_parts}
 use Rattle.std.proofs.lemmas.Option.{none-some, same_Some}
 use Rattle.std.proofs.lemmas.List.{reverse-append, reverse-reverse}
 use Rattle.std.proofs.lemmas.List.Elements.{Contains-append_left, Contains-append_right, Contains-get_or, Contains-push_cases}
@@ -29,29 +29,34 @@ use Rattle.reuse_session.proofs.JournalLemmas.{same_entry}
 
 -- ---- lists
 
-in_map : {X Y : Type 0} (f : X → Y) (xs : List X) (y : Y) → Contains (map f xs) y → (x : X) × Contains xs x × (y ≡ f x)
-in_map {X} {Y} f [] y h = absurd (omega (arith, h.1))
-in_map {X} {Y} f (x ∷ xs) y h = at h.0 h.1 h.2 (in_map f xs y)
+-- what a list has is its first element or is among the others
+first_or_later : {X : Type 0} (y : X) (xs : List X) (x : X) → Contains (y ∷ xs) x → (y ≡ x) ⊎ Contains xs x
+first_or_later {X} y xs x h = at h.0 h.1 h.2
   where
-    at : (k : ℕ) → k < length (map f (x ∷ xs)) → get_or (map f (x ∷ xs)) k y ≡ y → (Contains (map f xs) y → (z : X) × Contains xs z × (y ≡ f z)) → (z : X) × Contains (x ∷ xs) z × (y ≡ f z)
-    at zero low is rest = (x, (0, omega arith, refl), sym is)
-    at (suc k) low is rest = let r = rest (k, omega (arith, low), is) in (r.0, (suc r.1.0, omega (arith, r.1.1), r.1.2), r.2)
+    at : (k : ℕ) → k < length (y ∷ xs) → get_or (y ∷ xs) k x ≡ x → (y ≡ x) ⊎ Contains xs x
+    at zero low is = inl is
+    at (suc k) low is = inr (k, omega (arith, low), is)
+
+later : {X : Type 0} (y : X) (xs : List X) (x : X) → Contains xs x → Contains (y ∷ xs) x
+later y xs x h = (suc h.0, omega (arith, h.1), h.2)
+
+in_map : {X Y : Type 0} (f : X → Y) (xs : List X) (y : Y) → Contains (map f xs) y → (x : X) × Contains xs x × (y ≡ f x)
+in_map f [] y h = absurd (omega (arith, h.1))
+in_map f (x ∷ xs) y h = elim (first_or_later (f x) (map f xs) y h) [
+  | inl here ↦ (x, (0, omega arith, refl), sym here)
+  | inr behind ↦ let r = in_map f xs y behind in (r.0, later x xs r.0 r.1, r.2)
+]
 
 to_map : {X Y : Type 0} (f : X → Y) (xs : List X) (x : X) → Contains xs x → Contains (map f xs) (f x)
-to_map {X} {Y} f [] x h = absurd (omega (arith, h.1))
-to_map {X} {Y} f (y ∷ xs) x h = at h.0 h.1 h.2 (to_map f xs x)
-  where
-    at : (k : ℕ) → k < length (y ∷ xs) → get_or (y ∷ xs) k x ≡ x → (Contains xs x → Contains (map f xs) (f x)) → Contains (map f (y ∷ xs)) (f x)
-    at zero low is rest = (0, omega arith, ap f is)
-    at (suc k) low is rest = let r = rest (k, omega (arith, low), is) in (suc r.0, omega (arith, r.1), r.2)
+to_map f [] x h = absurd (omega (arith, h.1))
+to_map f (y ∷ xs) x h = elim (first_or_later y xs x h) [ inl here ↦ (0, omega arith, ap f here) | inr behind ↦ later (f y) (map f xs) (f x) (to_map f xs x behind) ]
 
 in_reverse : {X : Type 0} (xs : List X) (x : X) → Contains (reverse xs) x → Contains xs x
 in_reverse {X} [] x h = absurd (omega (arith, h.1))
-in_reverse {X} (y ∷ xs) x h = at (Contains-push_cases (reverse xs) y x (subst (λ l. Contains l x) (reverse-append (y ∷ []) xs) h)) (in_reverse xs x)
-  where
-    at : Contains (reverse xs) x ⊎ (y ≡ x) → (Contains (reverse xs) x → Contains xs x) → Contains (y ∷ xs) x
-    at (inl before) rest = let r = rest before in (suc r.0, omega (arith, r.1), r.2)
-    at (inr same) rest = (0, omega arith, same)
+in_reverse {X} (y ∷ xs) x h = elim (Contains-push_cases (reverse xs) y x (subst (λ l. Contains l x) (reverse-append (y ∷ []) xs) h)) [
+  | inl before ↦ later y xs x (in_reverse xs x before)
+  | inr same ↦ (0, omega arith, same)
+]
 
 to_reverse : {X : Type 0} (xs : List X) (x : X) → Contains xs x → Contains (reverse xs) x
 to_reverse xs x h = in_reverse (reverse xs) x (subst (λ l. Contains l x) (sym (reverse-reverse xs)) h)
@@ -189,10 +194,6 @@ done_says files session held stands number listed =
     let at = done_step (memory_of session) held.journal number stands.remembers listed in
     (entry_in at.0, says_step (undo_folder_of (files (store_of session))) held.journal stands.standing.journal true at.0 number at.1 at.2)
 
-or_none : (a b : Bool) → (a || b) ≡ false → (a ≡ false) × (b ≡ false)
-or_none true b e = absurd (false≢true (sym e))
-or_none false b e = (refl, e)
-
 is_none_of : (o : Option Row) → o ≡ None → is_some o ≡ false
 is_none_of o e = ap is_some e
 
@@ -204,7 +205,7 @@ some_listed memory number row e = sym (row_listed memory number) ∙ ap is_some 
 
 pub unused_both : (memory : Memory) (journal : Journal) (number : ℕ) → Remembers memory journal → row_in memory number ≡ None → IsUnused number journal.done × IsUnused number journal.undone
 unused_both memory journal number remembers e =
-    let none = or_none (lists memory.done number) (lists memory.undone number) (none_listed memory number e) in
+    let none = or_parts (lists memory.done number) (lists memory.undone number) (none_listed memory number e) in
     (unused memory journal number remembers true none.0, unused memory journal number remembers false none.1)
 
 -- reading an entry is never refused as a step that isn't there
@@ -216,28 +217,26 @@ read_is_no_absence refusal is number e = subst IsReadRefusal e is
 led_to : (number : ℕ) (step : Recorded) (tree : Files) (steps : List Recorded) (past : List Kept) → LeadUpTo tree steps past → Contains steps step → number_of step ≡ number → LedTo number step.changes tree past
 led_to number step tree [] past up h e = absurd (omega (arith, h.1))
 led_to number step tree (s ∷ steps) [] up h e = absurd up
-led_to number step tree (s ∷ steps) (kept ∷ past) up h e = at h.0 h.1 h.2 (led_to number step kept.tree steps past up.2)
-  where
-    at : (k : ℕ) → k < length (s ∷ steps) → get_or (s ∷ steps) k step ≡ step → (Contains steps step → number_of step ≡ number → LedTo number step.changes kept.tree past) → LedTo number step.changes tree (kept ∷ past)
-    at zero low same rest = inl (
-      ap (λ l. l.number) up.0 ∙ ap number_of same ∙ e,
-      subst (λ (x : Recorded). IsEntry x.changes) same up.1.good,
-      subst (λ (x : Recorded). LeadsAll x.changes kept.tree tree) same up.1.leads,
-    )
-    at (suc k) low same rest = inr (rest (k, omega (arith, low), same) e)
+led_to number step tree (s ∷ steps) (kept ∷ past) up h e = elim (first_or_later s steps step h) [
+  | inl same ↦ inl (
+    ap (λ l. l.number) up.0 ∙ ap number_of same ∙ e,
+    subst (λ (x : Recorded). IsEntry x.changes) same up.1.good,
+    subst (λ (x : Recorded). LeadsAll x.changes kept.tree tree) same up.1.leads,
+  )
+  | inr behind ↦ inr (led_to number step kept.tree steps past up.2 behind e)
+]
 
 led_on : (number : ℕ) (step : Recorded) (tree : Files) (steps : List Recorded) (future : List Kept) → LeadOn tree steps future → Contains steps step → number_of step ≡ number → LedOn number step.changes tree future
 led_on number step tree [] future on h e = absurd (omega (arith, h.1))
 led_on number step tree (s ∷ steps) [] on h e = absurd on
-led_on number step tree (s ∷ steps) (kept ∷ future) on h e = at h.0 h.1 h.2 (led_on number step kept.tree steps future on.2)
-  where
-    at : (k : ℕ) → k < length (s ∷ steps) → get_or (s ∷ steps) k step ≡ step → (Contains steps step → number_of step ≡ number → LedOn number step.changes kept.tree future) → LedOn number step.changes tree (kept ∷ future)
-    at zero low same rest = inl (
-      ap (λ l. l.number) on.0 ∙ ap number_of same ∙ e,
-      subst (λ (x : Recorded). IsEntry x.changes) same on.1.good,
-      subst (λ (x : Recorded). LeadsAll x.changes tree kept.tree) same on.1.leads,
-    )
-    at (suc k) low same rest = inr (rest (k, omega (arith, low), same) e)
+led_on number step tree (s ∷ steps) (kept ∷ future) on h e = elim (first_or_later s steps step h) [
+  | inl same ↦ inl (
+    ap (λ l. l.number) on.0 ∙ ap number_of same ∙ e,
+    subst (λ (x : Recorded). IsEntry x.changes) same on.1.good,
+    subst (λ (x : Recorded). LeadsAll x.changes tree kept.tree) same on.1.leads,
+  )
+  | inr behind ↦ inr (led_on number step kept.tree steps future on.2 behind e)
+]
 
 -- no tree that is kept has the number
 pub unkept : (number : ℕ) (tree : Files) (steps : List Recorded) (past : List Kept) → LeadUpTo tree steps past → IsUnused number steps → All (λ (kept : Kept). ¬ (kept.label.number ≡ number)) past

@@ -1,5 +1,5 @@
 -- Where a conversion isn't refused, the text stands in the place of the dep5.
-use Rattle.std.proofs.Common.{◌≡◌, ◌≢◌, ℕ, Bool, true, false, cond, List, [], ◌∷◌, length, nat_lt, Option, Some, None, is_some, Result, Ok, Err, refl, sym, ap, subst, ◌∙◌}
+use Rattle.std.proofs.Common.{◌≡◌, ◌≢◌, ℕ, cond, List, [], ◌∷◌, length, nat_lt, Option, Some, None, is_some, Result, Ok, Err, refl, ap, subst, ◌∙◌}
 use Rattle.std.specs.FinMap.{get}
 use Rattle.std.proofs.lemmas.Bool.{false≢true}
 use Rattle.std.proofs.lemmas.Slice.Eq.{bytes_eq-Decides}
@@ -14,19 +14,12 @@ use Rattle.reuse_session.specs.TablePut.{PutsTable}
 use Rattle.reuse_session.specs.declared.command.Command.TheVariants.{ConvertDep5}
 use Rattle.reuse_session.specs.declared.reply.Refusal.{Refusal}
 use Rattle.reuse_session.specs.declared.reply.Refusal.TheVariants as refusals
+use Rattle.reuse_session.proofs.Results.{err_or, none_from_test}
 use Rattle.reuse_session.proofs.Planning.{with_same, with_other}
 use Rattle.reuse_session.proofs.TextsPut.{edits_of_tree}
 
 abbrev ok_edits : List Edit → Result (List Edit) Refusal
 ok_edits edits = Ok edits
-
-err_or : (b : Bool) (r : Refusal) (rest : Result (List Edit) Refusal) (edits : List Edit) → cond b (Err r) rest ≡ ok_edits edits → (b ≡ false) × (rest ≡ ok_edits edits)
-err_or true r rest edits e = absurd (cc)
-err_or false r rest edits e = (refl, e)
-
-no_file : (file : Option (List ℕ)) → is_some file ≡ false → file ≡ None
-no_file None e = refl
-no_file (Some bytes) e = absurd (false≢true (sym e))
 
 toml_is_not_dep5 : toml_path ≢ dep5_path
 toml_is_not_dep5 same = false≢true ((bytes_eq-Decides toml_path dep5_path).1 same)
@@ -58,7 +51,7 @@ module _ (tree : Files) (edits : List Edit) where
   by_file (Some bytes) is h =
       let short = err_or (nat_lt 16_777_216 (length bytes)) (refusals.TooLong dep5_path) (cond (is_some (get tree toml_path)) (Err (refusals.Exists toml_path)) (replaced_by tree bytes (converted bytes))) edits h in
       let alone = err_or (is_some (get tree toml_path)) (refusals.Exists toml_path) (replaced_by tree bytes (converted bytes)) edits short.1 in
-      by_text bytes (converted bytes) is (no_file (get tree toml_path) alone.0) refl alone.1
+      by_text bytes (converted bytes) is (none_from_test (get tree toml_path) alone.0) refl alone.1
 
   module _ (is : IsAccepted tree edits) where
     abbrev after : Files

@@ -22,9 +22,9 @@ use Rattle.reuse_session.specs.Standing.{IsTree, IsUnderWay}
 use Rattle.reuse_session.specs.Tree.{is_of_tree, undo_folder_of}
 use Rattle.reuse_session.specs.declared.journal.entry.Entry.{Entry}
 use Rattle.reuse_session.specs.declared.journal.head.Pending.{Pending}
+use Rattle.reuse_session.proofs.TreeLemmas.{tree_are_files}
 use Rattle.reuse_session.proofs.JournalLemmas.{entry_good}
 use Rattle.reuse_session.proofs.MadeLemmas.{AreBack, at_place, back_none, back_more, ready_once, step_with, still_free, stood, with_file}
-use Rattle.reuse_session.proofs.OfTree.{are_tree}
 use Rattle.reuse_session.proofs.OpeningLemmas.{recorded}
 use Rattle.reuse_session.proofs.Settling.{none_in_tree}
 use Rattle.reuse_session.proofs.Walk.{none_outside}
@@ -97,7 +97,7 @@ module _ (before : Files) (pending : Pending) (memory : Memory) (journal : Journ
   was_under_way =
       let file = get (undo_folder_of before) (entry_path pending.entry) in
       let good = entry_good file entry says in
-      let start = start_of (way_of pending.way) entry.changes good (entry_paths file entry says) (tree_of before) (are_tree before are) can in
+      let start = start_of (way_of pending.way) entry.changes good (entry_paths file entry says) (tree_of before) (tree_are_files before are) can in
       let none : (path : List ℕ) → is_of_tree path ≡ false → get before path ≡ None → get start.0 path ≡ None =
       λ path out here. sym (start.2.made.others path (none_outside entry.changes path good out)) ∙ none_in_tree before path here in
       let tree : IsTree start.0 = record { are_files = start.1; no_reuse = none (codes ".reuse") refl read.no_reuse; no_undo = none journal_folder refl read.no_undo } in (

@@ -1,8 +1,8 @@
 -- Why the licensing information of a file goes to the place that is chosen.
-use Rattle.std.proofs.Common.{◌≡◌, ◌⊎◌, inl, inr, ℕ, Bool, true, false, cond, not, ◌||◌, ◌&&◌, nat_lt, List, length, Option, Some, None, is_some, Result, Ok, Err, refl, sym, subst}
+use Rattle.std.proofs.Common.{◌≡◌, ◌⊎◌, inl, inr, ℕ, Bool, true, false, cond, not, ◌&&◌, nat_lt, List, length, Option, Some, None, is_some, Result, Ok, refl, subst}
 use Rattle.std.specs.Prelude.{is_none}
 use Rattle.std.specs.FinMap.{get}
-use Rattle.std.proofs.lemmas.Bool.{false≢true}
+use Rattle.std.proofs.lemmas.Bool.{false≢true, or_cases, or_parts, and_parts}
 use Rattle.reuse_header.specs.declared.style.Style.{Style}
 use Rattle.reuse_header.specs.declared.style.Kind.{Kind}
 use Rattle.reuse_header.specs.declared.style.Kind.TheVariants as kind
@@ -19,37 +19,15 @@ use Rattle.reuse_session.specs.declared.target.Target.{Target}
 use Rattle.reuse_session.specs.declared.target.Target.TheVariants.{Inside, Beside, Nowhere}
 use Rattle.reuse_session.specs.declared.reply.Refusal.{Refusal}
 use Rattle.reuse_session.specs.declared.reply.Refusal.TheVariants as refusals
+use Rattle.reuse_session.proofs.Results.{same_Ok, err_or, none_from_test}
 use Rattle.reuse_session.proofs.AnnotationPlaces.{no_call}
 
 abbrev pub aimed : Target → Result Target Refusal
 aimed target = Ok target
 
-pub err_or : {A : Type 0} (b : Bool) (r : Refusal) (rest : Result A Refusal) (x : A) → cond b (Err r) rest ≡ Ok x → (b ≡ false) × (rest ≡ Ok x)
-err_or true r rest x e = absurd (cc)
-err_or false r rest x e = (refl, e)
-
-same_target : (one other : Target) → aimed one ≡ aimed other → one ≡ other
-same_target one other e = cc
-
-either : (a b : Bool) → (a || b) ≡ true → (a ≡ true) ⊎ (b ≡ true)
-either true b e = inl refl
-either false b e = inr e
-
-neither : (a b : Bool) → (a || b) ≡ false → (a ≡ false) × (b ≡ false)
-neither true b e = absurd (false≢true (sym e))
-neither false b e = (refl, e)
-
-pub both : (a b : Bool) → (a && b) ≡ true → (a ≡ true) × (b ≡ true)
-both true b e = (refl, e)
-both false b e = absurd (false≢true e)
-
 no_style : (style : Option Style) → is_none style ≡ true → style ≡ None
 no_style None e = refl
 no_style (Some style) e = absurd (false≢true e)
-
-no_file : (file : Option (List ℕ)) → is_some file ≡ false → file ≡ None
-no_file None e = refl
-no_file (Some bytes) e = absurd (false≢true (sym e))
 
 uncommentable : (of_name : Kind) → is_uncommentable of_name ≡ true → of_name ≡ kind.Uncommentable
 uncommentable (kind.Style style) e = absurd (false≢true e)
@@ -64,53 +42,53 @@ module _ (scope : Scope) (own : OwnNames) (tree : Files) (path bytes : List ℕ)
   Takes Nowhere = HasKind scope own path kind.Unknown × (scope.unknown ≡ unknown.Skip) × ¬ (TakesNeighbour scope own path bytes (pair_at tree path))
 
   beside_takes : goes_beside scope own tree path ≡ true → Takes Beside
-  beside_takes e = elim (either (is_some (get tree (neighbour_of path))) (goes_beside_unread scope own path) e) [
+  beside_takes e = elim (or_cases (is_some (get tree (neighbour_of path))) (goes_beside_unread scope own path) e) [
     | inl there ↦ inl there
-    | inr unread ↦ elim (either scope.force_dot_license (is_none scope.style && is_uncommentable (kind_in own path)) unread) [
+    | inr unread ↦ elim (or_cases scope.force_dot_license (is_none scope.style && is_uncommentable (kind_in own path)) unread) [
       | inl forced ↦ inr (inl forced)
       | inr plain ↦
-          let parts = both (is_none scope.style) (is_uncommentable (kind_in own path)) plain in
+          let parts = and_parts (is_none scope.style) (is_uncommentable (kind_in own path)) plain in
           inr (inr (inr (inl (no_style scope.style parts.0, uncommentable (kind_in own path) parts.1))))
     ]
   ]
 
   module _ (e : goes_beside scope own tree path ≡ false) (text : is_text bytes ≡ true) where
     parts : (is_some (get tree (neighbour_of path)) ≡ false) × (goes_beside_unread scope own path ≡ false)
-    parts = neither (is_some (get tree (neighbour_of path))) (goes_beside_unread scope own path) e
+    parts = or_parts (is_some (get tree (neighbour_of path))) (goes_beside_unread scope own path) e
 
     comment_takes : (style : Style) → (scope.style ≡ Some style) ⊎ ((scope.style ≡ None) × (kind_in own path ≡ kind.Style style)) → Takes (Inside style)
     comment_takes style of_style = record {
       text = text;
-      alone = no_file (get tree (neighbour_of path)) parts.0;
-      unforced = (neither scope.force_dot_license (is_none scope.style && is_uncommentable (kind_in own path)) parts.1).0;
+      alone = none_from_test (get tree (neighbour_of path)) parts.0;
+      unforced = (or_parts scope.force_dot_license (is_none scope.style && is_uncommentable (kind_in own path)) parts.1).0;
       of_style = of_style;
     }
 
     -- nothing calls for a neighbour
     no_neighbour : ((style : Style) × IsStyleOf scope own path style) ⊎ ((kind_in own path ≡ kind.Unknown) × (scope.unknown ≡ unknown.Skip)) → TakesNeighbour scope own path bytes (pair_at tree path) → ⊥
-    no_neighbour named why = no_call scope own path bytes (pair_at tree path) (no_file (get tree (neighbour_of path)) parts.0)
-        (neither scope.force_dot_license (is_none scope.style && is_uncommentable (kind_in own path)) parts.1).0 text named why
+    no_neighbour named why = no_call scope own path bytes (pair_at tree path) (none_from_test (get tree (neighbour_of path)) parts.0)
+        (or_parts scope.force_dot_license (is_none scope.style && is_uncommentable (kind_in own path)) parts.1).0 text named why
 
     unknown_takes : (asked : Unknown) → scope.unknown ≡ asked → HasKind scope own path kind.Unknown → (target : Target) → target_of_unknown asked path ≡ Ok target → Takes target
     unknown_takes unknown.Refuse is named target h = absurd (cc)
-    unknown_takes unknown.Neighbour is named target h = subst Takes (same_target Beside target h) (inr (inr (inr (inr (named, is)))))
-    unknown_takes unknown.Skip is named target h = subst Takes (same_target Nowhere target h) (named, is, no_neighbour (inr (named.1, is)))
+    unknown_takes unknown.Neighbour is named target h = subst Takes (same_Ok Beside target h) (inr (inr (inr (inr (named, is)))))
+    unknown_takes unknown.Skip is named target h = subst Takes (same_Ok Nowhere target h) (named, is, no_neighbour (inr (named.1, is)))
 
     name_takes : (of_name : Kind) → kind_in own path ≡ of_name → scope.style ≡ None → (target : Target) → target_by_name scope.unknown path of_name ≡ Ok target → Takes target
-    name_takes (kind.Style style) is none target h = subst Takes (same_target (Inside style) target h) (comment_takes style (inr (none, is)))
-    name_takes kind.Uncommentable is none target h = subst Takes (same_target Beside target h) (inr (inr (inr (inl (none, is)))))
+    name_takes (kind.Style style) is none target h = subst Takes (same_Ok (Inside style) target h) (comment_takes style (inr (none, is)))
+    name_takes kind.Uncommentable is none target h = subst Takes (same_Ok Beside target h) (inr (inr (inr (inl (none, is)))))
     name_takes kind.Unknown is none target h = unknown_takes scope.unknown refl (none, is) target h
 
     style_takes : (style : Option Style) → scope.style ≡ style → (target : Target) → target_by_style scope own path style ≡ Ok target → Takes target
-    style_takes (Some style) is target h = subst Takes (same_target (Inside style) target h) (comment_takes style (inl is))
+    style_takes (Some style) is target h = subst Takes (same_Ok (Inside style) target h) (comment_takes style (inl is))
     style_takes None is target h = name_takes (kind_in own path) refl is target h
 
   bytes_take : goes_beside scope own tree path ≡ false → (b : Bool) → is_text bytes ≡ b → (target : Target) → cond (not b) (aimed Beside) (target_by_style scope own path scope.style) ≡ Ok target → Takes target
   bytes_take e true text target h = style_takes e text scope.style refl target h
-  bytes_take e false text target h = subst Takes (same_target Beside target h) (inr (inr (inl text)))
+  bytes_take e false text target h = subst Takes (same_Ok Beside target h) (inr (inr (inl text)))
 
   pub takes : (b : Bool) → goes_beside scope own tree path ≡ b → (target : Target) → cond b (aimed Beside) (target_by_bytes scope own path bytes) ≡ Ok target → Takes target
-  takes true e target h = subst Takes (same_target Beside target h) (beside_takes e)
+  takes true e target h = subst Takes (same_Ok Beside target h) (beside_takes e)
   takes false e target h =
       let short = err_or (nat_lt 16_777_216 (length bytes)) (refusals.TooLong path) (cond (not (is_text bytes)) (aimed Beside) (target_by_style scope own path scope.style)) target h in
       bytes_take e (is_text bytes) refl target short.1

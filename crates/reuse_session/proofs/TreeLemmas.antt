@@ -8,7 +8,7 @@ use Rattle.std.specs.List.Sorted.{IsStrictlySortedBy}
 use Rattle.std.specs.Str.{bytes_eq}
 use Rattle.std.specs.FinMap.Entries.{below_all}
 use Rattle.std.specs.FinMap.{get, keys, entries, is_sorted, entries_sorted, contains_key-keys, get-retain_keys, slice_cmp-IsAntisymmetric, nat_cmp-IsAntisymmetric}
-use Rattle.std.proofs.lemmas.Bool.{false≢true}
+use Rattle.std.proofs.lemmas.Bool.{false≢true, and_right}
 use Rattle.std.proofs.lemmas.List.Kept.{IsStrictlySortedBy-filter}
 use Rattle.std.proofs.lemmas.Map.Text.{is_eq-slice_cmp}
 use Rattle.reuse_tree.specs.Path.{lies_under, journal_folder}
@@ -49,11 +49,7 @@ pub keys_ascend : (files : Files) → ArePaths (keys files)
 keys_ascend files = keys_of_sorted (entries files) (entries_sorted files)
 
 any_filtered : (p : List ℕ → Bool) (q : List ℕ) (ks : List (List ℕ)) → list_any (eq_by_cmp (slice_cmp nat_cmp) q) (filter p ks) ≡ (p q && list_any (eq_by_cmp (slice_cmp nat_cmp) q) ks)
-any_filtered p q [] = sym (and_false (p q))
-  where
-    and_false : (b : Bool) → (b && false) ≡ false
-    and_false true = refl
-    and_false false = refl
+any_filtered p q [] = sym (and_right (p q) false refl)
 any_filtered p q (k ∷ ks) = at_test (p k) refl (eq_by_cmp (slice_cmp nat_cmp) q k) refl (any_filtered p q ks)
   where
     rest : Bool
@@ -96,7 +92,7 @@ kept_some false file h = absurd (false≢true h)
 pub of_store : (files : Files) (q : List ℕ) → IsSome (get (tree_of files) q) → get (tree_of files) q ≡ get files q
 of_store files q h = tree_file files q ∙ kept_some (not (lies_under q journal_folder)) (get files q) (ap is_some (sym (tree_file files q)) ∙ h)
 
-some_in_store : (files : Files) (q : List ℕ) → IsSome (get (tree_of files) q) → IsSome (get files q)
+pub some_in_store : (files : Files) (q : List ℕ) → IsSome (get (tree_of files) q) → IsSome (get files q)
 some_in_store files q h = ap is_some (sym (of_store files q h)) ∙ h
 
 -- the files of a tree

@@ -1,6 +1,5 @@
 -- What a put, a removal and a splice make of a file.
-use Rattle.std.proofs.Common.{◌≡◌, ◌⊎◌, inl, inr, ⊎_elim, ℕ, ◌+◌, true, cond, List, length, Option, Some, None, IsSome, is_some, Result, Ok, Err, OnOk, refl, ap, sym, subst, ◌∙◌, arith}
-use Rattle.std.proofs.lemmas.Bool.{false≢true}
+use Rattle.std.proofs.Common.{◌≡◌, ◌⊎◌, inl, inr, ⊎_elim, ℕ, ◌+◌, true, cond, List, length, Option, Some, None, IsSome, is_some, refl, ap, sym, subst, ◌∙◌, arith}
 use Rattle.std.specs.FinMap.{get, remove}
 use Rattle.reuse_tree.specs.Files.{Files, AreFiles, Clashes}
 use Rattle.reuse_tree.specs.Change.{path_of}
@@ -14,6 +13,7 @@ use Rattle.reuse_session.specs.Entry.{makes, TurnsBy, Steps}
 use Rattle.reuse_session.specs.Tree.{is_of_tree, Sets}
 use Rattle.reuse_session.specs.declared.entry.Way.{Way}
 use Rattle.reuse_session.specs.declared.entry.Way.TheVariants.{Do, Undo}
+use Rattle.reuse_session.proofs.Results.{none_is_some}
 use Rattle.reuse_session.proofs.OfTree.{outside}
 
 pub put_sets : (m n : Files) (p bytes : List ℕ) → Puts p bytes m n → Sets p (Some bytes) m n
@@ -46,11 +46,6 @@ counts_none path bytes old new of_tree e = e ∙ ap (λ n. old + n) (ap (λ b. c
     no_more : (n : ℕ) → n + 0 ≡ n
     no_more n = omega arith
 
--- what an answer says, through what follows from it
-pub on_ok : {A E : Type 0} (r : Result A E) (P Q : Type 0) → (P → Q) → OnOk r P → OnOk r Q
-on_ok (Ok x) P Q f h = f h
-on_ok (Err e) P Q f h = h
-
 -- where the path of a change holds what the change makes of it, the change is made
 pub step_by : (way : Way) (change : Change) (m n : Files) (held : Option (List ℕ)) → TurnsBy way change (get m (path_of change)) held → Sets (path_of change) held m n → Steps way change m n
 step_by way change m n held turns sets = record { here = subst (TurnsBy way change (get m (path_of change))) (sym sets.here) turns; elsewhere = sets.elsewhere }
@@ -60,14 +55,11 @@ module _ (m : Files) (are : AreFiles m) where
   there : (path bytes : List ℕ) → get m path ≡ Some bytes → Clashes m path → ⊥
   there path bytes e clash = are.apart path (ap is_some e) clash
 
-  nothing : (held : Option (List ℕ)) → held ≡ None → IsSome held → ⊥
-  nothing held e some = false≢true (sym (ap is_some e) ∙ some)
-
   pub makes_where_clash : (way : Way) (change : Change) (held : Option (List ℕ)) → TurnsBy way change (get m (path_of change)) held → IsSome held → Clashes m (path_of change) → makes way change ≡ true
   makes_where_clash Do (Make path new digest) held turns some clash = refl
-  makes_where_clash Do (Drop path old digest) held turns some clash = absurd (nothing held turns.range.1 some)
+  makes_where_clash Do (Drop path old digest) held turns some clash = absurd (none_is_some held turns.range.1 some)
   makes_where_clash Do (Splice path at old new rest seal) held turns some clash = absurd (there path _ turns.range.2.whole clash)
-  makes_where_clash Undo (Make path new digest) held turns some clash = absurd (nothing held turns.range.0 some)
+  makes_where_clash Undo (Make path new digest) held turns some clash = absurd (none_is_some held turns.range.0 some)
   makes_where_clash Undo (Drop path old digest) held turns some clash = refl
   makes_where_clash Undo (Splice path at old new rest seal) held turns some clash = absurd (there path _ turns.range.3.whole clash)
 

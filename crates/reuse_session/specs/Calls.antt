@@ -74,11 +74,12 @@ pub record LeavesRun {S : Type 0} (store : Ghosts S) (command : Command) (when :
       → (entry : Entry) × IsRecordOf command when (tree_of (files_of store old)) entry
       × (store.written (store_of old) + length (entry_text entry) < store.written (store_of new)))
   -- of the journal's files none but the next entry's and the head's holds something else; after a step they are the very texts of the
-  -- entry, which records what the command changed, and of the head
+  -- entry, which records what the command changed and takes no more than that counts for, and of the head
   pub folder : store.honest (store_of new) → IsSameButTwo (next_path old) head_path (folder_of store old) (folder_of store new)
   pub texts : store.honest (store_of new) → (paths : List (List ℕ)) → result ≡ Ok (Changed paths)
       → HasHeadText (memory_of new) (files_of store new)
-      × ((entry : Entry) × IsRecordOf command when (tree_of (files_of store old)) entry × HasEntryText ((memory_of old).used + 1) entry (files_of store new))
+      × ((entry : Entry) × IsRecordOf command when (tree_of (files_of store old)) entry × HasEntryText ((memory_of old).used + 1) entry (files_of store new)
+      × (length (entry_text entry) ≤ recorded_size (edits_of command (tree_of (files_of store old)))))
   -- they take at most the entry, which holds what the command removes and writes, and two heads: one of the entries that are listed
   -- before, and one of those done and the new one
   pub written : store.honest (store_of new) → (held : State) → StandsOn store.files old held

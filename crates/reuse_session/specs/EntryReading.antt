@@ -7,7 +7,7 @@ use Rattle.serde_json.specs.Data.{Data, Members}
 use Rattle.serde_json.specs.Find.{as_array, as_object, as_str, get}
 use Rattle.reuse_tree.specs.Path.{is_path}
 use Rattle.reuse_session.specs.Format.{knows}
-use Rattle.reuse_session.specs.JsonReading.{◌>>=◌, first_member, if_none_left, format_in, number_in, read_items}
+use Rattle.reuse_session.specs.JsonReading.{◌>>=◌, first_member, field_in, if_none_left, format_in, number_in, read_items}
 use Rattle.reuse_tree.specs.declared.change.Change.{Change}
 use Rattle.reuse_tree.specs.declared.digest.Seal.{Seal}
 use Rattle.reuse_tree.specs.declared.change.Change.TheVariants.{Make, Drop, Splice}
@@ -39,6 +39,11 @@ command_from name =
     else if bytes_eq name (codes "revert") then Some Revert
     else None
 
+abbrev pub command_in : Data → Option CommandName
+command_in d = do
+  name ← as_str d
+  command_from name
+
 -- the format knows the command
 abbrev pub if_known : Bool → CommandName → Option Unit
 if_known sealed command = if knows sealed command then Some tt else None
@@ -58,35 +63,29 @@ digest_in d = do
 unfoldable pub first_digest : Bool → List ℕ → Members → Option (Option (List ℕ) × Members)
 first_digest false key fields = Some (None, fields)
 first_digest true key fields = do
-  first ← first_member key fields
-  digest ← digest_in first.0
-  Some (Some digest, first.1)
+  first ← field_in digest_in key fields
+  Some (Some first.0, first.1)
+
+-- of a whole file that is made or removed: the path, the bytes, and the digest that stands first
+unfoldable pub whole_in : Bool → (key kind name : List ℕ) → Data → Option (List ℕ × List ℕ × Option (List ℕ))
+whole_in sealed key kind name d = do
+  fields ← as_object d
+  digest ← first_digest sealed key fields
+  first ← field_in (if_text kind) (codes "kind") digest.1
+  bytes ← field_in hex_in name first.1
+  path ← field_in path_in (codes "path") bytes.1
+  _ ← if_none_left path.1
+  Some (path.0, bytes.0, digest.0)
 
 unfoldable pub make_in : Bool → Data → Option Change
 make_in sealed d = do
-  fields ← as_object d
-  after ← first_digest sealed (codes "after") fields
-  kind ← first_member (codes "kind") after.1
-  _ ← if_text (codes "make") kind.0
-  new ← first_member (codes "new") kind.1
-  n ← hex_in new.0
-  path ← first_member (codes "path") new.1
-  p ← path_in path.0
-  _ ← if_none_left path.1
-  Some (Make p n after.0)
+  whole ← whole_in sealed (codes "after") (codes "make") (codes "new") d
+  Some (Make whole.0 whole.1 whole.2)
 
 unfoldable pub drop_in : Bool → Data → Option Change
 drop_in sealed d = do
-  fields ← as_object d
-  before ← first_digest sealed (codes "before") fields
-  kind ← first_member (codes "kind") before.1
-  _ ← if_text (codes "drop") kind.0
-  old ← first_member (codes "old") kind.1
-  o ← hex_in old.0
-  path ← first_member (codes "path") old.1
-  p ← path_in path.0
-  _ ← if_none_left path.1
-  Some (Drop p o before.0)
+  whole ← whole_in sealed (codes "before") (codes "drop") (codes "old") d
+  Some (Drop whole.0 whole.1 whole.2)
 
 -- both digests, or none
 abbrev pub seal_of : Option (List ℕ) → Option (List ℕ) → Option Seal
@@ -96,32 +95,26 @@ seal_of before after = None
 -- from the path on
 unfoldable pub splice_end_in : ℕ → List ℕ → List ℕ → Option Seal → Members → Option Change
 splice_end_in at new old seal fields = do
-  path ← first_member (codes "path") fields
-  p ← path_in path.0
-  rest ← first_member (codes "rest") path.1
-  r ← number_in rest.0
+  path ← field_in path_in (codes "path") fields
+  rest ← field_in number_in (codes "rest") path.1
   _ ← if_none_left rest.1
-  Some (Splice p at old new r seal)
+  Some (Splice path.0 at old new rest.0 seal)
 
 -- from the kind on
 unfoldable pub splice_bytes_in : ℕ → Option Seal → Members → Option Change
 splice_bytes_in at seal fields = do
-  kind ← first_member (codes "kind") fields
-  _ ← if_text (codes "splice") kind.0
-  new ← first_member (codes "new") kind.1
-  n ← hex_in new.0
-  old ← first_member (codes "old") new.1
-  o ← hex_in old.0
-  splice_end_in at n o seal old.1
+  kind ← field_in (if_text (codes "splice")) (codes "kind") fields
+  new ← field_in hex_in (codes "new") kind.1
+  old ← field_in hex_in (codes "old") new.1
+  splice_end_in at new.0 old.0 seal old.1
 
 unfoldable pub splice_in : Bool → Data → Option Change
 splice_in sealed d = do
   fields ← as_object d
   after ← first_digest sealed (codes "after") fields
-  at ← first_member (codes "at") after.1
-  a ← number_in at.0
+  at ← field_in number_in (codes "at") after.1
   before ← first_digest sealed (codes "before") at.1
-  splice_bytes_in a (seal_of before.0 after.0) before.1
+  splice_bytes_in at.0 (seal_of before.0 after.0) before.1
 
 -- by the name of its kind
 abbrev pub change_of_kind : Bool → List ℕ → Data → Option Change
@@ -146,14 +139,10 @@ unfoldable pub entry_in : Data → Option Entry
 entry_in d = do
   fields ← as_object d
   changes ← first_member (codes "changes") fields
-  command ← first_member (codes "command") changes.1
-  text ← as_str command.0
-  name ← command_from text
-  format ← first_member (codes "format") command.1
-  sealed ← format_in format.0
-  _ ← if_known sealed name
-  when ← first_member (codes "when") format.1
-  w ← moment_in when.0
+  command ← field_in command_in (codes "command") changes.1
+  format ← field_in format_in (codes "format") command.1
+  _ ← if_known format.0 command.0
+  when ← field_in moment_in (codes "when") format.1
   _ ← if_none_left when.1
-  cs ← changes_in sealed changes.0
-  Some (record { changes = cs; command = name; when = w })
+  cs ← changes_in format.0 changes.0
+  Some (record { changes = cs; command = command.0; when = when.0 })

@@ -34,10 +34,14 @@ abbrev pub digest_text : List ℕ → Option (List ℕ) → List ℕ
 digest_text key None = []
 digest_text key (Some digest) = codes "\"" ++ key ++ codes "\":" ++ hex_text digest ++ codes ","
 
+-- the making or the removal of a whole file, of which the bytes follow its kind
+abbrev pub whole_text : (key : List ℕ) (digest : Option (List ℕ)) (kind bytes path : List ℕ) → List ℕ
+whole_text key digest kind bytes path = codes "{" ++ digest_text key digest ++ kind ++ hex_text bytes ++ codes ",\"path\":" ++ quoted path ++ codes "}"
+
 -- a change, with the members in the order of their keys
 abbrev pub change_text : Change → List ℕ
-change_text (Make path new after) = codes "{" ++ digest_text (codes "after") after ++ codes "\"kind\":\"make\",\"new\":" ++ hex_text new ++ codes ",\"path\":" ++ quoted path ++ codes "}"
-change_text (Drop path old before) = codes "{" ++ digest_text (codes "before") before ++ codes "\"kind\":\"drop\",\"old\":" ++ hex_text old ++ codes ",\"path\":" ++ quoted path ++ codes "}"
+change_text (Make path new after) = whole_text (codes "after") after (codes "\"kind\":\"make\",\"new\":") new path
+change_text (Drop path old before) = whole_text (codes "before") before (codes "\"kind\":\"drop\",\"old\":") old path
 change_text (Splice path at old new rest seal) =
     codes "{" ++ digest_text (codes "after") (option_map (λ s. s.after) seal) ++ codes "\"at\":" ++ decimal at ++ codes "," ++ digest_text (codes "before") (option_map (λ s. s.before) seal)
     ++ codes "\"kind\":\"splice\",\"new\":" ++ hex_text new ++ codes ",\"old\":" ++ hex_text old ++ codes ",\"path\":" ++ quoted path ++ codes ",\"rest\":" ++ decimal rest ++ codes "}"
@@ -62,12 +66,9 @@ IsHex bytes value = (digits : List ℕ) × (value ≡ string digits) × (decode_
 abbrev pub IsHexDigest : List ℕ → Data → Type 0
 IsHexDigest digest value = IsHex digest value × (length digest ≡ 32)
 
--- the members of a change that is not sealed
-abbrev pub make_members : List ℕ → Data → List (List ℕ × Data)
-make_members path new = (codes "kind", string (codes "make")) ∷ (codes "new", new) ∷ (codes "path", string path) ∷ []
-
-abbrev pub drop_members : List ℕ → Data → List (List ℕ × Data)
-drop_members path old = (codes "kind", string (codes "drop")) ∷ (codes "old", old) ∷ (codes "path", string path) ∷ []
+-- the members of a whole file that is made or removed, from the kind on
+abbrev pub whole_members : (kind name path : List ℕ) → Data → List (List ℕ × Data)
+whole_members kind name path bytes = (codes "kind", string kind) ∷ (name, bytes) ∷ (codes "path", string path) ∷ []
 
 -- those of a splice after its place
 abbrev pub splice_members : List ℕ → Data → Data → ℕ → List (List ℕ × Data)
@@ -78,12 +79,15 @@ splice_members path old new rest =
     (codes "path", string path) ∷
     (codes "rest", count rest) ∷ []
 
+-- a whole file that is made or removed: an object with just these keys and values, and in front of them the key of the digest, where one is recorded
+abbrev pub IsWholeValue : (key : List ℕ) → Option (List ℕ) → (kind name bytes path : List ℕ) → Data → Type 0
+IsWholeValue key None kind name bytes path value = (b : Data) × IsHex bytes b × (value ≡ object_of (whole_members kind name path b))
+IsWholeValue key (Some digest) kind name bytes path value = (b : Data) × IsHex bytes b × (d : Data) × IsHexDigest digest d × (value ≡ object_of ((key, d) ∷ whole_members kind name path b))
+
 -- a change: an object with just these keys and values
 abbrev pub IsChangeValue : Change → Data → Type 0
-IsChangeValue (Make path new None) value = (n : Data) × IsHex new n × (value ≡ object_of (make_members path n))
-IsChangeValue (Make path new (Some after)) value = (n : Data) × IsHex new n × (a : Data) × IsHexDigest after a × (value ≡ object_of ((codes "after", a) ∷ make_members path n))
-IsChangeValue (Drop path old None) value = (o : Data) × IsHex old o × (value ≡ object_of (drop_members path o))
-IsChangeValue (Drop path old (Some before)) value = (o : Data) × IsHex old o × (b : Data) × IsHexDigest before b × (value ≡ object_of ((codes "before", b) ∷ drop_members path o))
+IsChangeValue (Make path new after) value = IsWholeValue (codes "after") after (codes "make") (codes "new") new path value
+IsChangeValue (Drop path old before) value = IsWholeValue (codes "before") before (codes "drop") (codes "old") old path value
 IsChangeValue (Splice path at old new rest None) value = (n : Data) × (o : Data) × IsHex new n × IsHex old o × (value ≡ object_of ((codes "at", count at) ∷ splice_members path o n rest))
 IsChangeValue (Splice path at old new rest (Some seal)) value = (n : Data) × (o : Data) × IsHex new n × IsHex old o
     × (a : Data) × (b : Data) × IsHexDigest seal.after a × IsHexDigest seal.before b
@@ -143,10 +147,6 @@ pub record IsSoundEntry (entry : Entry) : Type 0 where
   pub known : knows (is_any_sealed entry.changes) entry.command ≡ true
 
 -- ---- for private clauses
-
--- the making or the removal of a whole file, of which the bytes follow its kind
-abbrev pub whole_text : (key : List ℕ) (digest : Option (List ℕ)) (kind bytes path : List ℕ) → List ℕ
-whole_text key digest kind bytes path = codes "{" ++ digest_text key digest ++ kind ++ hex_text bytes ++ codes ",\"path\":" ++ quoted path ++ codes "}"
 
 -- what stands before the change with this number
 abbrev pub comma_before : ℕ → List ℕ

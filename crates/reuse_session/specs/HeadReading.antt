@@ -3,7 +3,7 @@ use Rattle.std.specs.Prelude.{List, ℕ, codes, Option, Some, None, is_some, opt
 use Rattle.std.specs.Str.{bytes_eq}
 use Rattle.serde_json.specs.Data.{Data}
 use Rattle.serde_json.specs.Find.{as_object, as_null, as_str}
-use Rattle.reuse_session.specs.JsonReading.{◌>>=◌, first_member, if_none_left, format_in, small_in, smalls_in}
+use Rattle.reuse_session.specs.JsonReading.{◌>>=◌, field_in, if_none_left, format_in, small_in, smalls_in}
 use Rattle.reuse_session.specs.declared.journal.head.Head.{Head}
 use Rattle.reuse_session.specs.declared.journal.head.Pending.{Pending}
 use Rattle.reuse_session.specs.declared.journal.head.PendingWay.{PendingWay}
@@ -24,12 +24,10 @@ way_in d = do
 unfoldable pub some_pending_in : Data → Option Pending
 some_pending_in d = do
   fields ← as_object d
-  entry ← first_member (codes "entry") fields
-  n ← small_in entry.0
-  way ← first_member (codes "way") entry.1
-  w ← way_in way.0
+  entry ← field_in small_in (codes "entry") fields
+  way ← field_in way_in (codes "way") entry.1
   _ ← if_none_left way.1
-  Some (record { entry = n; way = w })
+  Some (record { entry = entry.0; way = way.0 })
 
 abbrev pub pending_in : Data → Option (Option Pending)
 pending_in d = if is_some (as_null d) then Some None else option_map Some (some_pending_in d)
@@ -37,15 +35,10 @@ pending_in d = if is_some (as_null d) then Some None else option_map Some (some_
 unfoldable pub head_in : Data → Option Head
 head_in d = do
   fields ← as_object d
-  done ← first_member (codes "done") fields
-  dones ← smalls_in done.0
-  format ← first_member (codes "format") done.1
-  _ ← format_in format.0
-  next ← first_member (codes "next") format.1
-  n ← small_in next.0
-  pending ← first_member (codes "pending") next.1
-  p ← pending_in pending.0
-  undone ← first_member (codes "undone") pending.1
-  undones ← smalls_in undone.0
+  done ← field_in smalls_in (codes "done") fields
+  format ← field_in format_in (codes "format") done.1
+  next ← field_in small_in (codes "next") format.1
+  pending ← field_in pending_in (codes "pending") next.1
+  undone ← field_in smalls_in (codes "undone") pending.1
   _ ← if_none_left undone.1
-  Some (record { done = dones; undone = undones; next = n; pending = p })
+  Some (record { done = done.0; undone = undone.0; next = next.0; pending = pending.0 })

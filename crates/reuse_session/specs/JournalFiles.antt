@@ -1,5 +1,5 @@
 -- The journal in files: a head, and a file for each entry, in the folder `.reuse/undo`.
-use Rattle.std.specs.Prelude.{◌≡◌, ◌⊎◌, ℕ, ◌+◌, ◌/◌, ◌%◌, List, [], ◌∷◌, ◌++◌, map, reverse, Option, Some, None, IsSome, IsTrue, codes}
+use Rattle.std.specs.Prelude.{◌≡◌, ◌⊎◌, ◌<◌, ◌≤◌, ℕ, ◌+◌, ◌/◌, ◌%◌, List, [], ◌∷◌, ◌++◌, map, reverse, Option, Some, None, IsSome, IsTrue, codes}
 use Rattle.std.specs.List.{All}
 use Rattle.std.specs.FinMap.{get}
 use Rattle.reuse_tree.specs.Path.{lies_under}
@@ -28,9 +28,9 @@ six_digits number = digit number 100_000 ∷ digit number 10_000 ∷ digit numbe
 abbrev pub entry_path : ℕ → List ℕ
 entry_path number = codes ".reuse/undo/" ++ six_digits number ++ codes ".json"
 
--- the path of a file of the journal
+-- the path of a file of the journal: the head, or an entry by a number that is given out
 abbrev pub IsJournalPath : List ℕ → Type 0
-IsJournalPath path = (path ≡ head_path) ⊎ ((number : ℕ) × (path ≡ entry_path number))
+IsJournalPath path = (path ≡ head_path) ⊎ ((number : ℕ) × (0 < number) × (number ≤ 999_999) × (path ≡ entry_path number))
 
 -- no path of a file of the journal is a folder
 abbrev pub IsFree : Files → Type 0

@@ -13,6 +13,13 @@ abbrev pub first_member : List ℕ → Members → Option (Data × Members)
 first_member key no_members = None
 first_member key (member k d ms) = if bytes_eq k key then Some (d, ms) else None
 
+-- the same, with the value read by f
+abbrev pub field_in : {A : Type 0} → (Data → Option A) → List ℕ → Members → Option (A × Members)
+field_in f key fields = do
+  first ← first_member key fields
+  value ← f first.0
+  Some (value, first.1)
+
 -- no member is left
 abbrev pub if_none_left : Members → Option Unit
 if_none_left no_members = Some tt

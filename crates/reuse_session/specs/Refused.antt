@@ -1,22 +1,16 @@
 -- Refusals of what looks at a tree and calls no store.
 use Rattle.std.specs.Prelude.{◌≡◌, Option, Some}
+use Rattle.reuse_session.specs.Answer.{IsOfPlan}
 use Rattle.reuse_session.specs.declared.reply.Refusal.{Refusal}
 use Rattle.reuse_dep5.specs.declared.refusal.Dep5Refusal.{Dep5Refusal}
 use Rattle.reuse_dep5.specs.declared.refusal.Dep5Refusal.TheVariants as dep5
-use Rattle.reuse_session.specs.declared.reply.Refusal.TheVariants.{Broken, JournalFull, NothingToUndo, NothingToRedo, NoSuchStep, Moved, Memory, Interrupted, Fault, BadJournal, Dep5}
+use Rattle.reuse_session.specs.declared.reply.Refusal.TheVariants.{Moved, Memory, Fault, Dep5}
 
 -- the refusal is one of planning, and tells no fault of a store
 abbrev pub IsNoFault : Refusal → Type 0
-IsNoFault Broken = ⊥
-IsNoFault JournalFull = ⊥
-IsNoFault NothingToUndo = ⊥
-IsNoFault NothingToRedo = ⊥
-IsNoFault (NoSuchStep number) = ⊥
 IsNoFault (Moved path) = ⊥
-IsNoFault (Interrupted cause) = ⊥
 IsNoFault (Fault fault) = ⊥
-IsNoFault (BadJournal path) = ⊥
-IsNoFault refusal = Unit {0}
+IsNoFault refusal = IsOfPlan refusal
 
 -- a refusal is the one that is due, unless memory ran out
 abbrev pub IsRefused : Option Refusal → Refusal → Type 0

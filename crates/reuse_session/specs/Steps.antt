@@ -1,23 +1,25 @@
 -- For private clauses: what is known of a file's change once the file was read.
-use Rattle.std.specs.Prelude.{◌≡◌, ℕ, List, Option, Result, Ok, Err}
-use Rattle.reuse_session.specs.Edit.{Edit}
-use Rattle.reuse_notice.specs.declared.adding.Additions.{Additions}
-use Rattle.reuse_header.specs.declared.annotation.How.{How}
-use Rattle.reuse_session.specs.TreeStyles.{OwnNames}
+use Rattle.std.specs.Prelude.{◌≡◌, ℕ, List, length, Option, Result, Ok, Err, nat_lt, if◌then◌else◌}
 use Rattle.reuse_tree.specs.Files.{Files}
-use Rattle.reuse_session.specs.Annotate.{target_by_bytes, edit_target}
+use Rattle.reuse_session.specs.AnnotationPlan.{edit_by_place, place_by}
+use Rattle.reuse_session.specs.Edit.{Edit}
 use Rattle.reuse_session.specs.Plan.{IsRefusalOf, MakesEdit}
-use Rattle.reuse_session.specs.declared.command.Scope.{Scope}
+use Rattle.reuse_session.specs.declared.annotation.Annotation.{Annotation}
 use Rattle.reuse_session.specs.declared.target.Target.TheVariants as target
 use Rattle.reuse_session.specs.declared.plan_place.Step.{Step}
 use Rattle.reuse_session.specs.declared.plan_place.Step.TheVariants.{Done, Beside}
 use Rattle.reuse_session.specs.declared.reply.Refusal.{Refusal}
+use Rattle.reuse_session.specs.declared.reply.Refusal.TheVariants.{TooLong}
+
+-- the bytes of a file, unless they are too many
+abbrev pub short_file : List ℕ → List ℕ → Result (List ℕ) Refusal
+short_file path bytes = if nat_lt 16_777_216 (length bytes) then Err (TooLong path) else Ok bytes
 
 -- the change, a refusal, or that the neighbour is the place
-abbrev pub StepsTo : Files → How → Scope → Additions → OwnNames → List ℕ → List ℕ → Result Step Refusal → Type 0
-StepsTo tree how scope additions own path bytes (Ok (Done change)) = MakesEdit tree (edit_target how scope additions tree path bytes (target_by_bytes scope own path bytes)) change
-StepsTo tree how scope additions own path bytes (Ok Beside) = target_by_bytes scope own path bytes ≡ Ok target.Beside
-StepsTo tree how scope additions own path bytes (Err refusal) = IsRefusalOf (edit_target how scope additions tree path bytes (target_by_bytes scope own path bytes)) refusal
+abbrev pub StepsTo : Annotation → Files → List ℕ → List ℕ → Result Step Refusal → Type 0
+StepsTo asked tree path bytes (Ok (Done change)) = MakesEdit tree (edit_by_place asked tree path bytes (place_by asked path bytes)) change
+StepsTo asked tree path bytes (Ok Beside) = place_by asked path bytes ≡ Ok target.Beside
+StepsTo asked tree path bytes (Err refusal) = IsRefusalOf (edit_by_place asked tree path bytes (place_by asked path bytes)) refusal
 
 -- the change of an edit, or its refusal
 abbrev pub StepsBy : Files → Result (Option Edit) Refusal → Result Step Refusal → Type 0

@@ -6,6 +6,7 @@ ghost use Rattle.reuse_notice.specs.Sets.{set_of};
 ghost use Rattle.reuse_session.specs.Choice.{matches_one};
 ghost use Rattle.reuse_session.specs.Listing.{is_among};
 
+use crate::items::Items;
 use crate::listing::is_among;
 use crate::places::sorted;
 use reuse_dep5::{Glob, glob_matches};
@@ -48,34 +49,13 @@ impl PathList {
 }
 
 /// Globs, each as in a `path` of a `REUSE.toml`.
-#[derive(Debug, Drop)]
-pub struct Globs {
-    globs: Vec<Glob>,
-}
+pub type Globs = Items<Glob>;
 
-impl Model for Globs {
-    ghost use Rattle.std.specs.Prelude.{List};
-    ghost use Rattle.reuse_dep5.specs.declared.glob.GlobPiece.{GlobPiece};
-
-    ghost Value = { List (List GlobPiece) };
-
-    ghost view = { λ g. g.globs.items };
-}
-
-impl Globs {
-    /// The globs of a list.
-    pub fn new(globs: Vec<Glob>) -> Globs
-        ensures { result ≡ globs.items }
-    {
-        Globs { globs }
-    }
-
-    // Whether one of them matches the path.
-    pub(crate) fn matches(&self, path: &PathText) -> bool
-        ensures { result ≡ matches_one self.now path.now }
-    {
-        self.globs.iter().any(|glob| matches_path(glob, path))
-    }
+// Whether one of the globs matches the path.
+pub(crate) fn matches_one(globs: &Globs, path: &PathText) -> bool
+    ensures { result ≡ matches_one globs.now path.now }
+{
+    globs.as_slice().iter().any(|glob| matches_path(glob, path))
 }
 
 // Whether the glob matches the path, by its characters.

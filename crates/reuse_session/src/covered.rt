@@ -1,8 +1,8 @@
 // Which files annotate treats, by their paths.
 ghost use Rattle.std.specs.Prelude.{◌≡◌, slice_index};
-ghost use Rattle.reuse_session.specs.Covered.{last_part, is_in, is_outside, has_stem, is_outer_name, is_covered};
+ghost use Rattle.reuse_session.specs.Covered.{is_in, is_outside, has_stem, is_outer_name, is_covered};
 
-use memchr::memrchr;
+use reuse_text::last_part;
 
 /// Whether annotate treats a file of this path: one that is neither in a folder of licences, of the journal or of version control, nor of a
 /// name that holds licensing information or a licence.
@@ -10,16 +10,6 @@ pub(crate) fn is_covered(path: &[u8]) -> bool
     ensures { result ≡ is_covered path.now }
 {
     !is_outside(path) && !is_outer_name(last_part(path))
-}
-
-// What stands after the last slash of a path.
-fn last_part(path: &[u8]) -> &[u8]
-    ensures { result.now ≡ last_part path.now }
-{
-    match memrchr(b'/', path) {
-        None => path,
-        Some(slash) => &path[slash + 1..],
-    }
 }
 
 // The byte at a place, or 0 past the end.

@@ -1,6 +1,6 @@
 // What a download would do.
 ghost use Rattle.std.specs.Prelude.{◌≡◌, Result, Ok, Err, Option, Some, None, IfOk, IfErr};
-ghost use Rattle.reuse_session.specs.Reading.{keys, tree_of, Files, OnlyReads, RefusedAsRead};
+ghost use Rattle.reuse_session.specs.Reading.{keys, tree_of, Files, ReadsAlone};
 ghost use Rattle.std.specs.Option.{option_map};
 ghost use Rattle.reuse_session.specs.Downloads.{id_refusal, download_edits};
 ghost use Rattle.reuse_session.specs.FatePlan.{Plans};
@@ -29,9 +29,7 @@ pub(crate) fn plan_download<S: Store>(
 ) -> Result<Planned, Refusal>
     ensures planned { S.honest store.new → IfOk result (Plans (tree_of (S.files store.old))
         (download_fates ids.now texts.now (tree_of (S.files store.old))) (download_edits ids.now texts.now (tree_of (S.files store.old)))) }
-    ensures fails { RefusedAsRead S.Store store.old store.new result }
-    ensures reads { OnlyReads S.Store store.old store.new }
-    ensures refusal { IfErr result IsLookRefusal }
+    ensures asks { ReadsAlone S.Store IsLookRefusal store.old store.new result }
 {
     let paths = tree_paths(alloc, store)?;
     download_on(alloc, &paths, ids, texts)

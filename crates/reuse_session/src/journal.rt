@@ -11,7 +11,6 @@ mod json_writing;
 pub mod laws;
 mod numbers;
 mod small_hex;
-mod unread;
 mod written_entry;
 mod written_text;
 

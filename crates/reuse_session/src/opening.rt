@@ -9,7 +9,7 @@ ghost use Rattle.reuse_session.specs.declared.journal.head.Head.{Head};
 ghost use Rattle.reuse_session.specs.Journal.{Recorded, Journal, State};
 ghost use Rattle.reuse_session.specs.JournalFiles.{head_path, number_of, HeadSays};
 ghost use Rattle.reuse_session.specs.Opening.{least, listed_entry, named, IsReadable, IsListedIn, IsFoundAt, IsLeastFound, NoFileAbove, IsFirstUnreadable, IsFirstBad, IsRead, IsSettled, IsStuckAt, OpensOn, StopsOpening};
-ghost use Rattle.reuse_session.specs.Session.{head_room, listed_count, IsSameBut, Remembers};
+ghost use Rattle.reuse_session.specs.Session.{head_room, listed_count, HasHeadText, IsSameBut, Remembers};
 ghost use Rattle.reuse_session.specs.Standing.{IsStanding, IsUnderWay, InDoubt};
 ghost use Rattle.reuse_session.specs.Tree.{undo_folder_of};
 ghost use Rattle.reuse_session.specs.declared.reply.Cause.{Cause};
@@ -35,6 +35,8 @@ pub fn open_journal<S: Store>(alloc: Global, store: &mut S) -> Result<History, R
     ensures settles { S.honest store.new → (first second : State) → InDoubt first second (S.files store.old)
         → MatchResult result (λ memory. (IsStanding (S.files store.new) first × Remembers memory first.journal) ⊎ (IsStanding (S.files store.new) second × Remembers memory second.journal))
         (λ refusal. IsFailure refusal × InDoubt first second (S.files store.new)) }
+    // Where a step was rolled back the head is the very text of what is remembered.
+    ensures texts { S.honest store.new → IfOk result (λ memory. (S.files store.new ≡ S.files store.old) ⊎ HasHeadText memory (S.files store.new)) }
     // At most one head is put.
     ensures written { S.honest store.new → (head : Head) → HeadSays (map.get (undo_folder_of (S.files store.old)) head_path) head
         → S.written store.new ≤ S.written store.old + head_room (length (listed head)) }
@@ -96,6 +98,8 @@ fn settle<S: Store>(
     ensures late { (cause : Cause) → result ≡ Err (Refusal.Interrupted cause) → cause ≢ causes.Moved → S.moves store.old < S.moves store.new }
     ensures folder { S.honest store.new → (journal : Journal) → IsRead (S.files store.old) (Some pending) history.now journal
         → IsSameBut head_path (undo_folder_of (S.files store.old)) (undo_folder_of (S.files store.new)) }
+    ensures texts { S.honest store.new → (journal : Journal) → IsRead (S.files store.old) (Some pending) history.now journal
+        → OnOk result (HasHeadText history.now (S.files store.new)) }
     ensures no_bad { S.honest store.new → (journal : Journal) → IsRead (S.files store.old) (Some pending) history.now journal
         → (path : List ℕ) → result ≢ Err (Refusal.BadJournal path) }
     ensures written { S.honest store.new → (journal : Journal) → IsRead (S.files store.old) (Some pending) history.now journal

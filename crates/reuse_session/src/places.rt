@@ -9,6 +9,7 @@ ghost use Rattle.std.specs.Option.{option_to_list};
 ghost use Rattle.reuse_notice.specs.Sets.{set_of};
 ghost use Rattle.reuse_session.specs.Command.{is_root, has_root, path_in, paths_among};
 
+use crate::choice::matches_one;
 use crate::command::{Place, Scope};
 use crate::covered::is_covered;
 use crate::listing::paths_beneath;
@@ -171,7 +172,7 @@ fn push_path(alloc: Global, paths: &mut Vec<PathText>, place: &Place) -> Result<
 fn is_chosen(scope: &Scope, path: &PathText) -> bool
     ensures { result ≡ is_chosen scope.now path.now }
 {
-    is_covered(path.as_bytes()) && is_listed(scope, path) && !scope.excluded.matches(path)
+    is_covered(path.as_bytes()) && is_listed(scope, path) && !matches_one(&scope.excluded, path)
 }
 
 // Whether the path is listed, where there is a list.

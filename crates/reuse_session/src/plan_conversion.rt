@@ -1,6 +1,6 @@
 // Plans a conversion: a `REUSE.toml` in the place of `.reuse/dep5`.
 ghost use Rattle.std.specs.Prelude.{◌≡◌, ◌<◌, ◌≤◌, IfOk, IfErr, Ok, Some, false, length, [], ◌∷◌};
-ghost use Rattle.reuse_session.specs.Reading.{get, keys, reading_of, tree_of, Files, IsOfPlan, OnlyReads, RefusedAsRead};
+ghost use Rattle.reuse_session.specs.Reading.{get, keys, reading_of, tree_of, Files, IsOfPlan, ReadsAlone};
 ghost use Rattle.reuse_tree.specs.Change.{sealed_drop, sealed_make};
 ghost use Rattle.reuse_session.specs.Refused.{IsNoFault, dep5_refusal};
 ghost use Rattle.reuse_session.specs.Listing.{is_among};
@@ -23,9 +23,7 @@ pub(crate) fn plan_conversion<S: Store>(
     store: &mut S,
 ) -> Result<Vec<Change>, Refusal>
     ensures edits { S.honest store.new → AnswersEdits (tree_of (S.files store.old)) (conversion_edits (tree_of (S.files store.old))) result }
-    ensures fails { RefusedAsRead S.Store store.old store.new result }
-    ensures reads { OnlyReads S.Store store.old store.new }
-    ensures planned { IfErr result IsOfPlan }
+    ensures asks { ReadsAlone S.Store IsOfPlan store.old store.new result }
 {
     let dep5 = known_path(alloc, ".reuse/dep5")?;
     let paths = tree_paths(alloc, store)?;

@@ -1,7 +1,7 @@
 // Plans a download: a file for each licence's text.
 ghost use Rattle.std.specs.Prelude.{◌≡◌, ◌<◌, ◌≤◌, IfOk, IfErr, map, None, unwrap_or, []};
 ghost use Rattle.std.specs.Option.{option_copied};
-ghost use Rattle.reuse_session.specs.Reading.{keys, tree_of, Files, IsOfPlan, OnlyReads, RefusedAsRead};
+ghost use Rattle.reuse_session.specs.Reading.{keys, tree_of, Files, IsOfPlan, ReadsAlone};
 ghost use Rattle.reuse_notice.specs.Sets.{set_of};
 ghost use Rattle.reuse_session.specs.Refused.{IsNoFault, IsRefused};
 ghost use Rattle.reuse_session.specs.Licence.{licence_path};
@@ -29,9 +29,7 @@ pub(crate) fn plan_download<S: Store>(
     texts: &[LicenceText],
 ) -> Result<Vec<Change>, Refusal>
     ensures edits { S.honest store.new → AnswersEdits (tree_of (S.files store.old)) (download_edits ids.now texts.now (tree_of (S.files store.old))) result }
-    ensures fails { RefusedAsRead S.Store store.old store.new result }
-    ensures reads { OnlyReads S.Store store.old store.new }
-    ensures planned { IfErr result IsOfPlan }
+    ensures asks { ReadsAlone S.Store IsOfPlan store.old store.new result }
 {
     let paths = tree_paths(alloc, store)?;
     download_changes(alloc, &paths, ids, texts)

@@ -1,12 +1,12 @@
 // The change of a place, by what an annotation makes of its bytes.
 ghost use Rattle.std.specs.Prelude.{◌≡◌, ◌≤◌, [], IfOk, IfErr, Some, None, length};
-ghost use Rattle.reuse_session.specs.Reading.{get, Files, IsOfPlan};
+ghost use Rattle.reuse_session.specs.Reading.{get, Files};
 ghost use Rattle.reuse_header.specs.Splices.{IsDue, answer_of};
 ghost use Rattle.reuse_session.specs.Annotate.{edit_by};
 ghost use Rattle.reuse_session.specs.HeaderFaults.{refused_by};
 ghost use Rattle.reuse_session.specs.Annotations.{Fits, Due};
 ghost use Rattle.reuse_session.specs.Plan.{AnswersEdit};
-ghost use Rattle.reuse_tree.specs.declared.fault.StoreFault.{StoreFault};
+ghost use Rattle.reuse_session.specs.Refused.{IsNoFault};
 
 use crate::header_fault::HeaderFault;
 use crate::reply::Refusal;
@@ -25,8 +25,7 @@ pub(crate) fn change_by(
 ) -> Result<Option<Change>, Refusal>
     ensures edit { (tree : Files) (due : Due) → get tree at.now ≡ Some file.now → length file.now ≤ 16_777_216 → Fits file.now due → IsDue (answer_of file.now due) made
         → AnswersEdit tree (edit_by path.now at.now file.now due) result }
-    ensures planned { IfErr result IsOfPlan }
-    ensures fault { (fault : StoreFault) → result ≡ Err (Refusal.Fault fault) → ⊥ }
+    ensures no_fault { IfErr result IsNoFault }
 {
     match made {
         Err(refusal) => Err(refused_by(alloc, path, refusal)?),
@@ -50,8 +49,7 @@ pub(crate) fn making_by(
 ) -> Result<Option<Change>, Refusal>
     ensures edit { (tree : Files) (due : Due) → get tree at.now ≡ None → Fits [] due → IsDue (answer_of [] due) made
         → AnswersEdit tree (edit_by path.now at.now [] due) result }
-    ensures planned { IfErr result IsOfPlan }
-    ensures fault { (fault : StoreFault) → result ≡ Err (Refusal.Fault fault) → ⊥ }
+    ensures no_fault { IfErr result IsNoFault }
 {
     match made {
         Err(refusal) => Err(refused_by(alloc, path, refusal)?),

@@ -1,21 +1,20 @@
 // What a run of a command would do, path by path.
-ghost use Rattle.std.specs.Prelude.{◌≡◌, ◌++◌, ◌∷◌, [], Result, Ok, Err, Option, Some, None, List, IfOk, IfErr, OnOk, map, not, ◌&&◌, if◌then◌else◌};
-ghost use Rattle.reuse_session.specs.Reading.{keys, tree_of, Files, OnlyReads, RefusedAsRead};
-ghost use Rattle.reuse_header.specs.Names.{lookup};
-ghost use Rattle.reuse_session.specs.Annotate.{annotated_at};
+ghost use Rattle.std.specs.Prelude.{◌≡◌, ◌++◌, ◌∷◌, [], Result, Ok, Err, Option, Some, None, List, IfOk, IfErr, OnOk, not, ◌&&◌, if◌then◌else◌};
+ghost use Rattle.reuse_session.specs.Reading.{keys, tree_of, Files, OnlyReads, ReadsAlone, RefusedAsRead};
+ghost use Rattle.reuse_session.specs.AnnotationPlan.{worked_by, AddsPath, PlansPaths, PlansPlaces};
 ghost use Rattle.reuse_session.specs.Command.{has_root};
 ghost use Rattle.reuse_session.specs.Edit.{Edit};
-ghost use Rattle.reuse_session.specs.FatePlan.{MakesUnlessRefused, Plans, Adds};
-ghost use Rattle.reuse_session.specs.Fates.{fate_at, annotation_fates, path_fates, limit_fates, fates_of};
-ghost use Rattle.reuse_session.specs.Outcome.{edits_at, edits_by_names, edits_of};
+ghost use Rattle.reuse_session.specs.FatePlan.{MakesUnlessRefused, Plans};
+ghost use Rattle.reuse_session.specs.Fates.{annotation_fates, path_fates, limit_fates, fates_of};
+ghost use Rattle.reuse_session.specs.Outcome.{edits_by_names, edits_of};
 ghost use Rattle.reuse_session.specs.Previews.{IsLookRefusal};
 ghost use Rattle.reuse_session.specs.TreeStyles.{styles_in};
-ghost use Rattle.reuse_session.specs.Worked.{worked_paths};
 ghost use Rattle.reuse_session.specs.declared.fate.Fate.{Fate};
 ghost use Rattle.reuse_session.specs.declared.fate.Fate.TheVariants as fate;
 ghost use Rattle.reuse_session.specs.declared.reply.Refusal.{Refusal};
 ghost use Rattle.reuse_session.specs.declared.reply.Refusal.TheVariants.{TooMany};
 
+use crate::annotation::Annotation;
 use crate::command::{Command, Place, Scope};
 use crate::download_fates::plan_download;
 use crate::fate::{Fate, Fates};
@@ -29,7 +28,7 @@ use crate::planned::{Planned, of_changes, refused};
 use crate::reply::Refusal;
 use crate::revert_fates::plan_revert;
 use crate::skipped::is_skipped;
-use reuse_header::{How, StyleTable};
+use reuse_header::How;
 use reuse_notice::Additions;
 use reuse_tree::{Change, PathText, Store};
 use std::alloc::{AllocError, Global};
@@ -56,9 +55,7 @@ fn plan_command<S: Store>(
     command: &Command,
 ) -> Result<Planned, Refusal>
     ensures planned { S.honest store.new → IfOk result (Plans (tree_of (S.files store.old)) (path_fates command.now (tree_of (S.files store.old))) (edits_of command.now (tree_of (S.files store.old)))) }
-    ensures fails { RefusedAsRead S.Store store.old store.new result }
-    ensures reads { OnlyReads S.Store store.old store.new }
-    ensures refusal { IfErr result IsLookRefusal }
+    ensures asks { ReadsAlone S.Store IsLookRefusal store.old store.new result }
 {
     match command {
         Command::Annotate {
@@ -112,37 +109,36 @@ fn plan_annotation<S: Store>(
     ensures planned { S.honest store.new → IfOk result (Plans (tree_of (S.files store.old))
         (annotation_fates places.now additions.now how.now scope.now (tree_of (S.files store.old)) (styles_in (tree_of (S.files store.old))))
         (edits_by_names places.now additions.now how.now scope.now (tree_of (S.files store.old)) (styles_in (tree_of (S.files store.old))))) }
-    ensures fails { RefusedAsRead S.Store store.old store.new result }
-    ensures reads { OnlyReads S.Store store.old store.new }
-    ensures refusal { IfErr result IsLookRefusal }
+    ensures asks { ReadsAlone S.Store IsLookRefusal store.old store.new result }
 {
     match read_styles(alloc, store) {
-        Ok(styles) => plan_places(alloc, store, places, additions, how, scope, &styles),
+        Ok(styles) => {
+            let asked = Annotation {
+                additions,
+                how,
+                scope,
+                styles: &styles,
+            };
+            plan_places(alloc, store, places, &asked)
+        }
         Err(refusal) => refused(alloc, refusal),
     }
 }
 
-// What is found of an annotation by this table of styles.
+// What is found of an annotation by the styles of the tree.
 fn plan_places<S: Store>(
     alloc: Global,
     store: &mut S,
     places: &[Place],
-    additions: &Additions,
-    how: &How,
-    scope: &Scope,
-    styles: &StyleTable,
+    asked: &Annotation<'_>,
 ) -> Result<Planned, Refusal>
-    ensures planned { S.honest store.new → IfOk result (Plans (tree_of (S.files store.old))
-        (annotation_fates places.now additions.now how.now scope.now (tree_of (S.files store.old)) (Ok (lookup styles.now)))
-        (edits_by_names places.now additions.now how.now scope.now (tree_of (S.files store.old)) (Ok (lookup styles.now)))) }
-    ensures fails { RefusedAsRead S.Store store.old store.new result }
-    ensures reads { OnlyReads S.Store store.old store.new }
-    ensures refusal { IfErr result IsLookRefusal }
+    ensures planned { S.honest store.new → IfOk result (PlansPlaces asked.now (tree_of (S.files store.old)) places.now) }
+    ensures asks { ReadsAlone S.Store IsLookRefusal store.old store.new result }
 {
-    if gives_root(places, scope) {
+    if gives_root(places, asked.scope) {
         return refused(alloc, Refusal::IsFolder(Place::Root));
     }
-    plan_listed(alloc, store, places, additions, how, scope, styles)
+    plan_listed(alloc, store, places, asked)
 }
 
 // Whether the root is given where folders aren't gone through.
@@ -157,21 +153,14 @@ fn plan_listed<S: Store>(
     alloc: Global,
     store: &mut S,
     places: &[Place],
-    additions: &Additions,
-    how: &How,
-    scope: &Scope,
-    styles: &StyleTable,
+    asked: &Annotation<'_>,
 ) -> Result<Planned, Refusal>
-    ensures planned { S.honest store.new → IfOk result (Plans (tree_of (S.files store.old))
-        (map (fate_at how.now scope.now additions.now (lookup styles.now) (tree_of (S.files store.old))) (worked_paths scope.now places.now (tree_of (S.files store.old))))
-        (edits_at (annotated_at how.now scope.now additions.now (lookup styles.now) (tree_of (S.files store.old))) (worked_paths scope.now places.now (tree_of (S.files store.old))))) }
-    ensures fails { RefusedAsRead S.Store store.old store.new result }
-    ensures reads { OnlyReads S.Store store.old store.new }
-    ensures refusal { IfErr result IsLookRefusal }
+    ensures planned { S.honest store.new → IfOk result (PlansPaths asked.now (tree_of (S.files store.old)) (worked_by asked.now (tree_of (S.files store.old)) places.now)) }
+    ensures asks { ReadsAlone S.Store IsLookRefusal store.old store.new result }
 {
     let paths = tree_paths(alloc, store)?;
-    let worked = worked_paths(alloc, &paths, places, scope)?;
-    plan_paths(alloc, store, &paths, &worked, additions, how, scope, styles)
+    let worked = worked_paths(alloc, &paths, places, asked.scope)?;
+    plan_paths(alloc, store, &paths, &worked, asked)
 }
 
 // What is found at the worked paths. `paths` are those of the tree.
@@ -180,31 +169,14 @@ fn plan_paths<S: Store>(
     store: &mut S,
     paths: &[PathText],
     worked: &[PathText],
-    additions: &Additions,
-    how: &How,
-    scope: &Scope,
-    styles: &StyleTable,
+    asked: &Annotation<'_>,
 ) -> Result<Planned, Refusal>
-    ensures planned { S.honest store.new → paths.now ≡ keys (tree_of (S.files store.old)) → IfOk result (Plans (tree_of (S.files store.old))
-        (map (fate_at how.now scope.now additions.now (lookup styles.now) (tree_of (S.files store.old))) worked.now)
-        (edits_at (annotated_at how.now scope.now additions.now (lookup styles.now) (tree_of (S.files store.old))) worked.now)) }
-    ensures fails { RefusedAsRead S.Store store.old store.new result }
-    ensures reads { OnlyReads S.Store store.old store.new }
-    ensures refusal { IfErr result IsLookRefusal }
+    ensures planned { S.honest store.new → paths.now ≡ keys (tree_of (S.files store.old)) → IfOk result (PlansPaths asked.now (tree_of (S.files store.old)) worked.now) }
+    ensures asks { ReadsAlone S.Store IsLookRefusal store.old store.new result }
 {
     let mut planned = Planned::new(alloc);
     for path in worked {
-        plan_next(
-            alloc,
-            store,
-            &mut planned,
-            paths,
-            path,
-            additions,
-            how,
-            scope,
-            styles,
-        )?;
+        plan_next(alloc, store, &mut planned, paths, path, asked)?;
     }
     Ok(planned)
 }
@@ -216,22 +188,15 @@ fn plan_next<S: Store>(
     planned: &mut Planned,
     paths: &[PathText],
     path: &PathText,
-    additions: &Additions,
-    how: &How,
-    scope: &Scope,
-    styles: &StyleTable,
+    asked: &Annotation<'_>,
 ) -> Result<(), Refusal>
-    ensures adds { S.honest store.new → paths.now ≡ keys (tree_of (S.files store.old)) → OnOk result (Adds (tree_of (S.files store.old))
-        (annotated_at how.now scope.now additions.now (lookup styles.now) (tree_of (S.files store.old)) path.now)
-        (fate_at how.now scope.now additions.now (lookup styles.now) (tree_of (S.files store.old)) path.now) planned.old planned.new) }
-    ensures fails { RefusedAsRead S.Store store.old store.new result }
-    ensures reads { OnlyReads S.Store store.old store.new }
-    ensures refusal { IfErr result IsLookRefusal }
+    ensures adds { S.honest store.new → paths.now ≡ keys (tree_of (S.files store.old)) → OnOk result (AddsPath asked.now (tree_of (S.files store.old)) path.now planned.old planned.new) }
+    ensures asks { ReadsAlone S.Store IsLookRefusal store.old store.new result }
 {
-    match plan_path(alloc, store, paths, path, additions, how, scope, styles) {
+    match plan_path(alloc, store, paths, path, asked) {
         Ok(Some(change)) => Ok(planned.push_change(alloc, change)?),
         Ok(None) => {
-            let skipped = is_skipped(alloc, store, paths, path, scope, styles)?;
+            let skipped = is_skipped(alloc, store, paths, path, asked)?;
             Ok(planned.push_idle(alloc, path, skipped)?)
         }
         Err(refusal) => planned.push_refusal(refusal),

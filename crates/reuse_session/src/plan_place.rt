@@ -1,19 +1,20 @@
 // What annotate does at the place that was chosen.
 ghost use Rattle.std.specs.Prelude.{◌≡◌, ◌≤◌, ◌++◌, ℕ, List, false, true, length, IfOk, IfErr, IfSome, IfNone, Some, None, Ok, Err, nat_lt};
-ghost use Rattle.reuse_session.specs.Reading.{get, keys, reading_of, Files, IsOfPlan};
+ghost use Rattle.reuse_session.specs.Reading.{get, keys, reading_of, Files};
 ghost use Rattle.reuse_header.specs.declared.annotation.How.{How};
-ghost use Rattle.reuse_header.specs.Names.{lookup};
 ghost use Rattle.reuse_session.specs.TreeStyles.{OwnNames};
 ghost use Rattle.reuse_notice.specs.declared.adding.Additions.{Additions};
-ghost use Rattle.reuse_tree.specs.declared.fault.StoreFault.{StoreFault};
-ghost use Rattle.reuse_session.specs.Annotate.{neighbour_of, annotated_at, target_by_bytes, edit_inside, edit_neighbour};
+ghost use Rattle.reuse_session.specs.Annotate.{neighbour_of, annotated_at};
+ghost use Rattle.reuse_session.specs.AnnotationPlan.{inside_by, neighbour_by};
 ghost use Rattle.reuse_session.specs.Listing.{is_among};
-ghost use Rattle.reuse_session.specs.Plan.{AnswersEdit};
-ghost use Rattle.reuse_session.specs.Steps.{StepsTo, StepsBy};
+ghost use Rattle.reuse_session.specs.Plan.{AnswersEdit, AnswersOf};
+ghost use Rattle.reuse_session.specs.Refused.{IsNoFault};
+ghost use Rattle.reuse_session.specs.Steps.{short_file, StepsTo, StepsBy};
 ghost use Rattle.reuse_session.specs.declared.command.Scope.{Scope};
 
+use crate::annotation::Annotation;
 use crate::clash::is_clash;
-use crate::command::{Place, Scope};
+use crate::command::Place;
 use crate::limits::LONGEST_FILE;
 use crate::listing::is_folder;
 use crate::plan_edit::{change_by, making_by};
@@ -21,10 +22,9 @@ use crate::plan_target::{neighbour_of, target_by_bytes};
 use crate::reply::Refusal;
 use crate::target::Target;
 use reuse_header::{
-    How, Style, StyleTable, annotate_file, annotate_neighbour, annotations_fit, find,
-    neighbour_has_tag,
+    Style, annotate_file, annotate_neighbour, annotations_fit, find, neighbour_has_tag,
 };
-use reuse_notice::Additions;
+use reuse_text::Bytes;
 use reuse_tree::{Change, PathError, PathText, Reading};
 use std::alloc::Global;
 
@@ -44,8 +44,7 @@ pub(crate) fn plan_absent(
     path: &PathText,
 ) -> Result<Option<Change>, Refusal>
     ensures edit { (how : How) (scope : Scope) (additions : Additions) (own : OwnNames) (tree : Files) → paths.now ≡ keys tree → is_among paths.now path.now ≡ false → AnswersEdit tree (annotated_at how scope additions own tree path.now) result }
-    ensures planned { IfErr result IsOfPlan }
-    ensures fault { (fault : StoreFault) → result ≡ Err (Refusal.Fault fault) → ⊥ }
+    ensures no_fault { IfErr result IsNoFault }
 {
     let refused = path.try_clone(alloc)?;
     if is_folder(alloc, paths, path)? {
@@ -61,8 +60,6 @@ pub(crate) fn neighbour_path(alloc: Global, path: &PathText) -> Result<Option<Pa
     ensures long { IfOk result (λ found. IfNone found (nat_lt 4096 (length (neighbour_of path.now)) ≡ true)) }
     ensures short { IfOk result (λ found. IfSome found (λ neighbour. nat_lt 4096 (length (neighbour_of path.now)) ≡ false)) }
     ensures memory { IfErr result (λ refusal. refusal ≡ Refusal.Memory) }
-    ensures planned { IfErr result IsOfPlan }
-    ensures fault { (fault : StoreFault) → result ≡ Err (Refusal.Fault fault) → ⊥ }
 {
     let text = format!(in alloc; "{}.license", path.text())?;
     match PathText::new(alloc, text.as_str()) {
@@ -76,16 +73,27 @@ pub(crate) fn neighbour_path(alloc: Global, path: &PathText) -> Result<Option<Pa
 pub(crate) fn plan_reading(
     alloc: Global,
     path: &PathText,
-    additions: &Additions,
-    how: &How,
-    scope: &Scope,
-    styles: &StyleTable,
+    asked: &Annotation<'_>,
     reading: Reading,
 ) -> Result<Step, Refusal>
     ensures step { (tree : Files) (bytes : List ℕ) → get tree path.now ≡ Some bytes → reading ≡ reading_of (Some bytes) 16_777_216
-        → StepsTo tree how.now scope.now additions.now (lookup styles.now) path.now bytes result }
-    ensures planned { IfErr result IsOfPlan }
-    ensures fault { (fault : StoreFault) → result ≡ Err (Refusal.Fault fault) → ⊥ }
+        → StepsTo asked.now tree path.now bytes result }
+    ensures no_fault { IfErr result IsNoFault }
+{
+    let bytes = short_bytes(alloc, path, reading)?;
+    match target_by_bytes(alloc, path, bytes.as_slice(), asked) {
+        Ok(Target::Inside(style)) => plan_inside(alloc, path, bytes.as_slice(), style, asked),
+        Ok(Target::Beside) => Ok(Step::Beside),
+        Ok(Target::Nowhere) => Ok(Step::Done(None)),
+        Err(refusal) => Err(refusal),
+    }
+}
+
+// The bytes that were read of a file, unless they are too many. A refusal names `path`.
+fn short_bytes(alloc: Global, path: &PathText, reading: Reading) -> Result<Bytes, Refusal>
+    ensures answer { (file : List ℕ) → reading ≡ reading_of (Some file) 16_777_216 → AnswersOf (short_file path.now file) result }
+    ensures short { IfOk result (λ bytes. length bytes ≤ 16_777_216) }
+    ensures no_fault { IfErr result IsNoFault }
 {
     let bytes = match reading {
         Reading::Absent => return Err(Refusal::NoSuchPath(path.try_clone(alloc)?)),
@@ -95,14 +103,7 @@ pub(crate) fn plan_reading(
     if bytes.len() > LONGEST_FILE {
         return Err(Refusal::TooLong(path.try_clone(alloc)?));
     }
-    match target_by_bytes(alloc, path, bytes.as_slice(), scope, styles) {
-        Ok(Target::Inside(style)) => {
-            plan_inside(alloc, path, bytes.as_slice(), style, additions, how, scope)
-        }
-        Ok(Target::Beside) => Ok(Step::Beside),
-        Ok(Target::Nowhere) => Ok(Step::Done(None)),
-        Err(refusal) => Err(refusal),
-    }
+    Ok(bytes)
 }
 
 // The change of a file's own comment, unless it has a header block and such files are skipped.
@@ -111,21 +112,18 @@ fn plan_inside(
     path: &PathText,
     bytes: &[u8],
     style: Style,
-    additions: &Additions,
-    how: &How,
-    scope: &Scope,
+    asked: &Annotation<'_>,
 ) -> Result<Step, Refusal>
     requires { length bytes.now ≤ 16_777_216 }
-    ensures step { (tree : Files) → get tree path.now ≡ Some bytes.now → StepsBy tree (edit_inside how.now scope.now additions.now path.now bytes.now style) result }
-    ensures planned { IfErr result IsOfPlan }
-    ensures fault { (fault : StoreFault) → result ≡ Err (Refusal.Fault fault) → ⊥ }
+    ensures step { (tree : Files) → get tree path.now ≡ Some bytes.now → StepsBy tree (inside_by asked.now path.now bytes.now style) result }
+    ensures no_fault { IfErr result IsNoFault }
 {
-    if scope.skip_existing && find(bytes, style).block.is_some() {
+    if asked.scope.skip_existing && find(bytes, style).block.is_some() {
         return Ok(Step::Done(None));
     }
     // That the edit lies within the file, and makes none that is too long.
     annotations_fit();
-    let made = annotate_file(alloc, bytes, style, additions, how);
+    let made = annotate_file(alloc, bytes, style, asked.additions, asked.how);
     match change_by(alloc, path, path, bytes, made) {
         Ok(change) => Ok(Step::Done(change)),
         Err(refusal) => Err(refusal),
@@ -137,30 +135,20 @@ pub(crate) fn plan_neighbour(
     alloc: Global,
     path: &PathText,
     neighbour: &PathText,
-    additions: &Additions,
-    how: &How,
-    scope: &Scope,
+    asked: &Annotation<'_>,
     reading: Reading,
 ) -> Result<Option<Change>, Refusal>
     ensures edit { (tree : Files) (bytes : List ℕ) → neighbour.now ≡ neighbour_of path.now → get tree neighbour.now ≡ Some bytes → reading ≡ reading_of (Some bytes) 16_777_216
-        → AnswersEdit tree (edit_neighbour how.now scope.now additions.now tree path.now (Some bytes)) result }
-    ensures planned { IfErr result IsOfPlan }
-    ensures fault { (fault : StoreFault) → result ≡ Err (Refusal.Fault fault) → ⊥ }
+        → AnswersEdit tree (neighbour_by asked.now tree path.now (Some bytes)) result }
+    ensures no_fault { IfErr result IsNoFault }
 {
-    let bytes = match reading {
-        Reading::Absent => return Err(Refusal::NoSuchPath(path.try_clone(alloc)?)),
-        Reading::TooLong => return Err(Refusal::TooLong(path.try_clone(alloc)?)),
-        Reading::Found(bytes) => bytes,
-    };
-    if bytes.len() > LONGEST_FILE {
-        return Err(Refusal::TooLong(path.try_clone(alloc)?));
-    }
-    if scope.skip_existing && neighbour_has_tag(bytes.as_slice()) {
+    let bytes = short_bytes(alloc, path, reading)?;
+    if asked.scope.skip_existing && neighbour_has_tag(bytes.as_slice()) {
         return Ok(None);
     }
     // That the edit lies within the file, and makes none that is too long.
     annotations_fit();
-    let made = annotate_neighbour(alloc, bytes.as_slice(), additions, how);
+    let made = annotate_neighbour(alloc, bytes.as_slice(), asked.additions, asked.how);
     change_by(alloc, path, neighbour, bytes.as_slice(), made)
 }
 
@@ -170,19 +158,17 @@ pub(crate) fn plan_new_neighbour(
     paths: &[PathText],
     path: &PathText,
     neighbour: PathText,
-    additions: &Additions,
-    how: &How,
+    asked: &Annotation<'_>,
 ) -> Result<Option<Change>, Refusal>
-    ensures edit { (scope : Scope) (tree : Files) → paths.now ≡ keys tree → neighbour ≡ neighbour_of path.now → get tree neighbour ≡ None
-        → AnswersEdit tree (edit_neighbour how.now scope additions.now tree path.now None) result }
-    ensures planned { IfErr result IsOfPlan }
-    ensures fault { (fault : StoreFault) → result ≡ Err (Refusal.Fault fault) → ⊥ }
+    ensures edit { (tree : Files) → paths.now ≡ keys tree → neighbour ≡ neighbour_of path.now → get tree neighbour ≡ None
+        → AnswersEdit tree (neighbour_by asked.now tree path.now None) result }
+    ensures no_fault { IfErr result IsNoFault }
 {
     if is_clash(alloc, paths, &neighbour)? {
         return Err(Refusal::Clash(neighbour));
     }
     // That what is made isn't too long.
     annotations_fit();
-    let made = annotate_neighbour(alloc, b"", additions, how);
+    let made = annotate_neighbour(alloc, b"", asked.additions, asked.how);
     making_by(alloc, path, &neighbour, made)
 }

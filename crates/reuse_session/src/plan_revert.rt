@@ -1,16 +1,17 @@
 // Plans a revert: takes the changes of a step back on whatever the tree is now.
 ghost use Rattle.std.specs.Prelude.{◌≡◌, ◌≢◌, ◌↔◌, ◌+◌, ◌++◌, ◌≤◌, ℕ, IfOk, IfErr, OnOk, IsSome, IsTrue, List, Ok, Option, Some, None, false, true, length};
 ghost use Rattle.std.specs.Option.{option_to_list};
-ghost use Rattle.reuse_session.specs.Reading.{get, keys, reading_of, tree_of, Files, IsOfPlan, OnlyReads, RefusedAsRead};
+ghost use Rattle.reuse_session.specs.Reading.{get, keys, reading_of, tree_of, Files, IsOfPlan, ReadsAlone};
 ghost use Rattle.std.specs.List.{list_any};
 ghost use Rattle.std.specs.Str.{bytes_eq};
 ghost use Rattle.reuse_tree.specs.Change.{path_of, IsProper};
 ghost use Rattle.reuse_tree.specs.declared.change.Change.TheVariants.{Make, Splice};
 ghost use Rattle.reuse_tree.specs.declared.fault.StoreFault.{StoreFault};
-ghost use Rattle.reuse_session.specs.Answer.{IsFailure, IsTestRefusal};
+ghost use Rattle.reuse_session.specs.Answer.{IsTestRefusal};
 ghost use Rattle.reuse_session.specs.Entry.{makes, IsEntry, IsSmall};
 ghost use Rattle.reuse_session.specs.EntryText.{HavePaths};
 ghost use Rattle.reuse_session.specs.Plan.{AnswersEdits, MakesEdit};
+ghost use Rattle.reuse_session.specs.Previews.{IsLookRefusal};
 ghost use Rattle.reuse_session.specs.Reverting.{has_digest, is_as_left, revert_edits, stands_as_written, stands_at, taken_back, taken_back_on};
 ghost use Rattle.reuse_session.specs.Tree.{is_of_tree};
 ghost use Rattle.reuse_session.specs.declared.entry.Way.TheVariants.{Undo};
@@ -36,9 +37,7 @@ pub(crate) fn plan_revert<S: Store>(
 ) -> Result<Vec<Change>, Refusal>
     ensures edits { S.honest store.new → AnswersEdits (tree_of (S.files store.old)) (revert_edits changes.now skip_moved (tree_of (S.files store.old))) result }
     ensures entry { IsEntry changes.now × HavePaths changes.now }
-    ensures fails { RefusedAsRead S.Store store.old store.new result }
-    ensures reads { OnlyReads S.Store store.old store.new }
-    ensures planned { IfErr result IsOfPlan }
+    ensures asks { ReadsAlone S.Store IsOfPlan store.old store.new result }
 {
     let changes = changes.as_slice();
     match paths_to_heed(alloc, store, changes) {
@@ -54,10 +53,7 @@ pub(crate) fn paths_to_heed<S: Store>(
     changes: &[Change],
 ) -> Result<Vec<PathText>, Refusal>
     ensures paths { S.honest store.new → list_any (makes Undo) changes.now ≡ true → IfOk result (λ paths. paths.items ≡ keys (tree_of (S.files store.old))) }
-    ensures fails { RefusedAsRead S.Store store.old store.new result }
-    ensures reads { OnlyReads S.Store store.old store.new }
-    ensures planned { IfErr result IsOfPlan }
-    ensures kinds { IfErr result IsFailure }
+    ensures asks { ReadsAlone S.Store IsLookRefusal store.old store.new result }
 {
     if makes_any(changes, Way::Undo) {
         Ok(tree_paths(alloc, store)?)
@@ -76,9 +72,7 @@ fn take_all_back<S: Store>(
 ) -> Result<Vec<Change>, Refusal>
     ensures edits { S.honest store.new → IsEntry changes.now → (list_any (makes Undo) changes.now ≡ true → paths.now ≡ keys (tree_of (S.files store.old)))
         → AnswersEdits (tree_of (S.files store.old)) (revert_edits changes.now skip_moved (tree_of (S.files store.old))) result }
-    ensures fails { RefusedAsRead S.Store store.old store.new result }
-    ensures reads { OnlyReads S.Store store.old store.new }
-    ensures planned { IfErr result IsOfPlan }
+    ensures asks { ReadsAlone S.Store IsOfPlan store.old store.new result }
 {
     let mut taken = Vec::new(alloc);
     for change in changes {
@@ -125,10 +119,7 @@ pub(crate) fn take_back<S: Store>(
     ensures edit { S.honest store.new → IsProper change.now → IsSmall change.now → is_of_tree (path_of change.now) ≡ true
         → (makes Undo change.now ≡ true → paths.now ≡ keys (tree_of (S.files store.old)))
         → IfOk result (MakesEdit (tree_of (S.files store.old)) (Ok (taken_back_on (tree_of (S.files store.old)) change.now))) }
-    ensures fails { RefusedAsRead S.Store store.old store.new result }
-    ensures reads { OnlyReads S.Store store.old store.new }
-    ensures planned { IfErr result IsOfPlan }
-    ensures kinds { IfErr result IsFailure }
+    ensures asks { ReadsAlone S.Store IsLookRefusal store.old store.new result }
 {
     if makes(change, Way::Undo) && is_clash(alloc, paths, change.path())? {
         return Ok(None);

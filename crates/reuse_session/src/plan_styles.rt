@@ -1,9 +1,9 @@
 // The styles that a tree gives to its own names.
 ghost use Rattle.std.specs.Prelude.{◌≡◌, List, ℕ, Option, IfOk, IfErr, Ok, Err};
 ghost use Rattle.reuse_header.specs.Names.{lookup};
-ghost use Rattle.reuse_session.specs.Reading.{reading_of, tree_of, IsOfPlan, OnlyReads, RefusedAsRead};
-ghost use Rattle.reuse_tree.specs.declared.fault.StoreFault.{StoreFault};
+ghost use Rattle.reuse_session.specs.Reading.{reading_of, tree_of, IsOfPlan, ReadsAlone};
 ghost use Rattle.reuse_session.specs.Plan.{IsRefusalOf};
+ghost use Rattle.reuse_session.specs.Refused.{IsNoFault};
 ghost use Rattle.reuse_session.specs.TreeStyles.{styles_path, styles_where, styles_in, styles_refusal};
 
 use crate::journal_files::path_of_text;
@@ -17,9 +17,7 @@ use std::alloc::Global;
 pub(crate) fn read_styles<S: Store>(alloc: Global, store: &mut S) -> Result<StyleTable, Refusal>
     ensures styles { S.honest store.new → IfOk result (λ styles. styles_in (tree_of (S.files store.old)) ≡ Ok (lookup styles)) }
     ensures refusal { S.honest store.new → IfErr result (λ refusal. IsRefusalOf (styles_in (tree_of (S.files store.old))) refusal) }
-    ensures fails { RefusedAsRead S.Store store.old store.new result }
-    ensures reads { OnlyReads S.Store store.old store.new }
-    ensures planned { IfErr result IsOfPlan }
+    ensures asks { ReadsAlone S.Store IsOfPlan store.old store.new result }
 {
     let path = path_of_text(alloc, ".reuse/styles.toml")?;
     let reading = store.read(alloc, &path, LONGEST_FILE)?;
@@ -30,8 +28,7 @@ pub(crate) fn read_styles<S: Store>(alloc: Global, store: &mut S) -> Result<Styl
 fn styles_by(alloc: Global, path: PathText, reading: Reading) -> Result<StyleTable, Refusal>
     ensures styles { (file : Option (List ℕ)) → reading ≡ reading_of file 16_777_216 → IfOk result (λ styles. styles_where file ≡ Ok (lookup styles)) }
     ensures refusal { (file : Option (List ℕ)) → path ≡ styles_path → reading ≡ reading_of file 16_777_216 → IfErr result (λ refusal. IsRefusalOf (styles_where file) refusal) }
-    ensures planned { IfErr result IsOfPlan }
-    ensures fault { (fault : StoreFault) → result ≡ Err (Refusal.Fault fault) → ⊥ }
+    ensures no_fault { IfErr result IsNoFault }
 {
     let read = match &reading {
         Reading::Absent => StyleTable::read(alloc, None),

@@ -3,12 +3,13 @@ ghost use Rattle.std.specs.Prelude.{◌≡◌, ◌≤◌, ◌++◌, IfOk, IfErr,
 ghost use Rattle.std.specs.FinMap.{keys};
 ghost use Rattle.reuse_header.specs.Names.{kind_in, lookup};
 ghost use Rattle.reuse_tree.specs.Files.{Files};
-ghost use Rattle.reuse_session.specs.Answer.{IsOfPlan};
-ghost use Rattle.reuse_session.specs.Annotate.{neighbour_of, is_uncommentable, goes_beside, goes_beside_unread, target_of_unknown, target_by_name, target_by_style, target_by_bytes};
+ghost use Rattle.reuse_session.specs.Annotate.{neighbour_of, is_uncommentable, goes_beside, goes_beside_unread, target_of_unknown, target_by_name, target_by_style};
+ghost use Rattle.reuse_session.specs.AnnotationPlan.{own_of, place_by};
 ghost use Rattle.reuse_session.specs.Plan.{AnswersOf};
-ghost use Rattle.reuse_tree.specs.declared.fault.StoreFault.{StoreFault};
+ghost use Rattle.reuse_session.specs.Refused.{IsNoFault};
 
-use crate::command::{Scope, Unknown};
+use crate::annotation::Annotation;
+use crate::command::Unknown;
 use crate::listing::is_among;
 use crate::reply::Refusal;
 use crate::target::Target;
@@ -32,21 +33,20 @@ pub(crate) fn goes_beside(
     alloc: Global,
     paths: &[PathText],
     path: &PathText,
-    scope: &Scope,
-    styles: &StyleTable,
+    asked: &Annotation<'_>,
 ) -> Result<bool, AllocError>
-    ensures { (tree : Files) → paths.now ≡ keys tree → IfOk result (λ beside. beside ≡ goes_beside scope.now (lookup styles.now) tree path.now) }
+    ensures { (tree : Files) → paths.now ≡ keys tree → IfOk result (λ beside. beside ≡ goes_beside asked.now.scope.now (own_of asked.now) tree path.now) }
 {
     let neighbour = neighbour_of(alloc, path)?;
-    Ok(is_among(paths, neighbour.as_slice()) || goes_beside_unread(path, scope, styles))
+    Ok(is_among(paths, neighbour.as_slice()) || goes_beside_unread(path, asked))
 }
 
 /// Whether the neighbour is the place, though it may not be there and whatever the file holds.
-pub(crate) fn goes_beside_unread(path: &PathText, scope: &Scope, styles: &StyleTable) -> bool
-    ensures { result ≡ goes_beside_unread scope.now (lookup styles.now) path.now }
+pub(crate) fn goes_beside_unread(path: &PathText, asked: &Annotation<'_>) -> bool
+    ensures { result ≡ goes_beside_unread asked.now.scope.now (own_of asked.now) path.now }
 {
-    scope.force_dot_license
-        || (scope.style.is_none() && is_uncommentable(styles.style_of(path.text())))
+    asked.scope.force_dot_license
+        || (asked.scope.style.is_none() && is_uncommentable(asked.styles.style_of(path.text())))
 }
 
 fn is_uncommentable(kind: Kind) -> bool
@@ -64,34 +64,30 @@ pub(crate) fn target_by_bytes(
     alloc: Global,
     path: &PathText,
     bytes: &[u8],
-    scope: &Scope,
-    styles: &StyleTable,
+    asked: &Annotation<'_>,
 ) -> Result<Target, Refusal>
     requires { length bytes.now ≤ 16_777_216 }
-    ensures target { AnswersOf (target_by_bytes scope.now (lookup styles.now) path.now bytes.now) result }
-    ensures planned { IfErr result IsOfPlan }
-    ensures fault { (fault : StoreFault) → result ≡ Err (Refusal.Fault fault) → ⊥ }
+    ensures target { AnswersOf (place_by asked.now path.now bytes.now) result }
+    ensures no_fault { IfErr result IsNoFault }
 {
     if !is_text(bytes) {
         return Ok(Target::Beside);
     }
-    target_by_style(alloc, path, scope, styles)
+    target_by_style(alloc, path, asked)
 }
 
 // The place by the style that is asked for, else by the name.
 fn target_by_style(
     alloc: Global,
     path: &PathText,
-    scope: &Scope,
-    styles: &StyleTable,
+    asked: &Annotation<'_>,
 ) -> Result<Target, Refusal>
-    ensures target { AnswersOf (target_by_style scope.now (lookup styles.now) path.now scope.now.style) result }
-    ensures planned { IfErr result IsOfPlan }
-    ensures fault { (fault : StoreFault) → result ≡ Err (Refusal.Fault fault) → ⊥ }
+    ensures target { AnswersOf (target_by_style asked.now.scope.now (own_of asked.now) path.now asked.now.scope.now.style) result }
+    ensures no_fault { IfErr result IsNoFault }
 {
-    match scope.style {
+    match asked.scope.style {
         Some(style) => Ok(Target::Inside(style)),
-        None => target_by_name(alloc, path, scope.unknown, styles),
+        None => target_by_name(alloc, path, asked.scope.unknown, asked.styles),
     }
 }
 
@@ -103,8 +99,7 @@ fn target_by_name(
     styles: &StyleTable,
 ) -> Result<Target, Refusal>
     ensures target { AnswersOf (target_by_name unknown path.now (kind_in (lookup styles.now) path.now)) result }
-    ensures planned { IfErr result IsOfPlan }
-    ensures fault { (fault : StoreFault) → result ≡ Err (Refusal.Fault fault) → ⊥ }
+    ensures no_fault { IfErr result IsNoFault }
 {
     match styles.style_of(path.text()) {
         Kind::Style(style) => Ok(Target::Inside(style)),
@@ -116,8 +111,7 @@ fn target_by_name(
 // The place where the name has no style.
 fn target_of_unknown(alloc: Global, path: &PathText, unknown: Unknown) -> Result<Target, Refusal>
     ensures target { AnswersOf (target_of_unknown unknown path.now) result }
-    ensures planned { IfErr result IsOfPlan }
-    ensures fault { (fault : StoreFault) → result ≡ Err (Refusal.Fault fault) → ⊥ }
+    ensures no_fault { IfErr result IsNoFault }
 {
     match unknown {
         Unknown::Refuse => Err(Refusal::Unrecognised(path.try_clone(alloc)?)),

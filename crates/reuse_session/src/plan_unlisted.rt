@@ -1,21 +1,17 @@
 // What annotate does at a path, as far as that is known without a listing of the tree.
 ghost use Rattle.std.specs.Prelude.{◌≡◌, ℕ, List, true, false, length, nat_lt, IfErr, None, Some};
-ghost use Rattle.reuse_session.specs.Reading.{get, reading_of, tree_of, IsOfPlan, OnlyReads, RefusedAsRead};
-ghost use Rattle.reuse_header.specs.Names.{lookup};
-ghost use Rattle.reuse_session.specs.TreeStyles.{OwnNames};
-ghost use Rattle.reuse_session.specs.Annotate.{annotated_at, neighbour_of};
+ghost use Rattle.reuse_session.specs.Reading.{get, reading_of, tree_of, IsOfPlan, ReadsAlone};
+ghost use Rattle.reuse_session.specs.Annotate.{neighbour_of};
+ghost use Rattle.reuse_session.specs.AnnotationPlan.{AnswersPath};
 ghost use Rattle.reuse_session.specs.Covered.{is_covered};
-ghost use Rattle.reuse_session.specs.Plan.{AnswersEdit};
 ghost use Rattle.reuse_session.specs.Unlisted.{IfKnown};
 
-use crate::command::Scope;
+use crate::annotation::Annotation;
 use crate::covered::is_covered;
 use crate::limits::LONGEST_FILE;
 use crate::plan_place::{Step, neighbour_path, plan_neighbour, plan_reading};
 use crate::plan_target::goes_beside_unread;
 use crate::reply::Refusal;
-use reuse_header::{How, StyleTable};
-use reuse_notice::Additions;
 use reuse_tree::{Change, PathText, Reading, Store};
 use std::alloc::Global;
 
@@ -34,15 +30,10 @@ pub(crate) fn plan_unlisted<S: Store>(
     alloc: Global,
     store: &mut S,
     path: &PathText,
-    additions: &Additions,
-    how: &How,
-    scope: &Scope,
-    styles: &StyleTable,
+    asked: &Annotation<'_>,
 ) -> Result<Unlisted<Option<Change>>, Refusal>
-    ensures edit { S.honest store.new → IfKnown (AnswersEdit (tree_of (S.files store.old)) (annotated_at how.now scope.now additions.now (lookup styles.now) (tree_of (S.files store.old)) path.now)) result }
-    ensures fails { RefusedAsRead S.Store store.old store.new result }
-    ensures reads { OnlyReads S.Store store.old store.new }
-    ensures planned { IfErr result IsOfPlan }
+    ensures edit { S.honest store.new → IfKnown (AnswersPath asked.now (tree_of (S.files store.old)) path.now) result }
+    ensures asks { ReadsAlone S.Store IsOfPlan store.old store.new result }
 {
     if !is_covered(path.as_bytes()) {
         return Ok(Unlisted::Unknown);
@@ -51,10 +42,8 @@ pub(crate) fn plan_unlisted<S: Store>(
         return Ok(Unlisted::Unknown);
     };
     match store.read(alloc, &neighbour, LONGEST_FILE)? {
-        Reading::Absent => plan_alone(alloc, store, path, additions, how, scope, styles),
-        reading => plan_beside_file(
-            alloc, store, path, &neighbour, additions, how, scope, reading,
-        ),
+        Reading::Absent => plan_alone(alloc, store, path, asked),
+        reading => plan_beside_file(alloc, store, path, &neighbour, asked, reading),
     }
 }
 
@@ -63,26 +52,21 @@ fn plan_alone<S: Store>(
     alloc: Global,
     store: &mut S,
     path: &PathText,
-    additions: &Additions,
-    how: &How,
-    scope: &Scope,
-    styles: &StyleTable,
+    asked: &Annotation<'_>,
 ) -> Result<Unlisted<Option<Change>>, Refusal>
     requires { is_covered path.now ≡ true }
     ensures edit { S.honest store.new → get (tree_of (S.files store.old)) (neighbour_of path.now) ≡ None
-        → IfKnown (AnswersEdit (tree_of (S.files store.old)) (annotated_at how.now scope.now additions.now (lookup styles.now) (tree_of (S.files store.old)) path.now)) result }
-    ensures fails { RefusedAsRead S.Store store.old store.new result }
-    ensures reads { OnlyReads S.Store store.old store.new }
-    ensures planned { IfErr result IsOfPlan }
+        → IfKnown (AnswersPath asked.now (tree_of (S.files store.old)) path.now) result }
+    ensures asks { ReadsAlone S.Store IsOfPlan store.old store.new result }
 {
-    if goes_beside_unread(path, scope, styles) {
+    if goes_beside_unread(path, asked) {
         return Ok(Unlisted::Unknown);
     }
     let reading = match store.read(alloc, path, LONGEST_FILE)? {
         Reading::Absent => return Ok(Unlisted::Unknown),
         reading => reading,
     };
-    match plan_reading(alloc, path, additions, how, scope, styles, reading) {
+    match plan_reading(alloc, path, asked, reading) {
         Ok(Step::Done(change)) => Ok(Unlisted::Known(change)),
         Ok(Step::Beside) => Ok(Unlisted::Unknown),
         Err(refusal) => Err(refusal),
@@ -95,25 +79,21 @@ fn plan_beside_file<S: Store>(
     store: &mut S,
     path: &PathText,
     neighbour: &PathText,
-    additions: &Additions,
-    how: &How,
-    scope: &Scope,
+    asked: &Annotation<'_>,
     reading: Reading,
 ) -> Result<Unlisted<Option<Change>>, Refusal>
     requires covered { is_covered path.now ≡ true }
     requires neighbour { neighbour.now ≡ neighbour_of path.now }
     requires short { nat_lt 4096 (length (neighbour_of path.now)) ≡ false }
-    ensures edit { S.honest store.new → (own : OwnNames) (bytes : List ℕ) → get (tree_of (S.files store.old)) (neighbour_of path.now) ≡ Some bytes → reading ≡ reading_of (Some bytes) 16_777_216
-        → IfKnown (AnswersEdit (tree_of (S.files store.old)) (annotated_at how.now scope.now additions.now own (tree_of (S.files store.old)) path.now)) result }
-    ensures fails { RefusedAsRead S.Store store.old store.new result }
-    ensures reads { OnlyReads S.Store store.old store.new }
-    ensures planned { IfErr result IsOfPlan }
+    ensures edit { S.honest store.new → (bytes : List ℕ) → get (tree_of (S.files store.old)) (neighbour_of path.now) ≡ Some bytes → reading ≡ reading_of (Some bytes) 16_777_216
+        → IfKnown (AnswersPath asked.now (tree_of (S.files store.old)) path.now) result }
+    ensures asks { ReadsAlone S.Store IsOfPlan store.old store.new result }
 {
     // Nothing of the file is looked at but whether it is there.
     if let Reading::Absent = store.read(alloc, path, 0)? {
         return Ok(Unlisted::Unknown);
     }
-    match plan_neighbour(alloc, path, neighbour, additions, how, scope, reading) {
+    match plan_neighbour(alloc, path, neighbour, asked, reading) {
         Ok(change) => Ok(Unlisted::Known(change)),
         Err(refusal) => Err(refusal),
     }

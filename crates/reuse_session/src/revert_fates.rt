@@ -1,6 +1,6 @@
 // What a revert would do.
 ghost use Rattle.std.specs.Prelude.{◌≡◌, IfOk, IfErr, OnOk, map, true};
-ghost use Rattle.reuse_session.specs.Reading.{keys, tree_of, OnlyReads, RefusedAsRead};
+ghost use Rattle.reuse_session.specs.Reading.{keys, tree_of, ReadsAlone};
 ghost use Rattle.std.specs.List.{list_any};
 ghost use Rattle.reuse_tree.specs.Change.{path_of, IsProper};
 ghost use Rattle.reuse_session.specs.Entry.{makes, IsEntry, IsSmall};
@@ -27,9 +27,7 @@ pub(crate) fn plan_revert<S: Store>(
 ) -> Result<Planned, Refusal>
     ensures planned { S.honest store.new → IfOk result (Plans (tree_of (S.files store.old))
         (map (revert_fate skip_moved (tree_of (S.files store.old))) changes.now) (revert_edits changes.now skip_moved (tree_of (S.files store.old)))) }
-    ensures fails { RefusedAsRead S.Store store.old store.new result }
-    ensures reads { OnlyReads S.Store store.old store.new }
-    ensures refusal { IfErr result IsLookRefusal }
+    ensures asks { ReadsAlone S.Store IsLookRefusal store.old store.new result }
 {
     let changes = changes.as_slice();
     let paths = paths_to_heed(alloc, store, changes)?;
@@ -47,9 +45,7 @@ fn plan_each<S: Store>(
     ensures planned { S.honest store.new → IsEntry changes.now → (list_any (makes Undo) changes.now ≡ true → paths.now ≡ keys (tree_of (S.files store.old)))
         → IfOk result (Plans (tree_of (S.files store.old))
         (map (revert_fate skip_moved (tree_of (S.files store.old))) changes.now) (revert_edits changes.now skip_moved (tree_of (S.files store.old)))) }
-    ensures fails { RefusedAsRead S.Store store.old store.new result }
-    ensures reads { OnlyReads S.Store store.old store.new }
-    ensures refusal { IfErr result IsLookRefusal }
+    ensures asks { ReadsAlone S.Store IsLookRefusal store.old store.new result }
 {
     let mut planned = Planned::new(alloc);
     for change in changes {
@@ -70,9 +66,7 @@ fn plan_next<S: Store>(
     ensures adds { S.honest store.new → IsProper change.now → IsSmall change.now → is_of_tree (path_of change.now) ≡ true
         → (makes Undo change.now ≡ true → paths.now ≡ keys (tree_of (S.files store.old)))
         → OnOk result (Adds (tree_of (S.files store.old)) (back_at skip_moved (tree_of (S.files store.old)) change.now) (revert_fate skip_moved (tree_of (S.files store.old)) change.now) planned.old planned.new) }
-    ensures fails { RefusedAsRead S.Store store.old store.new result }
-    ensures reads { OnlyReads S.Store store.old store.new }
-    ensures refusal { IfErr result IsLookRefusal }
+    ensures asks { ReadsAlone S.Store IsLookRefusal store.old store.new result }
 {
     match take_back(alloc, store, paths, change)? {
         Some(back) => Ok(planned.push_change(alloc, back)?),

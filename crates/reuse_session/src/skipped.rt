@@ -1,16 +1,14 @@
 // Which of the files that annotate leaves as they are were skipped.
 ghost use Rattle.std.specs.Prelude.{◌≡◌, ◌≤◌, ◌&&◌, Ok, Err, None, true, is_some, length, IfOk, IfErr};
-ghost use Rattle.reuse_session.specs.Reading.{get, keys, tree_of, Files, OnlyReads, RefusedAsRead};
+ghost use Rattle.reuse_session.specs.Reading.{get, keys, tree_of, Files, ReadsAlone};
 ghost use Rattle.reuse_header.specs.Header.{header_of};
-ghost use Rattle.reuse_header.specs.Names.{lookup};
-ghost use Rattle.reuse_header.specs.declared.annotation.How.{How};
-ghost use Rattle.reuse_notice.specs.declared.adding.Additions.{Additions};
-ghost use Rattle.reuse_tree.specs.declared.fault.StoreFault.{StoreFault};
-ghost use Rattle.reuse_session.specs.Annotate.{neighbour_of, target_by_bytes, annotated_at, edit_beside};
+ghost use Rattle.reuse_session.specs.Annotate.{neighbour_of};
+ghost use Rattle.reuse_session.specs.AnnotationPlan.{annotated_by, beside_by, place_by, skipped_by};
 ghost use Rattle.reuse_session.specs.Covered.{is_covered};
-ghost use Rattle.reuse_session.specs.Fates.{has_tagged, is_skipped_at, is_skipped};
+ghost use Rattle.reuse_session.specs.Fates.{has_tagged, is_skipped_at};
 ghost use Rattle.reuse_session.specs.Previews.{IsLookRefusal};
 
+use crate::annotation::Annotation;
 use crate::command::Scope;
 use crate::fate::told;
 use crate::limits::LONGEST_FILE;
@@ -18,7 +16,7 @@ use crate::plan_place::neighbour_path;
 use crate::plan_target::{goes_beside, target_by_bytes};
 use crate::reply::Refusal;
 use crate::target::Target;
-use reuse_header::{Style, StyleTable, find, neighbour_has_tag};
+use reuse_header::{Style, find, neighbour_has_tag};
 use reuse_tree::{PathText, Reading, Store};
 use std::alloc::Global;
 
@@ -28,23 +26,20 @@ pub(crate) fn is_skipped<S: Store>(
     store: &mut S,
     paths: &[PathText],
     path: &PathText,
-    scope: &Scope,
-    styles: &StyleTable,
+    asked: &Annotation<'_>,
 ) -> Result<bool, Refusal>
-    ensures skipped { S.honest store.new → (how : How) (additions : Additions) → paths.now ≡ keys (tree_of (S.files store.old))
-        → annotated_at how scope.now additions (lookup styles.now) (tree_of (S.files store.old)) path.now ≡ Ok None
-        → IfOk result (λ skipped. skipped ≡ is_skipped scope.now (lookup styles.now) (tree_of (S.files store.old)) path.now) }
-    ensures fails { RefusedAsRead S.Store store.old store.new result }
-    ensures reads { OnlyReads S.Store store.old store.new }
-    ensures refusal { IfErr result IsLookRefusal }
+    ensures skipped { S.honest store.new → paths.now ≡ keys (tree_of (S.files store.old))
+        → annotated_by asked.now (tree_of (S.files store.old)) path.now ≡ Ok None
+        → IfOk result (λ skipped. skipped ≡ skipped_by asked.now (tree_of (S.files store.old)) path.now) }
+    ensures asks { ReadsAlone S.Store IsLookRefusal store.old store.new result }
 {
-    if goes_beside(alloc, paths, path, scope, styles)? {
-        return is_skipped_beside(alloc, store, path, scope);
+    if goes_beside(alloc, paths, path, asked)? {
+        return is_skipped_beside(alloc, store, path, asked);
     }
     let Reading::Found(bytes) = store.read(alloc, path, LONGEST_FILE)? else {
         return Ok(false);
     };
-    is_skipped_alone(alloc, path, bytes.as_slice(), scope, styles)
+    is_skipped_alone(alloc, path, bytes.as_slice(), asked)
 }
 
 // Whether a file was skipped whose neighbour is the place, and stays as it is.
@@ -52,15 +47,13 @@ fn is_skipped_beside<S: Store>(
     alloc: Global,
     store: &mut S,
     path: &PathText,
-    scope: &Scope,
+    asked: &Annotation<'_>,
 ) -> Result<bool, Refusal>
-    ensures skipped { S.honest store.new → (how : How) (additions : Additions) → is_covered path.now ≡ true → edit_beside how scope.now additions (tree_of (S.files store.old)) path.now ≡ Ok None
-        → IfOk result (λ skipped. skipped ≡ (scope.now.skip_existing && has_tagged (get (tree_of (S.files store.old)) (neighbour_of path.now)))) }
-    ensures fails { RefusedAsRead S.Store store.old store.new result }
-    ensures reads { OnlyReads S.Store store.old store.new }
-    ensures refusal { IfErr result IsLookRefusal }
+    ensures skipped { S.honest store.new → is_covered path.now ≡ true → beside_by asked.now (tree_of (S.files store.old)) path.now ≡ Ok None
+        → IfOk result (λ skipped. skipped ≡ (asked.now.scope.now.skip_existing && has_tagged (get (tree_of (S.files store.old)) (neighbour_of path.now)))) }
+    ensures asks { ReadsAlone S.Store IsLookRefusal store.old store.new result }
 {
-    if !scope.skip_existing {
+    if !asked.scope.skip_existing {
         return Ok(false);
     }
     let Some(neighbour) = neighbour_path(alloc, path)? else {
@@ -77,19 +70,17 @@ fn is_skipped_alone(
     alloc: Global,
     path: &PathText,
     bytes: &[u8],
-    scope: &Scope,
-    styles: &StyleTable,
+    asked: &Annotation<'_>,
 ) -> Result<bool, Refusal>
     ensures skipped { (tree : Files) → length bytes.now ≤ 16_777_216 → get tree (neighbour_of path.now) ≡ None
-        → IfOk result (λ skipped. skipped ≡ is_skipped_at scope.now tree path.now bytes.now (target_by_bytes scope.now (lookup styles.now) path.now bytes.now)) }
-    ensures refusal { IfErr result IsLookRefusal }
-    ensures fault { (fault : StoreFault) → result ≡ Err (Refusal.Fault fault) → ⊥ }
+        → IfOk result (λ skipped. skipped ≡ is_skipped_at asked.now.scope.now tree path.now bytes.now (place_by asked.now path.now bytes.now)) }
+    ensures memory { IfErr result (λ refusal. refusal ≡ Refusal.Memory) }
 {
     if bytes.len() > LONGEST_FILE {
         return Ok(false);
     }
-    match target_by_bytes(alloc, path, bytes, scope, styles) {
-        Ok(Target::Inside(style)) => Ok(has_kept_header(bytes, style, scope)),
+    match target_by_bytes(alloc, path, bytes, asked) {
+        Ok(Target::Inside(style)) => Ok(has_kept_header(bytes, style, asked.scope)),
         Ok(Target::Beside) => Ok(false),
         Ok(Target::Nowhere) => Ok(true),
         Err(refusal) => {

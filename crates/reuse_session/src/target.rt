@@ -1,7 +1,7 @@
 // Where the licensing information of a file goes.
 use reuse_header::Style;
 
-/// Where the licensing information of a file goes.
+/// Where the licensing information of a file goes, as the definitions of what a command gives speak of it.
 #[derive(Clone, Copy, Debug)]
 pub enum Target {
     /// Into a comment of the file, in this style.

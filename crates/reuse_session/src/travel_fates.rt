@@ -1,7 +1,7 @@
 // What an undo or a redo would do, path by path.
 ghost use Rattle.std.specs.Prelude.{◌≡◌, IfOk, IfErr, true};
 ghost use Rattle.std.specs.FinMap as map;
-ghost use Rattle.reuse_session.specs.Reading.{tree_of, OnlyReads, RefusedAsRead};
+ghost use Rattle.reuse_session.specs.Reading.{tree_of, OnlyReads, ReadsAlone, RefusedAsRead};
 ghost use Rattle.reuse_tree.specs.Change.{path_of, IsProper};
 ghost use Rattle.reuse_session.specs.Entry.{makes, IsEntry, IsSmall};
 ghost use Rattle.reuse_session.specs.Fates.{IsFateOf, AreFatesOf};
@@ -46,9 +46,7 @@ fn change_fate<S: Store>(
     ensures fate { S.honest store.new → IsProper change.now → IsSmall change.now → is_of_tree (path_of change.now) ≡ true
         → (makes way change.now ≡ true → paths.now ≡ map.keys (S.files store.old))
         → IfOk result (IsFateOf way (tree_of (S.files store.old)) change.now) }
-    ensures fails { RefusedAsRead S.Store store.old store.new result }
-    ensures reads { OnlyReads S.Store store.old store.new }
-    ensures refusal { IfErr result IsLookRefusal }
+    ensures asks { ReadsAlone S.Store IsLookRefusal store.old store.new result }
 {
     let path = change.path().try_clone(alloc)?;
     if can_be_made(alloc, store, change, way, paths)? {

@@ -2,10 +2,9 @@
 ghost use Rattle.std.specs.Prelude.{◌≡◌, ◌≢◌, ◌↔◌, ◌+◌, ◌<◌, ◌≤◌, ◌⊎◌, true, Some, length, IsTrue, IfOk, IfErr, OnOk, OnErr, IsErrOf, IsSome};
 ghost use Rattle.std.specs.Option.{option_copied};
 ghost use Rattle.std.specs.FinMap as map;
-ghost use Rattle.reuse_text.specs.Text.{spliced};
 ghost use Rattle.reuse_tree.specs.Files.{Clashes};
 ghost use Rattle.reuse_tree.specs.Change.{path_of, IsProper};
-ghost use Rattle.reuse_session.specs.Parts.{joined, held_in};
+ghost use Rattle.reuse_session.specs.Parts.{held_in};
 ghost use Rattle.reuse_session.specs.Seals.{IsReadyByRange};
 ghost use Rattle.reuse_session.specs.Tree.{is_of_tree, Sets};
 ghost use Rattle.reuse_session.specs.Entry.{makes, IsSmall, IsReady, Steps, TurnsBy};
@@ -14,7 +13,7 @@ ghost use Rattle.reuse_tree.specs.Asked.{OnlyReads, IsLater, FailsAsRead};
 use crate::entry::Way;
 use crate::limits::LONGEST_FILE;
 use crate::reply::Cause;
-use reuse_tree::{Change, ChangeState, Reading, Store, StoreFault};
+use reuse_tree::{Change, ChangeState, Parts, Reading, Store, StoreFault};
 use std::alloc::Global;
 
 /// Whether the change, gone through this way, makes a file.
@@ -68,37 +67,6 @@ pub fn can_turn<S: Store>(
     }
 }
 
-/// What a path holds, in three parts that are joined: so a splice is put without a copy of its file.
-#[derive(Clone, Copy)]
-pub struct Parts<'a> {
-    front: &'a [u8],
-    middle: &'a [u8],
-    back: &'a [u8],
-}
-
-// These bytes as a whole.
-fn whole(bytes: &[u8]) -> Parts<'_>
-    ensures { joined result ≡ bytes.now }
-{
-    Parts {
-        front: bytes,
-        middle: b"",
-        back: b"",
-    }
-}
-
-// The file with new bytes in the place of old ones.
-fn with_part<'a>(file: &'a [u8], at: usize, old_len: usize, new: &'a [u8]) -> Parts<'a>
-    requires { at + old_len ≤ length file.now }
-    ensures { joined result ≡ spliced file.now at old_len new.now }
-{
-    Parts {
-        front: &file[..at],
-        middle: new,
-        back: &file[at + old_len..],
-    }
-}
-
 /// What the path of the change holds once it is gone through this way, where it holds this now. It takes no memory and calls no store,
 /// so that it is no cause to stop once a put has started. It tests range and length alone: a file that was tested by its seal isn't
 /// hashed again.
@@ -115,16 +83,16 @@ pub fn turned<'a>(
         return Err(Cause::Moved);
     }
     match (change, way) {
-        (Change::Make { new, .. }, Way::Do) => Ok(Some(whole(new.as_slice()))),
-        (Change::Drop { old, .. }, Way::Undo) => Ok(Some(whole(old.as_slice()))),
+        (Change::Make { new, .. }, Way::Do) => Ok(Some(Parts::whole(new.as_slice()))),
+        (Change::Drop { old, .. }, Way::Undo) => Ok(Some(Parts::whole(old.as_slice()))),
         (Change::Make { .. }, Way::Undo) | (Change::Drop { .. }, Way::Do) => Ok(None),
         (Change::Splice { at, old, new, .. }, way) => {
             let Some(file) = file else {
                 return Err(Cause::Moved);
             };
             match way {
-                Way::Do => Ok(Some(with_part(file, *at, old.len(), new.as_slice()))),
-                Way::Undo => Ok(Some(with_part(file, *at, new.len(), old.as_slice()))),
+                Way::Do => Ok(Some(Parts::spliced(file, *at, old.len(), new.as_slice()))),
+                Way::Undo => Ok(Some(Parts::spliced(file, *at, new.len(), old.as_slice()))),
             }
         }
     }
@@ -149,7 +117,7 @@ pub fn put_turned<S: Store>(
 {
     let path = change.path();
     match after {
-        Some(parts) => store.put_parts(alloc, path, parts.front, parts.middle, parts.back)?,
+        Some(parts) => store.put_parts(alloc, path, parts)?,
         None => store.remove(alloc, path)?,
     }
     Ok(())

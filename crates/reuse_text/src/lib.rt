@@ -1,14 +1,15 @@
 //! Lines, byte order mark, line ending and kind of text files, and an edit of one range of bytes.
 #![tactic(auto)]
 
-ghost use Rattle.std.specs.Prelude.{◌≡◌, ◌≢◌, ◌+◌, ◌-◌, ◌^◌, ◌<◌, ◌≤◌, ◌↔◌, IsTrue, IfOk, All, List, ℕ, [], length, take, drop, ◌∷◌};
+ghost use Rattle.std.specs.Prelude.{◌≡◌, ◌≢◌, ◌+◌, ◌-◌, ◌^◌, ◌<◌, ◌≤◌, ◌↔◌, IsTrue, IfOk, All, List, ℕ, [], length, take, drop, ◌∷◌, ◌==◌};
+ghost use Rattle.std.specs.List.{after_last};
 ghost use Rattle.reuse_text.specs.Text.{IsText, TextLine, AreLines, text_of, lines_of, after_mark, mark_len_of, kind_of, ending_bytes, file_lines, StandsIn, spliced};
 
 mod bytes;
 
-use bstr::ByteSlice;
 pub use bytes::Bytes;
-use memchr::memchr;
+use memchr::{memchr, memrchr};
+use simdutf8::is_utf8_baseline;
 use std::alloc::{AllocError, Global};
 
 /// The ending of a line: LF or CR LF.
@@ -128,7 +129,7 @@ pub fn mark_len(file: &[u8]) -> usize
 pub fn is_text(file: &[u8]) -> bool
     ensures { IsTrue result ↔ IsText file.now }
 {
-    memchr(0, file).is_none() && file.to_str().is_ok()
+    memchr(0, file).is_none() && is_utf8_baseline(file)
 }
 
 /// The bytes of `file` with `new` in the place of the `old_len` bytes from `at` on.
@@ -148,6 +149,16 @@ pub fn splice(
     bytes.extend_from_slice(new)?;
     bytes.extend_from_slice(&file[at + old_len..])?;
     Ok(bytes)
+}
+
+/// What stands after the last slash of a path, or all of it where it has none.
+pub fn last_part(path: &[u8]) -> &[u8]
+    ensures { result.now ≡ after_last (λ b. b == 47) path.now }
+{
+    match memrchr(b'/', path) {
+        None => path,
+        Some(slash) => &path[slash + 1..],
+    }
 }
 
 /// The lines of a text are the one list of well-formed lines that joins to it, and each stands in

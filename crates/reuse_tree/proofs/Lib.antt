@@ -1,7 +1,7 @@
 pub mod FileMaps
 pub mod GoodFiles
 pub mod Contents
-pub mod Parts
+pub mod Cuts
 pub mod Turning
 pub mod Sealed
 pub mod AskedLemmas

@@ -8,7 +8,7 @@ use Rattle.reuse_tree.specs.declared.change.Change.TheVariants.{Make, Drop, Spli
 use Rattle.reuse_tree.specs.declared.digest.Seal.{Seal}
 use Rattle.reuse_tree.specs.Digest.{IsDigestOf, IsSealOf, swapped}
 use Rattle.reuse_tree.specs.Change.{digest_before, digest_after, inverse_of, is_sealed, HoldsPart, TurnsByRange, Turns, IsBefore, IsAfter, IsBeforeByRange, IsAfterByRange}
-use Rattle.reuse_tree.proofs.Parts.{cuts}
+use Rattle.reuse_tree.proofs.Cuts.{cuts}
 use Rattle.reuse_tree.proofs.Turning.{turns_once_by_range, turns_back_by_range, turns_back, inverse_before, inverse_after, is_sealed-inverse}
 
 -- a change that leads from the file by range and length leads from it where the digests are those of the files

@@ -8,7 +8,7 @@ use Rattle.reuse_tree.specs.declared.digest.Seal.{Seal}
 use Rattle.reuse_tree.specs.Digest.{IsDigestOf}
 use Rattle.reuse_tree.specs.Files.{Files}
 use Rattle.reuse_tree.specs.Change.{path_of, inverse_of, is_sealed, digest_before, digest_after, IsProper, HoldsPart, TurnsByRange, Turns, IsBefore, IsAfter, IsBeforeByRange, IsAfterByRange, Leads}
-use Rattle.reuse_tree.proofs.Parts.{cuts, one_part}
+use Rattle.reuse_tree.proofs.Cuts.{cuts, one_part}
 
 module _ (path new : List ℕ) (digest file : Option (List ℕ)) (P : Type 0) where
   pub make_before : P ↔ (file ≡ None) → P ↔ IsBeforeByRange (Make path new digest) file

@@ -1,5 +1,6 @@
 pub mod Path
 pub mod Files
+pub mod Parts
 pub mod Digest
 pub mod Change
 pub mod Store

@@ -1,8 +1,10 @@
 // The SHA-256 of a file, as a change records it.
-ghost use Rattle.std.specs.Prelude.{◌≡◌, ◌==◌, ◌++◌, ℕ, List, length, if◌then◌else◌};
+ghost use Rattle.std.specs.Prelude.{◌≡◌, ◌==◌, ℕ, List, length, if◌then◌else◌};
 ghost use Rattle.reuse_text.specs.Text.{spliced};
 ghost use Rattle.sha2.specs.Sha256.{sha256};
+ghost use Rattle.reuse_tree.specs.Parts.{joined};
 
+use crate::Parts;
 use sha2::{Digest as _, Sha256};
 use std::marker::Model;
 
@@ -30,14 +32,14 @@ impl Digest {
         }
     }
 
-    /// The SHA-256 of three pieces, one after the other. It copies none of them.
-    pub fn of_parts(front: &[u8], middle: &[u8], back: &[u8]) -> Digest
-        ensures { result ≡ sha256 (front.now ++ middle.now ++ back.now) }
+    /// The SHA-256 of these parts joined. It copies none of them.
+    pub fn of_parts(parts: Parts) -> Digest
+        ensures { result ≡ sha256 (joined parts.entry) }
     {
         let mut hasher = Sha256::new();
-        hasher.update(front);
-        hasher.update(middle);
-        hasher.update(back);
+        hasher.update(parts.front);
+        hasher.update(parts.middle);
+        hasher.update(parts.back);
         Digest {
             bytes: hasher.finalize(),
         }
@@ -87,11 +89,9 @@ impl Seal {
     pub fn of(file: &[u8], at: usize, old_len: usize, new: &[u8]) -> Seal
         ensures { result ≡ seal_of file.now (spliced file.now at old_len new.now) }
     {
-        let front = &file[..at.min(file.len())];
-        let back = &file[at.saturating_add(old_len).min(file.len())..];
         Seal {
             before: Digest::of(file),
-            after: Digest::of_parts(front, new, back),
+            after: Digest::of_parts(Parts::spliced(file, at, old_len, new)),
         }
     }
 

@@ -1,8 +1,9 @@
 // A store whose calls fail from some call on, or at one call alone.
 ghost use Rattle.std.specs.Prelude.{◌≡◌, ◌≤◌, ◌+◌, ◌↔◌, IsTrue, Some};
 ghost use Rattle.reuse_tree.specs.FaultyStore.{left_after};
+ghost use Rattle.reuse_tree.specs.Parts.{joined};
 
-use crate::{CallRecord, PathText, Reading, Store, StoreFault};
+use crate::{CallRecord, Parts, PathText, Reading, Store, StoreFault};
 use std::alloc::Global;
 
 /// A store that passes some calls on to the one inside, and then fails the next with `Device`: each from there on where faults stay, and else
@@ -137,28 +138,20 @@ impl<S: Store + Drop, const STAYS: bool> Store for FaultyStore<S, STAYS> {
         answer
     }
 
-    fn put_parts(
-        &mut self,
-        alloc: Global,
-        path: &PathText,
-        front: &[u8],
-        middle: &[u8],
-        back: &[u8],
-    ) -> Result<(), StoreFault>
-        ensures puts { IsPut (with_faults S.Store) path.now (front.now ++ middle.now ++ back.now) self.old self.new result }
+    fn put_parts(&mut self, alloc: Global, path: &PathText, parts: Parts) -> Result<(), StoreFault>
+        ensures puts { IsPut (with_faults S.Store) path.now (joined parts.entry) self.old self.new result }
         ensures later { IsLater (with_faults S.Store) self.old self.new }
-        ensures makes { Makes STAYS (IsPut S.Store path.now (front.now ++ middle.now ++ back.now)) self.old self.new result }
+        ensures makes { Makes STAYS (IsPut S.Store path.now (joined parts.entry)) self.old self.new result }
     {
         if !is_due(&mut self.left, STAYS) {
-            return self.inner.put_parts(alloc, path, front, middle, back);
+            return self.inner.put_parts(alloc, path, parts);
         }
         if self.takes_effect {
-            let _ = self.inner.put_parts(alloc, path, front, middle, back);
+            let _ = self.inner.put_parts(alloc, path, parts);
             return self.fail_with_effect();
         }
         let answer = Err(StoreFault::Device);
-        self.failed
-            .note_put_parts(path, front, middle, back, &answer);
+        self.failed.note_put_parts(path, parts, &answer);
         answer
     }
 
@@ -167,7 +160,7 @@ impl<S: Store + Drop, const STAYS: bool> Store for FaultyStore<S, STAYS> {
         ensures later { IsLater (with_faults S.Store) self.old self.new }
         ensures makes { Makes STAYS (IsPut S.Store path.now bytes.now) self.old self.new result }
     {
-        self.put_parts(alloc, path, bytes, b"", b"")
+        self.put_parts(alloc, path, Parts::whole(bytes))
     }
 
     fn remove(&mut self, alloc: Global, path: &PathText) -> Result<(), StoreFault>

@@ -7,8 +7,9 @@ ghost use Rattle.std.specs.Cmp.Lexicographic.{slice_cmp};
 ghost use Rattle.std.specs.Ordering.{nat_cmp};
 ghost use Rattle.reuse_tree.specs.Path.{lies_under};
 ghost use Rattle.reuse_tree.specs.Files.{AreFiles};
+ghost use Rattle.reuse_tree.specs.Parts.{joined};
 
-use crate::{PathText, Reading, StoreFault};
+use crate::{Parts, PathText, Reading, StoreFault};
 use reuse_text::Bytes;
 use std::alloc::{AllocError, Global};
 use std::collections::BTreeMap;
@@ -70,19 +71,17 @@ impl FileMap {
         &mut self,
         alloc: Global,
         path: &PathText,
-        front: &[u8],
-        middle: &[u8],
-        back: &[u8],
+        parts: Parts,
     ) -> Result<(), StoreFault>
-        ensures ok { OnOk result (Puts path.now (front.now ++ middle.now ++ back.now) (files_of self.old) (files_of self.new)) }
-        ensures err { IfErr result (λ fault. PutFails fault path.now (front.now ++ middle.now ++ back.now) (files_of self.old) (files_of self.new)) }
+        ensures ok { OnOk result (Puts path.now (joined parts.entry) (files_of self.old) (files_of self.new)) }
+        ensures err { IfErr result (λ fault. PutFails fault path.now (joined parts.entry) (files_of self.old) (files_of self.new)) }
         ensures no_device { result ≢ Err StoreFault.Device }
     {
         if self.clashes(path) {
             return Err(StoreFault::Clash);
         }
         let path = path.try_clone(alloc)?;
-        let bytes = joined(alloc, front, middle, back)?;
+        let bytes = parts.join(alloc)?;
         self.contents.insert(path, bytes)?;
         Ok(())
     }
@@ -103,22 +102,4 @@ impl FileMap {
             .keys()
             .any(|other| other.lies_under(path) || path.lies_under(other))
     }
-}
-
-// The parts joined, as the bytes of one file.
-fn joined(alloc: Global, front: &[u8], middle: &[u8], back: &[u8]) -> Result<Bytes, AllocError>
-    ensures { IfOk result (λ bytes. bytes ≡ front.now ++ middle.now ++ back.now) }
-{
-    // No memory holds more bytes than a number counts.
-    let Some(start) = front.len().checked_add(middle.len()) else {
-        return Err(AllocError);
-    };
-    let Some(len) = start.checked_add(back.len()) else {
-        return Err(AllocError);
-    };
-    let mut bytes = Vec::with_capacity(alloc, len)?;
-    bytes.extend_from_slice(front)?;
-    bytes.extend_from_slice(middle)?;
-    bytes.extend_from_slice(back)?;
-    Ok(Bytes::from_vec(bytes))
 }

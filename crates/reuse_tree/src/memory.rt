@@ -3,7 +3,7 @@ ghost use Rattle.std.specs.Prelude.{◌≡◌, ⊤};
 ghost use Rattle.std.specs.FinMap as map;
 
 use crate::file_map::FileMap;
-use crate::{CallRecord, PathText, Reading, Store, StoreFault};
+use crate::{CallRecord, Parts, PathText, Reading, Store, StoreFault};
 use std::alloc::Global;
 
 /// Files in memory, which nobody else writes. It never fails but for memory.
@@ -79,21 +79,18 @@ impl Store for MemoryStore {
         &mut self,
         alloc: Global,
         path: &PathText,
-        front: &[u8],
-        middle: &[u8],
-        back: &[u8],
+        parts: Parts,
     ) -> Result<(), StoreFault> {
         let answer = match &mut self.files {
-            Some(files) => files.put_parts(alloc, path, front, middle, back),
+            Some(files) => files.put_parts(alloc, path, parts),
             None => {
                 let mut files = FileMap::new(alloc);
-                let answer = files.put_parts(alloc, path, front, middle, back);
+                let answer = files.put_parts(alloc, path, parts);
                 self.files = Some(files);
                 answer
             }
         };
-        self.calls
-            .note_put_parts(path, front, middle, back, &answer);
+        self.calls.note_put_parts(path, parts, &answer);
         answer
     }
 

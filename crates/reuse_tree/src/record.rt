@@ -4,12 +4,13 @@ ghost use Rattle.std.specs.Borrow.{ftrue};
 ghost use Rattle.std.specs.FinMap as map;
 ghost use Rattle.std.specs.Coded.{coded_list, coded_ℕ, coded_bool};
 ghost use Rattle.reuse_tree.specs.Files.{Files};
+ghost use Rattle.reuse_tree.specs.Parts.{joined};
 ghost use Rattle.std.specs.Result.{result_map_both};
 ghost use Rattle.reuse_tree.specs.Calls.{Call, Start, took_effect};
 ghost use Rattle.reuse_tree.specs.Calls.Call.{ListCall, ReadCall, PutCall, RemoveCall};
 ghost use Rattle.reuse_tree.specs.CallParts.{call_of};
 
-use crate::{PathText, Reading, StoreFault};
+use crate::{Parts, PathText, Reading, StoreFault};
 use std::marker::{Model, PhantomData};
 
 // Which call was made, and how it was answered.
@@ -86,18 +87,16 @@ impl CallRecord {
         }
     }
 
-    /// Notes that the path was to be made these three parts joined, and the answer. Whether a put that failed took effect is its fate.
-    pub fn note_put_parts(
-        &mut self,
-        path: &PathText,
-        front: &[u8],
-        middle: &[u8],
-        back: &[u8],
-        answer: &Result<(), StoreFault>,
-    )
-        ensures { self.new ≡ record self.old { calls = PutCall path.now (front.now ++ middle.now ++ back.now) answer.now (took_effect self.old.fates self.old.calls) ∷ self.old.calls } }
+    /// Notes that the path was to be made these parts joined, and the answer. Whether a put that failed took effect is its fate.
+    pub fn note_put_parts(&mut self, path: &PathText, parts: Parts, answer: &Result<(), StoreFault>)
+        ensures { self.new ≡ record self.old { calls = PutCall path.now (joined parts.entry) answer.now (took_effect self.old.fates self.old.calls) ∷ self.old.calls } }
     {
         let path = path.as_bytes();
+        let Parts {
+            front,
+            middle,
+            back,
+        } = parts;
         match answer {
             Ok(()) => self.note(&CallKind::Put, path, front, middle, back, 0, &[]),
             Err(fault) => {

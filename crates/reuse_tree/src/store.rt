@@ -2,8 +2,9 @@
 ghost use Rattle.std.specs.Prelude.{◌≡◌, ◌≢◌, ℕ, ◌++◌, MatchResult, IfOk};
 ghost use Rattle.std.specs.FinMap as map;
 ghost use Rattle.reuse_tree.specs.Files.{Files, AreFiles};
+ghost use Rattle.reuse_tree.specs.Parts.{joined};
 
-use crate::{PathText, StoreFault};
+use crate::{Parts, PathText, StoreFault};
 use reuse_text::Bytes;
 use std::alloc::Global;
 
@@ -55,16 +56,9 @@ pub trait Store {
         ensures fails { FailsAsRead failures honest self.old self.new result }
         ensures reads { OnlyReads files failures written moves honest self.old self.new };
 
-    /// Makes the path's file these three parts joined, and folders as needed.
-    fn put_parts(
-        &mut self,
-        alloc: Global,
-        path: &PathText,
-        front: &[u8],
-        middle: &[u8],
-        back: &[u8],
-    ) -> Result<(), StoreFault>
-        ensures puts { IsPut files failures written moves honest path.now (front.now ++ middle.now ++ back.now) self.old self.new result }
+    /// Makes the path's file these parts joined, and folders as needed.
+    fn put_parts(&mut self, alloc: Global, path: &PathText, parts: Parts) -> Result<(), StoreFault>
+        ensures puts { IsPut files failures written moves honest path.now (joined parts.entry) self.old self.new result }
         ensures later { IsLater failures written moves honest self.old self.new };
 
     /// Makes the path's file these bytes, and folders as needed.
@@ -72,7 +66,7 @@ pub trait Store {
         ensures puts { IsPut files failures written moves honest path.now bytes.now self.old self.new result }
         ensures later { IsLater failures written moves honest self.old self.new }
     {
-        self.put_parts(alloc, path, bytes, b"", b"")
+        self.put_parts(alloc, path, Parts::whole(bytes))
     }
 
     /// Removes the path's file, if there is one.

@@ -19,7 +19,8 @@ joined-more text_of xs i d h =
     ∙ ap (λ l. joined text_of (take i xs) ++ l) one)
 
 -- a text that is written behind those so far
-pub Appends-joined : {A : Type 0} (text_of : A → List ℕ) (old mid new : Option (List ℕ)) (xs : List A) (i : ℕ) (d : A) → i < length xs
-    → Appends old mid (joined text_of (take i xs)) → Appends mid new (text_of (get_or xs i d)) → Appends old new (joined text_of (take (i + 1) xs))
-Appends-joined text_of old mid new xs i d h all one =
-    subst (λ (l : List ℕ). Appends old new l) (joined-more text_of xs i d h) (Appends-trans old mid new (joined text_of (take i xs)) (text_of (get_or xs i d)) all one)
+pub Appends-joined : {A : Type 0} (text_of : A → List ℕ) (old mid new : Option (List ℕ)) (xs : List A) (i : ℕ) (x : A) → i < length xs → x ≡ get_or xs i x
+    → Appends old mid (joined text_of (take i xs)) → Appends mid new (text_of x) → Appends old new (joined text_of (take (i + 1) xs))
+Appends-joined text_of old mid new xs i x h is all one =
+    subst (λ (l : List ℕ). Appends old new l) (joined-more text_of xs i x h)
+    (Appends-trans old mid new (joined text_of (take i xs)) (text_of (get_or xs i x)) all (subst (λ (y : _). Appends mid new (text_of y)) is one))

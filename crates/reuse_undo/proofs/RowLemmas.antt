@@ -28,11 +28,12 @@ AreJoined-push IsText (first ∷ xs) x text line all one = (
 )
 
 -- with one more
-pub AppendsSome-row : {A : Type 0} (IsText : A → List ℕ → Type 0) (old mid new : Option (List ℕ)) (xs : List A) (i : ℕ) (d : A) → i < length xs
-    → AppendsSome old mid (AreJoined IsText (take i xs)) → AppendsSome mid new (IsText (get_or xs i d)) → AppendsSome old new (AreJoined IsText (take (i + 1) xs))
-AppendsSome-row IsText old mid new xs i d h all one =
-    subst (λ l. AppendsSome old new (AreJoined IsText l)) (sym (take_more xs i d h))
-    (all.0 ++ one.0, (AreJoined-push IsText (take i xs) (get_or xs i d) all.0 one.0 all.1.0 one.1.0, Appends-trans old mid new all.0 one.0 all.1.1 one.1.1))
+pub AppendsSome-row : {A : Type 0} (IsText : A → List ℕ → Type 0) (old mid new : Option (List ℕ)) (xs : List A) (i : ℕ) (x : A) → i < length xs → x ≡ get_or xs i x
+    → AppendsSome old mid (AreJoined IsText (take i xs)) → AppendsSome mid new (IsText x) → AppendsSome old new (AreJoined IsText (take (i + 1) xs))
+AppendsSome-row IsText old mid new xs i x h is all one =
+    let line = subst (λ (y : _). IsText y one.0) is one.1.0 in
+    subst (λ l. AppendsSome old new (AreJoined IsText l)) (sym (take_more xs i x h))
+    (all.0 ++ one.0, (AreJoined-push IsText (take i xs) (get_or xs i x) all.0 one.0 all.1.0 line, Appends-trans old mid new all.0 one.0 all.1.1 one.1.1))
 
 -- the line of a row, and those of changes behind it
 pub AppendsSome-shown : (shown : Shown) (old mid new : Option (List ℕ)) → AppendsSome old mid (IsRowLine shown.row) → Appends mid new (change_lines shown.changes) → AppendsSome old new (IsShownText shown)

@@ -137,9 +137,9 @@ pub record IsUnopened (before : Files) (refusal : Refusal) (after : Files) : Typ
   -- files in doubt stay in doubt between the same two
   pub settles : (first second : State) → InDoubt first second before → IsFailure refusal × InDoubt first second after
 
--- a session was opened, and the call was made on the standing that it found
+-- a session was opened, and the call was made on the standing that it found; a clash that is told is one of the files as the opening left them
 pub record IsMade (before : Files) (request : Request) (answer : Result Told Refusal) (after : Files) : Type 0 where
-  pub made : (found : State) × (opened : Files) × OpensOn before found opened × Meets request found answer after
+  pub made : (found : State) × (opened : Files) × OpensOn before found opened × Meets request found answer after × IfErr answer (HasCallClash request found opened)
   -- of files in doubt that is one of the two
   pub settles : (first second : State) → InDoubt first second before → Meets request first answer after ⊎ Meets request second answer after
 

@@ -1,4 +1,8 @@
 //! The options and subcommands that the command line has, with their help.
+use crate::help::{
+    ABOUT, AFTER, AFTER_ANNOTATE, AFTER_CONVERT, AFTER_DOWNLOAD, AFTER_LOG, AFTER_REDO,
+    AFTER_REVERT, AFTER_SHOW, AFTER_UNDO,
+};
 use clap::builder::ValueParser;
 use clap::{Arg, ArgAction, ArgGroup, Command};
 use std::alloc::{AllocError, Global};
@@ -35,78 +39,31 @@ const PREFIXES: &[&str] = &[
 /// The version, and the format of the journal that this version writes.
 const VERSION: &str = "1.1.0 (journal format 2)";
 
-const ABOUT: &str = "Adds licensing information to the files of a source tree, and takes it back.";
+/// Options without a value, each with its help.
+type Flags = &'static [(&'static str, &'static str)];
 
-const AFTER: &str = "\
-Each command is one step: undo takes it back and redo makes it again, byte for byte. The steps are kept in
-DIR/.reuse/undo.
+const FORM_FLAGS: Flags = &[
+    (
+        "merge-copyrights",
+        "Write the notices of one holder as one, with a range of years",
+    ),
+    ("single-line", "Write single-line comments"),
+    ("multi-line", "Write multi-line comments"),
+    ("no-replace", "Put a new header above the one that is there"),
+];
 
-Examples:
-  reuse-undo annotate -c \"Jane Doe\" -l MIT -r src
-  reuse-undo annotate -c \"Jane Doe\" -l MIT -r src --dry-run --diff
-  reuse-undo undo
-
-Status: 0 on success, 1 where a call was refused, 2 where the words are wrong.";
-
-const AFTER_ANNOTATE: &str = "\
-PATHs are relative to the root. A file that can't hold a comment gets its information in PATH.license. Where one
-file is refused, none is changed.
-
-DIR/.reuse/styles.toml gives styles to the tree's own names. Its lines are `version = 1`, `[styles]`, and for each name
-or ending a style, as `\".proto\" = \"c\"`, or `\".blend\" = \"uncommentable\"`.
-
-FILE lists paths relative to the root, one a line, or, where FILE holds a NUL, one between two NULs. What is listed
-and isn't a file beneath a PATH is passed over. GLOB is a glob as in REUSE.toml, of whole paths relative to the root:
-`*` is any run without `/`, `**` any run. A PATH that is a file itself is annotated all the same.
-
-Examples: the licence and this year's copyright for all files beneath src, and for all files that git tracks:
-  reuse-undo annotate --copyright \"Jane Doe\" --license MIT --recursive src
-  git ls-files -z | reuse-undo annotate -c \"Jane Doe\" -l MIT -r --files-from - .";
-
-const AFTER_DOWNLOAD: &str = "\
-Nothing is fetched from a network: the text of ID is DIR/ID.txt. DIR is relative to the working folder.
-
-Example:
-  reuse-undo download --texts ~/license-list-data/text MIT";
-
-const AFTER_CONVERT: &str = "\
-.reuse/dep5 is removed. A pattern with an unescaped `?` can't be said in REUSE.toml and is refused.
-
-Example:
-  reuse-undo convert-dep5";
-
-const AFTER_UNDO: &str = "\
-It is refused, and changes nothing, where a file of the step isn't as the step left it.
-
-Example:
-  reuse-undo --root ~/demo undo";
-
-const AFTER_REDO: &str = "\
-It is refused, and changes nothing, where a file of the step isn't as it was before the step.
-
-Example:
-  reuse-undo redo";
-
-const AFTER_REVERT: &str = "\
-It makes a new step, which undo takes back in turn. Of each file of step NUMBER what the step wrote must stand where it
-was written, whatever follows it; a file that the step made must be as it was made, and where it removed one none must
-be. Where the step only took bytes away, the file must be as the step left it. Where one file isn't so, none is changed.
-
-Example:
-  reuse-undo revert 3 --dry-run --diff";
-
-const AFTER_SHOW: &str = "\
-The first line is that of `log`. A line `made PATH`, `removed PATH` or `changed PATH` follows for each path.
-
-Example:
-  reuse-undo show 3 --diff";
-
-const AFTER_LOG: &str = "\
-A line is NUMBER DATE COMMAND COUNT STATE: the step's number, its date in UTC, the command, how many paths it
-changed, and `done` or `undone`. The steps done come first, in order; the first one undone is the next that redo makes.
-
-Example:
-  reuse-undo log";
+const SCOPE_FLAGS: Flags = &[
+    ("force-dot-license", "Write PATH.license, whatever PATH is"),
+    (
+        "fallback-dot-license",
+        "Write PATH.license where the style of PATH is unknown",
+    ),
+    ("skip-unrecognised", "Skip a PATH whose style is unknown"),
+    (
+        "skip-existing",
+        "Skip a PATH that has licensing information",
+    ),
+];
 
 fn repeated<'a>(alloc: Global, id: &'a str, value: &'a str, help: &'a str) -> Arg<'a> {
     Arg::new(alloc, id)
@@ -123,12 +80,24 @@ fn flag<'a>(alloc: Global, id: &'a str, help: &'a str) -> Arg<'a> {
         .help(help)
 }
 
+fn with_flags<'a>(
+    alloc: Global,
+    command: Command<'a>,
+    flags: Flags,
+) -> Result<Command<'a>, AllocError> {
+    let mut command = command;
+    for (id, help) in flags {
+        command = command.arg(flag(alloc, id, help))?;
+    }
+    Ok(command)
+}
+
 fn named<'a>(alloc: Global, id: &'a str, names: &'a [&'a str], help: &'a str) -> Arg<'a> {
     Arg::new(alloc, id)
         .long(id)
         .value_name("NAME")
         .action(ArgAction::Set)
-        .value_parser(names)
+        .value_parser(ValueParser::Names(names))
         .help(help)
 }
 
@@ -190,22 +159,8 @@ fn with_form<'a>(alloc: Global, command: Command<'a>) -> Result<Command<'a>, All
     let form = ArgGroup::new(alloc, "form")
         .arg("single-line")?
         .arg("multi-line")?;
-    command
-        .arg(style.short('s'))?
-        .arg(prefix)?
-        .arg(flag(
-            alloc,
-            "merge-copyrights",
-            "Write the notices of one holder as one, with a range of years",
-        ))?
-        .arg(flag(alloc, "single-line", "Write single-line comments"))?
-        .arg(flag(alloc, "multi-line", "Write multi-line comments"))?
-        .arg(flag(
-            alloc,
-            "no-replace",
-            "Put a new header above the one that is there",
-        ))?
-        .group(form)
+    let command = command.arg(style.short('s'))?.arg(prefix)?;
+    with_flags(alloc, command, FORM_FLAGS)?.group(form)
 }
 
 fn with_scope<'a>(alloc: Global, command: Command<'a>) -> Result<Command<'a>, AllocError> {
@@ -225,35 +180,17 @@ fn with_scope<'a>(alloc: Global, command: Command<'a>) -> Result<Command<'a>, Al
         "Of the files beneath folders, none that GLOB matches; may be repeated",
     )
     .requires_arg("recursive")?;
-    command
+    let command = command
         .arg(flag(alloc, "recursive", "Annotate the files beneath folders").short('r'))?
         .arg(files_from)?
-        .arg(exclude)?
-        .arg(flag(
-            alloc,
-            "force-dot-license",
-            "Write PATH.license, whatever PATH is",
-        ))?
-        .arg(flag(
-            alloc,
-            "fallback-dot-license",
-            "Write PATH.license where the style of PATH is unknown",
-        ))?
-        .arg(flag(
-            alloc,
-            "skip-unrecognised",
-            "Skip a PATH whose style is unknown",
-        ))?
-        .arg(flag(
-            alloc,
-            "skip-existing",
-            "Skip a PATH that has licensing information",
-        ))?
-        .arg(listed(
-            alloc,
-            "PATH",
-            "A file, or with --recursive a folder; `.` is the root",
-        ))?
+        .arg(exclude)?;
+    let paths = listed(
+        alloc,
+        "PATH",
+        "A file, or with --recursive a folder; `.` is the root",
+    );
+    with_flags(alloc, command, SCOPE_FLAGS)?
+        .arg(paths)?
         .group(unknown)
 }
 
@@ -355,8 +292,8 @@ fn show<'a>(alloc: Global) -> Result<Command<'a>, AllocError> {
         .arg(number(alloc))
 }
 
-/// The whole command line.
-pub fn whole<'a>(alloc: Global) -> Result<Command<'a>, AllocError> {
+/// What stands before the subcommands.
+fn with_root<'a>(alloc: Global, command: Command<'a>) -> Result<Command<'a>, AllocError> {
     let root = Arg::new(alloc, "root")
         .long("root")
         .value_name("DIR")
@@ -368,23 +305,45 @@ pub fn whole<'a>(alloc: Global) -> Result<Command<'a>, AllocError> {
         alloc,
         "verbose",
         "Tell notes on standard error, as on a terminal: what a fault is about and what to do",
-    )
-    .short('v')
-    .global(true);
-    Command::new(alloc, "reuse-undo")
+    );
+    command.arg(root)?.arg(verbose.short('v').global(true))
+}
+
+fn with_change<'a>(
+    alloc: Global,
+    command: Command<'a>,
+    change: Command<'a>,
+) -> Result<Command<'a>, AllocError> {
+    command.subcommand(with_dry_run(alloc, change)?)
+}
+
+/// The subcommands that make steps, and those that take them back and make them again.
+fn with_changes<'a>(alloc: Global, command: Command<'a>) -> Result<Command<'a>, AllocError> {
+    let command = with_change(alloc, command, annotate(alloc)?)?;
+    let command = with_change(alloc, command, convert(alloc))?;
+    let command = with_change(alloc, command, download(alloc)?)?;
+    let command = with_change(alloc, command, undo(alloc))?;
+    let command = with_change(alloc, command, redo(alloc))?;
+    command.subcommand(revert(alloc)?)
+}
+
+/// The subcommands that tell of steps.
+fn with_looks<'a>(alloc: Global, command: Command<'a>) -> Result<Command<'a>, AllocError> {
+    let log = plain(alloc, "log", "Lists the steps", AFTER_LOG);
+    command
+        .subcommand(log.arg(json(alloc))?)?
+        .subcommand(show(alloc)?)
+}
+
+/// The whole command line.
+pub fn whole<'a>(alloc: Global) -> Result<Command<'a>, AllocError> {
+    let command = Command::new(alloc, "reuse-undo")
         .bin_name("reuse-undo")?
         .version(VERSION)
         .about(ABOUT)
         .after_help(AFTER)
-        .subcommand_required(true)
-        .arg(root)?
-        .arg(verbose)?
-        .subcommand(with_dry_run(alloc, annotate(alloc)?)?)?
-        .subcommand(with_dry_run(alloc, convert(alloc))?)?
-        .subcommand(with_dry_run(alloc, download(alloc)?)?)?
-        .subcommand(with_dry_run(alloc, undo(alloc))?)?
-        .subcommand(with_dry_run(alloc, redo(alloc))?)?
-        .subcommand(revert(alloc)?)?
-        .subcommand(plain(alloc, "log", "Lists the steps", AFTER_LOG).arg(json(alloc))?)?
-        .subcommand(show(alloc)?)
+        .subcommand_required(true);
+    let command = with_root(alloc, command)?;
+    let command = with_changes(alloc, command)?;
+    with_looks(alloc, command)
 }

@@ -16,6 +16,31 @@ pub struct Turn<'a> {
     pub after: Option<&'a [u8]>,
 }
 
+impl<'a> Turn<'a> {
+    /// What a change records: a file that is made or removed, or of a range the bytes that give way and those in their place.
+    pub fn of(change: &'a Change) -> Turn<'a> {
+        let (before, after) = match change {
+            Change::Make { new, .. } => (None, Some(new.as_slice())),
+            Change::Drop { old, .. } => (Some(old.as_slice()), None),
+            Change::Splice { old, new, .. } => (Some(old.as_slice()), Some(new.as_slice())),
+        };
+        Turn {
+            path: change.path(),
+            before,
+            after,
+        }
+    }
+
+    /// The turn back.
+    pub fn back(self) -> Turn<'a> {
+        Turn {
+            path: self.path,
+            before: self.after,
+            after: self.before,
+        }
+    }
+}
+
 /// Prints how the file of a path changes: a hunk with three lines around what changes, or a line of its own for a binary.
 /// Nothing where it doesn't change.
 pub fn print_diff<W: Write>(out: &mut W, alloc: Global, turn: Turn<'_>) -> io::Result<()> {
@@ -40,39 +65,10 @@ pub fn print_diff<W: Write>(out: &mut W, alloc: Global, turn: Turn<'_>) -> io::R
 /// Prints what a change has recorded: all lines of a file that is made or removed, and of a range of a file the bytes that gave way and
 /// those that stand in their place, by the byte at which they stand.
 pub fn print_record<W: Write>(out: &mut W, alloc: Global, change: &Change) -> io::Result<()> {
+    let turn = Turn::of(change);
     match change {
-        Change::Make { path, new, .. } => print_diff(
-            out,
-            alloc,
-            Turn {
-                path,
-                before: None,
-                after: Some(new.as_slice()),
-            },
-        ),
-        Change::Drop { path, old, .. } => print_diff(
-            out,
-            alloc,
-            Turn {
-                path,
-                before: Some(old.as_slice()),
-                after: None,
-            },
-        ),
-        Change::Splice {
-            path,
-            at,
-            old,
-            new,
-            ..
-        } => {
-            let turn = Turn {
-                path,
-                before: Some(old.as_slice()),
-                after: Some(new.as_slice()),
-            };
-            print_range(out, alloc, turn, *at)
-        }
+        Change::Splice { at, .. } => print_range(out, alloc, turn, *at),
+        _ => print_diff(out, alloc, turn),
     }
 }
 
@@ -109,22 +105,16 @@ fn print_head<W: Write>(out: &mut W, turn: Turn<'_>) -> io::Result<()> {
 
 fn print_names<W: Write>(out: &mut W, turn: Turn<'_>) -> io::Result<()> {
     write!(out, "--- ")?;
-    print_name(out, "a/", turn.path, turn.before)?;
+    print_name(out, Named::new("a/", turn.path), turn.before)?;
     write!(out, "+++ ")?;
-    print_name(out, "b/", turn.path, turn.after)
+    print_name(out, Named::new("b/", turn.path), turn.after)
 }
 
 /// The name of one side. Behind one with a space a tab shows where it ends.
-fn print_name<W: Write>(
-    out: &mut W,
-    side: &'static str,
-    path: &PathText,
-    file: Option<&[u8]>,
-) -> io::Result<()> {
+fn print_name<W: Write>(out: &mut W, name: Named<'_>, file: Option<&[u8]>) -> io::Result<()> {
     if file.is_none() {
         return writeln!(out, "/dev/null");
     }
-    let name = Named::new(side, path);
     if name.is_spaced() {
         writeln!(out, "{name}\t")
     } else {
@@ -134,20 +124,15 @@ fn print_name<W: Write>(
 
 fn print_binary<W: Write>(out: &mut W, turn: Turn<'_>) -> io::Result<()> {
     write!(out, "Binary files ")?;
-    print_side(out, "a/", turn.path, turn.before)?;
+    print_side(out, Named::new("a/", turn.path), turn.before)?;
     write!(out, " and ")?;
-    print_side(out, "b/", turn.path, turn.after)?;
+    print_side(out, Named::new("b/", turn.path), turn.after)?;
     writeln!(out, " differ")
 }
 
-fn print_side<W: Write>(
-    out: &mut W,
-    side: &'static str,
-    path: &PathText,
-    file: Option<&[u8]>,
-) -> io::Result<()> {
+fn print_side<W: Write>(out: &mut W, name: Named<'_>, file: Option<&[u8]>) -> io::Result<()> {
     match file {
-        Some(_) => write!(out, "{}", Named::new(side, path)),
+        Some(_) => write!(out, "{name}"),
         None => write!(out, "/dev/null"),
     }
 }

@@ -15,11 +15,11 @@ mod place;
 #[cfg(test)]
 mod tests;
 
-pub use failure::Failure;
-use failure::{Asked, LastFailure};
+use failure::LastFailure;
+pub use failure::{Asked, Failure};
 use folder::RootFolder;
 use reuse_tree::laws::files_stay_good;
-use reuse_tree::{CallRecord, PathText, Reading, Store, StoreFault};
+use reuse_tree::{CallRecord, Parts, PathText, Reading, Store, StoreFault};
 use std::alloc::Global;
 use std::rt::Files;
 
@@ -96,16 +96,15 @@ impl<R: Files + AllocGlobal + Clone + Drop> Store for DiskStore<R> {
         &mut self,
         alloc: Global,
         path: &PathText,
-        front: &[u8],
-        middle: &[u8],
-        back: &[u8],
+        parts: Parts,
     ) -> Result<(), StoreFault> {
         files_stay_good();
-        let answer = self.folder.put(alloc, path, &[front, middle, back]);
+        let answer = self
+            .folder
+            .put(alloc, path, &[parts.front, parts.middle, parts.back]);
         self.failure.note(alloc, Asked::Write, path.text(), &answer);
         let answer = answer.map_err(StoreFault::from);
-        self.calls
-            .note_put_parts(path, front, middle, back, &answer);
+        self.calls.note_put_parts(path, parts, &answer);
         answer
     }
 

@@ -11,6 +11,7 @@ mod disk;
 mod fault;
 mod file_list;
 mod findings;
+mod help;
 mod line;
 mod lines;
 mod lock;
@@ -30,6 +31,7 @@ mod status;
 #[cfg(test)]
 mod tests;
 mod texts;
+mod watched;
 mod words;
 
 use disk::DiskStore;

@@ -1,7 +1,6 @@
 //! How far long work is, for a terminal.
-ghost use Rattle.std.specs.Prelude.{◌≡◌};
-
-use reuse_tree::{PathText, Reading, Store, StoreFault};
+use crate::disk::Asked;
+use crate::watched::Watcher;
 use std::alloc::Global;
 use std::cell::Cell;
 use std::io::{self, Write};
@@ -110,77 +109,18 @@ impl<R: Runtime> Write for ClearedOutput<'_, R> {
     }
 }
 
-/// A store whose files that are read and written are counted.
-#[derive(Drop)]
-pub struct WatchedStore<'a, S: Store + Drop, R: Runtime> {
-    inner: S,
-    progress: &'a Progress<R>,
-}
-
-impl<'a, S: Store + Drop, R: Runtime> WatchedStore<'a, S, R> {
-    /// A store over this one.
-    pub fn new(inner: S, progress: &'a Progress<R>) -> WatchedStore<'a, S, R>
-        ensures { result.inner ≡ inner }
-    {
-        WatchedStore { inner, progress }
+impl<R: Runtime> Watcher for Progress<R> {
+    fn before(&self, _: Global, asked: Asked) {
+        match asked {
+            Asked::List => {}
+            Asked::Read => self.count(&self.read),
+            Asked::Write | Asked::Remove => self.count(&self.written),
+        }
     }
 
-    /// Gives the store inside back.
-    pub fn into_inner(self) -> S
-        ensures { result ≡ self.entry.inner }
-    {
-        self.inner
+    fn after(&self, _: Global, listed: Option<usize>) {
+        if listed.is_some() {
+            self.listed.set(listed);
+        }
     }
-}
-
-impl<S: Store + Drop, R: Runtime> Store for WatchedStore<'_, S, R> {
-    ghost files = { λ store. S.files store.inner };
-
-    ghost failures = { λ store. S.failures store.inner };
-
-    ghost written = { λ store. S.written store.inner };
-
-    ghost moves = { λ store. S.moves store.inner };
-
-    ghost honest = { λ store. S.honest store.inner };
-
-    fn list(&mut self, alloc: Global) -> Result<Vec<PathText>, StoreFault> {
-        let paths = self.inner.list(alloc)?;
-        self.progress.listed.set(Some(paths.len()));
-        Ok(paths)
-    }
-
-    fn read(
-        &mut self,
-        alloc: Global,
-        path: &PathText,
-        limit: usize,
-    ) -> Result<Reading, StoreFault> {
-        self.progress.count(&self.progress.read);
-        self.inner.read(alloc, path, limit)
-    }
-
-    fn put_parts(
-        &mut self,
-        alloc: Global,
-        path: &PathText,
-        front: &[u8],
-        middle: &[u8],
-        back: &[u8],
-    ) -> Result<(), StoreFault> {
-        self.progress.count(&self.progress.written);
-        self.inner.put_parts(alloc, path, front, middle, back)
-    }
-
-    fn put(&mut self, alloc: Global, path: &PathText, bytes: &[u8]) -> Result<(), StoreFault> {
-        self.progress.count(&self.progress.written);
-        self.inner.put(alloc, path, bytes)
-    }
-
-    fn remove(&mut self, alloc: Global, path: &PathText) -> Result<(), StoreFault> {
-        self.progress.count(&self.progress.written);
-        self.inner.remove(alloc, path)
-    }
-
-    ghost are_files = { λ store honest. S.are_files store.inner honest };
 }

@@ -2,7 +2,6 @@
 mod downloads_and_conversions;
 mod formats;
 mod growths;
-mod headers;
 mod histories;
 mod journal_texts;
 mod journals;
@@ -11,7 +10,6 @@ mod own_styles;
 mod places;
 mod reverts;
 mod scarce_memory;
-mod scarce_store;
 mod stops;
 mod tally;
 pub mod trees;

@@ -1,5 +1,6 @@
 //! Command lines from their words to what is printed, over a store in memory.
 // The tags below are data: REUSE-IgnoreStart
+mod limits;
 mod looks;
 mod options;
 mod worked_lines;
@@ -7,6 +8,7 @@ mod worked_lines;
 use crate::fault::Fault;
 use crate::line::{Line, LineFault, Telling};
 use crate::output::Output;
+use crate::place_word::place_of_word;
 use crate::request::request_of;
 use crate::run_line::run_request;
 use crate::status::{exit_status, line_status};
@@ -104,184 +106,157 @@ fn run_at(
     Ok((store, told))
 }
 
-fn run(
-    alloc: Global,
-    store: MemoryStore,
-    words: &str,
-) -> Result<(MemoryStore, Result<String, String>), Fail> {
-    run_at(alloc, store, words, START_OF_2024)
+/// Carries words out; what is printed, or the text of the fault, which has no line end.
+fn tell(alloc: Global, store: MemoryStore, words: &str) -> Result<(MemoryStore, String), Fail> {
+    let (store, told) = run_at(alloc, store, words, START_OF_2024)?;
+    match told {
+        Ok(text) | Err(text) => Ok((store, text)),
+    }
 }
 
-/// Carries words out at this second, where this is printed; the store then.
-fn prints_at(
+/// Carries lines out, one after the other, where each tells this; the store then.
+fn tells(
     rt: &impl Abort,
     alloc: Global,
     store: MemoryStore,
-    words: &str,
-    second: u64,
-    text: &str,
+    lines: &[(&str, &str)],
 ) -> Result<MemoryStore, Fail> {
-    let (store, told) = run_at(alloc, store, words, second)?;
-    assert!(rt; told.is_ok_and(|told| told.as_str() == text), "{words}");
+    let mut store = store;
+    for (words, wanted) in lines {
+        let (after, told) = tell(alloc, store, words)?;
+        store = after;
+        assert!(rt; told.as_str() == *wanted, "{words}: {told}");
+    }
     Ok(store)
 }
 
-fn prints(
-    rt: &impl Abort,
-    alloc: Global,
-    store: MemoryStore,
-    words: &str,
-    text: &str,
-) -> Result<MemoryStore, Fail> {
-    prints_at(rt, alloc, store, words, START_OF_2024, text)
-}
-
-/// Carries words out, where they are refused with this text; the store then.
-fn refuses(
-    rt: &impl Abort,
-    alloc: Global,
-    store: MemoryStore,
-    words: &str,
-    text: &str,
-) -> Result<MemoryStore, Fail> {
-    let (store, told) = run(alloc, store, words)?;
-    assert!(rt; told.is_err_and(|told| told.as_str() == text), "{words}");
-    Ok(store)
-}
-
-/// Words that are no line: the status, and what the text of the fault begins with.
-fn refuse(rt: &impl Abort, alloc: Global, words: &str, status: u8, text: &str) -> Result<(), Fail> {
+/// Whether words are no line, with this status and a fault whose text begins so.
+fn is_fault(alloc: Global, words: &str, status: u8, text: &str) -> Result<bool, Fail> {
     let (found, told) = fault_of(alloc, words)?;
-    assert_eq!(rt; found, status, "{words}");
-    assert!(rt; told.as_str().starts_with(text), "{words}: {told}");
-    Ok(())
+    Ok(found == status && told.as_str().starts_with(text))
 }
+
+/// Words that ask for help, and what the text begins with.
+const HELP: &[(&str, &str)] = &[
+    ("--help", "Adds licensing information"),
+    ("--version", "reuse-undo 1.1.0 (journal format 2)\n"),
+    (
+        "annotate|--help",
+        "Adds copyright and licensing information",
+    ),
+];
 
 #[test]
 fn tells_help(rt: HostRuntime) -> Result<(), Fail> {
-    let alloc = rt.alloc();
-    for (words, text) in [
-        ("--help", "Adds licensing information"),
-        ("--version", "reuse-undo 1.1.0 (journal format 2)\n"),
-        (
-            "annotate|--help",
-            "Adds copyright and licensing information",
-        ),
-    ] {
-        refuse(&rt, alloc, words, 0, text)?;
+    for (words, text) in HELP {
+        assert!(rt; is_fault(rt.alloc(), words, 0, text)?, "{words}");
     }
     Ok(())
 }
+
+/// Words that are no line, and what the text of the fault begins with.
+const FAULTS: &[(&str, &str)] = &[
+    ("undo|x", "error: "),
+    ("annotate|-l|MIT", "error: "),
+    ("annotate|-l|MIT|-s|none|a.py", "error: "),
+    ("annotate|-l|MIT|--copyright-prefix|none|a.py", "error: "),
+    ("download|MIT", "error: "),
+    ("undo|--diff", "error: "),
+    ("show", "error: "),
+    ("show|x", "error: "),
+    ("show|1|--diff|--json", "error: "),
+    ("revert|-1", "error: "),
+    ("annotate|a.py", "nothing to add"),
+    (
+        "annotate|-c|A|-y|2024|--exclude-year|a.py",
+        "--year and --exclude-year",
+    ),
+    ("annotate|-c|A|-y|24|a.py", "bad year: 24"),
+    ("annotate|-c| |a.py", "bad text: "),
+    (
+        "annotate|-l|MIT AND|a.py",
+        "bad licence expression at 7: MIT AND",
+    ),
+    ("annotate|-y|24|../a", "bad path: ../a"),
+    ("annotate|-l|MIT|a|/a|b//c", "bad path: /a"),
+];
 
 #[test]
 fn refuses_words(rt: HostRuntime) -> Result<(), Fail> {
-    let alloc = rt.alloc();
-    for words in [
-        "undo|x",
-        "annotate|-l|MIT",
-        "annotate|-l|MIT|--single-line|--multi-line|a.py",
-        "annotate|-l|MIT|--fallback-dot-license|--skip-unrecognised|a",
-        "annotate|-l|MIT|-s|none|a.py",
-        "annotate|-l|MIT|--copyright-prefix|none|a.py",
-        "download|MIT",
-        "undo|--diff",
-        "show",
-        "show|x",
-        "show|1|--diff|--json",
-        "revert|-1",
-    ] {
-        refuse(&rt, alloc, words, 2, "error: ")?;
+    for (words, text) in FAULTS {
+        assert!(rt; is_fault(rt.alloc(), words, 2, text)?, "{words}");
     }
-    assert_eq!(rt; line_status(&LineFault::Memory), 1);
-    assert_eq!(rt;
-        LineFault::Memory.to_string(alloc)?.as_str(),
-        "out of memory"
-    );
     Ok(())
 }
 
 #[test]
-fn refuses_places_and_additions(rt: HostRuntime) -> Result<(), Fail> {
-    let alloc = rt.alloc();
-    for (words, text) in [
-        ("annotate|a.py", "nothing to add"),
-        (
-            "annotate|-c|A|-y|2024|--exclude-year|a.py",
-            "--year and --exclude-year",
-        ),
-        ("annotate|-c|A|-y|24|a.py", "bad year: 24"),
-        ("annotate|-c| |a.py", "bad text: "),
-        (
-            "annotate|-l|MIT AND|a.py",
-            "bad licence expression at 7: MIT AND",
-        ),
-        ("annotate|-y|24|../a", "bad path: ../a"),
-        ("annotate|-l|MIT|a|/a|b//c", "bad path: /a"),
-    ] {
-        refuse(&rt, alloc, words, 2, text)?;
-    }
+fn tells_want_of_memory(rt: HostRuntime) -> Result<(), Fail> {
+    let told = LineFault::Memory.to_string(rt.alloc())?;
+    assert_eq!(rt; told.as_str(), "out of memory");
+    assert_eq!(rt; line_status(&LineFault::Memory), 1);
     Ok(())
 }
+
+/// Words, and the places that they name; none is the empty text.
+const PLACES: &[(&str, &str)] = &[
+    ("a.py", "a.py"),
+    ("./a/./b/", "a/b"),
+    ("a.py/", "a.py"),
+    (".", "."),
+    ("./", "."),
+    ("./.", "."),
+    ("a/..b", "a/..b"),
+    ("", ""),
+    ("/", ""),
+    (".//", ""),
+    ("a//", ""),
+    ("a//b", ""),
+    ("a/..", ""),
+];
 
 #[test]
 fn reads_places(rt: HostRuntime) -> Result<(), Fail> {
-    let alloc = rt.alloc();
-    for (word, text) in [
-        ("a.py", "a.py"),
-        ("./a/./b/", "a/b"),
-        ("a.py/", "a.py"),
-        (".", "."),
-        ("./", "."),
-        ("./.", "."),
-        ("a/..b", "a/..b"),
-        ("", ""),
-        ("/", ""),
-        (".//", ""),
-        ("a//", ""),
-        ("a//b", ""),
-        ("a/..", ""),
-    ] {
-        let place = crate::place_word::place_of_word(alloc, word)?;
+    for (word, text) in PLACES {
+        let place = place_of_word(rt.alloc(), word)?;
         let found = match &place {
             Some(place) => place.text(),
             None => "",
         };
-        assert!(rt; found == text, "{word}");
+        assert_eq!(rt; found, *text, "{word}");
     }
     Ok(())
 }
 
+const ANNOTATIONS: &[(&str, &str)] = &[
+    ("annotate|-c|Jane Doe|-l|MIT|a.py", "changed a.py\n"),
+    ("annotate|-c|Jane Doe|-l|MIT|a.py", "nothing changed\n"),
+    ("annotate|-l|MIT|zz", "zz: no such path"),
+    ("undo", "undone a.py\n"),
+    ("redo", "redone a.py\n"),
+];
+
 #[test]
 fn prints_what_annotations_change(rt: HostRuntime) -> Result<(), Fail> {
     let alloc = rt.alloc();
-    let words = "annotate|-c|Jane Doe|-l|MIT|a.py";
     let store = store_of(alloc, "a.py", b"print(1)\n")?;
-    let mut store = prints(&rt, alloc, store, words, "changed a.py\n")?;
-    assert!(rt; holds(alloc, &mut store, "a.py", JANE)?);
-    let store = prints(&rt, alloc, store, words, "nothing changed\n")?;
-    let store = refuses(&rt, alloc, store, "annotate|-l|MIT|zz", "zz: no such path")?;
-    let mut store = prints(&rt, alloc, store, "undo", "undone a.py\n")?;
-    assert!(rt; holds(alloc, &mut store, "a.py", b"print(1)\n")?);
-    let mut store = prints(&rt, alloc, store, "redo", "redone a.py\n")?;
+    let mut store = tells(&rt, alloc, store, ANNOTATIONS)?;
     assert!(rt; holds(alloc, &mut store, "a.py", JANE)?);
     Ok(())
 }
 
+const DOWNLOADS: &[(&str, &str)] = &[
+    ("download|--texts|x|Foo|MIT", "no text: Foo"),
+    ("download|--texts|x|MIT", "changed LICENSES/MIT.txt\n"),
+];
+
 #[test]
 fn prints_what_downloads_change(rt: HostRuntime) -> Result<(), Fail> {
     let alloc = rt.alloc();
-    let (words, file) = ("download|--texts|x|MIT", "LICENSES/MIT.txt");
-    let store = MemoryStore::new();
-    let store = refuses(
-        &rt,
-        alloc,
-        store,
-        "download|--texts|x|Foo|MIT",
-        "no text: Foo",
-    )?;
-    let mut store = prints(&rt, alloc, store, words, "changed LICENSES/MIT.txt\n")?;
+    let file = "LICENSES/MIT.txt";
+    let mut store = tells(&rt, alloc, MemoryStore::new(), DOWNLOADS)?;
     assert!(rt; holds(alloc, &mut store, file, b"text\n")?);
-    let mut store = prints(&rt, alloc, store, "undo", "undone LICENSES/MIT.txt\n")?;
+    let undo = [("undo", "undone LICENSES/MIT.txt\n")];
+    let mut store = tells(&rt, alloc, store, &undo)?;
     assert!(rt; holds(alloc, &mut store, file, b"")?);
     Ok(())
 }
@@ -328,17 +303,22 @@ fn keeps_what_it_cannot_tell(rt: HostRuntime) -> Result<(), Fail> {
     Ok(())
 }
 
-fn is_told_as(rt: &impl Abort, alloc: Global, fault: Fault, text: &str) -> Result<(), Fail> {
-    let found = fault.to_string(alloc)?;
-    assert_eq!(rt; found.as_str(), text);
-    Ok(())
+/// Whether a fault is told by this text.
+fn is_told(alloc: Global, fault: Fault, text: &str) -> Result<bool, Fail> {
+    Ok(fault.to_string(alloc)?.as_str() == text)
 }
 
 #[test]
 fn tells_faults(rt: HostRuntime) -> Result<(), Fail> {
     let alloc = rt.alloc();
-    let refused = Fault::Refused(Refusal::NothingToUndo);
-    is_told_as(&rt, alloc, refused, "nothing to undo")?;
-    is_told_as(&rt, alloc, Fault::Memory, "out of memory")?;
-    is_told_as(&rt, alloc, Fault::Write, "write fault")
+    assert!(rt;
+        is_told(
+            alloc,
+            Fault::Refused(Refusal::NothingToUndo),
+            "nothing to undo"
+        )?
+    );
+    assert!(rt; is_told(alloc, Fault::Memory, "out of memory")?);
+    assert!(rt; is_told(alloc, Fault::Write, "write fault")?);
+    Ok(())
 }

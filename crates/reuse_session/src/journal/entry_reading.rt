@@ -3,7 +3,7 @@ ghost use Rattle.std.specs.Prelude.{◌≡◌, ◌≤◌, IfOk, length};
 ghost use Rattle.serde_json.specs.View.{view, items_view};
 ghost use Rattle.reuse_session.specs.Decoded.{Gives, GivesBy, IsAnswer};
 ghost use Rattle.reuse_session.specs.EntryText.{HavePaths, IsGoodEntry, IsJsonEntry};
-ghost use Rattle.reuse_session.specs.EntryReading.{change_in, changes_in, command_from, drop_in, entry_in, if_known, make_in, seal_of, splice_in};
+ghost use Rattle.reuse_session.specs.EntryReading.{change_in, changes_in, command_from, drop_in, entry_in, if_known, make_in, seal_of, splice_in, whole_in};
 ghost use Rattle.reuse_session.specs.JsonReading.{read_items};
 ghost use Rattle.reuse_session.specs.Json.{IsJson};
 ghost use Rattle.reuse_session.specs.declared.journal.entry.Entry.{Entry};
@@ -16,9 +16,9 @@ use crate::journal::fields::{
     bytes_of, expect_text, field, fields, finish, is_second_format, moment_of, next_digest,
     number_of, parse, path_of, text_of,
 };
-use crate::journal::unread::Unread;
-use crate::journal::written_entry::read_written;
-use reuse_tree::{Change, Digest, Seal};
+use crate::journal::written_entry::{knows, read_written};
+use reuse_text::Bytes;
+use reuse_tree::{Change, Digest, PathText, Seal};
 use serde_json::Value;
 use std::alloc::Global;
 
@@ -34,8 +34,8 @@ pub fn decode_entry(alloc: Global, text: &[u8]) -> Result<Entry, DecodeFault>
     }
     match read_written(alloc, text) {
         Ok(entry) => Ok(entry),
-        Err(Unread::Memory) => Err(DecodeFault::Memory),
-        Err(Unread::Foreign) => judge(alloc, text),
+        Err(DecodeFault::Memory) => Err(DecodeFault::Memory),
+        Err(DecodeFault::NotGood) => judge(alloc, text),
     }
 }
 
@@ -102,9 +102,10 @@ fn command_of(name: &str) -> Result<CommandName, DecodeFault>
 fn expect_known(sealed: bool, command: CommandName) -> Result<(), DecodeFault>
     ensures { Gives result (if_known sealed command) }
 {
-    match command {
-        CommandName::Revert if !sealed => Err(DecodeFault::NotGood),
-        _ => Ok(()),
+    if knows(sealed, command) {
+        Ok(())
+    } else {
+        Err(DecodeFault::NotGood)
     }
 }
 
@@ -152,12 +153,7 @@ fn change_of(alloc: Global, value: &Value, sealed: bool) -> Result<Change, Decod
 fn make_of(alloc: Global, value: &Value, sealed: bool) -> Result<Change, DecodeFault>
     ensures { Gives result (make_in sealed (view value.now)) }
 {
-    let mut members = fields(value)?;
-    let after = next_digest(alloc, &mut members, "after", sealed)?;
-    expect_text(field(&mut members, "kind")?, "make")?;
-    let new = bytes_of(alloc, field(&mut members, "new")?)?;
-    let path = path_of(alloc, field(&mut members, "path")?)?;
-    finish(members)?;
+    let (path, new, after) = whole_of(alloc, value, sealed, "after", "make", "new")?;
     Ok(Change::Make { path, new, after })
 }
 
@@ -165,13 +161,29 @@ fn make_of(alloc: Global, value: &Value, sealed: bool) -> Result<Change, DecodeF
 fn drop_of(alloc: Global, value: &Value, sealed: bool) -> Result<Change, DecodeFault>
     ensures { Gives result (drop_in sealed (view value.now)) }
 {
+    let (path, old, before) = whole_of(alloc, value, sealed, "before", "drop", "old")?;
+    Ok(Change::Drop { path, old, before })
+}
+
+// Of a whole file that is made or removed: the path, the bytes under this name, and the digest under this key.
+#[tactic(auto, unfolding(crate::specs::EntryReading::whole_in))]
+fn whole_of(
+    alloc: Global,
+    value: &Value,
+    sealed: bool,
+    key: &str,
+    kind: &str,
+    name: &str,
+) -> Result<(PathText, Bytes, Option<Digest>), DecodeFault>
+    ensures { Gives result (whole_in sealed key.now kind.now name.now (view value.now)) }
+{
     let mut members = fields(value)?;
-    let before = next_digest(alloc, &mut members, "before", sealed)?;
-    expect_text(field(&mut members, "kind")?, "drop")?;
-    let old = bytes_of(alloc, field(&mut members, "old")?)?;
+    let digest = next_digest(alloc, &mut members, key, sealed)?;
+    expect_text(field(&mut members, "kind")?, kind)?;
+    let bytes = bytes_of(alloc, field(&mut members, name)?)?;
     let path = path_of(alloc, field(&mut members, "path")?)?;
     finish(members)?;
-    Ok(Change::Drop { path, old, before })
+    Ok((path, bytes, digest))
 }
 
 #[tactic(auto, unfolding(crate::specs::EntryReading::splice_in, crate::specs::EntryReading::splice_bytes_in, crate::specs::EntryReading::splice_end_in))]

@@ -2,14 +2,14 @@
 ghost use Rattle.std.specs.Prelude.{◌≡◌, ◌*◌, ◌<◌, ◌≤◌, length, slice_index, IfOk, IsTrue};
 ghost use Rattle.hex.specs.Hex.{encode_lower, lower_digits, IsBytes};
 
-use crate::journal::unread::Unread;
+use crate::journal::fault::DecodeFault;
 use std::alloc::Global;
 
 // More than any digit has.
 const NO_DIGIT: u8 = 16;
 
 /// The bytes that these small digits spell.
-pub(crate) fn decode(alloc: Global, digits: &[u8]) -> Result<Vec<u8>, Unread>
+pub(crate) fn decode(alloc: Global, digits: &[u8]) -> Result<Vec<u8>, DecodeFault>
     ensures digits { IfOk result (λ bytes. digits.now ≡ encode_lower bytes.items) }
     ensures bytes { IfOk result (λ bytes. IsBytes bytes.items) }
 {
@@ -17,7 +17,7 @@ pub(crate) fn decode(alloc: Global, digits: &[u8]) -> Result<Vec<u8>, Unread>
     if decode_to(digits, bytes.as_mut_slice()) {
         Ok(bytes)
     } else {
-        Err(Unread::Foreign)
+        Err(DecodeFault::NotGood)
     }
 }
 

@@ -10,14 +10,14 @@ ghost use Rattle.reuse_session.specs.Format.{format_number, knows};
 
 use crate::journal::entry::{Changes, Entry};
 use crate::journal::entry_checks::are_sound;
-use crate::journal::unread::Unread;
+use crate::journal::fault::DecodeFault;
 use crate::journal::written_text::WrittenText;
 use crate::{CommandName, Moment};
 use reuse_tree::{Change, Digest, Seal};
 use std::alloc::Global;
 
-/// The entry that a text stands for, where this program wrote it so. Any other spelling is `Foreign`, whether it is good or not.
-pub(crate) fn read_written(alloc: Global, text: &[u8]) -> Result<Entry, Unread>
+/// The entry that a text stands for, where this program wrote it so. Any other spelling is `NotGood` here, also that of a good text.
+pub(crate) fn read_written(alloc: Global, text: &[u8]) -> Result<Entry, DecodeFault>
     ensures { IfOk result (IsGoodEntry text.now) }
 {
     let mut rest = WrittenText::new(text);
@@ -40,7 +40,7 @@ pub(crate) fn read_written(alloc: Global, text: &[u8]) -> Result<Entry, Unread>
 }
 
 // Tests what an entry's text doesn't show by itself.
-fn expect_good(changes: &[Change], sealed: bool, command: CommandName) -> Result<(), Unread>
+fn expect_good(changes: &[Change], sealed: bool, command: CommandName) -> Result<(), DecodeFault>
     ensures tests { OnOk result (Passes changes.now) }
     ensures alike { OnOk result (AreAllSealed sealed changes.now) }
     ensures known { OnOk result (knows sealed command ≡ true) }
@@ -48,12 +48,12 @@ fn expect_good(changes: &[Change], sealed: bool, command: CommandName) -> Result
     if knows(sealed, command) && are_all_sealed(changes, sealed) && are_sound(changes) {
         Ok(())
     } else {
-        Err(Unread::Foreign)
+        Err(DecodeFault::NotGood)
     }
 }
 
-// Whether the format knows the command.
-fn knows(sealed: bool, command: CommandName) -> bool
+/// Whether the format, the second or the first, knows the command.
+pub(crate) fn knows(sealed: bool, command: CommandName) -> bool
     ensures { result ≡ knows sealed command }
 {
     match command {
@@ -69,26 +69,26 @@ fn are_all_sealed(changes: &[Change], sealed: bool) -> bool
     changes.iter().all(|change| change.is_sealed() == sealed)
 }
 
-fn read_moment(text: &mut WrittenText<'_>) -> Result<Moment, Unread>
+fn read_moment(text: &mut WrittenText<'_>) -> Result<Moment, DecodeFault>
     ensures text { IfOk result (λ when. text.old ≡ decimal when ++ text.new) }
     ensures when { IfOk result (λ when. when ≤ 250_000_000_000) }
 {
     let seconds = text.number()?;
-    Moment::new(seconds).ok_or(Unread::Foreign)
+    Moment::new(seconds).ok_or(DecodeFault::NotGood)
 }
 
 // Whether the format is the second, and not the first.
-fn is_second_format(text: &mut WrittenText<'_>) -> Result<bool, Unread>
+fn is_second_format(text: &mut WrittenText<'_>) -> Result<bool, DecodeFault>
     ensures { IfOk result (λ sealed. text.old ≡ decimal (format_number sealed) ++ text.new) }
 {
     match text.number()? {
         1 => Ok(false),
         2 => Ok(true),
-        _ => Err(Unread::Foreign),
+        _ => Err(DecodeFault::NotGood),
     }
 }
 
-fn read_command(text: &mut WrittenText<'_>) -> Result<CommandName, Unread>
+fn read_command(text: &mut WrittenText<'_>) -> Result<CommandName, DecodeFault>
     ensures { IfOk result (λ command. text.old ≡ command_name command ++ text.new) }
 {
     if text.skip("annotate") {
@@ -100,12 +100,12 @@ fn read_command(text: &mut WrittenText<'_>) -> Result<CommandName, Unread>
     } else if text.skip("revert") {
         Ok(CommandName::Revert)
     } else {
-        Err(Unread::Foreign)
+        Err(DecodeFault::NotGood)
     }
 }
 
 // One change or more, with commas between.
-fn read_changes(alloc: Global, text: &mut WrittenText<'_>) -> Result<Vec<Change>, Unread>
+fn read_changes(alloc: Global, text: &mut WrittenText<'_>) -> Result<Vec<Change>, DecodeFault>
     ensures text { IfOk result (λ changes. text.old ≡ join_with_byte 44 (map change_text changes.items) ++ text.new) }
     ensures some { IfOk result (λ changes. 0 < length changes.items) }
     ensures changes { IfOk result (λ changes. All IsChangeInMemory changes.items) }
@@ -119,7 +119,7 @@ fn read_changes(alloc: Global, text: &mut WrittenText<'_>) -> Result<Vec<Change>
     }
 }
 
-fn read_change(alloc: Global, text: &mut WrittenText<'_>) -> Result<Change, Unread>
+fn read_change(alloc: Global, text: &mut WrittenText<'_>) -> Result<Change, DecodeFault>
     ensures text { IfOk result (λ change. text.old ≡ change_text change ++ text.new) }
     ensures change { IfOk result IsChangeInMemory }
 {
@@ -133,7 +133,7 @@ fn read_change(alloc: Global, text: &mut WrittenText<'_>) -> Result<Change, Unre
     }
     match after {
         None => read_drop(alloc, text),
-        Some(_) => Err(Unread::Foreign),
+        Some(_) => Err(DecodeFault::NotGood),
     }
 }
 
@@ -142,7 +142,7 @@ fn read_make(
     alloc: Global,
     text: &mut WrittenText<'_>,
     after: Option<Digest>,
-) -> Result<Change, Unread>
+) -> Result<Change, DecodeFault>
     requires { AreDigestBytes after }
     ensures text { IfOk result (λ change. codes "{" ++ digest_text (codes "after") after ++ codes "\"kind\":\"make\",\"new\":" ++ text.old ≡ change_text change ++ text.new) }
     ensures change { IfOk result IsChangeInMemory }
@@ -155,7 +155,7 @@ fn read_make(
 }
 
 // A file removed, from the first member on.
-fn read_drop(alloc: Global, text: &mut WrittenText<'_>) -> Result<Change, Unread>
+fn read_drop(alloc: Global, text: &mut WrittenText<'_>) -> Result<Change, DecodeFault>
     ensures text { IfOk result (λ change. codes "{" ++ text.old ≡ change_text change ++ text.new) }
     ensures change { IfOk result IsChangeInMemory }
 {
@@ -173,7 +173,7 @@ fn read_splice(
     alloc: Global,
     text: &mut WrittenText<'_>,
     after: Option<Digest>,
-) -> Result<Change, Unread>
+) -> Result<Change, DecodeFault>
     requires { AreDigestBytes after }
     ensures text { IfOk result (λ change. codes "{" ++ digest_text (codes "after") after ++ codes "\"at\":" ++ text.old ≡ change_text change ++ text.new) }
     ensures change { IfOk result IsChangeInMemory }
@@ -202,13 +202,13 @@ fn read_splice(
 }
 
 // The seal of these digests: both are there, or none is.
-fn seal_of(before: Option<Digest>, after: Option<Digest>) -> Result<Option<Seal>, Unread>
+fn seal_of(before: Option<Digest>, after: Option<Digest>) -> Result<Option<Seal>, DecodeFault>
     ensures before { IfOk result (λ seal. option_map (λ s. s.before) seal ≡ before) }
     ensures after { IfOk result (λ seal. option_map (λ s. s.after) seal ≡ after) }
 {
     match (before, after) {
         (Some(before), Some(after)) => Ok(Some(Seal { before, after })),
         (None, None) => Ok(None),
-        _ => Err(Unread::Foreign),
+        _ => Err(DecodeFault::NotGood),
     }
 }

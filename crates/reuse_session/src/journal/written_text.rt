@@ -7,8 +7,8 @@ ghost use Rattle.hex.specs.Hex.{IsBytes};
 ghost use Rattle.reuse_tree.specs.Path.{is_path};
 ghost use Rattle.reuse_session.specs.EntryText.{digest_text, hex_text, AreDigestBytes};
 
+use crate::journal::fault::DecodeFault;
 use crate::journal::small_hex;
-use crate::journal::unread::Unread;
 use memchr::memchr;
 use reuse_text::Bytes;
 use reuse_tree::{Digest, PathError, PathText};
@@ -51,41 +51,41 @@ impl<'a> WrittenText<'a> {
     }
 
     /// Takes a word, which has to stand next.
-    pub(crate) fn expect(&mut self, word: &str) -> Result<(), Unread>
+    pub(crate) fn expect(&mut self, word: &str) -> Result<(), DecodeFault>
         ensures { OnOk result (self.old ≡ word.now ++ self.new) }
     {
         if self.skip(word) {
             Ok(())
         } else {
-            Err(Unread::Foreign)
+            Err(DecodeFault::NotGood)
         }
     }
 
     /// Tests that nothing is left.
-    pub(crate) fn finish(self) -> Result<(), Unread>
+    pub(crate) fn finish(self) -> Result<(), DecodeFault>
         ensures { OnOk result (self.entry ≡ []) }
     {
         if self.rest.is_empty() {
             Ok(())
         } else {
-            Err(Unread::Foreign)
+            Err(DecodeFault::NotGood)
         }
     }
 
     /// Takes a number.
-    pub(crate) fn number(&mut self) -> Result<u64, Unread>
+    pub(crate) fn number(&mut self) -> Result<u64, DecodeFault>
         ensures { IfOk result (λ number. self.old ≡ decimal number ++ self.new) }
     {
         let rest = self.rest;
         let Some((number, len)) = number_in(rest) else {
-            return Err(Unread::Foreign);
+            return Err(DecodeFault::NotGood);
         };
         self.rest = &rest[len..];
         Ok(number)
     }
 
     /// Takes bytes.
-    pub(crate) fn bytes(&mut self, alloc: Global) -> Result<Bytes, Unread>
+    pub(crate) fn bytes(&mut self, alloc: Global) -> Result<Bytes, DecodeFault>
         ensures text { IfOk result (λ bytes. self.old ≡ hex_text bytes ++ self.new) }
         ensures bytes { IfOk result IsBytes }
     {
@@ -95,7 +95,7 @@ impl<'a> WrittenText<'a> {
     }
 
     /// Takes a member whose value is a digest, where this opening of one stands next.
-    pub(crate) fn digest(&mut self, opening: &str) -> Result<Option<Digest>, Unread>
+    pub(crate) fn digest(&mut self, opening: &str) -> Result<Option<Digest>, DecodeFault>
         ensures text { (key : List ℕ) → opening.now ≡ codes "\"" ++ key ++ codes "\":" → IfOk result (λ digest. self.old ≡ digest_text key digest ++ self.new) }
         ensures digest { IfOk result AreDigestBytes }
     {
@@ -105,36 +105,36 @@ impl<'a> WrittenText<'a> {
         let digits = self.string()?;
         let mut bytes = [0; 32];
         if !small_hex::decode_to(digits, &mut bytes) {
-            return Err(Unread::Foreign);
+            return Err(DecodeFault::NotGood);
         }
         self.expect(",")?;
         Ok(Some(Digest::from_bytes(bytes)))
     }
 
     /// Takes a path that needs no escape.
-    pub(crate) fn path(&mut self, alloc: Global) -> Result<PathText, Unread>
+    pub(crate) fn path(&mut self, alloc: Global) -> Result<PathText, DecodeFault>
         ensures text { IfOk result (λ path. self.old ≡ quoted path ++ self.new) }
         ensures path { IfOk result (λ path. IsTrue (is_path path)) }
         ensures utf8 { IfOk result IsUtf8 }
     {
         let bytes = self.string()?;
         if !are_plain(bytes) {
-            return Err(Unread::Foreign);
+            return Err(DecodeFault::NotGood);
         }
         match str::from_utf8(bytes) {
             Ok(text) => path_of(alloc, text),
-            Err(_) => Err(Unread::Foreign),
+            Err(_) => Err(DecodeFault::NotGood),
         }
     }
 
     // Takes what stands between two quotes.
-    fn string(&mut self) -> Result<&'a [u8], Unread>
+    fn string(&mut self) -> Result<&'a [u8], DecodeFault>
         ensures { IfOk result (λ content. self.old ≡ 34 ∷ (content.now ++ 34 ∷ self.new)) }
     {
         self.expect("\"")?;
         let rest = self.rest;
         let Some(end) = memchr(b'"', rest) else {
-            return Err(Unread::Foreign);
+            return Err(DecodeFault::NotGood);
         };
         self.rest = &rest[end + 1..];
         Ok(&rest[..end])
@@ -142,14 +142,14 @@ impl<'a> WrittenText<'a> {
 }
 
 // The text as a path.
-fn path_of(alloc: Global, text: &str) -> Result<PathText, Unread>
+fn path_of(alloc: Global, text: &str) -> Result<PathText, DecodeFault>
     ensures text { IfOk result (λ path. path ≡ text.now) }
     ensures path { IfOk result (λ path. IsTrue (is_path path)) }
 {
     match PathText::new(alloc, text) {
         Ok(path) => Ok(path),
-        Err(PathError::BadPath) => Err(Unread::Foreign),
-        Err(PathError::Memory) => Err(Unread::Memory),
+        Err(PathError::BadPath) => Err(DecodeFault::NotGood),
+        Err(PathError::Memory) => Err(DecodeFault::Memory),
     }
 }
 

@@ -136,11 +136,31 @@ fn merged(alloc: Global, contents: &[&[u8]], added: &Additions) -> Result<Info, 
     info.union(alloc, added)?.merge(alloc, added)
 }
 
+/// What is added in 2024.
+fn additions(
+    alloc: Global,
+    holders: &[&str],
+    licences: &[&str],
+    years: &[&str],
+    without_year: bool,
+) -> Result<Additions, NoticeRefusal> {
+    let spdx = Prefix::Spdx;
+    Additions::new(
+        alloc,
+        holders,
+        licences,
+        &[],
+        years,
+        without_year,
+        2024,
+        spdx,
+    )
+}
+
 #[test]
 fn adds_years(rt: HostRuntime) -> Result<(), Fail> {
-    let years = ["2018", "2016"];
     let alloc = rt.alloc();
-    let added = Additions::new(alloc, &["Jo"], &[], &[], &years, false, 2024, Prefix::Spdx)?;
+    let added = additions(alloc, &["Jo"], &[], &["2018", "2016"], false)?;
     let info = merged(alloc, &[], &added)?;
     assert!(rt; is_one(info.notices(), b"SPDX-FileCopyrightText: 2016 - 2018 Jo"));
     Ok(())
@@ -149,88 +169,72 @@ fn adds_years(rt: HostRuntime) -> Result<(), Fail> {
 #[test]
 fn adds_a_licence(rt: HostRuntime) -> Result<(), Fail> {
     let alloc = rt.alloc();
-    let spdx = Prefix::Spdx;
-    let added = Additions::new(alloc, &[], &["ISC"], &[], &[], false, 2024, spdx)?;
+    let added = additions(alloc, &[], &["ISC"], &[], false)?;
     let info = merged(alloc, &[b" SPDX-License-Identifier: MIT", b" x"], &added)?;
     assert!(rt; are_two(info.licences(), b"ISC", b"MIT"));
     assert!(rt; is_one(info.free(), b" x"));
     Ok(())
 }
 
+const OF_TWO_HOLDERS: &[&[u8]] = &[
+    b" SPDX-FileCopyrightText: 2019 Jane Doe",
+    b" Copyright 2016-2017 Jane Doe",
+    b" Copyright Jo",
+];
+
 #[test]
 fn merges_one_holder(rt: HostRuntime) -> Result<(), Fail> {
-    let contents = [
-        b" SPDX-FileCopyrightText: 2019 Jane Doe".as_slice(),
-        b" Copyright 2016-2017 Jane Doe",
-        b" Copyright Jo",
-    ];
     let alloc = rt.alloc();
-    let added = Additions::new(
-        alloc,
-        &["Jane Doe"],
-        &[],
-        &[],
-        &[],
-        false,
-        2024,
-        Prefix::Spdx,
-    )?;
-    let info = merged(alloc, &contents, &added)?;
+    let added = additions(alloc, &["Jane Doe"], &[], &[], false)?;
+    let info = merged(alloc, OF_TWO_HOLDERS, &added)?;
     let jane = b"SPDX-FileCopyrightText: 2016 - 2024 Jane Doe";
     assert!(rt; are_two(info.notices(), b"Copyright Jo", jane));
     Ok(())
 }
 
-/// Whether the additions are refused with this text.
-fn is_refused(
-    alloc: Global,
-    copyrights: &[&str],
-    licences: &[&str],
-    years: &[&str],
-    without_year: bool,
-    wanted: &str,
-) -> bool {
-    let spdx = Prefix::Spdx;
-    match Additions::new(
-        alloc,
-        copyrights,
-        licences,
-        &[],
-        years,
-        without_year,
-        2024,
-        spdx,
-    ) {
-        Ok(_) => false,
-        Err(refusal) => is_shown_as(alloc, &refusal, wanted),
-    }
-}
+/// What is added, as holders, licences and years, whether the year is left out, and the text that refuses it.
+type Refused = (
+    &'static [&'static str],
+    &'static [&'static str],
+    &'static [&'static str],
+    bool,
+    &'static str,
+);
 
-fn is_shown_as(alloc: Global, refusal: &NoticeRefusal, wanted: &str) -> bool {
-    match format!(in alloc; "{refusal}") {
-        Ok(text) => text.as_str() == wanted,
-        Err(_) => false,
+const REFUSED: &[Refused] = &[
+    (&[], &[], &[], false, "nothing to add"),
+    (
+        &["Jo"],
+        &["MIT AND "],
+        &["2018"],
+        true,
+        "--year and --exclude-year",
+    ),
+    (&["Jo", " "], &[], &[" 018"], false, "bad year: 018"),
+    (&["Jo", " "], &["MIT AND "], &[], false, "bad text: "),
+    (
+        &["Jo"],
+        &["MIT AND "],
+        &[],
+        true,
+        "bad licence expression at 7: MIT AND",
+    ),
+];
+
+/// What refuses the additions.
+fn refusal_of(alloc: Global, refused: &Refused) -> Result<String, AllocError> {
+    let (holders, licences, years, without_year, _) = *refused;
+    match additions(alloc, holders, licences, years, without_year) {
+        Ok(_) => String::from_str(alloc, "accepted"),
+        Err(refusal) => format!(in alloc; "{refusal}"),
     }
 }
 
 #[test]
-fn refuses_in_order(rt: HostRuntime) {
-    let alloc = rt.alloc();
-    let licence = ["MIT AND "];
-    let both = ["Jo", " "];
-    assert!(rt; is_refused(alloc, &[], &[], &[], false, "nothing to add"));
-    assert!(rt;
-        is_refused(
-            alloc,
-            &["Jo"],
-            &licence,
-            &["2018"],
-            true,
-            "--year and --exclude-year"
-        )
-    );
-    assert!(rt; is_refused(alloc, &both, &[], &[" 018"], false, "bad year: 018"));
-    assert!(rt; is_refused(alloc, &both, &licence, &[], false, "bad text: "));
-    let wanted = "bad licence expression at 7: MIT AND";
-    assert!(rt; is_refused(alloc, &["Jo"], &licence, &[], true, wanted));
+fn refuses_in_order(rt: HostRuntime) -> Result<(), Fail> {
+    for refused in REFUSED {
+        let found = refusal_of(rt.alloc(), refused)?;
+        assert_eq!(rt; found.as_str(), refused.4);
+    }
+    Ok(())
 }

@@ -1,8 +1,8 @@
 //! Paths, changes, digests and stores.
 use reuse_text::Bytes;
 use reuse_tree::{
-    Change, ChangeState, Digest, FuseStore, MemoryStore, OnceStore, PathError, PathText, Reading,
-    Store, StoreFault,
+    Change, ChangeState, Digest, FuseStore, MemoryStore, OnceStore, Parts, PathError, PathText,
+    Reading, Store, StoreFault,
 };
 use std::alloc::Global;
 use std::process::Abort;
@@ -66,7 +66,7 @@ const DIGEST_OF_ABC: [u8; 32] = [
 fn a_digest_is_of_the_joined_bytes(rt: HostRuntime) -> Result<(), Fail> {
     let digest = Digest::of(b"abc");
     assert!(rt; digest.as_slice() == DIGEST_OF_ABC.as_slice());
-    assert!(rt; Digest::of_parts(b"a", b"", b"bc") == digest);
+    assert!(rt; Digest::of_parts(Parts::spliced(b"axc", 1, 1, b"b")) == digest);
     assert!(rt; Digest::from_bytes(DIGEST_OF_ABC) == digest);
     let read = Digest::from_slice(DIGEST_OF_ABC.as_slice()).ok_or("not 32 bytes")?;
     assert!(rt; read == digest);
@@ -153,9 +153,9 @@ fn a_folder_is_no_file(rt: HostRuntime) -> Result<(), Fail> {
 #[test]
 fn a_fuse_burns_at_its_call(rt: HostRuntime) -> Result<(), Fail> {
     let alloc = rt.alloc();
-    let path = PathText::new(alloc, "a")?;
     let mut fuse = FuseStore::new(MemoryStore::new(), 6, false);
     keeps_a_file(&rt, alloc, &mut fuse)?;
+    let path = PathText::new(alloc, "a")?;
     assert!(rt; matches!(fuse.put(alloc, &path, b"x"), Err(StoreFault::Device)));
     assert!(rt; matches!(fuse.list(alloc), Err(StoreFault::Device)));
     let mut fuse = FuseStore::new(fuse.into_inner(), 1, true);
@@ -186,7 +186,15 @@ fn parts_are_put_joined(rt: HostRuntime) -> Result<(), Fail> {
     let alloc = rt.alloc();
     let path = PathText::new(alloc, "a")?;
     let mut store = MemoryStore::new();
-    store.put_parts(alloc, &path, b"ab", b"", b"c")?;
+    store.put_parts(
+        alloc,
+        &path,
+        Parts {
+            front: b"ab",
+            middle: b"",
+            back: b"c",
+        },
+    )?;
     let Reading::Found(bytes) = store.read(alloc, &path, 3)? else {
         return Err("not found")?;
     };

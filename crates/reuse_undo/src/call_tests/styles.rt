@@ -97,4 +97,5 @@ fn styles_have_their_names(rt: HostRuntime) {
         assert_eq!(rt; Style::of_name(name), Some(*style));
         assert_eq!(rt; style.name(), *name);
     }
+    assert_eq!(rt; Style::of_name("Python"), None);
 }

@@ -4,9 +4,12 @@ use crate::disk::kept_out::NEW_BESIDE;
 use crate::disk::place::{FullPath, kept_bits};
 use std::alloc::Global;
 use std::fs::{self, OpenFile, OpenOptions, Permissions};
-use std::io::{self, ErrorKind, Write};
+use std::io::{self, BufWriter, ErrorKind, Write};
 use std::os::unix::fs::{OpenOptionsExt, PermissionsExt};
 use std::rt::Files;
+
+/// Parts that are shorter than this together go out by one call of the system. A copy of more takes as long as another call.
+const MOST_JOINED: usize = 16_384;
 
 /// The place where each file is written before it is given its name.
 #[derive(Drop)]
@@ -58,16 +61,18 @@ impl NewFile {
     fn write_and_rename<R: Files>(
         &mut self,
         rt: &R,
+        alloc: Global,
         name: &str,
         mode: Option<u32>,
         parts: &[&[u8]],
     ) -> io::Result<()> {
-        let mut file = self.create(rt, mode)?;
+        let mut file = BufWriter::with_capacity(alloc, MOST_JOINED, self.create(rt, mode)?)?;
         for part in parts {
             file.write_all(part)?;
         }
+        file.flush()?;
         if let Some(mode) = mode {
-            self.set_mode(&file, mode)?;
+            self.set_mode(file.get_ref(), mode)?;
         }
         fs::rename(rt, self.full.text(), name)
     }
@@ -75,11 +80,12 @@ impl NewFile {
     fn write_here(
         &mut self,
         rt: &impl Files,
+        alloc: Global,
         name: &str,
         mode: Option<u32>,
         parts: &[&[u8]],
     ) -> io::Result<()> {
-        let written = self.write_and_rename(rt, name, mode, parts);
+        let written = self.write_and_rename(rt, alloc, name, mode, parts);
         if written.is_err() {
             // What is left of the new file is of no use, and a fault of its removal tells no more.
             let _ = fs::remove_file(rt, self.full.text());
@@ -97,14 +103,14 @@ impl NewFile {
         mode: Option<u32>,
         parts: &[&[u8]],
     ) -> io::Result<()> {
-        match self.write_here(rt, name.text(), mode, parts) {
+        match self.write_here(rt, alloc, name.text(), mode, parts) {
             Err(error) if error.kind() == ErrorKind::CrossesDevices => {
                 let full = name.beside(alloc, NEW_BESIDE)?;
                 let mut beside = NewFile {
                     full,
                     granted: None,
                 };
-                beside.write_here(rt, name.text(), mode, parts)
+                beside.write_here(rt, alloc, name.text(), mode, parts)
             }
             written => written,
         }

@@ -120,64 +120,38 @@ fn draw_one<S: Store>(
     ensures reads { OnlyReads S.Store store.old store.new }
     ensures fault { IfErr result IsOfDiff }
 {
+    let recorded = Turn::of(change);
+    let turn = if back { recorded.back() } else { recorded };
     match change {
-        Change::Make { path, new, .. } => draw_whole(text, alloc, path, new.as_slice(), !back),
-        Change::Drop { path, old, .. } => draw_whole(text, alloc, path, old.as_slice(), back),
-        Change::Splice {
-            path,
-            at,
-            old,
-            new,
-            ..
-        } => {
-            let (old, new) = if back { (new, old) } else { (old, new) };
-            match store.read(alloc, path, LONGEST) {
-                Ok(Reading::Found(file)) => {
-                    draw_range(
-                        text,
-                        alloc,
-                        path,
-                        file.as_slice(),
-                        *at,
-                        old.len(),
-                        new.as_slice(),
-                    )
-                }
-                Ok(_) => Ok(()),
-                Err(fault) => Err(Fault::NoDiff(Refusal::from(fault))),
-            }
-        }
+        Change::Splice { at, .. } => draw_range(alloc, store, text, turn, *at),
+        _ => in_memory(print_diff(text, alloc, turn)),
     }
 }
 
-// A file that is made, or removed.
-fn draw_whole<'a>(
-    text: &mut Vec<u8>,
+// A file of which a range gives way.
+fn draw_range<S: Store>(
     alloc: Global,
-    path: &'a PathText,
-    file: &'a [u8],
-    is_made: bool,
+    store: &mut S,
+    text: &mut Vec<u8>,
+    range: Turn<'_>,
+    at: usize,
 ) -> Result<(), Fault>
-    ensures { IfErr result IsOfDiff }
+    ensures reads { OnlyReads S.Store store.old store.new }
+    ensures fault { IfErr result IsOfDiff }
 {
-    let turn = if is_made {
-        Turn {
-            path,
-            before: None,
-            after: Some(file),
+    let length = range.before.unwrap_or(b"").len();
+    let new = range.after.unwrap_or(b"");
+    match store.read(alloc, range.path, LONGEST) {
+        Ok(Reading::Found(file)) => {
+            draw_within(text, alloc, range.path, file.as_slice(), at, length, new)
         }
-    } else {
-        Turn {
-            path,
-            before: Some(file),
-            after: None,
-        }
-    };
-    in_memory(print_diff(text, alloc, turn))
+        Ok(_) => Ok(()),
+        Err(fault) => Err(Fault::NoDiff(Refusal::from(fault))),
+    }
 }
 
-// A file of which a range gives way. Where the range isn't within the file, it isn't as it was looked at, and nothing is told.
-fn draw_range<'a>(
+// The same, of a file that was read. Where the range isn't within it, it isn't as it was looked at, and nothing is told.
+fn draw_within<'a>(
     text: &mut Vec<u8>,
     alloc: Global,
     path: &'a PathText,

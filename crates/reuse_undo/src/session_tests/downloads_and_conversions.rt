@@ -1,12 +1,12 @@
 // Downloads and conversions over a store in memory, with worked values.
-use crate::session_tests::trees::{gives, has_just, holds, moment, play, plays, runs};
+use crate::session_tests::trees::{has_just, holds, moment, play, plays, runs};
 use reuse_session::{Command, Event, Ids, LicenceText, LicenceTexts, is_id};
 use reuse_text::Bytes;
 use reuse_tree::MemoryStore;
 use std::alloc::Global;
 use std::test::Fail;
 
-pub const DEP5: &str = "Format: https://www.debian.org/doc/packaging-manuals/copyright-format/1.0/
+pub const DEP5: &[u8] = b"Format: https://www.debian.org/doc/packaging-manuals/copyright-format/1.0/
 Upstream-Name: demo
 
 # Sample paragraph, commented out:
@@ -30,8 +30,11 @@ SPDX-FileCopyrightText = \"2019 Jane Doe\"
 SPDX-License-Identifier = \"MIT\"
 ";
 
-const QUESTION: &str =
-    "Format: x\nUpstream-Name: y\nSource: z\nComment: w\n\nFiles: a?.c\nCopyright: J\nLicense: MIT\n";
+const QUESTION: &[u8] =
+    b"Format: x\nUpstream-Name: y\nSource: z\nComment: w\n\nFiles: a?.c\nCopyright: J\nLicense: MIT\n";
+
+const NO_QUESTION: &[u8] =
+    b"Format: x\nUpstream-Name: y\nSource: z\nComment: w\n\nFiles: a.c\nCopyright: J\nLicense: MIT\n";
 
 /// A download of these licences. A text was found for `MIT` alone, and given twice.
 pub fn download(alloc: Global, ids: &[&str]) -> Result<Command, Fail> {
@@ -79,33 +82,29 @@ fn texts_of_licences_become_files(rt: HostRuntime) -> Result<(), Fail> {
     Ok(())
 }
 
+/// Files that convert-dep5 is refused for, and what is told.
+const REFUSED: &[(&[(&str, &[u8])], &str)] = &[
+    (&[("a", b"")], "opened\n.reuse/dep5: absent\n"),
+    (
+        &[(".reuse/dep5", QUESTION)],
+        "opened\n.reuse/dep5:6: question mark\n",
+    ),
+    (
+        &[(".reuse/dep5", DEP5), ("REUSE.toml", b"")],
+        "opened\nREUSE.toml: exists\n",
+    ),
+    (
+        &[(".reuse/dep5", DEP5), ("REUSE.toml/x", b"")],
+        "opened\nREUSE.toml: clash\n",
+    ),
+];
+
 #[test]
 fn a_conversion_may_be_refused(rt: HostRuntime) -> Result<(), Fail> {
     let alloc = rt.alloc();
-    for (name, text, other, lines) in [
-        ("a", "", "b", "opened\n.reuse/dep5: absent\n"),
-        (
-            ".reuse/dep5",
-            QUESTION,
-            "b",
-            "opened\n.reuse/dep5:6: question mark\n",
-        ),
-        (
-            ".reuse/dep5",
-            DEP5,
-            "REUSE.toml",
-            "opened\nREUSE.toml: exists\n",
-        ),
-        (
-            ".reuse/dep5",
-            DEP5,
-            "REUSE.toml/x",
-            "opened\nREUSE.toml: clash\n",
-        ),
-    ] {
-        let file = (name, text.as_bytes());
-        let files = [file, (other, b"")];
-        gives(&rt, alloc, &files, Command::ConvertDep5, lines, file)?;
+    for (files, lines) in REFUSED {
+        let mut store = runs(&rt, alloc, files, Command::ConvertDep5, lines)?;
+        assert!(rt; has_just(alloc, &mut store, files)?, "{lines}");
     }
     Ok(())
 }
@@ -113,7 +112,7 @@ fn a_conversion_may_be_refused(rt: HostRuntime) -> Result<(), Fail> {
 #[test]
 fn a_dep5_becomes_a_reuse_toml(rt: HostRuntime) -> Result<(), Fail> {
     let alloc = rt.alloc();
-    let (old, new) = ([(".reuse/dep5", DEP5.as_bytes())], [("REUSE.toml", TOML)]);
+    let (old, new) = ([(".reuse/dep5", DEP5)], [("REUSE.toml", TOML)]);
     let lines = "opened\nchanged .reuse/dep5 REUSE.toml\n";
     let mut store = runs(&rt, alloc, &old, Command::ConvertDep5, lines)?;
     assert!(rt; has_just(alloc, &mut store, &new)?);
@@ -126,8 +125,7 @@ fn a_dep5_becomes_a_reuse_toml(rt: HostRuntime) -> Result<(), Fail> {
 #[test]
 fn a_dep5_without_question_marks_is_converted(rt: HostRuntime) -> Result<(), Fail> {
     let alloc = rt.alloc();
-    let plain = QUESTION.replace(alloc, "?", "")?;
-    let files = [(".reuse/dep5", plain.as_bytes())];
+    let files = [(".reuse/dep5", NO_QUESTION)];
     let lines = "opened\nchanged .reuse/dep5 REUSE.toml\n";
     runs(&rt, alloc, &files, Command::ConvertDep5, lines)?;
     Ok(())

@@ -9,26 +9,20 @@ use std::test::Fail;
 const FIRST: &[(&str, &[u8])] = &[("a.py", ANNOTATED), ("b.py", PLAIN)];
 
 // The first file is annotated, by a step from before entries were sealed.
-const UNSEALED: Standing = Standing {
-    log: "opened\nlog 1 done\n",
-    files: FIRST,
-};
+const UNSEALED: Standing = ("opened\nlog 1 done\n", FIRST);
 
 // So is the second, by a step that is sealed.
-const SEALED: Standing = Standing {
-    log: "opened\nlog 1 done 2 done\n",
-    files: &[("a.py", ANNOTATED), ("b.py", ANNOTATED)],
-};
+const SEALED: Standing = (
+    "opened\nlog 1 done 2 done\n",
+    &[("a.py", ANNOTATED), ("b.py", ANNOTATED)],
+);
 
-const ONE_BACK: Standing = Standing {
-    log: "opened\nlog 1 done 2 undone\n",
-    files: FIRST,
-};
+const ONE_BACK: Standing = ("opened\nlog 1 done 2 undone\n", FIRST);
 
-const BOTH_BACK: Standing = Standing {
-    log: "opened\nlog 1 undone 2 undone\n",
-    files: &[("a.py", PLAIN), ("b.py", PLAIN)],
-};
+const BOTH_BACK: Standing = (
+    "opened\nlog 1 undone 2 undone\n",
+    &[("a.py", PLAIN), ("b.py", PLAIN)],
+);
 
 #[test]
 fn a_journal_of_both_formats_stops_at_any_call(rt: HostRuntime) -> Result<(), Fail> {

@@ -3,13 +3,13 @@
 // The tags below are data: REUSE-IgnoreStart
 use crate::session_tests::downloads_and_conversions::{DEP5, TOML, download};
 use crate::session_tests::scarce_memory::{GRAIN, PIECE, ScarceMemory};
-use crate::session_tests::scarce_store::ScarceStore;
-use crate::session_tests::stops::{before_the_last_head, call};
+use crate::session_tests::stops::{Standing, before_the_last_head, call};
 use crate::session_tests::tally::{Tally, Told};
 use crate::session_tests::trees::{
     ANNOTATED, PLAIN, annotate, copy, dump, licence, moment, path, plain_how, plain_scope, play,
     push_answer, sign, signing, tree,
 };
+use crate::watched::WatchedStore;
 use reuse_session::{Answer, Cause, Command, Event, Refusal, Reply, Session, drive};
 use reuse_tree::{MemoryStore, Store};
 use std::alloc::Global;
@@ -28,13 +28,28 @@ const TAG: &[u8] = b"SPDX-License-Identifier: MIT\n";
 
 const PICTURE: &[u8] = b"\x89\x00";
 
-/// The files of a command before and after it, and the paths that it names.
-#[derive(Clone, Copy)]
-struct Example<'a> {
-    old: &'a [(&'a str, &'a [u8])],
-    new: &'a [(&'a str, &'a [u8])],
-    paths: &'a str,
-}
+type File<'a> = (&'a str, &'a [u8]);
+
+/// The files before and after a command, and the paths that it names.
+type Example<'a> = (&'a [File<'a>], &'a [File<'a>], &'a str);
+
+const ADDED: Example = (&[("a.py", PLAIN)], &[("a.py", ANNOTATED)], "a.py");
+
+const REPLACED: Example = (&[("k.h", OLD_HEADER)], &[("k.h", NEW_HEADER)], "k.h");
+
+const BESIDE: Example = (
+    &[("p.png", PICTURE)],
+    &[("p.png", PICTURE), ("p.png.license", TAG)],
+    "p.png.license",
+);
+
+const CONVERTED: Example = (
+    &[(".reuse/dep5", DEP5)],
+    &[("REUSE.toml", TOML)],
+    ".reuse/dep5 REUSE.toml",
+);
+
+const DOWNLOADED: Example = (&[], &[("LICENSES/MIT.txt", b"text\n")], "LICENSES/MIT.txt");
 
 /// A call: the store that it starts from, its right answer, the standings before and after it, and whether want of memory can
 /// interrupt it.
@@ -67,11 +82,17 @@ fn with_history(alloc: Global, files: &[(&str, &[u8])]) -> Result<MemoryStore, F
     Ok(store)
 }
 
-/// The text of a tree and its log, where the files are these.
-fn standing_of(alloc: Global, files: &[(&str, &[u8])], rows: &str) -> Result<Vec<u8>, Fail> {
-    let mut text = dump(alloc, &mut with_others(alloc, files, ANNOTATED)?)?;
-    text.extend_from_slice(format!(in alloc; "opened\nlog {rows}\n")?.as_bytes())?;
+/// The text of a tree and its log.
+pub fn text_of(alloc: Global, store: &mut MemoryStore, log: &str) -> Result<Vec<u8>, Fail> {
+    let mut text = dump(alloc, store)?;
+    text.extend_from_slice(log.as_bytes())?;
     Ok(text)
+}
+
+/// The same text of a standing.
+fn standing_text(alloc: Global, standing: Standing) -> Result<Vec<u8>, Fail> {
+    let (log, files) = standing;
+    text_of(alloc, &mut with_others(alloc, files, ANNOTATED)?, log)
 }
 
 /// The same text of what the next opening finds.
@@ -82,9 +103,7 @@ fn find_standing(alloc: Global, store: MemoryStore) -> Result<Vec<u8>, Fail> {
             store.remove(alloc, path)?;
         }
     }
-    let mut text = dump(alloc, &mut store)?;
-    text.extend_from_slice(log.as_bytes())?;
-    Ok(text)
+    text_of(alloc, &mut store, log.as_str())
 }
 
 /// What an answer is, where this line is the right one.
@@ -112,7 +131,7 @@ fn open_at(
     point: u32,
     bytes: usize,
 ) -> (MemoryStore, Answer) {
-    let store = ScarceStore::new(store, memory);
+    let store = WatchedStore::new(store, memory);
     memory.leave_at(alloc, point, bytes);
     let opened = Session::open(alloc, store);
     memory.release(alloc);
@@ -131,7 +150,7 @@ fn call_at(
     point: u32,
     bytes: usize,
 ) -> (MemoryStore, Answer) {
-    match Session::open(alloc, ScarceStore::new(store, memory)) {
+    match Session::open(alloc, WatchedStore::new(store, memory)) {
         Ok(session) => {
             let mut session = session;
             memory.leave_at(alloc, point, bytes);
@@ -241,81 +260,52 @@ pub fn refuse_growths(
     Ok(())
 }
 
-fn refuse_run(
-    rt: &(impl Abort + Eprint),
+/// A call that want of memory can interrupt, between these standings.
+fn call_between<'a>(
     alloc: Global,
-    memory: &ScarceMemory,
-    example: Example,
-    run: &[Event; 1],
-) -> Result<(), Fail> {
-    let call = Call {
-        start: with_history(alloc, example.old)?,
-        event: &run[0],
-        answer: format!(in alloc; "changed {}", example.paths)?,
-        before: standing_of(alloc, example.old, "1 done 2 undone")?,
-        after: standing_of(alloc, example.new, "1 done 3 done")?,
-        stops: true,
-    };
-    refuse_growths(rt, alloc, memory, call)
-}
-
-fn refuse_undo(
-    rt: &(impl Abort + Eprint),
-    alloc: Global,
-    memory: &ScarceMemory,
-    example: Example,
-    run: &[Event; 1],
-) -> Result<(), Fail> {
-    let (start, _) = drive(alloc, with_history(alloc, example.old)?, run);
-    let call = Call {
+    start: MemoryStore,
+    event: &'a Event,
+    answer: String,
+    before: Standing,
+    after: Standing,
+) -> Result<Call<'a>, Fail> {
+    Ok(Call {
         start,
-        event: &Event::Undo,
-        answer: format!(in alloc; "undone {}", example.paths)?,
-        before: standing_of(alloc, example.new, "1 done 3 done")?,
-        after: standing_of(alloc, example.old, "1 done 3 undone")?,
+        event,
+        answer,
+        before: standing_text(alloc, before)?,
+        after: standing_text(alloc, after)?,
         stops: true,
-    };
-    refuse_growths(rt, alloc, memory, call)
+    })
 }
 
-fn refuse_redo(
-    rt: &(impl Abort + Eprint),
+/// The last of the events as a call, which this word tells.
+fn last_call<'a>(
     alloc: Global,
-    memory: &ScarceMemory,
     example: Example,
-    run: &[Event; 1],
-) -> Result<(), Fail> {
-    let (ran, _) = drive(alloc, with_history(alloc, example.old)?, run);
-    let (start, _) = drive(alloc, ran, &[Event::Undo]);
-    let call = Call {
-        start,
-        event: &Event::Redo,
-        answer: format!(in alloc; "redone {}", example.paths)?,
-        before: standing_of(alloc, example.old, "1 done 3 undone")?,
-        after: standing_of(alloc, example.new, "1 done 3 done")?,
-        stops: true,
-    };
-    refuse_growths(rt, alloc, memory, call)
+    events: &'a [Event],
+    word: &str,
+    before: Standing,
+    after: Standing,
+) -> Result<Call<'a>, Fail> {
+    let (old, _, paths) = example;
+    let (event, past) = events.split_last().ok_or("an event")?;
+    let (start, _) = drive(alloc, with_history(alloc, old)?, past);
+    let answer = format!(in alloc; "{word} {paths}")?;
+    call_between(alloc, start, event, answer, before, after)
 }
 
-/// Refuses the growths of an opening where the run stopped.
-fn refuse_opening(
-    rt: &(impl Abort + Eprint),
+/// An opening as a call, where the run stopped.
+fn opening_call<'a>(
     alloc: Global,
-    memory: &ScarceMemory,
-    example: Example,
-    run: &[Event; 1],
-) -> Result<(), Fail> {
-    let mut start = with_history(alloc, example.old)?;
-    let call = Call {
-        start: before_the_last_head(alloc, &mut start, run)?,
-        event: &Event::Reopen,
-        answer: String::from_str(alloc, "opened")?,
-        before: standing_of(alloc, example.old, "1 done 2 undone")?,
-        after: standing_of(alloc, example.old, "1 done 2 undone")?,
-        stops: true,
-    };
-    refuse_growths(rt, alloc, memory, call)
+    run: &[Event],
+    reopen: &'a Event,
+    standing: Standing,
+) -> Result<Call<'a>, Fail> {
+    let mut start = with_history(alloc, standing.1)?;
+    let start = before_the_last_head(alloc, &mut start, run)?;
+    let answer = String::from_str(alloc, "opened")?;
+    call_between(alloc, start, reopen, answer, standing, standing)
 }
 
 /// Refuses the growths of a run, of its undo and redo, and of an opening where the run stopped.
@@ -325,24 +315,28 @@ fn refuse_each_growth<R: Abort + Eprint + Files + Alloc>(
     command: Command,
     example: Example,
 ) -> Result<(), Fail> {
-    let run = [Event::Run(command, moment()?)];
     let memory = ScarceMemory::new(rt, alloc)?;
-    refuse_run(rt, alloc, &memory, example, &run)?;
-    refuse_undo(rt, alloc, &memory, example, &run)?;
-    refuse_redo(rt, alloc, &memory, example, &run)?;
-    refuse_opening(rt, alloc, &memory, example, &run)
+    let events = [Event::Run(command, moment()?), Event::Undo, Event::Redo];
+    let (old, new, _) = example;
+    let undone = ("opened\nlog 1 done 3 undone\n", old);
+    let old = ("opened\nlog 1 done 2 undone\n", old);
+    let new = ("opened\nlog 1 done 3 done\n", new);
+    for (events, word, before, after) in [
+        (&events[..1], "changed", old, new),
+        (&events[..2], "undone", new, undone),
+        (&events[..], "redone", undone, new),
+    ] {
+        let call = last_call(alloc, example, events, word, before, after)?;
+        refuse_growths(rt, alloc, &memory, call)?;
+    }
+    let call = opening_call(alloc, &events[..1], &Event::Reopen, old)?;
+    refuse_growths(rt, alloc, &memory, call)
 }
 
 #[test]
 fn a_header_is_added_in_scarce_memory(rt: HostRuntime) -> Result<(), Fail> {
-    let alloc = rt.alloc();
-    let command = sign(alloc, &["a.py"])?;
-    let example = Example {
-        old: &[("a.py", PLAIN)],
-        new: &[("a.py", ANNOTATED)],
-        paths: "a.py",
-    };
-    refuse_each_growth(&rt, alloc, command, example)
+    let command = sign(rt.alloc(), &["a.py"])?;
+    refuse_each_growth(&rt, rt.alloc(), command, ADDED)
 }
 
 #[test]
@@ -350,44 +344,23 @@ fn a_header_is_replaced_in_scarce_memory(rt: HostRuntime) -> Result<(), Fail> {
     let alloc = rt.alloc();
     let (how, scope) = (plain_how(), plain_scope(alloc));
     let command = annotate(alloc, &["k.h"], &["Jane Doe"], &[], how, scope)?;
-    let example = Example {
-        old: &[("k.h", OLD_HEADER)],
-        new: &[("k.h", NEW_HEADER)],
-        paths: "k.h",
-    };
-    refuse_each_growth(&rt, alloc, command, example)
+    refuse_each_growth(&rt, alloc, command, REPLACED)
 }
 
 #[test]
 fn a_picture_gets_a_neighbour_in_scarce_memory(rt: HostRuntime) -> Result<(), Fail> {
     let alloc = rt.alloc();
     let command = licence(alloc, &["p.png"], "MIT", plain_scope(alloc))?;
-    let example = Example {
-        old: &[("p.png", PICTURE)],
-        new: &[("p.png", PICTURE), ("p.png.license", TAG)],
-        paths: "p.png.license",
-    };
-    refuse_each_growth(&rt, alloc, command, example)
+    refuse_each_growth(&rt, alloc, command, BESIDE)
 }
 
 #[test]
 fn a_dep5_is_converted_in_scarce_memory(rt: HostRuntime) -> Result<(), Fail> {
-    let example = Example {
-        old: &[(".reuse/dep5", DEP5.as_bytes())],
-        new: &[("REUSE.toml", TOML)],
-        paths: ".reuse/dep5 REUSE.toml",
-    };
-    refuse_each_growth(&rt, rt.alloc(), Command::ConvertDep5, example)
+    refuse_each_growth(&rt, rt.alloc(), Command::ConvertDep5, CONVERTED)
 }
 
 #[test]
 fn a_text_becomes_a_file_in_scarce_memory(rt: HostRuntime) -> Result<(), Fail> {
-    let alloc = rt.alloc();
-    let command = download(alloc, &["MIT"])?;
-    let example = Example {
-        old: &[],
-        new: &[("LICENSES/MIT.txt", b"text\n")],
-        paths: "LICENSES/MIT.txt",
-    };
-    refuse_each_growth(&rt, alloc, command, example)
+    let command = download(rt.alloc(), &["MIT"])?;
+    refuse_each_growth(&rt, rt.alloc(), command, DOWNLOADED)
 }

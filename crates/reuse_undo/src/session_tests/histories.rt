@@ -6,8 +6,6 @@ use std::alloc::Global;
 use std::process::Abort;
 use std::test::Fail;
 
-const NEIGHBOUR: &[u8] = b"SPDX-FileCopyrightText: 2024 Jane Doe\n\nSPDX-License-Identifier: MIT\n";
-
 #[test]
 fn one_file_is_annotated_undone_and_redone(rt: HostRuntime) -> Result<(), Fail> {
     let alloc = rt.alloc();
@@ -18,17 +16,6 @@ fn one_file_is_annotated_undone_and_redone(rt: HostRuntime) -> Result<(), Fail> 
     leaves(&rt, alloc, &old, &["a.py", "undo"], lines, &old)?;
     let lines = "opened\nchanged a.py\nundone a.py\nredone a.py\n";
     leaves(&rt, alloc, &old, &["a.py", "undo", "redo"], lines, &new)
-}
-
-#[test]
-fn a_file_without_comments_gets_a_neighbour(rt: HostRuntime) -> Result<(), Fail> {
-    let alloc = rt.alloc();
-    let old = [("a.json", PLAIN)];
-    let new = [("a.json", PLAIN), ("a.json.license", NEIGHBOUR)];
-    let lines = "opened\nchanged a.json.license\n";
-    leaves(&rt, alloc, &old, &["a.json"], lines, &new)?;
-    let lines = "opened\nchanged a.json.license\nundone a.json.license\n";
-    leaves(&rt, alloc, &old, &["a.json", "undo"], lines, &old)
 }
 
 #[test]

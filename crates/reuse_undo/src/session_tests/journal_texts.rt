@@ -56,23 +56,6 @@ fn heads_are_written(rt: HostRuntime) -> Result<(), Fail> {
 }
 
 #[test]
-fn heads_are_read(rt: HostRuntime) -> Result<(), Fail> {
-    let alloc = rt.alloc();
-    let text =
-        b" {\"undone\":[2], \"pending\": {\"way\":\"undo\",\"entry\":1},\"next\":3,\"format\":1,\"done\":[1]}";
-    let found = decode_head(alloc, text)?;
-    assert_eq!(rt; found.done.as_slice(), [1].as_slice());
-    assert_eq!(rt; found.undone.as_slice(), [2].as_slice());
-    assert_eq!(rt; found.next, 3);
-    let pending = Pending {
-        entry: 1,
-        way: PendingWay::Undo,
-    };
-    assert_eq!(rt; found.pending, Some(pending));
-    Ok(())
-}
-
-#[test]
 fn bad_heads_are_refused(rt: HostRuntime) {
     let alloc = rt.alloc();
     for text in [
@@ -98,26 +81,20 @@ fn entry_of(alloc: Global, change: Change) -> Result<Entry, Fail> {
     })
 }
 
-// Writes the entry of a change, and what is read of that text.
-fn twice(alloc: Global, change: Change) -> Result<(Vec<u8>, Vec<u8>), Fail> {
-    let text = encode_entry(alloc, &entry_of(alloc, change)?)?;
-    let again = encode_entry(alloc, &decode_entry(alloc, text.as_slice())?)?;
-    Ok((text, again))
+// Whether the entry of a change is written as this text, and read as the same.
+fn is_text_of(alloc: Global, change: Change, text: &str) -> Result<bool, Fail> {
+    let written = encode_entry(alloc, &entry_of(alloc, change)?)?;
+    let again = encode_entry(alloc, &decode_entry(alloc, text.as_bytes())?)?;
+    Ok(written.as_slice() == text.as_bytes() && again.as_slice() == text.as_bytes())
 }
 
 #[test]
 fn an_entry_is_written_and_read(rt: HostRuntime) -> Result<(), Fail> {
     let alloc = rt.alloc();
-    let change = Change::sealed_splice(
-        PathText::new(alloc, "a.py")?,
-        PLAIN,
-        0,
-        Bytes::new(alloc),
-        Bytes::from_slice(alloc, NEW)?,
-    );
-    let (text, again) = twice(alloc, change)?;
-    assert_eq!(rt; text.as_slice(), FIRST.as_bytes());
-    assert_eq!(rt; again.as_slice(), FIRST.as_bytes());
+    let path = PathText::new(alloc, "a.py")?;
+    let new = Bytes::from_slice(alloc, NEW)?;
+    let change = Change::sealed_splice(path, PLAIN, 0, Bytes::new(alloc), new);
+    assert!(rt; is_text_of(alloc, change, FIRST)?);
     Ok(())
 }
 
@@ -132,21 +109,29 @@ fn an_unsealed_entry_stays_so(rt: HostRuntime) -> Result<(), Fail> {
         rest: 9,
         seal: None,
     };
-    let (text, again) = twice(alloc, change)?;
-    assert_eq!(rt; text.as_slice(), FIRST_UNSEALED.as_bytes());
-    assert_eq!(rt; again.as_slice(), FIRST_UNSEALED.as_bytes());
+    assert!(rt; is_text_of(alloc, change, FIRST_UNSEALED)?);
     Ok(())
 }
 
 #[test]
 fn other_spellings_are_read(rt: HostRuntime) -> Result<(), Fail> {
     let alloc = rt.alloc();
-    let text =
-        b"{ \"when\":0,\"format\":1,\"command\":\"download\",\"changes\":[{\"path\":\"a\\u002fb\",\"new\":\"6A6b\",\"kind\":\"make\",\"kind\":\"make\"}]}";
-    let again = encode_entry(alloc, &decode_entry(alloc, text)?)?;
-    let plain =
-        b"{\"changes\":[{\"kind\":\"make\",\"new\":\"6a6b\",\"path\":\"a/b\"}],\"command\":\"download\",\"format\":1,\"when\":0}";
-    assert_eq!(rt; again.as_slice(), plain.as_slice());
+    let head = decode_head(
+        alloc,
+        b" {\"undone\":[2], \"pending\": {\"way\":\"undo\",\"entry\":1},\"next\":3,\"format\":1,\"done\":[1]}",
+    )?;
+    assert_eq!(rt;
+        encode_head(alloc, &head)?.as_slice(),
+        b"{\"done\":[1],\"format\":2,\"next\":3,\"pending\":{\"entry\":1,\"way\":\"undo\"},\"undone\":[2]}".as_slice()
+    );
+    let entry = decode_entry(
+        alloc,
+        b"{ \"when\":0,\"format\":1,\"command\":\"download\",\"changes\":[{\"path\":\"a\\u002fb\",\"new\":\"6A6b\",\"kind\":\"make\",\"kind\":\"make\"}]}",
+    )?;
+    assert_eq!(rt;
+        encode_entry(alloc, &entry)?.as_slice(),
+        b"{\"changes\":[{\"kind\":\"make\",\"new\":\"6a6b\",\"path\":\"a/b\"}],\"command\":\"download\",\"format\":1,\"when\":0}".as_slice()
+    );
     Ok(())
 }
 

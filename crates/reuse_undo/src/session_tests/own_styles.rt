@@ -1,9 +1,9 @@
 //! Trees that give styles to their own names.
 // The tags below are data: REUSE-IgnoreStart
-use crate::session_tests::growths::{Call, refuse_growths};
+use crate::session_tests::growths::{Call, refuse_growths, text_of};
 use crate::session_tests::scarce_memory::ScarceMemory;
 use crate::session_tests::trees::{
-    dump, has_just, licence, moment, path, plain_scope, plays, runs, tree,
+    has_just, licence, moment, path, plain_scope, plays, runs, tree,
 };
 use reuse_header::Style;
 use reuse_session::{Command, Event, Refusal, Scope, drive};
@@ -119,9 +119,7 @@ fn bad_styles_are_refused_first(rt: HostRuntime) -> Result<(), Fail> {
 
 /// The text of files without a history, with their log.
 fn standing_of(alloc: Global, files: &[(&str, &[u8])]) -> Result<Vec<u8>, Fail> {
-    let mut text = dump(alloc, &mut tree(alloc, files)?)?;
-    text.extend_from_slice(b"opened\nlog\n")?;
-    Ok(text)
+    text_of(alloc, &mut tree(alloc, files)?, "opened\nlog\n")
 }
 
 /// A call on a tree with these styles, which is refused for them.

@@ -1,5 +1,7 @@
 //! Want of memory, made on purpose: the address space is filled with blocks that nobody writes, so that the system refuses
 //! whatever goes past the bytes that a test leaves. That needs 64-bit Linux with glibc, which may promise more memory than there is.
+use crate::disk::Asked;
+use crate::watched::Watcher;
 use std::alloc::{AllocError, Global};
 use std::cell::Cell;
 use std::fs;
@@ -98,7 +100,7 @@ impl ScarceMemory {
     }
 
     /// Passes a point.
-    pub fn pass(&self, alloc: Global) {
+    fn pass(&self, alloc: Global) {
         let passed = self.passed.get().saturating_add(1);
         self.passed.set(passed);
         if passed == self.point.get() {
@@ -126,6 +128,17 @@ impl ScarceMemory {
         held.clear();
         self.held.set(held);
         self.point.set(u32::MAX);
+    }
+}
+
+/// A point lies before each call of a store, and one after each that succeeds.
+impl Watcher for ScarceMemory {
+    fn before(&self, alloc: Global, _: Asked) {
+        self.pass(alloc);
+    }
+
+    fn after(&self, alloc: Global, _: Option<usize>) {
+        self.pass(alloc);
     }
 }
 

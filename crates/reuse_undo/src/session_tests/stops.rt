@@ -8,19 +8,17 @@ use reuse_session::{Answer, Command, Event, Refusal, Reply, Session, drive};
 use reuse_tree::{FuseStore, MemoryStore, OnceStore, Store};
 use std::alloc::Global;
 use std::process::Abort;
+use std::slice::from_ref;
 use std::test::Fail;
 
-const PATHS: [&str; 3] = ["a.py", "b.py", "c.py"];
+/// The files of these trees.
+pub const PATHS: [&str; 3] = ["a.py", "b.py", "c.py"];
 
 /// More calls than an opening and one event make.
 pub const CALLS: u64 = 30;
 
 /// What a session finds: its log, and the files besides those of the journal.
-#[derive(Clone, Copy)]
-pub struct Standing<'a> {
-    pub log: &'a str,
-    pub files: &'a [(&'a str, &'a [u8])],
-}
+pub type Standing<'a> = (&'a str, &'a [(&'a str, &'a [u8])]);
 
 const OLD: &[(&str, &[u8])] = &[("a.py", PLAIN), ("b.py", PLAIN), ("c.py", PLAIN)];
 
@@ -30,23 +28,14 @@ const NEW: &[(&str, &[u8])] = &[
     ("c.py", ANNOTATED),
 ];
 
-const EMPTY: Standing = Standing {
-    log: "opened\nlog\n",
-    files: OLD,
-};
+const EMPTY: Standing = ("opened\nlog\n", OLD);
 
-const DONE: Standing = Standing {
-    log: "opened\nlog 1 done\n",
-    files: NEW,
-};
+const DONE: Standing = ("opened\nlog 1 done\n", NEW);
 
-const UNDONE: Standing = Standing {
-    log: "opened\nlog 1 undone\n",
-    files: OLD,
-};
+const UNDONE: Standing = ("opened\nlog 1 undone\n", OLD);
 
 // The store that the events leave, of three files.
-fn after(alloc: Global, events: &[Event]) -> Result<MemoryStore, Fail> {
+pub fn left_by(alloc: Global, events: &[Event]) -> Result<MemoryStore, Fail> {
     let (store, _) = drive(alloc, tree(alloc, OLD)?, events);
     Ok(store)
 }
@@ -71,48 +60,59 @@ fn is_one_of(
     one: Standing,
     other: Standing,
 ) -> Result<bool, Fail> {
-    let (mut store, log) = play(alloc, store, &[Event::Log])?;
-    for standing in [one, other] {
-        if log.as_str() == standing.log && has_just(alloc, &mut store, standing.files)? {
+    let (mut store, found) = play(alloc, store, &[Event::Log])?;
+    for (log, files) in [one, other] {
+        if found.as_str() == log && has_just(alloc, &mut store, files)? {
             return Ok(true);
         }
     }
     Ok(false)
 }
 
-// A mark for each call that changes a file: those where the files differ by whether it is done.
+// Whether the call changes a file: the files differ by whether it is done.
+fn changes_a_file(
+    alloc: Global,
+    start: &mut MemoryStore,
+    events: &[Event],
+    call: u64,
+) -> Result<bool, Fail> {
+    let mut undone = stop(alloc, start, events, call, false)?;
+    let mut done = stop(alloc, start, events, call, true)?;
+    Ok(dump(alloc, &mut undone)? != dump(alloc, &mut done)?)
+}
+
+// A mark for each call that changes a file.
 fn changing_calls(
     alloc: Global,
     start: &mut MemoryStore,
     events: &[Event],
 ) -> Result<String, Fail> {
     let mut marks = String::new(alloc);
-    for left in 0..CALLS {
-        let mut one = stop(alloc, start, events, left, false)?;
-        let mut other = stop(alloc, start, events, left, true)?;
-        if dump(alloc, &mut one)? != dump(alloc, &mut other)? {
+    for call in 0..CALLS {
+        if changes_a_file(alloc, start, events, call)? {
             marks.push_str("+")?;
         }
     }
     Ok(marks)
 }
 
-// Stops the events at each call.
-fn stops_at_each(
-    rt: &impl Abort,
+// Whether the next session finds one of two standings, whichever call the events stop at.
+fn leave_one_of(
     alloc: Global,
     start: &mut MemoryStore,
     events: &[Event],
-    before: Standing,
-    after: Standing,
-) -> Result<(), Fail> {
+    one: Standing,
+    other: Standing,
+) -> Result<bool, Fail> {
     for left in 0..CALLS {
-        let undone = stop(alloc, start, events, left, false)?;
-        assert!(rt; is_one_of(alloc, undone, before, after)?);
-        let done = stop(alloc, start, events, left, true)?;
-        assert!(rt; is_one_of(alloc, done, before, after)?);
+        for takes_effect in [false, true] {
+            let stopped = stop(alloc, start, events, left, takes_effect)?;
+            if !is_one_of(alloc, stopped, one, other)? {
+                return Ok(false);
+            }
+        }
     }
-    Ok(())
+    Ok(true)
 }
 
 /// Stops the events at each call, and lets them end.
@@ -124,43 +124,27 @@ pub fn stops_everywhere(
     before: Standing,
     after: Standing,
 ) -> Result<(), Fail> {
-    stops_at_each(rt, alloc, start, events, before, after)?;
+    assert!(rt; leave_one_of(alloc, start, events, before, after)?);
     let whole = stop(alloc, start, events, CALLS, false)?;
     assert!(rt; is_one_of(alloc, whole, after, after)?);
     Ok(())
 }
 
 #[test]
-fn a_run_stops_at_any_call(rt: HostRuntime) -> Result<(), Fail> {
+fn a_step_stops_at_any_call(rt: HostRuntime) -> Result<(), Fail> {
     let alloc = rt.alloc();
-    let run = [signing(alloc, &PATHS)?];
-    let mut start = after(alloc, &[])?;
-    stops_everywhere(&rt, alloc, &mut start, &run, EMPTY, DONE)?;
-    assert_eq!(rt; changing_calls(alloc, &mut start, &run)?.as_str(), "++++++");
-    Ok(())
-}
-
-#[test]
-fn an_undo_stops_at_any_call(rt: HostRuntime) -> Result<(), Fail> {
-    let alloc = rt.alloc();
-    let mut start = after(alloc, &[signing(alloc, &PATHS)?])?;
-    stops_everywhere(&rt, alloc, &mut start, &[Event::Undo], DONE, UNDONE)?;
-    assert_eq!(rt;
-        changing_calls(alloc, &mut start, &[Event::Undo])?.as_str(),
-        "+++++"
-    );
-    Ok(())
-}
-
-#[test]
-fn a_redo_stops_at_any_call(rt: HostRuntime) -> Result<(), Fail> {
-    let alloc = rt.alloc();
-    let mut start = after(alloc, &[signing(alloc, &PATHS)?, Event::Undo])?;
-    stops_everywhere(&rt, alloc, &mut start, &[Event::Redo], UNDONE, DONE)?;
-    assert_eq!(rt;
-        changing_calls(alloc, &mut start, &[Event::Redo])?.as_str(),
-        "+++++"
-    );
+    let events = [signing(alloc, &PATHS)?, Event::Undo, Event::Redo];
+    for (events, before, after, marks) in [
+        (&events[..1], EMPTY, DONE, "++++++"),
+        (&events[..2], DONE, UNDONE, "+++++"),
+        (&events[..], UNDONE, DONE, "+++++"),
+    ] {
+        let (last, past) = events.split_last().ok_or("an event")?;
+        let mut start = left_by(alloc, past)?;
+        stops_everywhere(&rt, alloc, &mut start, from_ref(last), before, after)?;
+        let found = changing_calls(alloc, &mut start, from_ref(last))?;
+        assert_eq!(rt; found.as_str(), marks);
+    }
     Ok(())
 }
 
@@ -170,21 +154,19 @@ pub fn before_the_last_head(
     start: &mut MemoryStore,
     events: &[Event],
 ) -> Result<MemoryStore, Fail> {
-    let mut found = copy(alloc, start)?;
-    for left in 0..CALLS {
-        let mut one = stop(alloc, start, events, left, false)?;
-        let mut other = stop(alloc, start, events, left, true)?;
-        if dump(alloc, &mut one)? != dump(alloc, &mut other)? {
-            found = one;
+    let mut last = 0;
+    for call in 0..CALLS {
+        if changes_a_file(alloc, start, events, call)? {
+            last = call;
         }
     }
-    Ok(found)
+    stop(alloc, start, events, last, false)
 }
 
-// The store that a run leaves which stops just before the put of its last head.
-fn before_the_head_of_a_run(alloc: Global) -> Result<MemoryStore, Fail> {
+/// The store that a run on three files leaves which stops just before the put of its last head.
+pub fn before_the_head_of_a_run(alloc: Global) -> Result<MemoryStore, Fail> {
     let run = [signing(alloc, &PATHS)?];
-    before_the_last_head(alloc, &mut after(alloc, &[])?, &run)
+    before_the_last_head(alloc, &mut left_by(alloc, &[])?, &run)
 }
 
 #[test]
@@ -200,10 +182,10 @@ fn an_opening_changes_what_a_run_changed(rt: HostRuntime) -> Result<(), Fail> {
 fn an_opening_stops_at_any_call(rt: HostRuntime) -> Result<(), Fail> {
     let alloc = rt.alloc();
     let run = [signing(alloc, &PATHS)?];
-    let mut start = after(alloc, &[])?;
+    let mut start = left_by(alloc, &[])?;
     for left in 0..CALLS {
         let mut stopped = stop(alloc, &mut start, &run, left, true)?;
-        stops_at_each(&rt, alloc, &mut stopped, &[], EMPTY, DONE)?;
+        assert!(rt; leave_one_of(alloc, &mut stopped, &[], EMPTY, DONE)?);
     }
     Ok(())
 }
@@ -277,19 +259,12 @@ fn fails_everywhere(
     after: Standing,
 ) -> Result<(), Fail> {
     for left in 0..CALLS {
-        let undone = fail_once(rt, alloc, start, event, left, false)?;
-        assert!(rt; is_one_of(alloc, undone, before, after)?);
-        let done = fail_once(rt, alloc, start, event, left, true)?;
-        assert!(rt; is_one_of(alloc, done, before, after)?);
+        for takes_effect in [false, true] {
+            let failed = fail_once(rt, alloc, start, event, left, takes_effect)?;
+            assert!(rt; is_one_of(alloc, failed, before, after)?);
+        }
     }
     Ok(())
-}
-
-#[test]
-fn one_call_of_a_run_fails(rt: HostRuntime) -> Result<(), Fail> {
-    let alloc = rt.alloc();
-    let run = signing(alloc, &PATHS)?;
-    fails_everywhere(&rt, alloc, &mut after(alloc, &[])?, &run, EMPTY, DONE)
 }
 
 #[test]
@@ -300,58 +275,55 @@ fn one_call_of_an_opening_fails(rt: HostRuntime) -> Result<(), Fail> {
 }
 
 #[test]
-fn one_call_of_an_undo_fails(rt: HostRuntime) -> Result<(), Fail> {
+fn one_call_of_a_step_fails(rt: HostRuntime) -> Result<(), Fail> {
     let alloc = rt.alloc();
-    let mut start = after(alloc, &[signing(alloc, &PATHS)?])?;
-    fails_everywhere(&rt, alloc, &mut start, &Event::Undo, DONE, UNDONE)
+    let events = [signing(alloc, &PATHS)?, Event::Undo, Event::Redo];
+    for (events, before, after) in [
+        (&events[..1], EMPTY, DONE),
+        (&events[..2], DONE, UNDONE),
+        (&events[..], UNDONE, DONE),
+    ] {
+        let (last, past) = events.split_last().ok_or("an event")?;
+        let mut start = left_by(alloc, past)?;
+        fails_everywhere(&rt, alloc, &mut start, last, before, after)?;
+    }
+    Ok(())
 }
 
-#[test]
-fn one_call_of_a_redo_fails(rt: HostRuntime) -> Result<(), Fail> {
-    let alloc = rt.alloc();
-    let mut start = after(alloc, &[signing(alloc, &PATHS)?, Event::Undo])?;
-    fails_everywhere(&rt, alloc, &mut start, &Event::Redo, UNDONE, DONE)
-}
+const UNCONVERTED: Standing = ("opened\nlog\n", &[(".reuse/dep5", DEP5)]);
+
+const CONVERTED: Standing = ("opened\nlog 1 done\n", &[("REUSE.toml", TOML)]);
 
 #[test]
 fn a_conversion_stops_at_any_call(rt: HostRuntime) -> Result<(), Fail> {
     let alloc = rt.alloc();
-    let before = Standing {
-        log: "opened\nlog\n",
-        files: &[(".reuse/dep5", DEP5.as_bytes())],
-    };
-    let after = Standing {
-        log: "opened\nlog 1 done\n",
-        files: &[("REUSE.toml", TOML)],
-    };
     let run = [Event::Run(Command::ConvertDep5, moment()?)];
-    let mut start = tree(alloc, before.files)?;
-    stops_everywhere(&rt, alloc, &mut start, &run, before, after)?;
+    let mut start = tree(alloc, UNCONVERTED.1)?;
+    stops_everywhere(&rt, alloc, &mut start, &run, UNCONVERTED, CONVERTED)?;
     assert_eq!(rt; changing_calls(alloc, &mut start, &run)?.as_str(), "+++++");
     Ok(())
 }
 
+const PICTURE: (&str, &[u8]) = ("p.png", b"\x89\x00");
+
+const TAGGED: Standing = (
+    "opened\nlog 1 done\n",
+    &[
+        PICTURE,
+        ("p.png.license", b"SPDX-License-Identifier: MIT\n"),
+    ],
+);
+
+const UNTAGGED: Standing = ("opened\nlog 1 undone\n", &[PICTURE]);
+
 #[test]
 fn a_made_file_is_undone_or_not_at_any_stop(rt: HostRuntime) -> Result<(), Fail> {
     let alloc = rt.alloc();
-    let before = Standing {
-        log: "opened\nlog 1 done\n",
-        files: &[
-            ("p.png", b"\x89\x00"),
-            ("p.png.license", b"SPDX-License-Identifier: MIT\n"),
-        ],
-    };
-    let after = Standing {
-        log: "opened\nlog 1 undone\n",
-        files: &[("p.png", b"\x89\x00")],
-    };
     let command = licence(alloc, &["p.png"], "MIT", plain_scope(alloc))?;
     let run = [Event::Run(command, moment()?)];
-    let (mut start, _) = drive(alloc, tree(alloc, after.files)?, &run);
-    stops_everywhere(&rt, alloc, &mut start, &[Event::Undo], before, after)?;
-    assert_eq!(rt;
-        changing_calls(alloc, &mut start, &[Event::Undo])?.as_str(),
-        "+++"
-    );
+    let (mut start, _) = drive(alloc, tree(alloc, UNTAGGED.1)?, &run);
+    let undo = [Event::Undo];
+    stops_everywhere(&rt, alloc, &mut start, &undo, TAGGED, UNTAGGED)?;
+    assert_eq!(rt; changing_calls(alloc, &mut start, &undo)?.as_str(), "+++");
     Ok(())
 }

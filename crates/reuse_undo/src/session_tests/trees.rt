@@ -297,17 +297,3 @@ pub fn runs(
     assert!(rt; found.as_str() == lines, "{found}");
     Ok(store)
 }
-
-/// Runs the command on a tree, where these lines are answered and a file is this then.
-pub fn gives(
-    rt: &impl Abort,
-    alloc: Global,
-    files: &[(&str, &[u8])],
-    command: Command,
-    lines: &str,
-    after: (&str, &[u8]),
-) -> Result<(), Fail> {
-    let mut store = runs(rt, alloc, files, command, lines)?;
-    assert!(rt; holds(alloc, &mut store, after.0, after.1)?, "{lines}");
-    Ok(())
-}

@@ -1,17 +1,17 @@
 //! What the options of `annotate` set, and which exclude each other.
 // The tags below are data: REUSE-IgnoreStart
-use super::{fault_of, holds, prints, read_line, store_of};
+use super::{fault_of, holds, read_line, store_of, tells};
 use std::alloc::Global;
 use std::test::Fail;
 
 /// The line of `annotate -l MIT a.py`, as it is shown.
 const PLAIN: &str = "Line { root: \".\", action: Do(Annotate(Annotate { \
-    places: Places { places: [Path(PathText { text: \"a.py\" })] }, \
+    places: Items { items: [Path(PathText { text: \"a.py\" })] }, \
     additions: Additions { notices: Texts { texts: [] }, contributors: Texts { texts: [] }, \
     licences: Texts { texts: [Bytes { bytes: [77, 73, 84] }] } }, \
     how: How { form: None, merge: false, replace: true }, \
     scope: Scope { recursive: false, style: None, force_dot_license: false, unknown: Refuse, \
-    skip_existing: false, listed: None, excluded: Globs { globs: [] } } })), telling: Lines, moment: Moment { since_1970: 1704067200 } }";
+    skip_existing: false, listed: None, excluded: Items { items: [] } } })), telling: Lines, moment: Moment { since_1970: 1704067200 } }";
 
 /// Words behind `annotate -l MIT`, and which text of the plain line gives way to which.
 const SETTINGS: &[(&str, &str, &str)] = &[
@@ -41,9 +41,9 @@ const SETTINGS: &[(&str, &str, &str)] = &[
     (
         "--recursive|--exclude|**a|--exclude=*|a.py",
         "recursive: false, style: None, force_dot_license: false, unknown: Refuse, skip_existing: false, listed: None, \
-         excluded: Globs { globs: [] }",
+         excluded: Items { items: [] }",
         "recursive: true, style: None, force_dot_license: false, unknown: Refuse, skip_existing: false, listed: None, \
-         excluded: Globs { globs: [Glob { pieces: [AnyRun, Literal('a')] }, Glob { pieces: [RunInPart] }] }",
+         excluded: Items { items: [Glob { pieces: [AnyRun, Literal('a')] }, Glob { pieces: [RunInPart] }] }",
     ),
     ("-n|a.py", "action: Do", "action: Foretell"),
     ("--dry-run|a.py", "action: Do", "action: Foretell"),
@@ -154,35 +154,39 @@ fn an_option_gives_a_text(rt: HostRuntime) -> Result<(), Fail> {
     for (words, header) in TEXTS {
         let line = format!(in alloc; "annotate|{words}|a.py")?;
         let store = store_of(alloc, "a.py", b"")?;
-        let mut store = prints(&rt, alloc, store, line.as_str(), "changed a.py\n")?;
+        let lines = [(line.as_str(), "changed a.py\n")];
+        let mut store = tells(&rt, alloc, store, &lines)?;
         let written = holds(alloc, &mut store, "a.py", header.as_bytes())?;
         assert!(rt; written, "{words}");
     }
     Ok(())
 }
 
+/// Words behind `annotate -l MIT a.py` that are refused, and what the fault tells.
+const EXCLUDED: &[(&str, &str)] = &[
+    ("--single-line|--multi-line", "cannot be used with"),
+    ("--multi-line|--single-line", "cannot be used with"),
+    (
+        "--fallback-dot-license|--skip-unrecognised",
+        "cannot be used with",
+    ),
+    (
+        "--skip-unrecognised|--fallback-dot-license",
+        "cannot be used with",
+    ),
+    ("--style|c|--style|c", "cannot be used multiple times"),
+    ("--exclude-year|-y|2024", "--year and --exclude-year"),
+    ("--texts|x", "unexpected argument"),
+    ("--files-from|x", "--recursive"),
+    ("--exclude|x", "--recursive"),
+    ("-r|--exclude|a\\b", "bad glob: a\\b"),
+    ("--year", "a value is required"),
+];
+
 #[test]
 fn options_exclude_each_other(rt: HostRuntime) -> Result<(), Fail> {
     let alloc = rt.alloc();
-    for (words, text) in [
-        ("--single-line|--multi-line", "cannot be used with"),
-        ("--multi-line|--single-line", "cannot be used with"),
-        (
-            "--fallback-dot-license|--skip-unrecognised",
-            "cannot be used with",
-        ),
-        (
-            "--skip-unrecognised|--fallback-dot-license",
-            "cannot be used with",
-        ),
-        ("--style|c|--style|c", "cannot be used multiple times"),
-        ("--exclude-year|-y|2024", "--year and --exclude-year"),
-        ("--texts|x", "unexpected argument"),
-        ("--files-from|x", "--recursive"),
-        ("--exclude|x", "--recursive"),
-        ("-r|--exclude|a\\b", "bad glob: a\\b"),
-        ("--year", "a value is required"),
-    ] {
+    for (words, text) in EXCLUDED {
         let line = format!(in alloc; "annotate|-l|MIT|a.py|{words}")?;
         let (status, told) = fault_of(alloc, line.as_str())?;
         assert_eq!(rt; status, 2, "{words}");

@@ -4,7 +4,8 @@ use Rattle.reuse_notice.specs.Infos.{info_of}
 use Rattle.reuse_header.specs.Styles.{punctuation_of}
 use Rattle.reuse_header.specs.Blocks.{without_returns}
 use Rattle.reuse_header.specs.Writing.{neighbour_marks, inner_lines, block_lines}
-use Rattle.reuse_header.proofs.ReadingLemmas.{block_contents, inner_content, the_reader, neighbour_reader, reads_back}
+use Rattle.reuse_header.proofs.ContentsLemmas.{block_contents, inner_content, the_reader, neighbour_reader}
+use Rattle.reuse_header.proofs.ReadingLemmas.{reads_back}
 use Rattle.reuse_header.proofs.laws.written_blocks_read_back.Goals as goal
 
 pub returns : goal.returns

@@ -5,11 +5,13 @@ use Rattle.toml.specs.View.{table_view}
 use Rattle.reuse_header.specs.declared.style.Kind.{Kind}
 use Rattle.reuse_header.specs.Keyed.{IsKeyed}
 use Rattle.reuse_header.specs.StyleFile.{styles_in, IsRefused}
-use Rattle.reuse_header.proofs.StyleFileLemmas.{document_none, answer_by, answer_lent}
+use Rattle.toml.specs.Parse.{parse_document}
+use Rattle.reuse_text.proofs.Utf8Lemmas.{none_if_utf8}
+use Rattle.reuse_header.proofs.StyleFileLemmas.{answer_by, answer_lent}
 use Rattle.reuse_header.proofs.style_file.read_names.Goals as goal
 
 pub returns-in-Err-clause-refused : goal.returns-in-Err-clause-refused
-returns-in-Err-clause-refused c = ap styles_in (document_none c.args.file.now (c.in-Err.ensures.refused (λ m. false≢true (sym c.if-is_memory.false ∙ c.is_memory.ensures.1 m))))
+returns-in-Err-clause-refused c = ap styles_in (none_if_utf8 parse_document c.args.file.now (c.in-Err.ensures.refused (λ m. false≢true (sym c.if-is_memory.false ∙ c.is_memory.ensures.1 m))))
 
 pub returns-in-None-clause-refused : goal.returns-in-None-clause-refused
 returns-in-None-clause-refused c =

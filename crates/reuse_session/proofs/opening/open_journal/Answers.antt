@@ -1,4 +1,4 @@
-use Rattle.std.proofs.Common.{◌≡◌, ◌≤◌, ◌+◌, length, arith, ◌⊎◌, inl, Some, Err, sym, ap, subst, ◌∙◌}
+use Rattle.std.proofs.Common.{◌≡◌, ◌≤◌, ◌+◌, length, arith, ◌⊎◌, inl, inr, Some, Err, sym, ap, subst, ◌∙◌}
 use Rattle.std.proofs.lemmas.Result.{err_from_is_err_and}
 use Rattle.reuse_session.specs.Opening.{IsRead, IsSettled, StopsOpening}
 use Rattle.reuse_session.specs.Session.{head_room, IsSameBut, Remembers}
@@ -44,6 +44,9 @@ returns-in-None-clause-settles g c honest first second doubt =
     let r = c.in_ok-pending.ensures.ok honest in
     let read = subst (λ p. IsRead old p memory r.0) c.in-None.is r.1 in
     read_settles old (g.S.Store.files c.read_journal.new.store) memory r.0 read (c.read_journal.ensures.reads.files honest) first second doubt
+
+pub returns-in-None-clause-texts : goal.returns-in-None-clause-texts
+returns-in-None-clause-texts g c honest = inl (c.read_journal.ensures.reads.files honest)
 
 -- what is known once a pending step was settled, whichever way that went
 module _ (g : Over) (c : After-settle g) (honest : g.S.Store.honest c.settle.new.store) where
@@ -98,6 +101,11 @@ returns-in_ok-settle-in-Some-clause-opened g c honest =
     let settled = c.in_ok-settle-in-Some.ensures.done honest read.0 (read_after g s honest) in
     settled_opens _ (g.S.Store.files c.settle.new.store) c.in-Some.pending c.in_ok-pending.history read.0 read.1
     (subst (λ files. IsSettled c.in-Some.pending read.0 files (g.S.Store.files c.settle.new.store)) (same_files g s honest) settled)
+
+pub returns-in_ok-settle-in-Some-clause-texts : goal.returns-in_ok-settle-in-Some-clause-texts
+returns-in_ok-settle-in-Some-clause-texts g c honest =
+    let s = (goal.at.returns-in_ok-settle-in-Some-clause-texts g c).After-settle in
+    inr (c.in_ok-settle-in-Some.ensures.texts honest (read_before g s honest).0 (read_after g s honest))
 
 pub returns-in_err-settle-in-Some-clause-quiet : goal.returns-in_err-settle-in-Some-clause-quiet
 returns-in_err-settle-in-Some-clause-quiet g c honest held standing =

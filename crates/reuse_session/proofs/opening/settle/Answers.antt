@@ -1,7 +1,7 @@
 use Rattle.std.proofs.Common.{◌≡◌, ◌⊎◌, MatchResult, List, refl, arith, length, Some, None, Err, IfErr, OnOk, sym, ap, subst, ◌∙◌}
 use Rattle.std.specs.FinMap.{get}
 use Rattle.std.specs.List.{All}
-use Rattle.std.proofs.lemmas.Result.{err_from_is_err_and, IfErr-weaker}
+use Rattle.std.proofs.lemmas.Result.{err_from_is_err_and, IfErr-weaker, on_ok_weaker}
 use Rattle.reuse_tree.specs.Asked.{OnlyReads}
 use Rattle.reuse_tree.proofs.AskedLemmas.{reads_more}
 use Rattle.reuse_tree.specs.Change.{path_of}
@@ -11,20 +11,19 @@ use Rattle.reuse_session.specs.Carried.{IsRolledBack, StopsRollingBack}
 use Rattle.reuse_session.specs.Entry.{IsEntry, IsReady, SomeMade, CanBeSetBack, IsFirstWithout}
 use Rattle.reuse_session.specs.Head.{way_of, IsGoodHead}
 use Rattle.reuse_session.specs.History.{head_listing}
-use Rattle.reuse_session.specs.JournalFiles.{head_path}
-use Rattle.reuse_session.specs.Opening.{IsRead, IsSettled}
+use Rattle.reuse_session.specs.JournalFiles.{head_path, entry_path, head_of, number_of, EntrySays}
+use Rattle.reuse_session.specs.Opening.{IsRead}
 use Rattle.reuse_session.specs.Session.{IsSameBut}
 use Rattle.reuse_session.specs.Standing.{IsStanding, IsUnderWay}
 use Rattle.reuse_session.specs.Tree.{undo_folder_of}
 use Rattle.reuse_tree.specs.declared.change.Change.{Change}
 use Rattle.reuse_session.specs.declared.entry.Way.{Way}
 use Rattle.reuse_session.specs.declared.reply.Refusal.TheVariants.{Memory}
+use Rattle.reuse_session.specs.Journal.{Journal, Recorded, State}
 use Rattle.reuse_session.proofs.Settling.{is_entry, is_settled, is_stuck, some_made, all_ready, settles, settled_good, settled_sound, head_fits, at_same, pending_readable, stays_under_way, read_failure}
 use Rattle.reuse_session.proofs.OpeningLemmas.{recorded}
 use Rattle.reuse_session.proofs.TakenBack.{was_under_way}
-use Rattle.reuse_session.proofs.Turning.{on_ok}
-use Rattle.reuse_session.specs.Journal.{Journal, Recorded, State}
-use Rattle.reuse_session.specs.JournalFiles.{entry_path, head_of, number_of, EntrySays}
+use Rattle.reuse_session.proofs.JournalReading.{file_in_folder}
 use Rattle.reuse_session.proofs.OnlyReading.{early_files, passed_on}
 use Rattle.reuse_session.proofs.opening.settle.Given.{Over}
 use Rattle.reuse_session.proofs.opening.settle.Goals.{After-roll_back}
@@ -107,7 +106,7 @@ returns-clause-done g c honest journal read =
     let old = g.S.Store.files c.args.store.now in
     let new = g.S.Store.files c.roll_back.new.store in
     let text = c.as_slice-2.result.now in
-    on_ok c.roll_back.result (IsRolledBack (way_of c.args.pending.way) c.in_ok-entry.entry.changes text old new) (IsSettled c.args.pending journal old new)
+    on_ok_weaker c.roll_back.result
     (is_settled old c.args.pending c.args.history.now journal read c.in_ok-entry.entry (says g at honest journal read) new text (g.met.S.Store.are_files c.roll_back.new.store honest) (good_text g at honest journal read))
     (of_step g at honest journal read (λ f w cs. OnOk c.roll_back.result (IsRolledBack w cs text f new)) (c.roll_back.ensures.done honest (good g at honest journal read)))
 
@@ -144,6 +143,13 @@ pub returns-clause-folder : goal.returns-clause-folder
 returns-clause-folder g c honest journal read =
     let at = (goal.at.returns-clause-folder g c).After-roll_back in
     subst (λ f. IsSameBut head_path (undo_folder_of f) (undo_folder_of (g.S.Store.files c.roll_back.new.store))) (same g at honest journal read) (c.roll_back.ensures.folder honest (good g at honest journal read))
+
+pub returns-clause-texts : goal.returns-clause-texts
+returns-clause-texts g c honest journal read =
+    let new = g.S.Store.files c.roll_back.new.store in
+    on_ok_weaker c.roll_back.result
+    (λ (rolled : IsRolledBack c.way.result c.as_slice.result.now c.as_slice-2.result.now (g.S.Store.files c.read_entry.new.store) new). file_in_folder new head_path head_path refl refl ∙ rolled.sets.here ∙ ap (λ text. Some text) (c.as_slice-2.ensures.value ∙ c.in_ok-settled.ensures.text))
+    (c.roll_back.ensures.done honest (good g (goal.at.returns-clause-texts g c).After-roll_back honest journal read))
 
 pub returns-clause-clash : goal.returns-clause-clash
 returns-clause-clash g c honest journal read =

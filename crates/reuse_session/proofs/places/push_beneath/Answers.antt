@@ -1,9 +1,10 @@
 use Rattle.std.proofs.Common.{[], ◌∷◌, ◌++◌, filter, sym, ap, subst, ◌∙◌}
 use Rattle.std.proofs.lemmas.Result.{MatchResult-weaker}
+use Rattle.std.proofs.lemmas.Bool.{eqb-true}
 use Rattle.reuse_tree.specs.Path.{lies_under}
 use Rattle.reuse_session.specs.Listing.{ArePaths}
 use Rattle.reuse_session.proofs.TreeLemmas.{keys_ascend}
-use Rattle.reuse_session.proofs.PlaceLemmas.{is_zero, not_zero, stands_alone, stands_for}
+use Rattle.reuse_session.proofs.PlaceLemmas.{not_zero, stands_alone, stands_for}
 use Rattle.reuse_session.proofs.places.push_beneath.Goals as goal
 
 pub returns-then-is_empty : goal.returns-then-is_empty
@@ -11,7 +12,7 @@ returns-then-is_empty c tree are =
     let sorted : ArePaths c.args.paths.now = subst ArePaths (sym are) (keys_ascend tree) in
     let beneath = c.in_ok-beneath.ensures sorted ∙ ap (filter (λ other. lies_under other c.args.path.now)) are in
     c.in_ok-push.ensures.items ∙ ap (λ p. c.args.found.now.items ++ p ∷ []) c.in_ok-try_clone.ensures
-    ∙ ap (λ ps. c.args.found.now.items ++ ps) (sym (stands_alone c.args.scope.now tree c.args.path.now c.in_ok-beneath.beneath.now beneath (is_zero _ (sym c.is_empty.ensures ∙ c.if-is_empty.true))))
+    ∙ ap (λ ps. c.args.found.now.items ++ ps) (sym (stands_alone c.args.scope.now tree c.args.path.now c.in_ok-beneath.beneath.now beneath (eqb-true _ 0 (sym c.is_empty.ensures ∙ c.if-is_empty.true))))
 
 pub returns : goal.returns
 returns c tree are =

@@ -7,8 +7,8 @@ use Rattle.reuse_session.proofs.plan.plan_annotation.Goals as goal
 
 pub returns-clause-edits : goal.returns-clause-edits
 returns-clause-edits g c honest =
-    let before = c.plan_places.ensures.reads.was_honest honest in
-    let same = c.in_ok-styles.ensures.reads.files before in
+    let before = c.plan_places.ensures.asks.reads.was_honest honest in
+    let same = c.in_ok-styles.ensures.asks.reads.files before in
     subst (λ given. AnswersEdits (tree_of (g.S.Store.files c.args.store.now)) (edits_by_names c.args.places.now c.args.additions.now c.args.how.now c.args.scope.now (tree_of (g.S.Store.files c.args.store.now)) given) c.plan_places.result)
     (sym (c.in_ok-styles.ensures.styles before))
     (subst (λ f. AnswersEdits (tree_of f) (edits_by_names c.args.places.now c.args.additions.now c.args.how.now c.args.scope.now (tree_of f) (Ok (lookup c.in_ok-styles.styles))) c.plan_places.result) same

@@ -1,35 +1,46 @@
-use Rattle.std.proofs.Common.{◌+◌, ◌∷◌, ◌∙◌, drop, Ok, sym, ap, subst}
-use Rattle.std.proofs.lemmas.List.{drop_more}
-use Rattle.reuse_header.specs.Names.{lookup}
+use Rattle.std.proofs.Common.{◌≡◌, ◌+◌, ◌∷◌, drop, Ok, sym, subst}
 use Rattle.reuse_tree.specs.Files.{tree_of}
 use Rattle.reuse_tree.proofs.AskedLemmas.{reads_more}
-use Rattle.reuse_session.specs.Annotate.{annotated_at}
+use Rattle.reuse_session.specs.AnnotationPlan.{annotated_by}
 use Rattle.reuse_session.specs.Plan.{AnswersEdit, MakesEdit, IsRefusalOf}
 use Rattle.reuse_session.specs.Unlisted.{IfKnown}
 use Rattle.reuse_session.proofs.Annotating.{SoFar, after_path, at_refusal}
+use Rattle.reuse_session.proofs.AtChange.{left_here}
+use Rattle.reuse_session.proofs.plan.plan_each.Given.{Over}
+use Rattle.reuse_session.proofs.plan.plan_each.Goals.{After-plan_unlisted}
 use Rattle.reuse_session.proofs.plan.plan_each.Goals as goal
+
+module _ (g : Over) (c : After-plan_unlisted g) (honest : g.S.Store.honest c.plan_unlisted.new.store) where
+  same : g.S.Store.files c.loop-path.store ≡ g.S.Store.files c.args.store.now
+  same = c.loop-path.invariant.reads.files (c.plan_unlisted.ensures.asks.reads.was_honest honest)
+
+  so_far : SoFar (annotated_by c.args.asked.now (tree_of (g.S.Store.files c.args.store.now))) (tree_of (g.S.Store.files c.args.store.now)) c.args.paths.now
+      (c.path-item.result ∷ drop (c.loop-path.path-index + 1) c.args.paths.now) c.loop-path.changes.items
+  so_far =
+      let tree = tree_of (g.S.Store.files c.args.store.now) in
+      subst (λ left. SoFar (annotated_by c.args.asked.now tree) tree c.args.paths.now left c.loop-path.changes.items)
+      (left_here c.args.paths.now c.loop-path.path-index c.loop-path-test.true c.path-item.result c.path-item.is)
+      (c.loop-path.invariant.so_far (c.plan_unlisted.ensures.asks.reads.was_honest honest))
 
 pub loop-path-preserved : goal.loop-path-preserved
 loop-path-preserved g c = record {
-  reads = reads_more g.S.Store _ _ _ c.loop-path.invariant.reads c.plan_unlisted.ensures.reads;
+  reads = reads_more g.S.Store _ _ _ c.loop-path.invariant.reads c.plan_unlisted.ensures.asks.reads;
   so_far = λ h.
-      let before = c.plan_unlisted.ensures.reads.was_honest h in
-      let same = c.loop-path.invariant.reads.files before in
-      let at = annotated_at c.args.how.now c.args.scope.now c.args.additions.now (lookup c.args.styles.now) (tree_of (g.S.Store.files c.args.store.now)) in
-      let next = drop_more c.args.paths.now c.loop-path.path-index c.path-item.result c.loop-path-test.true ∙ ap (λ p. p ∷ drop (c.loop-path.path-index + 1) c.args.paths.now) (sym c.path-item.is) in
-      let so = subst (λ left. SoFar (annotated_at c.args.how.now c.args.scope.now c.args.additions.now (lookup c.args.styles.now) (tree_of (g.S.Store.files c.args.store.now))) (tree_of (g.S.Store.files c.args.store.now)) c.args.paths.now left c.loop-path.changes.items) next (c.loop-path.invariant.so_far before) in
-      let edit = subst (λ u. IfKnown (AnswersEdit (tree_of (g.S.Store.files c.loop-path.store)) (annotated_at c.args.how.now c.args.scope.now c.args.additions.now (lookup c.args.styles.now) (tree_of (g.S.Store.files c.loop-path.store)) c.path-item.result)) (Ok u)) c.in-Ok-Known.field-0-is (c.in-Ok-Known.ensures.edit h) in
-      let makes = subst (λ f. MakesEdit (tree_of f) (annotated_at c.args.how.now c.args.scope.now c.args.additions.now (lookup c.args.styles.now) (tree_of f) c.path-item.result) c.in-Ok-Known.change) same edit in
-      subst (λ cs. SoFar (annotated_at c.args.how.now c.args.scope.now c.args.additions.now (lookup c.args.styles.now) (tree_of (g.S.Store.files c.args.store.now))) (tree_of (g.S.Store.files c.args.store.now)) c.args.paths.now (drop (c.loop-path.path-index + 1) c.args.paths.now) cs) (sym c.in_ok-push_change.ensures)
-      (after_path at (tree_of (g.S.Store.files c.args.store.now)) c.args.paths.now c.path-item.result (drop (c.loop-path.path-index + 1) c.args.paths.now) c.loop-path.changes.items c.in-Ok-Known.change so makes);
+      let read = (goal.at.loop-path-preserved g c).After-plan_unlisted in
+      let at = annotated_by c.args.asked.now in
+      let tree = tree_of (g.S.Store.files c.args.store.now) in
+      let now = tree_of (g.S.Store.files c.loop-path.store) in
+      let rest = drop (c.loop-path.path-index + 1) c.args.paths.now in
+      let edit = subst (λ u. IfKnown (AnswersEdit now (at now c.path-item.result)) (Ok u)) c.in-Ok-Known.field-0-is (c.in-Ok-Known.ensures.edit h) in
+      let makes = subst (λ f. MakesEdit (tree_of f) (at (tree_of f) c.path-item.result) c.in-Ok-Known.change) (same g read h) edit in
+      subst (λ cs. SoFar (at tree) tree c.args.paths.now rest cs) (sym c.in_ok-push_change.ensures)
+      (after_path (at tree) tree c.args.paths.now c.path-item.result rest c.loop-path.changes.items c.in-Ok-Known.change (so_far g read h) makes);
 }
 
 pub returns-in-Err-clause-edits : goal.returns-in-Err-clause-edits
 returns-in-Err-clause-edits g c h =
-    let before = c.plan_unlisted.ensures.reads.was_honest h in
-    let same = c.loop-path.invariant.reads.files before in
-    let at = annotated_at c.args.how.now c.args.scope.now c.args.additions.now (lookup c.args.styles.now) (tree_of (g.S.Store.files c.args.store.now)) in
-    let next = drop_more c.args.paths.now c.loop-path.path-index c.path-item.result c.loop-path-test.true ∙ ap (λ p. p ∷ drop (c.loop-path.path-index + 1) c.args.paths.now) (sym c.path-item.is) in
-    let so = subst (λ left. SoFar (annotated_at c.args.how.now c.args.scope.now c.args.additions.now (lookup c.args.styles.now) (tree_of (g.S.Store.files c.args.store.now))) (tree_of (g.S.Store.files c.args.store.now)) c.args.paths.now left c.loop-path.changes.items) next (c.loop-path.invariant.so_far before) in
-    let refused = subst (λ f. IsRefusalOf (annotated_at c.args.how.now c.args.scope.now c.args.additions.now (lookup c.args.styles.now) (tree_of f) c.path-item.result) c.in-Err.refusal) same (c.in-Err.ensures.edit h) in
-    at_refusal at (tree_of (g.S.Store.files c.args.store.now)) c.args.paths.now c.path-item.result (drop (c.loop-path.path-index + 1) c.args.paths.now) c.loop-path.changes.items c.in-Err.refusal so refused
+    let read = (goal.at.returns-in-Err-clause-edits g c).After-plan_unlisted in
+    let at = annotated_by c.args.asked.now in
+    let tree = tree_of (g.S.Store.files c.args.store.now) in
+    at_refusal (at tree) tree c.args.paths.now c.path-item.result (drop (c.loop-path.path-index + 1) c.args.paths.now) c.loop-path.changes.items c.in-Err.refusal (so_far g read h)
+    (subst (λ f. IsRefusalOf (at (tree_of f) c.path-item.result) c.in-Err.refusal) (same g read h) (c.in-Err.ensures.edit h))

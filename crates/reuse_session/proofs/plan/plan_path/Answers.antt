@@ -1,9 +1,8 @@
 use Rattle.std.proofs.Common.{◌≡◌, ◌∙◌, Bool, cond, List, ℕ, Some, IsSome, sym, ap, subst, true, false, Ok, Err}
 use Rattle.std.specs.FinMap.{get, keys}
-use Rattle.reuse_header.specs.Names.{lookup}
 use Rattle.reuse_tree.specs.Files.{tree_of}
 use Rattle.reuse_session.specs.declared.reply.Refusal.TheVariants as refusals
-use Rattle.reuse_session.specs.Annotate.{annotated_at, edit_beside, edit_target, target_by_bytes}
+use Rattle.reuse_session.specs.AnnotationPlan.{own_of, annotated_by, beside_by, place_by, edit_by_place}
 use Rattle.reuse_session.specs.declared.target.Target.TheVariants as target
 use Rattle.reuse_session.specs.Covered.{is_covered}
 use Rattle.reuse_session.specs.Listing.{ArePaths, is_among}
@@ -20,7 +19,7 @@ pub returns-then-not-is_among-clause-edit : goal.returns-then-not-is_among-claus
 returns-then-not-is_among-clause-edit g c honest are =
     let tree = tree_of (g.S.Store.files c.args.store.now) in
     let sorted : ArePaths c.args.paths.now = subst ArePaths (sym are) (keys_ascend (tree_of (g.S.Store.files c.args.store.now))) in
-    c.plan_absent.ensures.edit c.args.how.now c.args.scope.now c.args.additions.now (lookup c.args.styles.now) tree are (sym (c.is_among.ensures sorted ∙ ap (is_among c.args.paths.now) c.as_bytes.ensures.bytes) ∙ c.if-not-is_among.true)
+    c.plan_absent.ensures.edit c.args.asked.now.how.now c.args.asked.now.scope.now c.args.asked.now.additions.now (own_of c.args.asked.now) tree are (sym (c.is_among.ensures sorted ∙ ap (is_among c.args.paths.now) c.as_bytes.ensures.bytes) ∙ c.if-not-is_among.true)
 
 -- the tree has a file at the path where it is among those of the tree
 module _ (g : Over) (c : After-is_covered g) (are : c.args.paths.now ≡ keys (tree_of (g.S.Store.files c.args.store.now))) where
@@ -28,7 +27,7 @@ module _ (g : Over) (c : After-is_covered g) (are : c.args.paths.now ≡ keys (t
   some =
       let sorted : ArePaths c.args.paths.now = subst ArePaths (sym are) (keys_ascend (tree_of (g.S.Store.files c.args.store.now))) in
       let there = sym (c.is_among.ensures sorted ∙ ap (is_among c.args.paths.now) c.as_bytes.ensures.bytes) ∙ c.if-not-is_among.false in
-      some_file c.args.how.now c.args.scope.now c.args.additions.now (tree_of (g.S.Store.files c.args.store.now)) c.args.path.now c.args.paths.now are there
+      some_file (tree_of (g.S.Store.files c.args.store.now)) c.args.path.now c.args.paths.now are there
 
   found : (bytes : List ℕ) × (get (tree_of (g.S.Store.files c.args.store.now)) c.args.path.now ≡ Some bytes)
   found = some_bytes (get (tree_of (g.S.Store.files c.args.store.now)) c.args.path.now) some
@@ -39,16 +38,16 @@ module _ (g : Over) (c : After-is_covered g) (are : c.args.paths.now ≡ keys (t
 -- what is due at a covered file, whether it goes beside or not
 due : (g : Over) (c : In_ok-goes_beside g) → c.args.paths.now ≡ keys (tree_of (g.S.Store.files c.args.store.now)) → (bytes : List ℕ) → get (tree_of (g.S.Store.files c.args.store.now)) c.args.path.now ≡ Some bytes
     → (beside : Bool) → c.in_ok-goes_beside.field-0 ≡ beside
-    → annotated_at c.args.how.now c.args.scope.now c.args.additions.now (lookup c.args.styles.now) (tree_of (g.S.Store.files c.args.store.now)) c.args.path.now
-    ≡ edit_target c.args.how.now c.args.scope.now c.args.additions.now (tree_of (g.S.Store.files c.args.store.now)) c.args.path.now bytes (cond beside (Ok target.Beside) (target_by_bytes c.args.scope.now (lookup c.args.styles.now) c.args.path.now bytes))
+    → annotated_by c.args.asked.now (tree_of (g.S.Store.files c.args.store.now)) c.args.path.now
+    ≡ edit_by_place c.args.asked.now (tree_of (g.S.Store.files c.args.store.now)) c.args.path.now bytes (cond beside (Ok target.Beside) (place_by c.args.asked.now c.args.path.now bytes))
 due g c are bytes here beside is =
-    covered_is c.args.how.now c.args.scope.now c.args.additions.now (tree_of (g.S.Store.files c.args.store.now)) c.args.path.now (lookup c.args.styles.now) bytes beside here
+    covered_is c.args.asked.now (tree_of (g.S.Store.files c.args.store.now)) c.args.path.now bytes beside here
     (ap is_covered (sym c.as_bytes-2.ensures.bytes) ∙ sym c.is_covered.ensures ∙ c.if-not-is_covered.false) (sym (c.in_ok-goes_beside.ensures (tree_of (g.S.Store.files c.args.store.now)) are) ∙ is)
 
 pub returns-then-not-is_covered-clause-edit : goal.returns-then-not-is_covered-clause-edit
 returns-then-not-is_covered-clause-edit g c honest are =
     let at = (goal.at.returns-then-not-is_covered-clause-edit g c).After-is_covered in
-    uncovered_is c.args.how.now c.args.scope.now c.args.additions.now (tree_of (g.S.Store.files c.args.store.now)) c.args.path.now (lookup c.args.styles.now) (get (tree_of (g.S.Store.files c.args.store.now)) c.args.path.now)
+    uncovered_is c.args.asked.now (tree_of (g.S.Store.files c.args.store.now)) c.args.path.now (get (tree_of (g.S.Store.files c.args.store.now)) c.args.path.now)
     (some g at are) (covered g at are ∙ c.if-not-is_covered.true)
     ∙ ap (λ p. Err (refusals.NotCovered p)) (sym c.in_ok-try_clone.ensures)
 
@@ -65,20 +64,20 @@ returns-in-Ok-Done-clause-edit g c honest are =
     let file = found g at.After-is_covered are in
     let step = c.in-Ok-Done.ensures.step tree file.0 file.1 (read_there (g.S.Store.files c.args.store.now) c.args.path.now file.0 16_777_216 c.in_ok-reading.reading file.1 (c.in_ok-reading.ensures.reading honest)) in
     subst (λ r. MakesEdit tree r c.in-Ok-Done.change) (sym (due g at.In_ok-goes_beside are file.0 file.1 false c.if-branch.false))
-    (subst (λ s. StepsTo tree c.args.how.now c.args.scope.now c.args.additions.now (lookup c.args.styles.now) c.args.path.now file.0 (Ok s)) c.in-Ok-Done.field-0-is step)
+    (subst (λ s. StepsTo c.args.asked.now tree c.args.path.now file.0 (Ok s)) c.in-Ok-Done.field-0-is step)
 
 pub returns-in-Ok-Beside-clause-edit : goal.returns-in-Ok-Beside-clause-edit
 returns-in-Ok-Beside-clause-edit g c honest are =
     let at = goal.at.returns-in-Ok-Beside-clause-edit g c in
     let file = found g at.After-is_covered are in
-    let before = c.plan_beside-in-Ok-Beside.ensures.reads.was_honest honest in
+    let before = c.plan_beside-in-Ok-Beside.ensures.asks.reads.was_honest honest in
     let same = c.in_ok-reading.ensures.reads.files before in
     let tree = tree_of (g.S.Store.files c.args.store.now) in
     let step = c.in-Ok-Beside.ensures.step tree file.0 file.1 (read_there (g.S.Store.files c.args.store.now) c.args.path.now file.0 16_777_216 c.in_ok-reading.reading file.1 (c.in_ok-reading.ensures.reading before)) in
-    let aim = subst (λ s. StepsTo tree c.args.how.now c.args.scope.now c.args.additions.now (lookup c.args.styles.now) c.args.path.now file.0 (Ok s)) c.in-Ok-Beside.field-0-is step in
+    let aim = subst (λ s. StepsTo c.args.asked.now tree c.args.path.now file.0 (Ok s)) c.in-Ok-Beside.field-0-is step in
     subst (λ r. AnswersEdit tree r c.plan_beside-in-Ok-Beside.result)
-    (sym (due g at.In_ok-goes_beside are file.0 file.1 false c.if-branch.false ∙ ap (edit_target c.args.how.now c.args.scope.now c.args.additions.now tree c.args.path.now file.0) aim))
-    (subst (λ f. AnswersEdit (tree_of f) (edit_beside c.args.how.now c.args.scope.now c.args.additions.now (tree_of f) c.args.path.now) c.plan_beside-in-Ok-Beside.result) same
+    (sym (due g at.In_ok-goes_beside are file.0 file.1 false c.if-branch.false ∙ ap (edit_by_place c.args.asked.now tree c.args.path.now file.0) aim))
+    (subst (λ f. AnswersEdit (tree_of f) (beside_by c.args.asked.now (tree_of f) c.args.path.now) c.plan_beside-in-Ok-Beside.result) same
     (c.plan_beside-in-Ok-Beside.ensures.edit honest (are ∙ ap (λ f. keys (tree_of f)) (sym same))))
 
 pub returns-in-Err-clause-edit : goal.returns-in-Err-clause-edit

@@ -1,9 +1,8 @@
 use Rattle.std.proofs.Common.{◌≡◌, ◌+◌, ◌∷◌, ◌∙◌, drop, sym, ap, subst}
 use Rattle.std.specs.FinMap.{keys}
-use Rattle.reuse_header.specs.Names.{lookup}
 use Rattle.reuse_tree.specs.Files.{tree_of}
 use Rattle.reuse_tree.proofs.AskedLemmas.{reads_more}
-use Rattle.reuse_session.specs.Annotate.{annotated_at}
+use Rattle.reuse_session.specs.AnnotationPlan.{annotated_by}
 use Rattle.reuse_session.specs.Plan.{MakesEdit, IsRefusalOf}
 use Rattle.reuse_session.proofs.Annotating.{SoFar, after_path, at_refusal}
 use Rattle.reuse_session.proofs.AtChange.{left_here}
@@ -13,25 +12,25 @@ use Rattle.reuse_session.proofs.plan.plan_paths.Goals as goal
 
 module _ (g : Over) (c : After-plan_path g) (honest : g.S.Store.honest c.plan_path.new.store) (are : c.args.paths.now ≡ keys (tree_of (g.S.Store.files c.args.store.now))) where
   same : g.S.Store.files c.loop-path.store ≡ g.S.Store.files c.args.store.now
-  same = c.loop-path.invariant.reads.files (c.plan_path.ensures.reads.was_honest honest)
+  same = c.loop-path.invariant.reads.files (c.plan_path.ensures.asks.reads.was_honest honest)
 
   -- the paths are those of the tree still
   are_still : c.args.paths.now ≡ keys (tree_of (g.S.Store.files c.loop-path.store))
   are_still = are ∙ ap (λ f. keys (tree_of f)) (sym same)
 
-  so_far : SoFar (annotated_at c.args.how.now c.args.scope.now c.args.additions.now (lookup c.args.styles.now) (tree_of (g.S.Store.files c.args.store.now))) (tree_of (g.S.Store.files c.args.store.now)) c.args.worked.now
+  so_far : SoFar (annotated_by c.args.asked.now (tree_of (g.S.Store.files c.args.store.now))) (tree_of (g.S.Store.files c.args.store.now)) c.args.worked.now
       (c.path-item.result ∷ drop (c.loop-path.path-index + 1) c.args.worked.now) c.loop-path.changes.items
   so_far =
-      subst (λ left. SoFar (annotated_at c.args.how.now c.args.scope.now c.args.additions.now (lookup c.args.styles.now) (tree_of (g.S.Store.files c.args.store.now))) (tree_of (g.S.Store.files c.args.store.now)) c.args.worked.now left c.loop-path.changes.items)
+      subst (λ left. SoFar (annotated_by c.args.asked.now (tree_of (g.S.Store.files c.args.store.now))) (tree_of (g.S.Store.files c.args.store.now)) c.args.worked.now left c.loop-path.changes.items)
       (left_here c.args.worked.now c.loop-path.path-index c.loop-path-test.true c.path-item.result c.path-item.is)
-      (c.loop-path.invariant.so_far (c.plan_path.ensures.reads.was_honest honest) are)
+      (c.loop-path.invariant.so_far (c.plan_path.ensures.asks.reads.was_honest honest) are)
 
 pub loop-path-preserved : goal.loop-path-preserved
 loop-path-preserved g c = record {
-  reads = reads_more g.S.Store _ _ _ c.loop-path.invariant.reads c.plan_path.ensures.reads;
+  reads = reads_more g.S.Store _ _ _ c.loop-path.invariant.reads c.plan_path.ensures.asks.reads;
   so_far = λ h are.
       let read = (goal.at.loop-path-preserved g c).After-plan_path in
-      let at = annotated_at c.args.how.now c.args.scope.now c.args.additions.now (lookup c.args.styles.now) in
+      let at = annotated_by c.args.asked.now in
       let tree = tree_of (g.S.Store.files c.args.store.now) in
       let rest = drop (c.loop-path.path-index + 1) c.args.worked.now in
       let makes = subst (λ f. MakesEdit (tree_of f) (at (tree_of f) c.path-item.result) c.in-Ok.change) (same g read h are) (c.in-Ok.ensures.edit h (are_still g read h are)) in
@@ -42,6 +41,6 @@ loop-path-preserved g c = record {
 pub returns-in-Err-clause-edits : goal.returns-in-Err-clause-edits
 returns-in-Err-clause-edits g c h are =
     let read = (goal.at.returns-in-Err-clause-edits g c).After-plan_path in
-    let at = annotated_at c.args.how.now c.args.scope.now c.args.additions.now (lookup c.args.styles.now) in
+    let at = annotated_by c.args.asked.now in
     at_refusal (at (tree_of (g.S.Store.files c.args.store.now))) (tree_of (g.S.Store.files c.args.store.now)) c.args.worked.now c.path-item.result (drop (c.loop-path.path-index + 1) c.args.worked.now) c.loop-path.changes.items
     c.in-Err.refusal (so_far g read h are) (subst (λ f. IsRefusalOf (at (tree_of f) c.path-item.result) c.in-Err.refusal) (same g read h are) (c.in-Err.ensures.edit h (are_still g read h are)))

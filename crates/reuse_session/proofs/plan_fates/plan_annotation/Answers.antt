@@ -10,8 +10,8 @@ use Rattle.reuse_session.proofs.plan_fates.plan_annotation.Goals as goal
 
 pub returns-in-Ok-clause-planned : goal.returns-in-Ok-clause-planned
 returns-in-Ok-clause-planned g c honest =
-    let before = c.plan_places.ensures.reads.was_honest honest in
-    let same = c.read_styles.ensures.reads.files before in
+    let before = c.plan_places.ensures.asks.reads.was_honest honest in
+    let same = c.read_styles.ensures.asks.reads.files before in
     let tree = tree_of (g.S.Store.files c.args.store.now) in
     subst (λ given. IfOk c.plan_places.result (Plans tree (annotation_fates c.args.places.now c.args.additions.now c.args.how.now c.args.scope.now tree given) (edits_by_names c.args.places.now c.args.additions.now c.args.how.now c.args.scope.now tree given)))
     (sym (c.in-Ok.ensures.styles before))

@@ -24,10 +24,13 @@ returns-in-ConvertDep5-clause-planned g c honest =
     subst (λ k. IfOk c.of_changes.result (Plans tree (path_fates k tree) (edits_of k tree))) (sym c.in-ConvertDep5.is)
     (c.of_changes.ensures.planned tree (conversion_edits tree) (c.plan_conversion.ensures.edits honest))
 
-pub returns-in-ConvertDep5-clause-fails : goal.returns-in-ConvertDep5-clause-fails
-returns-in-ConvertDep5-clause-fails g c =
-    as_read g.S.Store c.args.store.now c.plan_conversion.new.store c.plan_conversion.result c.of_changes.result c.plan_conversion.ensures.fails
-    (λ fault is. subst (λ r. IfErr r (λ (refusal : Refusal). (refusal ≡ Memory) ⊎ (c.plan_conversion.result ≡ Err refusal))) is c.of_changes.ensures.fault)
+pub returns-in-ConvertDep5-clause-asks : goal.returns-in-ConvertDep5-clause-asks
+returns-in-ConvertDep5-clause-asks g c = record {
+  reads = c.plan_conversion.ensures.asks.reads;
+  fails = as_read g.S.Store c.args.store.now c.plan_conversion.new.store c.plan_conversion.result c.of_changes.result c.plan_conversion.ensures.asks.fails
+      (λ fault is. subst (λ r. IfErr r (λ (refusal : Refusal). (refusal ≡ Memory) ⊎ (c.plan_conversion.result ≡ Err refusal))) is c.of_changes.ensures.fault);
+  kinds = c.of_changes.ensures.refusal;
+}
 
 pub returns-in-Download-clause-planned : goal.returns-in-Download-clause-planned
 returns-in-Download-clause-planned g c honest =

@@ -1,11 +1,9 @@
 use Rattle.std.proofs.Common.{◌+◌, ◌∙◌, drop, sym, ap, subst}
 use Rattle.std.specs.FinMap.{keys}
 use Rattle.std.proofs.lemmas.List.{drop_all}
-use Rattle.reuse_header.specs.Names.{lookup}
 use Rattle.reuse_tree.specs.Files.{tree_of}
 use Rattle.reuse_tree.proofs.AskedLemmas.{reads_more}
-use Rattle.reuse_session.specs.Annotate.{annotated_at}
-use Rattle.reuse_session.specs.Fates.{fate_at}
+use Rattle.reuse_session.specs.AnnotationPlan.{annotated_by, told_by}
 use Rattle.reuse_session.specs.FatePlan.{Adds}
 use Rattle.reuse_session.proofs.AtChange.{left_here}
 use Rattle.reuse_session.proofs.FatePlans.{FatesSoFar, after_adds, at_last}
@@ -13,11 +11,11 @@ use Rattle.reuse_session.proofs.plan_fates.plan_paths.Goals as goal
 
 pub loop-path-preserved : goal.loop-path-preserved
 loop-path-preserved g c = record {
-  reads = reads_more g.S.Store _ _ _ c.loop-path.invariant.reads c.plan_next.ensures.reads;
+  reads = reads_more g.S.Store _ _ _ c.loop-path.invariant.reads c.plan_next.ensures.asks.reads;
   so_far = λ h are.
-      let before = c.plan_next.ensures.reads.was_honest h in
-      let at = annotated_at c.args.how.now c.args.scope.now c.args.additions.now (lookup c.args.styles.now) in
-      let tell = fate_at c.args.how.now c.args.scope.now c.args.additions.now (lookup c.args.styles.now) in
+      let before = c.plan_next.ensures.asks.reads.was_honest h in
+      let at = annotated_by c.args.asked.now in
+      let tell = told_by c.args.asked.now in
       let tree = tree_of (g.S.Store.files c.args.store.now) in
       let worked = c.args.worked.now in
       let path = c.path-item.result in
@@ -30,7 +28,7 @@ loop-path-preserved g c = record {
 pub returns-clause-planned : goal.returns-clause-planned
 returns-clause-planned g c h are =
     let tree = tree_of (g.S.Store.files c.args.store.now) in
-    let at = annotated_at c.args.how.now c.args.scope.now c.args.additions.now (lookup c.args.styles.now) tree in
-    let tell = fate_at c.args.how.now c.args.scope.now c.args.additions.now (lookup c.args.styles.now) tree in
+    let at = annotated_by c.args.asked.now tree in
+    let tell = told_by c.args.asked.now tree in
     at_last at tell tree c.args.worked.now c.loop-path.planned
     (subst (λ left. FatesSoFar at tell tree c.args.worked.now left c.loop-path.planned) (drop_all c.loop-path.path-index c.args.worked.now c.loop-path-test.false) (c.loop-path.invariant.so_far h are))

@@ -1,10 +1,8 @@
 use Rattle.std.proofs.Common.{◌≡◌, drop}
 use Rattle.std.specs.FinMap.{keys}
-use Rattle.reuse_header.specs.Names.{lookup}
 use Rattle.reuse_tree.specs.Files.{tree_of}
 use Rattle.reuse_tree.specs.Asked.{OnlyReads}
-use Rattle.reuse_session.specs.Annotate.{annotated_at}
-use Rattle.reuse_session.specs.Fates.{fate_at}
+use Rattle.reuse_session.specs.AnnotationPlan.{annotated_by, told_by}
 use Rattle.reuse_session.proofs.FatePlans.{FatesSoFar}
 use Rattle.reuse_session.proofs.plan_fates.plan_paths.Given as goal
 
@@ -13,6 +11,6 @@ abbrev pub invariant-loop-path : goal.invariant-loop-path
 invariant-loop-path g l = record {
   reads : OnlyReads g.S.Store l.initial.store l.store;
   so_far : g.S.Store.honest l.store → l.paths ≡ keys (tree_of (g.S.Store.files l.initial.store))
-      → FatesSoFar (annotated_at l.how l.scope l.additions (lookup l.styles) (tree_of (g.S.Store.files l.initial.store))) (fate_at l.how l.scope l.additions (lookup l.styles) (tree_of (g.S.Store.files l.initial.store)))
+      → FatesSoFar (annotated_by l.asked (tree_of (g.S.Store.files l.initial.store))) (told_by l.asked (tree_of (g.S.Store.files l.initial.store)))
       (tree_of (g.S.Store.files l.initial.store)) l.worked (drop l.path-index l.worked) l.planned;
 }

@@ -1,39 +1,44 @@
 use Rattle.std.proofs.Common.{◌≡◌, ◌∙◌, List, ℕ, length, Some, Result, Ok, Err, sym, ap, subst, arith}
-use Rattle.reuse_notice.specs.declared.adding.Additions.{Additions}
-use Rattle.reuse_header.specs.declared.annotation.How.{How}
+use Rattle.std.proofs.lemmas.Result.{err_from_is_err_and}
 use Rattle.reuse_header.specs.declared.style.Style.{Style}
-use Rattle.reuse_header.specs.Names.{lookup}
-use Rattle.reuse_session.specs.TreeStyles.{OwnNames}
 use Rattle.reuse_tree.specs.Files.{Files}
-use Rattle.reuse_session.specs.Annotate.{target_by_bytes, edit_target, edit_inside}
+use Rattle.reuse_session.specs.AnnotationPlan.{place_by, edit_by_place, inside_by}
 use Rattle.reuse_session.specs.Plan.{IsRefusalOf, MakesEdit}
-use Rattle.reuse_session.specs.Steps.{StepsTo, StepsBy}
-use Rattle.reuse_session.specs.declared.command.Scope.{Scope}
+use Rattle.reuse_session.specs.Steps.{short_file, StepsTo, StepsBy}
+use Rattle.reuse_session.specs.declared.annotation.Annotation.{Annotation}
 use Rattle.reuse_session.specs.declared.target.Target.TheVariants.{Inside}
 use Rattle.reuse_session.specs.declared.plan_place.Step.{Step}
 use Rattle.reuse_session.specs.declared.plan_place.Step.TheVariants.{Done, Beside}
 use Rattle.reuse_session.specs.declared.reply.Refusal.{Refusal}
-use Rattle.reuse_session.proofs.ReadingLemmas.{found_is}
+use Rattle.reuse_session.proofs.Annotating.{refusal_passes}
+use Rattle.reuse_session.proofs.EditLemmas.{short_is, long_is}
 use Rattle.reuse_session.proofs.plan_place.plan_reading.Goals as goal
 
-some_is : (x y : List ℕ) → Some x ≡ Some y → x ≡ y
-some_is x y e = cc
-
-steps_inside : (tree : Files) (how : How) (scope : Scope) (additions : Additions) (own : OwnNames) (path bytes : List ℕ) (style : Style) (r : Result Step Refusal) → target_by_bytes scope own path bytes ≡ Ok (Inside style)
-    → StepsBy tree (edit_inside how scope additions path bytes style) r → StepsTo tree how scope additions own path bytes r
-steps_inside tree how scope additions own path bytes style (Ok (Done change)) e h = subst (λ t. MakesEdit tree (edit_target how scope additions tree path bytes t) change) (sym e) h
-steps_inside tree how scope additions own path bytes style (Ok Beside) e h = absurd h
-steps_inside tree how scope additions own path bytes style (Err refusal) e h = subst (λ t. IsRefusalOf (edit_target how scope additions tree path bytes t) refusal) (sym e) h
+steps_inside : (tree : Files) (asked : Annotation) (path bytes : List ℕ) (style : Style) (r : Result Step Refusal) → place_by asked path bytes ≡ Ok (Inside style)
+    → StepsBy tree (inside_by asked path bytes style) r → StepsTo asked tree path bytes r
+steps_inside tree asked path bytes style (Ok (Done change)) e h = subst (λ t. MakesEdit tree (edit_by_place asked tree path bytes t) change) (sym e) h
+steps_inside tree asked path bytes style (Ok Beside) e h = absurd h
+steps_inside tree asked path bytes style (Err refusal) e h = subst (λ t. IsRefusalOf (edit_by_place asked tree path bytes t) refusal) (sym e) h
 
 pub target_by_bytes-requires : goal.target_by_bytes-requires
-target_by_bytes-requires c = omega (arith, ap length c.as_slice.ensures, c.len.ensures, c.if-len-gt-LONGEST_FILE.false)
+target_by_bytes-requires c = omega (arith, ap length c.as_slice.ensures, c.in_ok-bytes.ensures.short)
+
+pub returns-in_err-bytes-clause-step : goal.returns-in_err-bytes-clause-step
+returns-in_err-bytes-clause-step c tree file here reading =
+    let asked = c.args.asked.now in
+    let path = c.args.path.now in
+    let due = edit_by_place asked tree path file (place_by asked path file) in
+    let long : (refusal : Refusal) → short_file path file ≡ Err refusal → place_by asked path file ≡ Err refusal = λ refusal e. long_is path file _ refusal e in
+    let p = err_from_is_err_and c.from_residual.result c.from_residual.ensures.1 in
+    subst (StepsTo asked tree path file) (sym p.1) (subst (IsRefusalOf due) (sym p.2)
+    (refusal_passes (short_file path file) due (λ refusal e. ap (edit_by_place asked tree path file) (long refusal e)) c.in_err-bytes.field-0.0 (c.in_err-bytes.ensures.answer file reading)))
 
 pub returns-in-Ok-Inside-clause-step : goal.returns-in-Ok-Inside-clause-step
 returns-in-Ok-Inside-clause-step c tree bytes here reading =
-    let same : bytes ≡ c.in-Found.bytes = some_is bytes c.in-Found.bytes (found_is (Some bytes) 16_777_216 c.in-Found.bytes (sym c.in-Found.is ∙ reading)).0 in
+    let same = (short_is c.args.path.now bytes c.in_ok-bytes.bytes (c.in_ok-bytes.ensures.answer bytes reading)).1 in
     let first : c.as_slice.result.now ≡ bytes = c.as_slice.ensures ∙ sym same in
     let again : c.as_slice-in-Ok-Inside.result.now ≡ bytes = c.as_slice-in-Ok-Inside.ensures ∙ sym same in
-    steps_inside tree c.args.how.now c.args.scope.now c.args.additions.now (lookup c.args.styles.now) c.args.path.now bytes c.in-Ok-Inside.style c.plan_inside.result
-    (subst (λ xs. target_by_bytes c.args.scope.now (lookup c.args.styles.now) c.args.path.now xs ≡ Ok (Inside c.in-Ok-Inside.style)) first (c.in-Ok-Inside.ensures.target ∙ ap (λ t. Ok t) c.in-Ok-Inside.field-0-is))
-    (subst (λ xs. StepsBy tree (edit_inside c.args.how.now c.args.scope.now c.args.additions.now c.args.path.now xs c.in-Ok-Inside.style) c.plan_inside.result) again
+    steps_inside tree c.args.asked.now c.args.path.now bytes c.in-Ok-Inside.style c.plan_inside.result
+    (subst (λ xs. place_by c.args.asked.now c.args.path.now xs ≡ Ok (Inside c.in-Ok-Inside.style)) first (c.in-Ok-Inside.ensures.target ∙ ap (λ t. Ok t) c.in-Ok-Inside.field-0-is))
+    (subst (λ xs. StepsBy tree (inside_by c.args.asked.now c.args.path.now xs c.in-Ok-Inside.style) c.plan_inside.result) again
     (c.plan_inside.ensures.step tree (here ∙ ap (λ xs. Some xs) (sym again))))

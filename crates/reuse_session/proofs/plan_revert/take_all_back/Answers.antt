@@ -21,17 +21,17 @@ module _ (g : Over) (c : In-Ok g) (honest : g.S.Store.honest c.take_back.new.sto
     so_far =
         subst (λ left. SoFar (tree_of (g.S.Store.files c.args.store.now)) c.args.skip_moved c.args.changes.now left c.loop-change.taken.items)
         (left_here c.args.changes.now c.loop-change.change-index c.loop-change-test.true c.change-item.result c.change-item.is)
-        (c.loop-change.invariant.so_far (c.take_back.ensures.reads.was_honest honest) entry heeds)
+        (c.loop-change.invariant.so_far (c.take_back.ensures.asks.reads.was_honest honest) entry heeds)
 
     makes_it : MakesEdit (tree_of (g.S.Store.files c.args.store.now)) (found (taken_back_on (tree_of (g.S.Store.files c.args.store.now)) c.change-item.result)) c.in-Ok.back
     makes_it =
         tested_from c.args.changes.now c.loop-change.change-index c.loop-change-test.true c.change-item.result c.change-item.is (λ tree. MakesEdit tree (found (taken_back_on tree c.change-item.result)) c.in-Ok.back) Undo
         (tree_of (g.S.Store.files c.args.store.now)) (tree_of (g.S.Store.files c.loop-change.store)) c.args.paths.now c.args.paths.now entry
-        (ap tree_of (c.loop-change.invariant.reads.files (c.take_back.ensures.reads.was_honest honest))) refl heeds (c.in-Ok.ensures.edit honest)
+        (ap tree_of (c.loop-change.invariant.reads.files (c.take_back.ensures.asks.reads.was_honest honest))) refl heeds (c.in-Ok.ensures.edit honest)
 
 pub loop-change-preserved : goal.loop-change-preserved
 loop-change-preserved g c = record {
-  reads = reads_more g.S.Store _ _ _ c.loop-change.invariant.reads c.take_back.ensures.reads;
+  reads = reads_more g.S.Store _ _ _ c.loop-change.invariant.reads c.take_back.ensures.asks.reads;
   so_far = λ honest entry heeds.
       let at = (goal.at.loop-change-preserved g c).In-Ok in
       let rest = drop (c.loop-change.change-index + 1) c.args.changes.now in

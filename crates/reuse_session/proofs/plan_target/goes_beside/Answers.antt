@@ -1,6 +1,6 @@
 use Rattle.std.proofs.Common.{◌≡◌, ◌∙◌, ◌||◌, sym, ap, subst}
-use Rattle.reuse_header.specs.Names.{lookup}
 use Rattle.reuse_session.specs.Annotate.{neighbour_of, goes_beside_unread}
+use Rattle.reuse_session.specs.AnnotationPlan.{own_of}
 use Rattle.reuse_session.specs.Listing.{ArePaths, is_among}
 use Rattle.reuse_session.proofs.TreeLemmas.{keys_ascend}
 use Rattle.reuse_session.proofs.TargetLemmas.{beside_by}
@@ -10,11 +10,11 @@ use Rattle.reuse_session.proofs.plan_target.goes_beside.Goals.{then-is_among, el
 pub returns : goal.returns
 returns c tree are =
     let sorted : ArePaths c.args.paths.now = subst ArePaths (sym are) (keys_ascend tree) in
-    let unread = goes_beside_unread c.args.scope.now (lookup c.args.styles.now) c.args.path.now in
+    let unread = goes_beside_unread c.args.asked.now.scope.now (own_of c.args.asked.now) c.args.path.now in
     let there : is_among c.args.paths.now (neighbour_of c.args.path.now) ≡ c.is_among.result =
     sym (c.is_among.ensures sorted ∙ ap (is_among c.args.paths.now) (c.as_slice.ensures ∙ c.in_ok-neighbour.ensures)) in
-    let either : c.if-is_among.result ≡ (is_among c.args.paths.now (neighbour_of c.args.path.now) || goes_beside_unread c.args.scope.now (lookup c.args.styles.now) c.args.path.now) = elim c.if-is_among.branch [
-      | then-is_among w ↦ w.result-is ∙ w.if-is_among.true ∙ ap (λ b. b || goes_beside_unread c.args.scope.now (lookup c.args.styles.now) c.args.path.now) (sym (there ∙ w.if-is_among.true))
-      | else-is_among w ↦ w.result-is ∙ w.goes_beside_unread.ensures ∙ ap (λ b. b || goes_beside_unread c.args.scope.now (lookup c.args.styles.now) c.args.path.now) (sym (there ∙ w.if-is_among.false))
+    let either : c.if-is_among.result ≡ (is_among c.args.paths.now (neighbour_of c.args.path.now) || goes_beside_unread c.args.asked.now.scope.now (own_of c.args.asked.now) c.args.path.now) = elim c.if-is_among.branch [
+      | then-is_among w ↦ w.result-is ∙ w.if-is_among.true ∙ ap (λ b. b || goes_beside_unread c.args.asked.now.scope.now (own_of c.args.asked.now) c.args.path.now) (sym (there ∙ w.if-is_among.true))
+      | else-is_among w ↦ w.result-is ∙ w.goes_beside_unread.ensures ∙ ap (λ b. b || goes_beside_unread c.args.asked.now.scope.now (own_of c.args.asked.now) c.args.path.now) (sym (there ∙ w.if-is_among.false))
     ] in
-    beside_by tree c.args.paths.now c.args.path.now c.args.scope.now (lookup c.args.styles.now) c.if-is_among.result are either
+    beside_by tree c.args.paths.now c.args.path.now c.args.asked.now.scope.now (own_of c.args.asked.now) c.if-is_among.result are either

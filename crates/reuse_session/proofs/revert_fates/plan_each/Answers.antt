@@ -11,9 +11,9 @@ use Rattle.reuse_session.proofs.revert_fates.plan_each.Goals as goal
 
 pub loop-change-preserved : goal.loop-change-preserved
 loop-change-preserved g c = record {
-  reads = reads_more g.S.Store _ _ _ c.loop-change.invariant.reads c.plan_next.ensures.reads;
+  reads = reads_more g.S.Store _ _ _ c.loop-change.invariant.reads c.plan_next.ensures.asks.reads;
   so_far = λ honest entry heeds.
-      let before = c.plan_next.ensures.reads.was_honest honest in
+      let before = c.plan_next.ensures.asks.reads.was_honest honest in
       let tree = tree_of (g.S.Store.files c.args.store.now) in
       let skip = c.args.skip_moved in
       let changes = c.args.changes.now in

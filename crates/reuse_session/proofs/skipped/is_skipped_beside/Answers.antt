@@ -10,18 +10,18 @@ use Rattle.reuse_session.proofs.Skipping.{unread_beside}
 use Rattle.reuse_session.proofs.skipped.is_skipped_beside.Goals as goal
 
 pub returns-in_default-2-clause-skipped : goal.returns-in_default-2-clause-skipped
-returns-in_default-2-clause-skipped g c honest how additions covered none =
+returns-in_default-2-clause-skipped g c honest covered none =
     let files = g.S.Store.files c.args.store.now in
     let is : c.in-Some.neighbour ≡ neighbour_of c.args.path.now = subst (λ o. IfSome o (λ n. n ≡ neighbour_of c.args.path.now)) c.in-Some.is c.in_ok-neighbour.ensures.path in
     let kept : get (tree_of files) (neighbour_of c.args.path.now) ≡ get files c.in-Some.neighbour = tree_at files (neighbour_of c.args.path.now) (neighbour_of_tree c.args.path.now covered) ∙ ap (get files) (sym is) in
-    sym (ap (λ f. c.args.scope.now.skip_existing && has_tagged f) kept
-    ∙ unread_beside how c.args.scope.now additions (tree_of files) c.args.path.now (get files c.in-Some.neighbour) kept none (λ bytes e. c.in_default-2.not-Found bytes (c.in_ok-bytes.ensures.reading honest ∙ e)))
+    sym (ap (λ f. c.args.asked.now.scope.now.skip_existing && has_tagged f) kept
+    ∙ unread_beside c.args.asked.now (tree_of files) c.args.path.now (get files c.in-Some.neighbour) kept none (λ bytes e. c.in_default-2.not-Found bytes (c.in_ok-bytes.ensures.reading honest ∙ e)))
 
 pub returns-clause-skipped : goal.returns-clause-skipped
-returns-clause-skipped g c honest how additions covered none =
+returns-clause-skipped g c honest covered none =
     let files = g.S.Store.files c.args.store.now in
     let is : c.in-Some.neighbour ≡ neighbour_of c.args.path.now = subst (λ o. IfSome o (λ n. n ≡ neighbour_of c.args.path.now)) c.in-Some.is c.in_ok-neighbour.ensures.path in
     let kept : get (tree_of files) (neighbour_of c.args.path.now) ≡ get files c.in-Some.neighbour = tree_at files (neighbour_of c.args.path.now) (neighbour_of_tree c.args.path.now covered) ∙ ap (get files) (sym is) in
     let found = found_is (get files c.in-Some.neighbour) 16_777_216 c.in-Found.bytes (sym c.in-Found.is ∙ c.in_ok-bytes.ensures.reading honest) in
     c.neighbour_has_tag.ensures ∙ ap neighbour_is_tagged c.as_slice.ensures
-    ∙ sym (ap (λ f. c.args.scope.now.skip_existing && has_tagged f) (kept ∙ found.0) ∙ ap (λ b. b && neighbour_is_tagged c.in-Found.bytes) c.if-not-scope.false)
+    ∙ sym (ap (λ f. c.args.asked.now.scope.now.skip_existing && has_tagged f) (kept ∙ found.0) ∙ ap (λ b. b && neighbour_is_tagged c.in-Found.bytes) c.if-not-asked.false)

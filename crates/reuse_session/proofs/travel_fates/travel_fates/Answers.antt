@@ -11,10 +11,10 @@ loop-change-preserved g c =
     let i = c.loop-change.change-index in
     let change = c.change-item.result in
     let kept = c.loop-change.invariant in
-    let was_honest = c.change_fate.ensures.reads.was_honest in
+    let was_honest = c.change_fate.ensures.asks.reads.was_honest in
     let start = g.S.Store.files c.args.store.now in
     record {
-      walk = reads_on kept.walk c.change_fate.ensures.reads;
+      walk = reads_on kept.walk c.change_fate.ensures.asks.reads;
       told = λ honest good.
           let before = was_honest honest in
           let here = tested c.args.changes.now i c.loop-change-test.true change c.change-item.is c.deref.result.now (λ files. IsFateOf c.args.way (tree_of files) change c.in_ok-change_fate.field-0)

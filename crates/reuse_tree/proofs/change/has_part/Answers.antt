@@ -1,7 +1,7 @@
 use Rattle.std.proofs.Common.{◌≡◌, ◌+◌, length, arith}
 use Rattle.std.proofs.lemmas.Slice.Eq.{slice_eq-Decides}
 use Rattle.std.proofs.lemmas.Bool.Decides.{Decides-eqb}
-use Rattle.reuse_tree.proofs.Parts.{cuts, holds_part}
+use Rattle.reuse_tree.proofs.Cuts.{cuts, holds_part}
 use Rattle.reuse_tree.proofs.change.has_part.Goals as goal
 
 pub returns : goal.returns

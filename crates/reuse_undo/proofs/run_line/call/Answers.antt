@@ -1,7 +1,8 @@
 use Rattle.std.proofs.Common.{◌<◌, inl, IfErr, refl, sym, subst, arith, ◌∙◌}
 use Rattle.reuse_session.specs.Session.{store_of}
 use Rattle.reuse_undo.specs.RunLine.{Carries, HasCallClash}
-use Rattle.reuse_undo.proofs.RunLemmas.{carried, found_again, caused, unclashed, unchanged_opening}
+use Rattle.reuse_undo.proofs.LookLemmas.{caused}
+use Rattle.reuse_undo.proofs.CallLemmas.{carried, found_again, unclashed, unchanged_opening}
 use Rattle.reuse_undo.proofs.run_line.call.Goals as goal
 
 pub returns-in-Ok-clause-carries : goal.returns-in-Ok-clause-carries
@@ -14,7 +15,7 @@ returns-in-Ok-clause-carries g c honest =
     let was_honest = c.ask-answer.ensures.was_honest is_honest in
     subst (λ f. Carries before request answer f) (sym (c.close-store.ensures.reads.files honest))
     (carried files before request c.in-Ok.opened answer (files (store_of c.ask-answer.new.session)) (c.in-Ok.ensures.opened was_honest)
-    (λ first second doubt. c.in-Ok.ensures.settles first second doubt was_honest) (c.ask-answer.ensures.meets is_honest))
+    (λ first second doubt. c.in-Ok.ensures.settles first second doubt was_honest) (c.ask-answer.ensures.meets is_honest) (c.ask-answer.ensures.clash is_honest))
 
 pub returns-in-Ok-clause-looks : goal.returns-in-Ok-clause-looks
 returns-in-Ok-clause-looks g c honest look held standing =

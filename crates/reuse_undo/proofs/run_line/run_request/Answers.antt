@@ -1,7 +1,7 @@
 use Rattle.std.proofs.Common.{◌≡◌, Ok, Err, IfErr, refl, sym, subst}
 use Rattle.reuse_undo.specs.Requests.{IsLook}
 use Rattle.reuse_undo.specs.RunLine.{HasCallClash, Carries, Steps}
-use Rattle.reuse_undo.proofs.RunLemmas.{carries_as, carries_step, told_of, no_refusal}
+use Rattle.reuse_undo.proofs.MachineLemmas.{carries_as, carries_step, told_of, no_refusal}
 use Rattle.reuse_undo.proofs.run_line.run_request.Goals as goal
 
 pub returns-in-Ok-clause-exact : goal.returns-in-Ok-clause-exact

@@ -1,8 +1,7 @@
 //! A journal that has as many steps done as it can have. It is in a folder, since a store in memory compares each file that it takes
 //! with each that it has.
 use super::scratch::Scratch;
-use crate::disk::DiskStore;
-use crate::session_tests::trees::{ANNOTATED, FIRST, HEAD, PLAIN, events_of, play};
+use crate::session_tests::trees::{ANNOTATED, FIRST, HEAD, PLAIN, plays};
 use std::fs;
 use std::test::Fail;
 
@@ -23,7 +22,7 @@ fn write_entries(scratch: &Scratch) -> Result<String, Fail> {
 
 /// Makes a tree of an annotated file and another, whose journal is full.
 fn fill(scratch: &Scratch) -> Result<(), Fail> {
-    scratch.make_folders(&[".reuse", ".reuse/undo"])?;
+    scratch.follow("mkdir .reuse\nmkdir .reuse/undo")?;
     let done = write_entries(scratch)?;
     let head = format!(in scratch.rt.alloc();
         "{{\"done\":[{done}],\"format\":1,\"next\":4097,\"pending\":null,\"undone\":[]}}"
@@ -38,24 +37,19 @@ fn write(scratch: &Scratch, path: &str, bytes: &[u8]) -> Result<(), Fail> {
     Ok(())
 }
 
-/// What is answered to events by their words on the folder.
-fn answers_in(scratch: &Scratch, words: &[&str]) -> Result<String, Fail> {
-    let alloc = scratch.rt.alloc();
-    let events = events_of(alloc, words)?;
-    let store = DiskStore::at(scratch.rt.clone()?, scratch.at("")?);
-    let (_, lines) = play(alloc, store, &events)?;
-    Ok(lines)
-}
-
 #[test]
 fn a_full_journal_takes_no_step(rt: HostRuntime) -> Result<(), Fail> {
     let scratch = Scratch::new(rt, "full_journal")?;
     fill(&scratch)?;
-    let lines = answers_in(&scratch, &["b.py", "undo", "b.py"])?;
-    assert_eq!(scratch.rt;
-        lines.as_str(),
-        "opened\njournal full\nundone a.py\nchanged b.py\n"
-    );
-    assert!(scratch.rt; scratch.holds("a.py", "print(1)\n")?);
+    let words = ["b.py", "undo", "b.py"];
+    let lines = "opened\njournal full\nundone a.py\nchanged b.py\n";
+    plays(
+        &scratch.rt,
+        scratch.rt.alloc(),
+        scratch.store("")?,
+        &words,
+        lines,
+    )?;
+    scratch.follow("text a.py: print(1)")?;
     scratch.remove()
 }

@@ -1,10 +1,11 @@
 use Rattle.std.proofs.Common.{◌≡◌, ◌∙◌, ◌+◌, List, ℕ, map, drop, sym, subst, ap₂}
 use Rattle.std.specs.List.Sorted.{IsStrictlySortedBy}
 use Rattle.std.proofs.lemmas.Bool.{false≢true}
+use Rattle.std.proofs.lemmas.List.{take_rest}
 use Rattle.reuse_tree.specs.Change.{path_of}
 use Rattle.reuse_tree.specs.declared.change.Change.{Change}
 use Rattle.reuse_session.specs.Listing.{is_folder_of}
-use Rattle.reuse_session.proofs.EntryPaths.{before, sorted_later, apart_step, not_apart_from, part_from}
+use Rattle.reuse_session.proofs.EntryPaths.{before, sorted_later, apart_step, not_apart_from}
 use Rattle.reuse_session.proofs.journal.entry_checks.are_apart.Goals.{After-has_file_under}
 use Rattle.reuse_session.proofs.journal.entry_checks.are_apart.Goals as goal
 
@@ -12,12 +13,12 @@ pub has_file_under-requires : goal.has_file_under-requires
 has_file_under-requires c =
     let cs = c.args.changes.now in
     let i = c.loop-i.i in
-    subst (λ (l : List Change). IsStrictlySortedBy before (map path_of l)) (sym (part_from cs (i + 1)))
+    subst (λ (l : List Change). IsStrictlySortedBy before (map path_of l)) (sym (take_rest cs (i + 1)))
     (sorted_later cs i c.index-changes-i.result c.loop-i-test.true c.index-changes-i.is c.requires)
 
 -- the test tells whether a later change lies under the path of this one
 told : (c : After-has_file_under) → c.has_file_under.result ≡ is_folder_of (map path_of (drop (c.loop-i.i + 1) c.args.changes.now)) (path_of c.index-changes-i.result)
-told c = c.has_file_under.ensures ∙ ap₂ (λ (l : List Change) (p : List ℕ). is_folder_of (map path_of l) p) (part_from c.args.changes.now (c.loop-i.i + 1)) c.path.ensures
+told c = c.has_file_under.ensures ∙ ap₂ (λ (l : List Change) (p : List ℕ). is_folder_of (map path_of l) p) (take_rest c.args.changes.now (c.loop-i.i + 1)) c.path.ensures
 
 pub returns-then-has_file_under : goal.returns-then-has_file_under
 returns-then-has_file_under c =

@@ -75,4 +75,4 @@ returns-clause-leaves g c =
     let at = goal.at.returns-clause-leaves g c in
     subst (λ ps. LeavesRun g.S.Store c.args.command.now c.args.when (Ok (Changed ps)) c.args.self.now c.step.new.self) (sym (c.in_ok-paths.ensures ∙ ap paths_of c.deref.ensures.value))
     (record_leaves (entry_put g at.After-put_entry) (entry_listed g at.After-step) c.step.new.self c.step.ensures.call.later.was_honest c.step.ensures.folder c.step.ensures.written
-    c.in_ok-put_entry.ensures.text c.in_ok-step.ensures.texts)
+    c.in_ok-put_entry.ensures.counted c.in_ok-put_entry.ensures.text c.in_ok-step.ensures.texts)

@@ -10,7 +10,8 @@ use Rattle.reuse_undo.specs.Requests.{IsLook}
 use Rattle.reuse_undo.specs.RunLine.{Meets, PreviewsRevert, HasCallClash}
 use Rattle.reuse_undo.specs.declared.request.Request.{Request}
 use Rattle.reuse_undo.specs.declared.request.Told.TheVariants as tells
-use Rattle.reuse_undo.proofs.RunLemmas.{err_told, peek_unclashed, peek_looks, show_peeks, reverts_by, revert_clash}
+use Rattle.reuse_undo.proofs.LookLemmas.{err_told, peek_unclashed, peek_looks, show_peeks}
+use Rattle.reuse_undo.proofs.CallLemmas.{reverts_by, revert_clash}
 use Rattle.reuse_undo.proofs.run_line.calls.ask.Goals as goal
 
 -- ---- a call of an event

@@ -10,7 +10,8 @@ use Rattle.reuse_session.proofs.OnlyReading.{early_files}
 use Rattle.reuse_undo.specs.Requests.{IsLook}
 use Rattle.reuse_undo.specs.RunLine.{Calls, HasCallClash}
 use Rattle.reuse_undo.specs.declared.request.Request.TheVariants as requests
-use Rattle.reuse_undo.proofs.RunLemmas.{calls_by, stands_on, unclashed, log_tells_none, peek_unclashed}
+use Rattle.reuse_undo.proofs.LookLemmas.{peek_unclashed}
+use Rattle.reuse_undo.proofs.CallLemmas.{calls_by, stands_on, unclashed, log_tells_none}
 use Rattle.reuse_undo.proofs.run_line.calls.ask_event.Goals as goal
 
 pub returns-in-Run-clause-calls : goal.returns-in-Run-clause-calls

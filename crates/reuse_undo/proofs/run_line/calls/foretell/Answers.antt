@@ -2,7 +2,7 @@ use Rattle.std.proofs.Common.{Ok, Err, refl, sym, subst}
 use Rattle.reuse_session.specs.Answer.{TellsNoFault}
 use Rattle.reuse_undo.specs.Peeks.{Peeks}
 use Rattle.reuse_undo.specs.RunLine.{Previews}
-use Rattle.reuse_undo.proofs.RunLemmas.{peek_looks, peeks_ok, peeks_err}
+use Rattle.reuse_undo.proofs.LookLemmas.{peek_looks, peeks_ok, peeks_err}
 use Rattle.reuse_undo.proofs.run_line.calls.foretell.Goals as goal
 
 pub returns-in-Ok-clause-calls : goal.returns-in-Ok-clause-calls

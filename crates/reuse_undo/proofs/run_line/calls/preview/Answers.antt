@@ -1,7 +1,7 @@
 use Rattle.std.proofs.Common.{sym, subst}
 use Rattle.reuse_session.specs.declared.fate.Call.{Call}
 use Rattle.reuse_undo.specs.RunLine.{Previews}
-use Rattle.reuse_undo.proofs.RunLemmas.{preview_peeks}
+use Rattle.reuse_undo.proofs.LookLemmas.{preview_peeks}
 use Rattle.reuse_undo.proofs.run_line.calls.preview.Goals as goal
 
 pub returns-in-Run-clause-right : goal.returns-in-Run-clause-right

@@ -5,7 +5,7 @@ use Rattle.reuse_session.specs.declared.fate.Fate.{Fate}
 use Rattle.reuse_undo.specs.Peeks.{Peeks}
 use Rattle.reuse_session.specs.Previews.{run_fates_on}
 use Rattle.reuse_undo.specs.RunLine.{TakesBackStep}
-use Rattle.reuse_undo.proofs.RunLemmas.{peeks_on, peeks_err, preview_peeks, still_stands, told_again}
+use Rattle.reuse_undo.proofs.LookLemmas.{peeks_on, peeks_err, preview_peeks, still_stands, told_again}
 use Rattle.reuse_undo.proofs.run_line.calls.preview_revert.Goals as goal
 
 pub returns-in-Ok-clause-right : goal.returns-in-Ok-clause-right

@@ -4,7 +4,7 @@ use Rattle.reuse_session.specs.Showing.{ShowsIn}
 use Rattle.reuse_session.specs.declared.command.Command.{Command}
 use Rattle.reuse_session.specs.declared.reply.Shown.{Shown}
 use Rattle.reuse_undo.specs.Peeks.{Peeks}
-use Rattle.reuse_undo.proofs.RunLemmas.{back_of_shown, show_peeks, peeks_back, peeks_err, told_again}
+use Rattle.reuse_undo.proofs.LookLemmas.{back_of_shown, show_peeks, peeks_back, peeks_err, told_again}
 use Rattle.reuse_undo.proofs.run_line.calls.revert_command.Goals as goal
 
 pub returns-in-Ok-clause-right : goal.returns-in-Ok-clause-right

@@ -1,0 +1,10 @@
+use Rattle.std.proofs.Common.{◌≡◌, ℕ, Bool, length}
+use Rattle.reuse_notice.specs.Tags.{drop_end}
+use Rattle.reuse_notice.specs.Trims.{IsTest}
+use Rattle.reuse_notice.proofs.trims.trim_end_with.Given as goal
+
+abbrev pub invariant-loop-rest : goal.invariant-loop-rest
+invariant-loop-rest g l = (test : ℕ → Bool) → IsTest (goal.F-post g l.passes) test → drop_end test l.rest ≡ drop_end test l.bytes
+
+abbrev pub decreases-loop-rest : goal.decreases-loop-rest
+decreases-loop-rest g l = length l.rest

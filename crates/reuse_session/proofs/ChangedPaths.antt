@@ -1,0 +1,328 @@
+-- A command changes the paths at which its fates say so.
+use Rattle.std.proofs.Common.{◌≡◌, ◌≢◌, ◌↔◌, inl, inr, ℕ, Bool, true, false, cond, not, ◌||◌, ◌&&◌, nat_lt, List, [], ◌∷◌, ◌++◌, length, map, Option, Some, None, is_some, unwrap_or, Result, Ok, Err, refl, sym, ap, subst, ◌∙◌}
+use Rattle.std.specs.List.{AllByRecursion, Contains, cons_option, list_any}
+use Rattle.std.specs.Str.{bytes_eq}
+use Rattle.std.specs.FinMap.{get, empty}
+use Rattle.std.proofs.lemmas.Bool.{false≢true}
+use Rattle.std.proofs.lemmas.List.{append-nil}
+use Rattle.std.proofs.lemmas.List.Elements.{All-contains, Contains-get_or, recursion_from_All}
+use Rattle.std.proofs.lemmas.List.Folds.{list_any_at, Any-from_list_any}
+use Rattle.std.proofs.lemmas.Slice.Eq.{bytes_eq-Decides}
+use Rattle.reuse_notice.specs.Sets.{set_of}
+use Rattle.reuse_notice.specs.declared.adding.Additions.{Additions}
+use Rattle.reuse_dep5.specs.Conversion.{converted}
+use Rattle.reuse_dep5.specs.declared.refusal.Dep5Refusal.{Dep5Refusal}
+use Rattle.reuse_header.specs.declared.annotation.How.{How}
+use Rattle.reuse_header.specs.Annotation as header
+use Rattle.reuse_header.specs.Header.{header_of}
+use Rattle.reuse_header.specs.Neighbour.{neighbour_annotation_of}
+use Rattle.reuse_tree.specs.Files.{Files}
+use Rattle.reuse_session.specs.Annotate.{neighbour_of, neighbour_is_tagged, target_of, edit_by, edit_neighbour, edit_target, annotated_where, annotated_at}
+use Rattle.reuse_session.specs.Annotations.{Due}
+use Rattle.reuse_session.specs.Clash.{is_clash}
+use Rattle.reuse_session.specs.Command.{has_root, HoldsEntry}
+use Rattle.reuse_session.specs.Conversion.{dep5_path, toml_path, replaced_by, conversion_where, conversion_edits}
+use Rattle.reuse_session.specs.Covered.{is_covered}
+use Rattle.reuse_session.specs.Downloads.{text_for, ids_refusal, licence_edit, unless_refused, download_edits}
+use Rattle.reuse_session.specs.Edit.{Edit, made, dropped}
+use Rattle.reuse_session.specs.Fates.{is_skipped, fate_by, fate_at, annotation_fates, edit_fates, or_else, revert_fate, path_fates, limit_fates, fates_of}
+use Rattle.reuse_session.specs.Licence.{licence_path, licence_id}
+use Rattle.reuse_session.specs.Listing.{is_among, is_folder}
+use Rattle.reuse_session.specs.Outcome.{with_file, edited, is_too_many, edits_at, edits_by_names, edits_of, tree_after, outcome_of}
+use Rattle.reuse_session.specs.TreeStyles.{OwnNames, styles_in}
+use Rattle.reuse_session.specs.Worked.{worked_paths}
+use Rattle.reuse_session.specs.declared.command.Command.{Command}
+use Rattle.reuse_session.specs.declared.command.Command.TheVariants.{Annotate, ConvertDep5, Download, Revert}
+use Rattle.reuse_session.specs.declared.command.Place.TheVariants as place
+use Rattle.reuse_session.specs.declared.command.Scope.{Scope}
+use Rattle.reuse_session.specs.declared.fate.Fate.{Fate}
+use Rattle.reuse_session.specs.declared.fate.Fate.TheVariants as fate
+use Rattle.reuse_session.specs.declared.licence.LicenceText.{LicenceText}
+use Rattle.reuse_session.specs.declared.target.Target.{Target}
+use Rattle.reuse_session.specs.declared.target.Target.TheVariants.{Inside, Beside, Nowhere}
+use Rattle.reuse_session.specs.declared.reply.Refusal.{Refusal}
+use Rattle.reuse_session.specs.declared.reply.Refusal.TheVariants as refusals
+use Rattle.reuse_session.specs.Reverting.{stands_as_written, is_short, put_back, taken_back, taken_back_on, stuck_on}
+use Rattle.reuse_text.specs.Text.{spliced}
+use Rattle.reuse_tree.specs.Change.{path_of, IsProper}
+use Rattle.reuse_tree.specs.declared.change.Change.{Change}
+use Rattle.reuse_tree.specs.declared.change.Change.TheVariants.{Make, Drop, Splice}
+use Rattle.std.proofs.lemmas.Option.{none-some, same_Some, cond_some}
+use Rattle.reuse_session.proofs.Annotating.{both_err, if_not, first_is, no_edits, all_edits}
+use Rattle.reuse_session.proofs.Downloading.{IsMade, are_made}
+use Rattle.reuse_session.proofs.FatePlans.{none_refused}
+use Rattle.reuse_session.proofs.Planning.{paths_at, with_same, with_other, edited_other}
+use Rattle.reuse_session.proofs.RevertFitting.{backs, back_on, path_back, edits_are}
+use Rattle.reuse_session.proofs.RevertPlanning.{and_first, splice_differs}
+use Rattle.reuse_session.proofs.Results.{err_or, same_Ok, none_from_test}
+
+-- ---- the paths that change
+
+-- the fate is that this path changes
+is_change : List ℕ → Fate → Bool
+is_change path (fate.Changes other) = bytes_eq path other
+is_change path told = false
+
+is_that : (path : List ℕ) (told : Fate) → is_change path told ≡ true → told ≡ fate.Changes path
+unfolding is_change
+is_that path (fate.Changes other) e = ap fate.Changes (sym ((bytes_eq-Decides path other).0 e))
+is_that path told e = absurd (false≢true e)
+
+it_is : (path : List ℕ) → is_change path (fate.Changes path) ≡ true
+unfolding is_change
+it_is path = (bytes_eq-Decides path path).1 refl
+
+changes_where : (fates : List Fate) (path : List ℕ) → Contains fates (fate.Changes path) ↔ (list_any (is_change path) fates ≡ true)
+changes_where fates path = (
+  λ h.
+      All-contains (λ (f : Fate). f ≡ fate.Changes path → list_any (is_change path) fates ≡ true) fates (fate.Changes path)
+      (λ i d lt same. list_any_at (is_change path) fates i d lt (ap (is_change path) same ∙ it_is path)) h refl,
+  λ e.
+      let found = Any-from_list_any (is_change path) fates e in
+      subst (Contains fates) (found.3 ∙ is_that path found.1 found.4) (Contains-get_or fates found.0 found.1 found.2),
+)
+
+of_edits : (path : List ℕ) (edits : List Edit) → list_any (is_change path) (map (λ (edit : Edit). fate.Changes edit.path) edits) ≡ is_among (paths_at edits) path
+unfolding is_change
+of_edits path [] = refl
+of_edits path (e ∷ edits) = ap (λ b. bytes_eq path e.path || b) (of_edits path edits)
+
+no_change : (path other : List ℕ) (skipped : Bool) (fates : List Fate) → list_any (is_change path) (fate_by other skipped (Ok None) ∷ fates) ≡ list_any (is_change path) fates
+unfolding is_change
+no_change path other true fates = refl
+no_change path other false fates = refl
+
+module _ (at : List ℕ → Result (Option Edit) Refusal) (skip : List ℕ → Bool) where
+  of_paths : (path : List ℕ) (paths : List (List ℕ)) (edits : List Edit) → edits_at at paths ≡ Ok edits → list_any (is_change path) (map (λ p. fate_by p (skip p) (at p)) paths) ≡ is_among (paths_at edits) path
+  unfolding is_change
+  of_paths path [] edits h = ap (λ es. is_among (paths_at es) path) (sym (no_edits edits h))
+  of_paths path (p ∷ paths) edits h = elim (first_is (at p) (edits_at at paths) edits h) [
+    | inl none ↦
+        ap (λ r. list_any (is_change path) (fate_by p (skip p) r ∷ map (λ q. fate_by q (skip q) (at q)) paths)) none.0
+        ∙ no_change path p (skip p) (map (λ q. fate_by q (skip q) (at q)) paths) ∙ of_paths path paths edits none.1
+    | inr some ↦
+        ap (λ r. list_any (is_change path) (fate_by p (skip p) r ∷ map (λ q. fate_by q (skip q) (at q)) paths)) some.2
+        ∙ ap (λ b. bytes_eq path some.0.path || b) (of_paths path paths some.1 some.3) ∙ ap (λ es. is_among (paths_at es) path) (sym some.4)
+  ]
+
+none_or : (o : Option Refusal) (others edits : List Edit) → unless_refused o others ≡ Ok edits → o ≡ None
+none_or None others edits e = refl
+none_or (Some refusal) others edits e = absurd (cc)
+
+-- a change that isn't taken back changes no path
+no_way_back : (skip : Bool) (path other : List ℕ) (fates : List Fate)
+    → list_any (is_change path) (cond skip (fate.Skipped other) (fate.Refused (refusals.Moved other)) ∷ fates) ≡ list_any (is_change path) fates
+unfolding is_change
+no_way_back true path other fates = refl
+no_way_back false path other fates = refl
+
+of_revert : (tree : Files) (skip : Bool) (path : List ℕ) (changes : List Change) → list_any (is_change path) (map (revert_fate skip tree) changes) ≡ is_among (paths_at (backs tree changes)) path
+unfolding is_change
+of_revert tree skip path [] = refl
+of_revert tree skip path (c ∷ cs) = by_back (taken_back_on tree c) refl (of_revert tree skip path cs)
+  where
+    by_back : (o : Option Edit) → taken_back_on tree c ≡ o → list_any (is_change path) (map (revert_fate skip tree) cs) ≡ is_among (paths_at (backs tree cs)) path
+        → list_any (is_change path) (cond (is_some o) (fate.Changes (path_of c)) (cond skip (fate.Skipped (path_of c)) (fate.Refused (refusals.Moved (path_of c)))) ∷ map (revert_fate skip tree) cs)
+        ≡ is_among (paths_at (cons_option o (backs tree cs))) path
+    by_back None is rest = no_way_back skip path (path_of c) (map (revert_fate skip tree) cs) ∙ rest
+    by_back (Some edit) is rest =
+        ap (λ b. bytes_eq path (path_of c) || b) rest ∙ ap (λ p. bytes_eq path p || is_among (paths_at (backs tree cs)) path) (sym (path_back tree c edit is))
+
+of_command : (command : Command) (tree : Files) (path : List ℕ) (edits : List Edit) → edits_of command tree ≡ Ok edits → list_any (is_change path) (path_fates command tree) ≡ is_among (paths_at edits) path
+of_command (Annotate places additions how scope) tree path edits h = by_styles (styles_in tree) h
+  where
+    by_styles : (styles : Result OwnNames Refusal) → edits_by_names places additions how scope tree styles ≡ Ok edits
+        → list_any (is_change path) (annotation_fates places additions how scope tree styles) ≡ is_among (paths_at edits) path
+    by_styles (Err refusal) e = absurd (cc)
+    by_styles (Ok own) e =
+        let parts = err_or (not scope.recursive && has_root places) (refusals.IsFolder place.Root) (edits_at (annotated_at how scope additions own tree) (worked_paths scope places tree)) edits e in
+        ap (λ b. list_any (is_change path) (cond b (fate.Refused (refusals.IsFolder place.Root) ∷ []) (map (fate_at how scope additions own tree) (worked_paths scope places tree)))) parts.0
+        ∙ of_paths (annotated_at how scope additions own tree) (is_skipped scope own tree) path (worked_paths scope places tree) edits parts.1
+of_command ConvertDep5 tree path edits h = ap (λ r. list_any (is_change path) (edit_fates r)) h ∙ of_edits path edits
+of_command (Download ids texts) tree path edits h =
+    let none = none_or (ids_refusal tree texts (set_of ids)) (map (licence_edit texts) (set_of (map licence_path (set_of ids)))) edits h in
+    ap (λ fs. list_any (is_change path) (or_else fs (edit_fates (download_edits ids texts tree)))) (none_refused tree texts (set_of ids) none)
+    ∙ ap (λ r. list_any (is_change path) (edit_fates r)) h ∙ of_edits path edits
+of_command (Revert changes skip_moved) tree path edits h =
+    of_revert tree skip_moved path changes
+    ∙ ap (λ es. is_among (paths_at es) path) (edits_are tree (cond skip_moved [] (stuck_on tree changes)) (backs tree changes) edits h)
+
+-- ---- each edit changes its file
+
+abbrev Differs : Files → Edit → Type 0
+Differs tree edit = get tree edit.path ≢ edit.file
+
+abbrev some_edit : Edit → Result (Option Edit) Refusal
+some_edit edit = Ok (Some edit)
+
+abbrev no_edit : Result (Option Edit) Refusal
+no_edit = Ok None
+
+same_edit : (one other : Edit) → some_edit one ≡ some_edit other → one ≡ other
+same_edit one other e = cc
+
+unskipped : (b : Bool) (r : Result (Option Edit) Refusal) (edit : Edit) → cond b no_edit r ≡ some_edit edit → (b ≡ false) × (r ≡ some_edit edit)
+unskipped true r edit e = absurd (cc)
+unskipped false r edit e = (refl, e)
+
+-- an edit by an annotation of these bytes is of its place, and gives others
+edit_gives : (path at bytes : List ℕ) (due : Due) (edit : Edit) → edit_by path at bytes due ≡ some_edit edit → (edit.path ≡ at) × (new : List ℕ) × (edit.file ≡ Some new) × (bytes_eq new bytes ≡ false)
+edit_gives path at bytes (Err refusal) edit e = absurd (cc)
+edit_gives path at bytes (Ok one) edit e =
+    let parts = unskipped (bytes_eq (header.edited bytes one) bytes) _ edit e in
+    let same = same_edit _ edit parts.1 in
+    (ap (λ (x : Edit). x.path) (sym same), header.edited bytes one, ap (λ (x : Edit). x.file) (sym same), parts.0)
+
+differs_there : (tree : Files) (path at bytes : List ℕ) (due : Due) (edit : Edit) → get tree at ≡ Some bytes → edit_by path at bytes due ≡ some_edit edit → Differs tree edit
+differs_there tree path at bytes due edit here e = λ same.
+    let g = edit_gives path at bytes due edit e in
+    let is : Some bytes ≡ Some g.1 = sym here ∙ ap (get tree) (sym g.0) ∙ same ∙ g.2 in
+    false≢true (sym g.3 ∙ (bytes_eq-Decides g.1 bytes).1 (sym (same_Some bytes g.1 is)))
+
+differs_new : (tree : Files) (path at : List ℕ) (due : Due) (edit : Edit) → get tree at ≡ None → edit_by path at [] due ≡ some_edit edit → Differs tree edit
+differs_new tree path at due edit here e = λ same.
+    let g = edit_gives path at [] due edit e in
+    let is : None ≡ Some g.1 = sym here ∙ ap (get tree) (sym g.0) ∙ same ∙ g.2 in cc
+
+module _ (how : How) (scope : Scope) (additions : Additions) (tree : Files) (path : List ℕ) (edit : Edit) where
+  neighbour_differs : (file : Option (List ℕ)) → get tree (neighbour_of path) ≡ file → edit_neighbour how scope additions tree path file ≡ some_edit edit → Differs tree edit
+  neighbour_differs None here e =
+      differs_new tree path (neighbour_of path) (neighbour_annotation_of how additions []) edit here (if_not (is_clash tree (neighbour_of path)) (refusals.Clash (neighbour_of path)) _ (Some edit) e)
+  neighbour_differs (Some bytes) here e =
+      differs_there tree path (neighbour_of path) bytes (neighbour_annotation_of how additions bytes) edit here
+      (unskipped (scope.skip_existing && neighbour_is_tagged bytes) _ edit (if_not (nat_lt 16_777_216 (length bytes)) (refusals.TooLong path) _ (Some edit) e)).1
+
+  target_differs : (bytes : List ℕ) (target : Result Target Refusal) → get tree path ≡ Some bytes → edit_target how scope additions tree path bytes target ≡ some_edit edit → Differs tree edit
+  target_differs bytes (Err refusal) here e = absurd (cc)
+  target_differs bytes (Ok Nowhere) here e = absurd (cc)
+  target_differs bytes (Ok Beside) here e =
+      neighbour_differs (get tree (neighbour_of path)) refl (if_not (nat_lt 4096 (length (neighbour_of path))) (refusals.TooLong path) _ (Some edit) e)
+  target_differs bytes (Ok (Inside style)) here e =
+      differs_there tree path path bytes (header.annotation_of style how additions bytes) edit here (unskipped (scope.skip_existing && is_some (header_of style bytes)) _ edit e).1
+
+  annotated_differs : (own : OwnNames) → annotated_at how scope additions own tree path ≡ some_edit edit → Differs tree edit
+  annotated_differs own e = of_file (get tree path) refl e
+    where
+      of_file : (file : Option (List ℕ)) → get tree path ≡ file → annotated_where how scope additions own tree path file ≡ some_edit edit → Differs tree edit
+      of_file None here h = absurd (both_err (is_folder tree path) (refusals.IsFolder (place.Path path)) (refusals.NoSuchPath path) (Some edit) h)
+      of_file (Some bytes) here h = target_differs bytes (target_of scope own tree path bytes) here (if_not (not (is_covered path)) (refusals.NotCovered path) _ (Some edit) h)
+
+abbrev accepted : {A : Type 0} → A → Result A Refusal
+accepted x = Ok x
+
+conversion_differs : (tree : Files) (edits : List Edit) → conversion_edits tree ≡ Ok edits → AllByRecursion (Differs tree) edits
+conversion_differs tree edits h = of_file (get tree dep5_path) refl h
+  where
+    both : (bytes text : List ℕ) → get tree dep5_path ≡ Some bytes → get tree toml_path ≡ None → AllByRecursion (Differs tree) (dropped dep5_path bytes ∷ made toml_path text ∷ [])
+    both bytes text here free = (λ same. let is : Some bytes ≡ None = sym here ∙ same in cc, (λ same. let is : None ≡ Some text = sym free ∙ same in cc, tt))
+
+    of_text : (bytes : List ℕ) (given : Result (List ℕ) Dep5Refusal) → get tree dep5_path ≡ Some bytes → get tree toml_path ≡ None → replaced_by tree bytes given ≡ Ok edits → AllByRecursion (Differs tree) edits
+    of_text bytes (Err refusal) here free e = absurd (cc)
+    of_text bytes (Ok text) here free e =
+        subst (AllByRecursion (Differs tree)) (same_Ok (dropped dep5_path bytes ∷ made toml_path text ∷ []) edits (err_or (is_clash tree toml_path) (refusals.Clash toml_path) (Ok (dropped dep5_path bytes ∷ made toml_path text ∷ [])) edits e).1) (both bytes text here free)
+
+    of_file : (file : Option (List ℕ)) → get tree dep5_path ≡ file → conversion_where tree file ≡ Ok edits → AllByRecursion (Differs tree) edits
+    of_file None here e = absurd (cc)
+    of_file (Some bytes) here e =
+        let one = err_or (nat_lt 16_777_216 (length bytes)) (refusals.TooLong dep5_path) (cond (is_some (get tree toml_path)) (Err (refusals.Exists toml_path)) (replaced_by tree bytes (converted bytes))) edits e in
+        let two = err_or (is_some (get tree toml_path)) (refusals.Exists toml_path) (replaced_by tree bytes (converted bytes)) edits one.1 in
+        of_text bytes (converted bytes) here (none_from_test (get tree toml_path) two.0) two.1
+
+download_differs : (ids : List (List ℕ)) (texts : List LicenceText) (tree : Files) (edits : List Edit) → download_edits ids texts tree ≡ Ok edits → AllByRecursion (Differs tree) edits
+download_differs ids texts tree edits h = by_refusal (ids_refusal tree texts (set_of ids)) refl h
+  where
+    each : (paths : List (List ℕ)) → AllByRecursion (IsMade tree texts) paths → AllByRecursion (Differs tree) (map (licence_edit texts) paths)
+    each [] all = tt
+    each (p ∷ paths) all = (λ same. none-some (unwrap_or (text_for texts (licence_id p)) []) (sym all.0.absent ∙ same), each paths all.1)
+
+    by_refusal : (o : Option Refusal) → ids_refusal tree texts (set_of ids) ≡ o → unless_refused o (map (licence_edit texts) (set_of (map licence_path (set_of ids)))) ≡ Ok edits → AllByRecursion (Differs tree) edits
+    by_refusal None none e = subst (AllByRecursion (Differs tree)) (same_Ok (map (licence_edit texts) (set_of (map licence_path (set_of ids)))) edits e) (each (set_of (map licence_path (set_of ids))) (are_made tree texts (set_of ids) none))
+    by_refusal (Some refusal) none e = absurd (cc)
+
+-- what a change that changes something is taken back to isn't what was there
+back_differs : (change : Change) (file : Option (List ℕ)) (edit : Edit) → IsProper change → taken_back change file ≡ Some edit → file ≢ edit.file
+back_differs (Make path new after) None edit proper e = absurd (none-some edit e)
+back_differs (Make path new after) (Some file) edit proper e = λ same.
+    let got : Some file ≡ None = same ∙ ap (λ (x : Edit). x.file) (sym (cond_some (bytes_eq file new) (dropped path new) edit e).1) in cc
+back_differs (Drop path old before) None edit proper e = λ same.
+    let got : None ≡ Some old = same ∙ ap (λ (x : Edit). x.file) (sym (same_Some (made path old) edit e)) in cc
+back_differs (Drop path old before) (Some file) edit proper e = absurd (none-some edit e)
+back_differs (Splice path at old new rest seal) None edit proper e = absurd (none-some edit e)
+back_differs (Splice path at old new rest seal) (Some file) edit proper e = λ same.
+    let is = cond_some (stands_as_written file at old new rest seal && is_short file && is_short (spliced file at (length new) old)) (put_back path file at old new) edit e in
+    let stands = and_first (stands_as_written file at old new rest seal) (is_short file) (and_first (stands_as_written file at old new rest seal && is_short file) (is_short (spliced file at (length new) old)) is.0) in
+    let got : Some file ≡ Some (spliced file at (length new) old) = same ∙ ap (λ (x : Edit). x.file) (sym is.1) in
+    splice_differs empty path file old new at rest seal stands proper (same_Some file (spliced file at (length new) old) got)
+
+back_differs_on : (tree : Files) (change : Change) (edit : Edit) → IsProper change → taken_back_on tree change ≡ Some edit → Differs tree edit
+back_differs_on tree change edit proper e = λ same.
+    back_differs change (get tree (path_of change)) edit proper (back_on tree change edit e).0 (ap (get tree) (sym (path_back tree change edit e)) ∙ same)
+
+revert_differs : (tree : Files) (changes : List Change) → AllByRecursion IsProper changes → AllByRecursion (Differs tree) (backs tree changes)
+revert_differs tree [] all = tt
+revert_differs tree (c ∷ cs) all = by_back (taken_back_on tree c) refl (revert_differs tree cs all.1)
+  where
+    by_back : (o : Option Edit) → taken_back_on tree c ≡ o → AllByRecursion (Differs tree) (backs tree cs) → AllByRecursion (Differs tree) (cons_option o (backs tree cs))
+    by_back None is rest = rest
+    by_back (Some edit) is rest = (back_differs_on tree c edit all.0 is, rest)
+
+each_differs : (command : Command) (tree : Files) (edits : List Edit) → HoldsEntry command → edits_of command tree ≡ Ok edits → AllByRecursion (Differs tree) edits
+each_differs (Annotate places additions how scope) tree edits holds h = by_styles (styles_in tree) h
+  where
+    by_styles : (styles : Result OwnNames Refusal) → edits_by_names places additions how scope tree styles ≡ Ok edits → AllByRecursion (Differs tree) edits
+    by_styles (Err refusal) e = absurd (cc)
+    by_styles (Ok own) e =
+        let parts = err_or (not scope.recursive && has_root places) (refusals.IsFolder place.Root) (edits_at (annotated_at how scope additions own tree) (worked_paths scope places tree)) edits e in
+        all_edits (annotated_at how scope additions own tree) (Differs tree) (λ p e k. annotated_differs how scope additions tree p e own k) (worked_paths scope places tree) edits parts.1
+each_differs ConvertDep5 tree edits holds h = conversion_differs tree edits h
+each_differs (Download ids texts) tree edits holds h = download_differs ids texts tree edits h
+each_differs (Revert changes skip_moved) tree edits holds h =
+    subst (AllByRecursion (Differs tree)) (edits_are tree (cond skip_moved [] (stuck_on tree changes)) (backs tree changes) edits h)
+    (revert_differs tree changes (recursion_from_All IsProper changes holds.0.proper))
+
+-- ---- the edited tree
+
+edited_differs : (tree : Files) (edits : List Edit) → AllByRecursion (Differs tree) edits → (path : List ℕ) → is_among (paths_at edits) path ≡ true → get tree path ≢ get (edited tree edits) path
+edited_differs tree [] each path h = absurd (false≢true h)
+edited_differs tree (e ∷ edits) each path h = of_test (bytes_eq path e.path) refl h (edited_differs tree edits each.1 path)
+  where
+    of_test : (b : Bool) → bytes_eq path e.path ≡ b → (b || is_among (paths_at edits) path) ≡ true
+        → (is_among (paths_at edits) path ≡ true → get tree path ≢ get (edited tree edits) path) → get tree path ≢ get (edited tree (e ∷ edits)) path
+    of_test true t k rest =
+        let same = (bytes_eq-Decides path e.path).0 t in
+        λ is. each.0 (ap (get tree) (sym same) ∙ is ∙ ap (get (with_file (edited tree edits) e.path e.file)) same ∙ with_same (edited tree edits) e.path e.file)
+    of_test false t k rest =
+        λ is. rest k (is ∙ with_other (edited tree edits) e.path e.file path (λ same. false≢true (sym t ∙ (bytes_eq-Decides path e.path).1 same)))
+
+differs_where : (tree : Files) (edits : List Edit) → AllByRecursion (Differs tree) edits → (path : List ℕ) → (is_among (paths_at edits) path ≡ true) ↔ (get tree path ≢ get (edited tree edits) path)
+differs_where tree edits each path = (edited_differs tree edits each path, λ other. of_test (is_among (paths_at edits) path) refl other)
+  where
+    of_test : (b : Bool) → is_among (paths_at edits) path ≡ b → get tree path ≢ get (edited tree edits) path → b ≡ true
+    of_test true t other = refl
+    of_test false t other = absurd (other (sym (edited_other tree edits path t)))
+
+few_edits : (tree after : Files) (given : Result (List Edit) Refusal) → tree_after tree given ≡ Ok after → (edits : List Edit) × (given ≡ Ok edits) × (is_too_many edits ≡ false) × (edited tree edits ≡ after)
+few_edits tree after (Err refusal) e = absurd (cc)
+few_edits tree after (Ok edits) e = by_size (is_too_many edits) refl e
+  where
+    by_size : (b : Bool) → is_too_many edits ≡ b → cond b (Err refusals.TooMany) (Ok (edited tree edits)) ≡ Ok after → (es : List Edit) × (accepted edits ≡ Ok es) × (is_too_many es ≡ false) × (edited tree es ≡ after)
+    by_size true t h = absurd (cc)
+    by_size false t h = (edits, refl, t, cc)
+
+of_all : (command : Command) (tree after : Files) (path : List ℕ) → HoldsEntry command → outcome_of command tree ≡ Ok after → (list_any (is_change path) (fates_of command tree) ≡ true) ↔ (get tree path ≢ get after path)
+unfolding fates_of outcome_of
+of_all command tree after path holds h =
+    let few = few_edits tree after (edits_of command tree) h in
+    let limit : limit_fates (edits_of command tree) ≡ [] = ap limit_fates few.1 ∙ ap (λ b. cond b (fate.Refused refusals.TooMany ∷ []) []) few.2 in
+    let same : list_any (is_change path) (path_fates command tree ++ limit_fates (edits_of command tree)) ≡ is_among (paths_at few.0) path =
+    ap (λ fs. list_any (is_change path) (path_fates command tree ++ fs)) limit ∙ ap (list_any (is_change path)) (append-nil (path_fates command tree)) ∙ of_command command tree path few.0 few.1 in
+    let where_differs = differs_where tree few.0 (each_differs command tree few.0 holds few.1) path in (
+      λ e. subst (λ t. get tree path ≢ get t path) few.3 (where_differs.0 (sym same ∙ e)),
+      λ other. same ∙ where_differs.1 (subst (λ t. get tree path ≢ get t path) (sym few.3) other),
+    )
+
+pub changes_where_trees_differ : (command : Command) (tree after : Files) (path : List ℕ) → HoldsEntry command → outcome_of command tree ≡ Ok after → Contains (fates_of command tree) (fate.Changes path) ↔ (get tree path ≢ get after path)
+changes_where_trees_differ command tree after path holds h =
+    let here = changes_where (fates_of command tree) path in
+    let there = of_all command tree after path holds h in
+    (λ c. there.0 (here.0 c), λ other. here.1 (there.1 other))

@@ -1,0 +1,246 @@
+-- Calls of a session that only look, and answers as they are told.
+use Rattle.std.proofs.Common.{◌≡◌, ◌≢◌, ◌⊎◌, inl, inr, ⊎_elim, ◌∙◌, ◌+◌, ◌<◌, ℕ, Bool, true, false, cond, List, [], Option, Some, Result, Ok, Err, IfErr, IfOk, refl, sym, ap, subst, arith, length}
+use Rattle.std.specs.FinMap.{get}
+use Rattle.std.specs.List.{Contains}
+use Rattle.std.proofs.lemmas.Bool.{false≢true}
+use Rattle.reuse_tree.specs.Asked.{OnlyReads}
+use Rattle.reuse_tree.specs.Files.{Files, Clashes}
+use Rattle.reuse_tree.proofs.AskedLemmas.{reads_more}
+use Rattle.reuse_tree.specs.declared.fault.StoreFault.{StoreFault}
+use Rattle.reuse_tree.specs.declared.fault.StoreFault.TheVariants as stores
+use Rattle.reuse_tree.specs.declared.store.Store.{Ghosts}
+use Rattle.reuse_session.specs.Answer.{TellsNoFault, IsEarly, IsStop, IsFailure, HasCause, HasClash, IsNoClash, IsBrokenOrMemory, RefusedAsRead}
+use Rattle.reuse_session.specs.Fates.{fates_of}
+use Rattle.reuse_session.specs.Journal.{State, Recorded, rows_in}
+use Rattle.reuse_session.specs.JournalFiles.{head_path, entry_in, entry_path, number_of, EntrySays}
+use Rattle.reuse_session.specs.Machine.{Snapshots, step, as_reply, fates_in, is_full, run_fates}
+use Rattle.reuse_session.specs.Calls.{IsCall, LeavesRun, folder_of}
+use Rattle.reuse_session.specs.Opening.{OpensOn, StopsOpening}
+use Rattle.reuse_session.specs.Previews.{run_fates_on, OnlyLooks, IsPreviewRefusal}
+use Rattle.reuse_session.specs.RevertCalls.{Reverts, TakesBack, LeavesRevert, as_run}
+use Rattle.reuse_session.specs.Session.{store_of, is_broken, memory_of, Holds, StandsOn, IsKept}
+use Rattle.reuse_session.specs.Showing.{lists, IsUnused, Shows, ShowsIn, ShowsAt, steps_in}
+use Rattle.reuse_session.specs.Session.{StopsAfterRun}
+use Rattle.reuse_session.specs.Tree.{undo_folder_of}
+use Rattle.reuse_session.specs.Standing.{IsStanding, InDoubt}
+use Rattle.reuse_session.specs.Stops.{Point, open_at, closed, Reopens, HoldState, AreLeft}
+use Rattle.reuse_session.specs.declared.command.Command.{Command}
+use Rattle.reuse_session.specs.declared.command.Command.TheVariants.{Revert}
+use Rattle.reuse_session.specs.declared.events.Event.{Event}
+use Rattle.reuse_session.specs.declared.events.Event.TheVariants as events
+use Rattle.reuse_session.specs.declared.fate.Call.{Call}
+use Rattle.reuse_session.specs.declared.fate.Call.TheVariants as calls
+use Rattle.reuse_session.specs.declared.fate.Fate.{Fate}
+use Rattle.reuse_session.specs.declared.journal.entry.Entry.{Entry}
+use Rattle.reuse_session.specs.declared.reply.Cause.{Cause}
+use Rattle.reuse_session.specs.declared.reply.Cause.TheVariants as causes
+use Rattle.reuse_session.specs.declared.reply.Reply.{Reply}
+use Rattle.reuse_session.specs.declared.reply.Reply.TheVariants as replies
+use Rattle.reuse_session.specs.declared.reply.Reverted.{Reverted}
+use Rattle.reuse_session.specs.declared.reply.Row.{Row}
+use Rattle.reuse_session.specs.declared.reply.Shown.{Shown}
+use Rattle.reuse_session.specs.declared.reply.Refusal.{Refusal}
+use Rattle.reuse_session.specs.declared.reply.Refusal.TheVariants.{Broken, JournalFull, Fault as StoreFailed, Memory, Interrupted, NoSuchStep}
+use Rattle.reuse_session.specs.declared.session.Session.{Session}
+use Rattle.reuse_session.proofs.Driving.{run_left, undo_left, redo_left, stays_closed, stays_open, stands_still, none_under_way}
+use Rattle.reuse_session.proofs.Following.{undo_follows, redo_follows, log_follows}
+use Rattle.reuse_session.proofs.RunFollowing.{runs_as_machine}
+use Rattle.reuse_session.proofs.Following.{is_full_alike}
+use Rattle.reuse_session.proofs.Previewing.{undo_foretold, redo_foretold}
+use Rattle.reuse_session.proofs.StepsByNumber.{done_step, led_to_tree, says_step, shows_at, unkept}
+use Rattle.reuse_session.proofs.JournalLemmas.{same_entry}
+use Rattle.reuse_undo.specs.declared.fault.Fault.{Fault}
+use Rattle.reuse_undo.specs.declared.fault.Fault.TheVariants as faults
+use Rattle.reuse_undo.specs.declared.line.Telling.{Telling}
+use Rattle.reuse_undo.specs.declared.request.Request.{Request}
+use Rattle.reuse_undo.specs.declared.request.Request.TheVariants as requests
+use Rattle.reuse_undo.specs.declared.request.Told.{Told}
+use Rattle.reuse_undo.specs.Peeks.{Peeks}
+use Rattle.reuse_undo.specs.RowLines.{AppendsSome}
+use Rattle.reuse_undo.specs.RunLine.{Looks, Previews, Does, IsStopped, Makes, Calls, as_told, RevertsOn, PreviewsRevert, Meets, TakesBackStep, HasCallClash, IsUnopened, IsMade, Carries, StepsBy, StepsBack, StepsBackBy, ForetellsBack, Steps, Tells, IfRefused}
+use Rattle.reuse_undo.specs.Told.{IsToldText, Finishes}
+use Rattle.reuse_undo.proofs.NumberLemmas.{undone_is_unused}
+
+-- a refusal as an answer
+abbrev pub refused : (A : Type 0) → Refusal → Result A Refusal
+refused A refusal = Err refusal
+
+pub same_refusal : (A : Type 0) (one other : Refusal) → refused A one ≡ refused A other → one ≡ other
+same_refusal A one other is = cc
+
+no_step_is_no_fault : (A : Type 0) (number : ℕ) (fault : StoreFault) → refused A (NoSuchStep number) ≡ refused A (StoreFailed fault) → ⊥
+no_step_is_no_fault A number fault is = cc
+
+-- a fault that has one cause has the other that follows
+pub caused : {A : Type 0} (Rose Higher : Type 0) → (Rose → Higher) → (answer : Result A Refusal) → IfErr answer (HasCause Rose) → IfErr answer (HasCause Higher)
+caused Rose Higher on (Ok reply) h = tt
+caused Rose Higher on (Err (StoreFailed stores.Device)) h = on h
+caused Rose Higher on (Err (StoreFailed stores.Memory)) h = h
+caused Rose Higher on (Err (Interrupted causes.Device)) h = on h
+caused Rose Higher on (Err refusal) h = tt
+
+-- ---- answers as they are told
+
+-- what holds of a refusal holds of it as it is told
+pub err_told : {A : Type 0} (tell : A → Told) (answer : Result A Refusal) (result : Result Told Refusal) (P : Refusal → Type 0) → result ≡ as_told tell answer → IfErr answer P → IfErr result P
+err_told tell (Ok value) result P is h = subst (λ r. IfErr r P) (sym is) tt
+err_told tell (Err refusal) result P is h = subst (λ r. IfErr r P) (sym is) h
+
+-- ---- calls that only look
+
+peek_files : {S A : Type 0} (store : Ghosts S) (answer : Result A Refusal) (old new : Session S) → Peeks store answer old new → store.honest (store_of new)
+    → store.files (store_of new) ≡ store.files (store_of old)
+peek_files store answer old new peeks honest = peeks.reads.files honest
+
+pub unclashed_read : (refusal : Refusal) → (refusal ≢ StoreFailed stores.Clash) → IsEarly refusal → IsNoClash refusal
+unclashed_read (StoreFailed stores.Clash) none early = absurd (none refl)
+unclashed_read (Interrupted cause) none early = absurd early
+unclashed_read refusal none early = tt
+
+-- what only looks tells no clash
+pub peek_unclashed : {S A : Type 0} (store : Ghosts S) (answer : Result A Refusal) (old new : Session S) (held : State) → Peeks store answer old new → store.honest (store_of new)
+    → StandsOn store.files old held → IfErr answer IsNoClash
+peek_unclashed store (Ok value) old new held peeks honest stands = tt
+peek_unclashed store (Err refusal) old new held peeks honest stands =
+    unclashed_read refusal (λ is. peeks.fails.clash honest (ap (λ r. Err r) is)) (peeks.unstopped stands.whole)
+
+-- and leaves the standing
+pub peek_looks : {S A : Type 0} (store : Ghosts S) (IsAnswer : Result A Refusal → Type 0) (answer : Result A Refusal) (old new : Session S) (held : State) → Peeks store answer old new
+    → store.honest (store_of new) → StandsOn store.files old held → (TellsNoFault answer → IsAnswer answer) → Looks IsAnswer held answer (store.files (store_of new))
+peek_looks store IsAnswer answer old new held peeks honest stands right =
+    record {
+      right = right;
+      stands = subst (λ f. IsStanding f held) (sym (peek_files store answer old new peeks honest)) stands.standing;
+      unstopped = peeks.unstopped stands.whole;
+    }
+
+-- a step that is shown only looks
+pub show_peeks : {S A : Type 0} (store : Ghosts S) (answer : Result A Refusal) (old new : Session S) → OnlyReads store (store_of old) (store_of new) → IsKept old new
+    → RefusedAsRead store (store_of old) (store_of new) answer → IsCall store answer old new → Peeks store answer old new
+show_peeks store answer old new reads kept fails call =
+    record {
+      reads = reads;
+      kept = kept;
+      fails = fails;
+      unstopped = λ whole. never_stops answer old new whole kept call.interrupted;
+      caused = call.fault;
+    }
+  where
+    never_stops : {S A : Type 0} (answer : Result A Refusal) (old new : Session S) → is_broken old ≡ false → IsKept old new → IfErr answer (λ refusal. IsStop refusal → is_broken new ≡ true)
+        → IfErr answer IsEarly
+    never_stops (Ok value) old new whole kept stops = tt
+    never_stops (Err (Interrupted cause)) old new whole kept stops = absurd (false≢true (sym whole ∙ sym kept.1 ∙ stops tt))
+    never_stops (Err refusal) old new whole kept stops = tt
+
+-- the same of an answer that tells no fault, and of a refusal that is handed on
+pub peeks_ok : {S A B : Type 0} (store : Ghosts S) (first : Result A Refusal) (value : B) (old new : Session S) → Peeks store first old new → Peeks {A = B} store (Ok value) old new
+peeks_ok store first value old new peeks =
+    record {
+      reads = peeks.reads;
+      kept = peeks.kept;
+      fails = record { device = λ is. absurd (ok_is_no_err value _ is); clash = λ honest is. ok_is_no_err value _ is; memory = λ is. ok_is_no_err value _ is };
+      unstopped = λ whole. tt;
+      caused = tt;
+    }
+  where
+    ok_is_no_err : {B : Type 0} (value : B) (refusal : Refusal) → Ok value ≡ Err refusal → ⊥
+    ok_is_no_err value refusal is = cc
+
+pub peeks_err : {S A B : Type 0} (store : Ghosts S) (refusal : Refusal) (old new : Session S) → Peeks {A = A} store (Err refusal) old new → Peeks {A = B} store (Err refusal) old new
+peeks_err {S} {A} {B} store refusal old new peeks =
+    record {
+      reads = peeks.reads;
+      kept = peeks.kept;
+      fails =
+          record {
+            device = λ is. peeks.fails.device (ap (refused A) (same_refusal B refusal _ is));
+            clash = λ honest is. peeks.fails.clash honest (ap (refused A) (same_refusal B refusal _ is));
+            memory = λ is. peeks.fails.memory (ap (refused A) (same_refusal B refusal _ is));
+          };
+      unstopped = peeks.unstopped;
+      caused = peeks.caused;
+    }
+
+pub peeks_absent : {S A B : Type 0} (store : Ghosts S) (first : Result A Refusal) (number : ℕ) (old new : Session S) → Peeks store first old new → Peeks {A = B} store (Err (NoSuchStep number)) old new
+peeks_absent {S} {A} {B} store first number old new peeks =
+    record {
+      reads = peeks.reads;
+      kept = peeks.kept;
+      fails = record { device = λ is. absurd (no_step_is_no_fault B number _ is); clash = λ honest is. no_step_is_no_fault B number _ is; memory = λ is. no_step_is_no_fault B number _ is };
+      unstopped = λ whole. tt;
+      caused = tt;
+    }
+
+-- what is made of a step that is shown only looks too
+pub peeks_back : {S A : Type 0} (store : Ghosts S) (first : Result A Refusal) (number : ℕ) (skip_moved : Bool) (shown : Shown) (result : Result Command Refusal) (old new : Session S)
+    → Peeks store first old new → (shown.row.done ≡ true → result ≡ Ok (Revert shown.changes skip_moved)) → (shown.row.done ≡ false → result ≡ Err (NoSuchStep number)) → Peeks store result old new
+peeks_back store first number skip_moved shown result old new peeks done undone = by_done shown.row.done refl
+  where
+    by_done : (flag : Bool) → shown.row.done ≡ flag → Peeks store result old new
+    by_done true is = subst (λ r. Peeks store r old new) (sym (done is)) (peeks_ok store first (Revert shown.changes skip_moved) old new peeks)
+    by_done false is = subst (λ r. Peeks store r old new) (sym (undone is)) (peeks_absent store first number old new peeks)
+
+-- the session still stands
+pub still_stands : {S A : Type 0} (store : Ghosts S) (answer : Result A Refusal) (old new : Session S) (held : State) → Peeks store answer old new → store.honest (store_of new)
+    → StandsOn store.files old held → StandsOn store.files new held
+still_stands store answer old new held peeks honest stands = stands_still store.files old new held stands peeks.kept (peeks.reads.files honest)
+
+-- a preview looks
+pub preview_peeks : {S A : Type 0} (store : Ghosts S) (answer : Result A Refusal) (old new : Session S) → OnlyLooks store answer old new → IfErr answer IsPreviewRefusal → Peeks store answer old new
+preview_peeks store answer old new looks is =
+    record {
+      reads = looks.reads;
+      kept = looks.kept;
+      fails = looks.fails;
+      unstopped = λ whole. unstopped answer is;
+      caused = caused_by answer looks.fails is;
+    }
+  where
+    unstopped : {A : Type 0} (answer : Result A Refusal) → IfErr answer IsPreviewRefusal → IfErr answer IsEarly
+    unstopped (Ok value) is = tt
+    unstopped (Err (Interrupted cause)) is = absurd is
+    unstopped (Err refusal) is = tt
+
+    caused_by : {A S : Type 0} {store : Ghosts S} {old new : S} (answer : Result A Refusal) → RefusedAsRead store old new answer → IfErr answer IsPreviewRefusal
+        → IfErr answer (HasCause (store.failures old < store.failures new))
+    caused_by (Ok value) fails is = tt
+    caused_by (Err (StoreFailed stores.Device)) fails is = fails.device refl
+    caused_by (Err (StoreFailed stores.Memory)) fails is = absurd (fails.memory refl)
+    caused_by (Err (Interrupted cause)) fails is = absurd is
+    caused_by (Err refusal) fails is = tt
+
+-- a refusal that tells no fault as one answer tells none as another
+pub told_again : (A B : Type 0) (refusal : Refusal) → TellsNoFault (refused A refusal) → TellsNoFault (refused B refusal)
+told_again A B (StoreFailed fault) told = absurd told
+told_again A B Memory told = absurd told
+told_again A B (Interrupted cause) told = absurd told
+told_again A B refusal told = tt
+
+-- what is shown of a step that is done is taken back
+pub back_of_shown : {S : Type 0} (files : S → Files) (session : Session S) (held : State) → StandsOn files session held → (number : ℕ) (skip_moved : Bool) (shown : Shown) (result : Result Command Refusal)
+    → Shows held.journal number shown → (shown.row.done ≡ true → result ≡ Ok (Revert shown.changes skip_moved)) → (shown.row.done ≡ false → result ≡ Err (NoSuchStep number))
+    → TakesBackStep number skip_moved held result
+back_of_shown files session held stands number skip_moved shown result shows done undone = by_done shown.row.done refl shows.is_in
+  where
+    by_done : (flag : Bool) → shown.row.done ≡ flag → Contains (steps_in flag held.journal) shows.step → TakesBackStep number skip_moved held result
+    by_done true is is_in = subst (TakesBackStep number skip_moved held) (sym (done is)) (shows.step, is_in, shows.numbered, ap (λ changes. Revert changes skip_moved) shows.changes)
+    by_done false is is_in =
+        subst (TakesBackStep number skip_moved held) (sym (undone is))
+        (refl, undone_is_unused (undo_folder_of (files (store_of session))) held.journal stands.standing.journal shows.step number is_in shows.numbered)
+
+-- what a look at an earlier one makes of it: one look, and then another
+pub peeks_on : {S A B : Type 0} (store : Ghosts S) (first : Result A Refusal) (second : Result B Refusal) (old mid new : Session S) → Peeks store first old mid → Peeks store second mid new
+    → Peeks store second old new
+peeks_on store first second old mid new one two =
+    record {
+      reads = reads_more store (store_of old) (store_of mid) (store_of new) one.reads two.reads;
+      kept = (two.kept.0 ∙ one.kept.0, two.kept.1 ∙ one.kept.1);
+      fails =
+          record {
+            device = λ is. let rise = two.fails.device is in omega (arith, rise, one.reads.failures);
+            clash = two.fails.clash;
+            memory = two.fails.memory;
+          };
+      unstopped = λ whole. two.unstopped (one.kept.1 ∙ whole);
+      caused = caused _ _ (λ rise. omega (arith, rise, one.reads.failures)) second two.caused;
+    }

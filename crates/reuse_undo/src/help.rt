@@ -1,0 +1,75 @@
+//! The texts of the help, above and below its lists.
+
+pub const ABOUT: &str =
+    "Adds licensing information to the files of a source tree, and takes it back.";
+
+pub const AFTER: &str = "\
+Each command is one step: undo takes it back and redo makes it again, byte for byte. The steps are kept in
+DIR/.reuse/undo.
+
+Examples:
+  reuse-undo annotate -c \"Jane Doe\" -l MIT -r src
+  reuse-undo annotate -c \"Jane Doe\" -l MIT -r src --dry-run --diff
+  reuse-undo undo
+
+Status: 0 on success, 1 where a call was refused, 2 where the words are wrong.";
+
+pub const AFTER_ANNOTATE: &str = "\
+PATHs are relative to the root. A file that can't hold a comment gets its information in PATH.license. Where one
+file is refused, none is changed.
+
+DIR/.reuse/styles.toml gives styles to the tree's own names. Its lines are `version = 1`, `[styles]`, and for each name
+or ending a style, as `\".proto\" = \"c\"`, or `\".blend\" = \"uncommentable\"`.
+
+FILE lists paths relative to the root, one a line, or, where FILE holds a NUL, one between two NULs. What is listed
+and isn't a file beneath a PATH is passed over. GLOB is a glob as in REUSE.toml, of whole paths relative to the root:
+`*` is any run without `/`, `**` any run. A PATH that is a file itself is annotated all the same.
+
+Examples: the licence and this year's copyright for all files beneath src, and for all files that git tracks:
+  reuse-undo annotate --copyright \"Jane Doe\" --license MIT --recursive src
+  git ls-files -z | reuse-undo annotate -c \"Jane Doe\" -l MIT -r --files-from - .";
+
+pub const AFTER_DOWNLOAD: &str = "\
+Nothing is fetched from a network: the text of ID is DIR/ID.txt. DIR is relative to the working folder.
+
+Example:
+  reuse-undo download --texts ~/license-list-data/text MIT";
+
+pub const AFTER_CONVERT: &str = "\
+.reuse/dep5 is removed. A pattern with an unescaped `?` can't be said in REUSE.toml and is refused.
+
+Example:
+  reuse-undo convert-dep5";
+
+pub const AFTER_UNDO: &str = "\
+It is refused, and changes nothing, where a file of the step isn't as the step left it.
+
+Example:
+  reuse-undo --root ~/demo undo";
+
+pub const AFTER_REDO: &str = "\
+It is refused, and changes nothing, where a file of the step isn't as it was before the step.
+
+Example:
+  reuse-undo redo";
+
+pub const AFTER_REVERT: &str = "\
+It makes a new step, which undo takes back in turn. Of each file of step NUMBER what the step wrote must stand where it
+was written, whatever follows it; a file that the step made must be as it was made, and where it removed one none must
+be. Where the step only took bytes away, the file must be as the step left it. Where one file isn't so, none is changed.
+
+Example:
+  reuse-undo revert 3 --dry-run --diff";
+
+pub const AFTER_SHOW: &str = "\
+The first line is that of `log`. A line `made PATH`, `removed PATH` or `changed PATH` follows for each path.
+
+Example:
+  reuse-undo show 3 --diff";
+
+pub const AFTER_LOG: &str = "\
+A line is NUMBER DATE COMMAND COUNT STATE: the step's number, its date in UTC, the command, how many paths it
+changed, and `done` or `undone`. The steps done come first, in order; the first one undone is the next that redo makes.
+
+Example:
+  reuse-undo log";
