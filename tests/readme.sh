@@ -19,8 +19,9 @@ has() {
 git clone -q "$top" "$room/clone"
 cd "$room/clone"
 
-line=$(grep -o 'rattle-kit-[^`]*' README.md | head -n 1)
-[ "$line" = "$(rt version)" ] || fail "the README names the kit $line, and rt version prints $(rt version)"
+# (kits of several letters have the same logic)
+logic=$(grep -oE '`rattle-kit-[^`]* logic [0-9a-f]+`' README.md | grep -oE 'logic [0-9a-f]+') || fail "the README names no kit"
+[[ $(rt version) == *" $logic" ]] || fail "the README names the $logic, and rt version prints $(rt version)"
 grep -oE '\]\([A-Za-z_/]+\.(md|svg)' README.md CONTRIBUTING.md docs/*.md | while IFS=: read -r file link; do
   [ -e "$(dirname "$file")/${link#](}" ] || fail "$file: no file ${link#](}"
 done

@@ -52,8 +52,9 @@ grep -E '^\| `-|reuse-undo ' "$usage" | grep -v 'git ' > "$room/usage_lines"
 options_of "$room/usage_lines" > "$room/usage_options"
 while read -r word; do grep -qxF -- "$word" "$room/long_options" || fail "docs/USAGE.md: $word is no option"; done < "$room/usage_options"
 
-# Texts of refusals; two are of calls that the program doesn't make alone, a dry run tells the refusals in place of one, and it isn't told why styles are bad
-sed -nE 's/.*#\[error\("(.*)"(, .*)?\)\]$/\1/p' $(find "$top"/crates/*/src -name '*.rt' | grep -vE 'test|style_refusal') | grep -vxE 'device fault|not a good journal text|would be refused' \
+# Texts of refusals; two are of calls that the program doesn't make alone, a dry run tells the refusals in place of one, and why styles are bad
+# isn't told, nor is what a folder's fault was, but in notes
+sed -nE 's/.*#\[error\("(.*)"(, .*)?\)\]$/\1/p' $(find "$top"/crates/*/src -name '*.rt' | grep -vE 'test|style_refusal|disk/fault') | grep -vxE 'device fault|not a good journal text|would be refused' \
   | sed -E 's/\{[^}]*\}/\n/g' | sed -E 's/^[: ]+//; s/[: ]+$//' | grep . | sort -u > "$room/refusals"
 while IFS= read -r text; do grep -qF -- "$text" "$room/manual" || fail "the manual page: the refusal $text is not told"; done < "$room/refusals"
 

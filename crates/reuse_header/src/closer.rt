@@ -2,7 +2,7 @@
 ghost use Rattle.std.specs.Prelude.{◌≡◌, ◌++◌, map, IfOk, not, ◌&&◌, ◌||◌};
 ghost use Rattle.std.specs.List.{list_any};
 ghost use Rattle.reuse_header.specs.Search.{holds};
-ghost use Rattle.reuse_header.specs.Marks.{marks_view};
+ghost use Rattle.reuse_header.specs.MarkViews.{marks_view};
 ghost use Rattle.reuse_header.specs.Writing.{holds_closer, inner_lines, no_lines};
 
 use crate::search::holds;

@@ -1,7 +1,7 @@
 //! The edit that writes a header block, before it is seen whether the block would be found again.
 ghost use Rattle.std.specs.Prelude.{◌≡◌, ◌+◌, ◌-◌, ◌^◌, ◌<◌, ◌≤◌, IfOk, length};
 ghost use Rattle.reuse_text.specs.Text.{spliced};
-ghost use Rattle.reuse_header.specs.Marks.{marks_view};
+ghost use Rattle.reuse_header.specs.MarkViews.{marks_view};
 ghost use Rattle.reuse_header.specs.Writing.{block_text};
 ghost use Rattle.reuse_header.specs.Annotation.{size_limit};
 ghost use Rattle.reuse_header.specs.Drafts.{edit_at, Drafts};

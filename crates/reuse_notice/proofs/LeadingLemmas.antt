@@ -13,7 +13,7 @@ use Rattle.reuse_notice.specs.Merging.{member, class_of, class_text, class_prefi
 use Rattle.reuse_notice.specs.MergeSteps.{is_among}
 use Rattle.reuse_notice.specs.Leading.{IsNoticeOf, IsCommanded, IsLeast, Leads, HasYears, AreYearsOf, IsMergedNotice, StaysAsItIs}
 use Rattle.reuse_notice.proofs.BlankLemmas.{truth}
-use Rattle.reuse_notice.proofs.SetLemmas.{In, In-from_contains, Contains-from_in, above, sorted-head, sorted-tail}
+use Rattle.reuse_notice.proofs.SetLemmas.{In, In-from_contains, Contains-from_in, above, not_itself, sorted-head, sorted-tail}
 use Rattle.reuse_notice.proofs.KeepingLemmas.{Among, among-class}
 use Rattle.reuse_notice.proofs.ClassYearsLemmas.{Has, AreTogether, class_together, has_notice, notice_has}
 use Rattle.reuse_notice.proofs.ClassLemmas.{among_yes, among_in, text_kept, named}
@@ -196,12 +196,35 @@ alone (n ∷ []) m k few (inl e) (inr i) = absurd i
 alone (n ∷ []) m k few (inr h) i = absurd h
 alone (n ∷ o ∷ ns) m k few h i = absurd (let low = ltb-true (length (n ∷ o ∷ ns)) 2 few in omega (arith, low))
 
+-- a class of two or more has two texts
+several : (holder : List ℕ) (texts : List (List ℕ)) → IsSorted texts → nat_lt (length (class_of texts holder)) 2 ≡ false → (text : List ℕ)
+    → ((other : List ℕ) → In other texts → IsNoticeOf holder other → other ≡ text) → ⊥
+several holder [] sorted e text one = cc e
+several holder (x ∷ texts) sorted e text one =
+    by (λ few. several holder texts (sorted-tail x texts sorted) few text (λ other h of. one other (inr h) of)) (member holder x) refl e
+  where
+    behind : (k m : NoticeText) (ms : List NoticeText) → member holder x ≡ Some k → class_of texts holder ≡ m ∷ ms → ⊥
+    behind k m ms is more =
+        let of = named holder x k is in
+        let i = class_in holder texts m (subst (Among m) (sym more) (inl refl)) in
+        let up = above x texts (sorted-head x texts sorted) m.text i.stands in
+        not_itself text (ap (λ y. byte_order y text) (sym (one x (inl refl) (k, of.0, of.1))) ∙ ap (byte_order x) (sym (one m.text (inr i.stands) (m, i.read, i.of))) ∙ up)
+
+    two : (k : NoticeText) (ms : List NoticeText) → member holder x ≡ Some k → class_of texts holder ≡ ms → nat_lt (length (k ∷ ms)) 2 ≡ false → ⊥
+    two k [] is more few = cc few
+    two k (m ∷ ms) is more few = behind k m ms is more
+
+    by : (nat_lt (length (class_of texts holder)) 2 ≡ false → ⊥) → (o : Option NoticeText) → member holder x ≡ o → nat_lt (length (cons_option o (class_of texts holder))) 2 ≡ false → ⊥
+    by rest None is few = rest few
+    by rest (Some k) is few = two k (class_of texts holder) is refl few
+
 pub others_stay : (command notices : List (List ℕ)) (text : List ℕ) → notice_of text ≡ None → merged_as command notices text ≡ text
 others_stay command notices text e = ap (λ o. unwrap_or (option_and_then (λ n. class_text command (class_of notices n.holder) n.holder) o) text) e
 
 pub merged_one : (command notices : List (List ℕ)) (text : List ℕ) (notice : NoticeText) → IsSorted notices → Contains notices text → notice_of text ≡ Some notice
     → (written : List ℕ) × (merged_notice : IsMergedNotice command notices notice.holder written)
-    × ((merged_as command notices text ≡ written) ⊎ ((merged_as command notices text ≡ text) × StaysAsItIs command notices notice.holder text written merged_notice))
+    × (((merged_as command notices text ≡ written) × ¬ StaysAsItIs command notices notice.holder text written merged_notice)
+    ⊎ ((merged_as command notices text ≡ text) × StaysAsItIs command notices notice.holder text written merged_notice))
 merged_one command notices text notice sorted c is =
     (written, merged, by_few (nat_lt (length ns) 2) refl)
   where
@@ -241,7 +264,9 @@ merged_one command notices text notice sorted c is =
     as_written = ap (λ p. unwrap_or (settled p years holder) text) lead.1.prefix
 
     Goal : Type 0
-    Goal = (merged_as command notices text ≡ written) ⊎ ((merged_as command notices text ≡ text) × StaysAsItIs command notices holder text written merged)
+    Goal =
+        ((merged_as command notices text ≡ written) × ¬ StaysAsItIs command notices holder text written merged)
+        ⊎ ((merged_as command notices text ≡ text) × StaysAsItIs command notices holder text written merged)
 
     by_reading : (few : nat_lt (length ns) 2 ≡ false) (b : Bool) → says lead.0.prefix years holder (notice_of written) ≡ b → Goal
     by_reading few b says_is = by b says_is
@@ -249,8 +274,12 @@ merged_one command notices text notice sorted c is =
         so : merged_as command notices text ≡ unwrap_or (cond (says lead.0.prefix years holder (notice_of written)) (Some written) None) text
         so = as_class ∙ ap (λ f. unwrap_or (cond f None (settled (class_prefix command ns) years holder)) text) few ∙ as_written
 
+        stays_not : says lead.0.prefix years holder (notice_of written) ≡ true → ¬ StaysAsItIs command notices holder text written merged
+        stays_not e (inl one) = several holder notices sorted few text (λ other h is. one other (Contains-from_in notices other h) is)
+        stays_not e (inr f) = let clash = sym e ∙ f in cc clash
+
         by : (b : Bool) → says lead.0.prefix years holder (notice_of written) ≡ b → Goal
-        by true e = inl (so ∙ ap (λ f. unwrap_or (cond f (Some written) None) text) e)
+        by true e = inl (so ∙ ap (λ f. unwrap_or (cond f (Some written) None) text) e, stays_not e)
         by false e = inr (so ∙ ap (λ f. unwrap_or (cond f (Some written) None) text) e, inr e)
 
     by_few : (b : Bool) → nat_lt (length ns) 2 ≡ b → Goal

@@ -8,12 +8,10 @@ use Rattle.std.proofs.lemmas.Bool.Decides.{nat_tests}
 use Rattle.std.proofs.lemmas.List.Elements.{All-nil, All-cons}
 use Rattle.reuse_notice.specs.declared.expressions.Token.{Token}
 use Rattle.reuse_notice.specs.declared.expressions.Token.TheVariants.{Open, Close, Identifier, Stray}
-use Rattle.reuse_notice.specs.declared.expressions.Phase.TheVariants.{Operand, Licence, Exception, Closed}
-use Rattle.reuse_notice.specs.declared.expressions.State.{State}
 use Rattle.reuse_notice.specs.Texts.{texts_of}
 use Rattle.reuse_notice.specs.Adding.{Refusal, bad_expression, bad_licence, is_control, without_spaces}
 use Rattle.reuse_notice.specs.Expressions.{is_word_byte, word_len, has_plus, word_token, token_at, token_len, tokens_from}
-use Rattle.reuse_notice.specs.ExpressionSteps.{step_at, step_of, fault_from, fault_of, start}
+use Rattle.reuse_notice.specs.ExpressionSteps.{State, Operand, Licence, Exception, Closed, step_at, step_of, fault_from, fault_of, start}
 use Rattle.reuse_notice.specs.Plain.{IsPlain}
 use Rattle.std.proofs.lemmas.Bool.{cases_Bool as truth}
 use Rattle.reuse_notice.proofs.PlainLemmas.{trimmed-twice, or-none, or-parts}

@@ -48,7 +48,6 @@ pub enum NoticeRefusal {
 }
 
 impl From<AllocError> for NoticeRefusal {
-    ghost use Rattle.std.specs.Prelude.{◌≡◌};
     ghost use Rattle.reuse_notice.specs.declared.adding.NoticeRefusal.TheVariants.{Memory};
 
     ghost from_gives = { λ e r. r ≡ Memory e };

@@ -15,10 +15,11 @@ mod trims;
 
 pub use adding::{Additions, NoticeRefusal};
 pub use blanks::{is_all_blank, is_all_filler, trim_blank_end};
-pub use expressions::{BadExpression, check_expression};
+pub use expressions::{BadExpression, Token, check_expression};
 pub use infos::Info;
 pub use laws::{
-    holders_are_values, longest_prefix_counts, merged_notices_are_written, merging_keeps_holders,
+    faults_are_the_grammars, holders_are_values, longest_prefix_counts, longest_years_count,
+    merged_notices_are_one, merged_notices_are_written, merging_keeps_holders,
     repeating_adds_nothing, sets_are_one,
 };
 pub use prefixes::Prefix;

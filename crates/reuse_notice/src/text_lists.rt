@@ -35,15 +35,15 @@ impl Texts {
 /// A set of texts, in byte order without repeats.
 #[derive(Debug, Drop)]
 pub struct TextSet {
-    texts: Vec<Bytes>,
+    texts: Texts,
 }
 
 impl Model for TextSet {
     ghost Value = { List (List ℕ) };
 
-    ghost view = { λ s. s.texts.items };
+    ghost view = { λ s. s.texts };
 
-    ghost invariant = { λ s. IsSorted s.texts.items };
+    ghost invariant = { λ s. IsSorted s.texts };
 }
 
 impl TextSet {
@@ -54,7 +54,9 @@ impl TextSet {
         let mut texts = texts;
         texts.sort_unstable();
         texts.dedup();
-        TextSet { texts }
+        TextSet {
+            texts: Texts { texts },
+        }
     }
 
     pub(crate) fn as_slice(&self) -> &[Bytes]
@@ -68,7 +70,9 @@ impl TextSet {
     pub(crate) fn union(self, alloc: Global, more: &[Bytes]) -> Result<TextSet, AllocError>
         ensures { IfOk result (λ set. set ≡ set_of (self ++ more.now)) }
     {
-        let TextSet { texts } = self;
+        let TextSet {
+            texts: Texts { texts },
+        } = self;
         let mut texts = texts;
         for text in more {
             texts.push(text.try_clone(alloc)?)?;

@@ -4,10 +4,8 @@ use Rattle.reuse_tree.specs.Files.{Files}
 use Rattle.reuse_session.specs.Answer.{HasCause}
 use Rattle.reuse_session.specs.Journal.{State}
 use Rattle.reuse_session.specs.Machine.{Snapshots, Step, step}
-use Rattle.reuse_session.specs.Session.{store_of, Holds, StandsAt}
+use Rattle.reuse_session.specs.Session.{Holds}
 use Rattle.reuse_session.specs.Standing.{IsStanding, InDoubt}
-use Rattle.reuse_session.specs.declared.events.Driven.{Driven}
-use Rattle.reuse_session.specs.declared.events.Driven.TheVariants.{Open, Closed}
 use Rattle.reuse_session.specs.declared.events.Event.{Event}
 use Rattle.reuse_session.specs.declared.events.Event.TheVariants as event
 use Rattle.reuse_session.specs.declared.reply.Reply.{Reply}
@@ -94,15 +92,3 @@ HoldState files state = (held : State) × IsStanding files held × Holds held st
 abbrev pub AreLeft : Files → Snapshots → Option Snapshots → Type 0
 AreLeft files state None = HoldState files state
 AreLeft files state (Some next) = (first : State) × (second : State) × Holds first state × Holds second next × InDoubt first second files
-
--- ---- for private clauses
-
--- the store of an open session, or that where none is open
-abbrev pub store_in : {S : Type 0} → Driven S → S
-store_in (Open session) = store_of session
-store_in (Closed store) = store
-
--- a session is open and stands at the state, or none is and the files are left so
-abbrev pub IsAt : {S : Type 0} → (S → Files) → Driven S → Point → Type 0
-IsAt files (Open session) point = (point ≡ open_at point.state) × StandsAt files session point.state
-IsAt files (Closed store) point = (point.is_open ≡ false) × AreLeft (files store) point.state point.next

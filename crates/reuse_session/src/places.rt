@@ -82,7 +82,7 @@ fn expanded(
     Ok(found)
 }
 
-// Adds what stands in the place of a place.
+// Adds what stands in the place of a place: the path, or the covered files beneath it that are asked for where it is a folder.
 fn push_expanded(
     alloc: Global,
     found: &mut Vec<PathText>,
@@ -92,22 +92,9 @@ fn push_expanded(
 ) -> Result<(), AllocError>
     ensures { (tree : Files) → paths.now ≡ keys tree → OnOk result (found.new.items ≡ found.old.items ++ expanded scope.now tree place.now) }
 {
-    match place {
-        Place::Root => push_chosen(alloc, found, paths, scope),
-        Place::Path(path) => push_beneath(alloc, found, paths, path, scope),
-    }
-}
-
-// Adds a path, or the covered files beneath it that are asked for where it is a folder.
-fn push_beneath(
-    alloc: Global,
-    found: &mut Vec<PathText>,
-    paths: &[PathText],
-    path: &PathText,
-    scope: &Scope,
-) -> Result<(), AllocError>
-    ensures { (tree : Files) → paths.now ≡ keys tree → OnOk result (found.new.items ≡ found.old.items ++ expanded scope.now tree (place.Path path.now)) }
-{
+    let Place::Path(path) = place else {
+        return push_chosen(alloc, found, paths, scope);
+    };
     let beneath = paths_beneath(alloc, paths, path)?;
     if beneath.is_empty() {
         found.push(path.try_clone(alloc)?)?;

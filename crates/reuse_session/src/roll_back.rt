@@ -18,9 +18,9 @@ ghost use Rattle.reuse_tree.specs.Asked.{OnlyReads, IsLater, FailsAsRead};
 use crate::entry::Way;
 use crate::journal_files::{HeadPath, put_head};
 use crate::limits::LONGEST_FILE;
-use crate::perform::{can_be_made, paths_to_heed};
+use crate::perform::{Aim, opposite, test_each};
 use crate::reply::{Cause, Refusal};
-use crate::turn::{can_turn, is_ready, put_turned, turned};
+use crate::turn::{is_ready, put_turned, turned};
 use reuse_tree::{Change, PathText, Reading, Store, StoreFault};
 use std::alloc::Global;
 
@@ -57,7 +57,7 @@ pub fn roll_back<S: Store>(
     ensures written { IsEntry changes.now → S.written store.new ≤ S.written store.old + length settled.now }
     ensures later { IsLater S.Store store.old store.new }
 {
-    test_setting_back(alloc, store, changes, way)?;
+    test_each(alloc, store, changes, way, Aim::SetBack)?;
     let mut started = false;
     match set_all_back(alloc, store, head, changes, way, settled, &mut started) {
         Ok(()) => Ok(()),
@@ -75,59 +75,6 @@ fn told(started: bool, cause: Cause) -> Refusal
         (false, Cause::Memory) => Refusal::Memory,
         (_, cause) => Refusal::Interrupted(cause),
     }
-}
-
-// The other way.
-fn opposite(way: Way) -> Way
-    ensures { result ≡ opposite way }
-{
-    match way {
-        Way::Do => Way::Undo,
-        Way::Undo => Way::Do,
-    }
-}
-
-// Tests that each change isn't made or can be taken back; refused as `Moved` at the first of which neither holds.
-fn test_setting_back<S: Store>(
-    alloc: Global,
-    store: &mut S,
-    changes: &[Change],
-    way: Way,
-) -> Result<(), Refusal>
-    ensures ready { S.honest store.new → IsEntry changes.now → OnOk result (All (CanBeSetBack way (tree_of (S.files store.old))) changes.now) }
-    ensures moved { S.honest store.new → IsEntry changes.now → (path : List ℕ) → result ≡ Err (Refusal.Moved path)
-        → IsFirstWithout (CanBeSetBack way (tree_of (S.files store.old))) changes.now path }
-    ensures refusal { IfErr result IsTestRefusal }
-    ensures fails { RefusedAsRead S.Store store.old store.new result }
-    ensures reads { OnlyReads S.Store store.old store.new }
-{
-    let paths = paths_to_heed(alloc, store, changes, opposite(way))?;
-    for change in changes {
-        if !can_be_set_back(alloc, store, change, way, &paths)? {
-            return Err(Refusal::Moved(change.path().try_clone(alloc)?));
-        }
-    }
-    Ok(())
-}
-
-// Whether the change isn't made, or can be taken back.
-fn can_be_set_back<S: Store>(
-    alloc: Global,
-    store: &mut S,
-    change: &Change,
-    way: Way,
-    paths: &[PathText],
-) -> Result<bool, StoreFault>
-    ensures ok { S.honest store.new → IsProper change.now → IsSmall change.now → is_of_tree (path_of change.now) ≡ true
-        → (makes (opposite way) change.now ≡ true → paths.now ≡ map.keys (S.files store.old))
-        → IfOk result (λ yes. IsTrue yes ↔ CanBeSetBack way (tree_of (S.files store.old)) change.now) }
-    ensures fails { FailsAsRead S.Store store.old store.new result }
-    ensures reads { OnlyReads S.Store store.old store.new }
-{
-    if can_turn(alloc, store, change, way)? {
-        return Ok(true);
-    }
-    can_be_made(alloc, store, change, opposite(way), paths)
 }
 
 // Takes the change back, where it is made, by one read and one put or removal. It notes that these have started before it calls one.

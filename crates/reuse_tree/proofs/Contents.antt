@@ -1,6 +1,7 @@
 -- The entries of a map against the files that they stand for.
 use Rattle.std.proofs.Common.{◌≡◌, inl, ⊎_elim, ℕ, Bool, true, false, cond, ◌&&◌, ◌||◌, List, [], ◌∷◌, map, length, Option, Some, None, Result, Ok, Err, OnOk, OnErr, IsTrue, ◌↔◌, ◌<◌, ◌≤◌, refl, sym, ap, subst, ◌∙◌, arith}
 use Rattle.std.specs.Ordering.{nat_cmp, is_lt, eq_by_cmp}
+use Rattle.std.specs.Result.{is_ok}
 use Rattle.std.specs.declared.cmp.Ordering.TheVariants.{Less}
 use Rattle.std.specs.Cmp.Lexicographic.{slice_cmp, nat_list_cmp_total}
 use Rattle.std.specs.List.{list_any, AllByRecursion}
@@ -113,6 +114,11 @@ pub inserted : {A E : Type 0} (r : Result A E) (m n : BTreeMap (List ℕ) (List 
     AreFiles (from_entries {R = slice_cmp nat_cmp} m.entries) → IsTrue (is_path path) → ¬ (Clashes (from_entries {R = slice_cmp nat_cmp} m.entries) path) → AreFiles (from_entries {R = slice_cmp nat_cmp} n.entries)
 inserted (Ok x) m n path bytes ok err good is free = subst AreFiles (sym (one_put m.entries n.entries path bytes ok.0)) (put_keeps _ path bytes good is free)
 inserted (Err e) m n path bytes ok err good is free = subst (λ gs. AreFiles (from_entries {R = slice_cmp nat_cmp} gs)) (sym err) good
+
+-- what holds where a call gave a value, where it gave one
+pub if_given : {A E P : Type 0} (r : Result A E) → is_ok r ≡ true → OnOk r P → P
+if_given (Ok x) given holds = holds
+if_given (Err e) given holds = absurd (false≢true given)
 
 -- no files: no paths, nothing to read, nothing to remove
 abbrev none : Files

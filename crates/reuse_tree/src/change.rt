@@ -80,13 +80,27 @@ impl Change {
     {
         let seal = Seal::of(file, at, old.len(), new.as_slice());
         let rest = file.len().saturating_sub(at).saturating_sub(old.len());
+        Change::splice(path, at, old, new, rest, Some(seal))
+    }
+
+    /// The bytes `old` at `at` give way to `new`; `rest` bytes follow them.
+    pub fn splice(
+        path: PathText,
+        at: usize,
+        old: Bytes,
+        new: Bytes,
+        rest: usize,
+        seal: Option<Seal>,
+    ) -> Change
+        ensures { result ≡ Change.Splice path at old new rest seal }
+    {
         Change::Splice {
             path,
             at,
             old,
             new,
             rest,
-            seal: Some(seal),
+            seal,
         }
     }
 
@@ -134,14 +148,12 @@ impl Change {
                 new,
                 rest,
                 seal,
-            } => Ok(Change::Splice {
-                path: path.try_clone(alloc)?,
-                at: *at,
-                old: old.try_clone(alloc)?,
-                new: new.try_clone(alloc)?,
-                rest: *rest,
-                seal: *seal,
-            }),
+            } => {
+                let path = path.try_clone(alloc)?;
+                let old = old.try_clone(alloc)?;
+                let new = new.try_clone(alloc)?;
+                Ok(Change::splice(path, *at, old, new, *rest, *seal))
+            }
         }
     }
 
@@ -167,14 +179,7 @@ impl Change {
                 new,
                 rest,
                 seal,
-            } => Change::Splice {
-                path,
-                at,
-                old: new,
-                new: old,
-                rest,
-                seal: swapped(seal),
-            },
+            } => Change::splice(path, at, new, old, rest, swapped(seal)),
         }
     }
 

@@ -82,7 +82,7 @@ impl FileMap {
         }
         let path = path.try_clone(alloc)?;
         let bytes = parts.join(alloc)?;
-        self.contents.insert(path, bytes)?;
+        self.contents.insert(path, bytes).map_err(AllocError::from)?;
         Ok(())
     }
 

@@ -18,7 +18,7 @@ use Rattle.reuse_session.specs.Calls.{IsCall, LeavesRun, folder_of}
 use Rattle.reuse_session.specs.Opening.{OpensOn, StopsOpening}
 use Rattle.reuse_session.specs.Previews.{run_fates_on, OnlyLooks, IsPreviewRefusal}
 use Rattle.reuse_session.specs.RevertCalls.{Reverts, TakesBack, LeavesRevert, as_run}
-use Rattle.reuse_session.specs.Session.{store_of, is_broken, memory_of, Holds, StandsOn, IsKept}
+use Rattle.reuse_session.specs.Session.{store_of, is_broken, memory_of, Holds, StandsOn, IsKept, IsSameBut, IsSameButTwo}
 use Rattle.reuse_session.specs.Showing.{lists, IsUnused, Shows, ShowsIn, ShowsAt, steps_in}
 use Rattle.reuse_session.specs.Session.{StopsAfterRun}
 use Rattle.reuse_session.specs.Tree.{undo_folder_of}
@@ -57,7 +57,7 @@ use Rattle.reuse_undo.specs.declared.request.Request.TheVariants as requests
 use Rattle.reuse_undo.specs.declared.request.Told.{Told}
 use Rattle.reuse_undo.specs.Peeks.{Peeks}
 use Rattle.reuse_undo.specs.RowLines.{AppendsSome}
-use Rattle.reuse_undo.specs.RunLine.{Looks, Previews, Does, IsStopped, Makes, Calls, as_told, RevertsOn, PreviewsRevert, Meets, TakesBackStep, HasCallClash, IsUnopened, IsMade, Carries, StepsBy, StepsBack, StepsBackBy, ForetellsBack, Steps, Tells, IfRefused}
+use Rattle.reuse_undo.specs.RunLine.{Looks, Previews, Does, IsStopped, Makes, Calls, as_told, RevertsOn, PreviewsRevert, Meets, TakesBackStep, HasCallClash, KeepsFolder, IsUnopened, IsMade, Carries, StepsBy, StepsBack, StepsBackBy, ForetellsBack, Steps, Tells, IfRefused}
 use Rattle.reuse_undo.specs.Told.{IsToldText, Finishes}
 use Rattle.reuse_undo.proofs.NumberLemmas.{undone_is_unused}
 use Rattle.reuse_undo.proofs.LookLemmas.{refused, same_refusal, unclashed_read}
@@ -167,16 +167,25 @@ revert_clash store number skip_moved when old new (Err refusal) honest leaves =
     no_clash_of _ _ refusal (unclashed_read refusal (λ is. read.4.clash honest (ap (λ r. Err r) is)) (let same : read.0 ≡ refusal = sym (same_refusal Reverted refusal read.0 read.1) in subst IsEarly same read.2)))
     (λ (run : RunBack store number skip_moved when (Err refusal) old new). run.2.clash honest) leaves
 
+-- and of the journal's files it puts none but that of the next entry and the head
+pub revert_folder : {S : Type 0} (store : Ghosts S) (number : ℕ) (skip_moved : Bool) (when : ℕ) (old new : Session S) (answer : Result Reverted Refusal) → store.honest (store_of new)
+    → LeavesRevert store number skip_moved when answer old new → IsSameButTwo (entry_path ((memory_of old).used + 1)) head_path (folder_of store old) (folder_of store new)
+revert_folder store number skip_moved when old new answer honest leaves =
+    ⊎_elim (λ (read : ReadAlone store answer old new). λ other no_entry no_head. ap (λ f. get (undo_folder_of f) other) (read.3.files honest))
+    (λ (run : RunBack store number skip_moved when answer old new). run.2.folder honest) leaves
+
 -- ---- the opening and the call
 
 pub carried : {S : Type 0} (files : S → Files) (before : Files) (request : Request) (session : Session S) (answer : Result Told Refusal) (after : Files)
     → (held : State) × StandsOn files session held × OpensOn before held (files (store_of session))
     → ((first second : State) → InDoubt first second before → StandsOn files session first ⊎ StandsOn files session second)
     → ((held : State) → StandsOn files session held → Meets request held answer after)
-    → ((held : State) → StandsOn files session held → IfErr answer (HasCallClash request held (files (store_of session)))) → Carries before request answer after
-carried files before request session answer after opened settles meets clashes =
+    → ((held : State) → StandsOn files session held → IfErr answer (HasCallClash request held (files (store_of session))))
+    → IsSameBut head_path (undo_folder_of before) (undo_folder_of (files (store_of session))) → ((held : State) → StandsOn files session held → KeepsFolder request held (files (store_of session)) after)
+    → Carries before request answer after
+carried files before request session answer after opened settles meets clashes same keeps =
     inr (record {
-      made = (opened.0, files (store_of session), opened.2, meets opened.0 opened.1, clashes opened.0 opened.1);
+      made = (opened.0, files (store_of session), opened.2, meets opened.0 opened.1, clashes opened.0 opened.1, same, keeps opened.0 opened.1);
       settles = λ first second doubt. ⊎_elim (λ (stands : StandsOn files session first). inl (meets first stands)) (λ (stands : StandsOn files session second). inr (meets second stands)) (settles first second doubt);
     })
 

@@ -1,31 +1,40 @@
 -- The diff that stands behind an answer's lines.
-use Rattle.std.proofs.Common.{◌≡◌, ◌⊎◌, inl, inr, ℕ, Bool, true, false, List, [], Option, Result, Ok, Err, IfOk, IfErr, refl, sym, subst}
+use Rattle.std.proofs.Common.{◌≡◌, ◌≢◌, ◌<◌, ◌≤◌, ◌⊎◌, inl, inr, ℕ, Bool, true, false, List, [], Option, Result, Ok, Err, IfOk, IfErr, refl, sym, ap, subst, arith}
 use Rattle.std.specs.declared.vec.Vec.{Vec}
 use Rattle.std.specs.Io.KnownBytes.{Appends}
+use Rattle.reuse_tree.specs.Asked.{OnlyReads, FailsAsRead}
+use Rattle.reuse_tree.specs.declared.fault.StoreFault.{StoreFault}
+use Rattle.reuse_tree.specs.declared.fault.StoreFault.TheVariants as stores
+use Rattle.reuse_tree.specs.declared.store.Store.{Ghosts}
+use Rattle.reuse_session.specs.Answer.{IsBrokenOrMemory, RefusedAsRead}
+use Rattle.reuse_session.specs.Cause.{refusal_of}
 use Rattle.reuse_session.specs.declared.reply.Refusal.{Refusal}
+use Rattle.reuse_session.specs.declared.reply.Refusal.TheVariants.{Broken, Memory, Fault as StoreFailed}
 use Rattle.reuse_undo.specs.declared.fault.Fault.{Fault}
 use Rattle.reuse_undo.specs.declared.fault.Fault.TheVariants as faults
 use Rattle.reuse_undo.specs.declared.line.Telling.{Telling}
 use Rattle.reuse_undo.specs.declared.request.Told.{Told}
 use Rattle.reuse_undo.specs.Told.{IsBehind, IsDiffOf, IsForeseen, IsNoDiff, IsWanted, WouldBeMade}
-use Rattle.reuse_undo.specs.WriterFaults.{IsOfDiff}
+use Rattle.reuse_undo.specs.RunLine.{IfNoDiff}
+use Rattle.reuse_undo.specs.WriterFaults.{IsOfDiff, IsUndrawn}
 
-wanted : {A : Type 0} (telling : Telling) (told : Told) (diff : Result (Vec ℕ A) Fault) → IsForeseen telling told → IfErr diff IsOfDiff → IsDiffOf telling told diff
-wanted telling told (Ok diff) is fault = inr is
-wanted telling told (Err (faults.NoDiff refusal)) is fault = is
-wanted telling told (Err faults.Memory) is fault = refl
-wanted telling told (Err other) is fault = absurd fault
+wanted : {A S : Type 0} (store : Ghosts S) (old new : S) (telling : Telling) (told : Told) (diff : Result (Vec ℕ A) Fault) → IsForeseen telling told → IfErr diff (IsOfDiff store old new)
+    → IsDiffOf telling told diff
+wanted store old new telling told (Ok diff) is fault = inr is
+wanted store old new telling told (Err (faults.NoDiff refusal)) is fault = is
+wanted store old new telling told (Err faults.Memory) is fault = refl
+wanted store old new telling told (Err other) is fault = absurd fault
 
 unwanted : {A : Type 0} (telling : Telling) (told : Told) (diff : Result (Vec ℕ A) Fault) → IsNoDiff diff → IsDiffOf telling told diff
 unwanted telling told (Ok diff) none = inl none
 unwanted telling told (Err other) none = absurd none
 
 -- a diff that is made exactly where it is wanted
-pub diff_for : {A : Type 0} (telling : Telling) (answer : Result Told Refusal) (diff : Result (Vec ℕ A) Fault) (b : Bool) → (b ≡ true → IsWanted telling answer) → (b ≡ false → IsNoDiff diff) → IfErr diff IsOfDiff
-    → IfOk answer (λ told. IsDiffOf telling told diff)
-diff_for telling (Err refusal) diff b is none fault = tt
-diff_for telling (Ok told) diff true is none fault = wanted telling told diff (is refl) fault
-diff_for telling (Ok told) diff false is none fault = unwanted telling told diff (none refl)
+pub diff_for : {A S : Type 0} (store : Ghosts S) (old new : S) (telling : Telling) (answer : Result Told Refusal) (diff : Result (Vec ℕ A) Fault) (b : Bool) → (b ≡ true → IsWanted telling answer)
+    → (b ≡ false → IsNoDiff diff) → IfErr diff (IsOfDiff store old new) → IfOk answer (λ told. IsDiffOf telling told diff)
+diff_for store old new telling (Err refusal) diff b is none fault = tt
+diff_for store old new telling (Ok told) diff true is none fault = wanted store old new telling told diff (is refl) fault
+diff_for store old new telling (Ok told) diff false is none fault = unwanted telling told diff (none refl)
 
 foreseen_made : (telling : Telling) (told : Told) → IsForeseen telling told → WouldBeMade told
 foreseen_made telling told is = subst WouldBeMade (sym is.2) is.3
@@ -37,3 +46,67 @@ behind telling told (Ok diff) (inr is) = inr (foreseen_made telling told is)
 behind telling told (Err (faults.NoDiff refusal)) is = is
 behind telling told (Err faults.Memory) is = is
 behind telling told (Err other) is = is
+
+-- ---- what can't be drawn has its cause
+
+-- a refusal as an answer
+abbrev refused : (A : Type 0) → Refusal → Result A Refusal
+refused A refusal = Err refusal
+
+undrawn_refusal : {S A : Type 0} (store : Ghosts S) (old new : S) (refusal : Refusal) → RefusedAsRead {A = A} store old new (Err refusal) → IsUndrawn store old new refusal
+undrawn_refusal {S} {A} store old new refusal fails =
+    record {
+      device = λ is. fails.device (ap (refused A) is);
+      clash = λ honest is. fails.clash honest (ap (refused A) is);
+      memory = λ is. fails.memory (ap (refused A) is);
+    }
+
+-- what looks is refused so
+pub undrawn_look : {S A : Type 0} (store : Ghosts S) (old new : S) (answer : Result A Refusal) → RefusedAsRead store old new answer → IfErr answer (IsUndrawn store old new)
+undrawn_look store old new (Ok value) fails = tt
+undrawn_look store old new (Err refusal) fails = undrawn_refusal store old new refusal fails
+
+-- a log too
+pub undrawn_log : {S : Type 0} (store : Ghosts S) (old new : S) (refusal : Refusal) → IsBrokenOrMemory refusal → IsUndrawn store old new refusal
+undrawn_log store old new Broken is = record { device = λ e. absurd (cc); clash = λ honest e. (cc); memory = λ e. (cc) }
+undrawn_log store old new Memory is = record { device = λ e. absurd (cc); clash = λ honest e. (cc); memory = λ e. (cc) }
+undrawn_log store old new refusal is = absurd is
+
+-- and a file that is read
+pub undrawn_read : {S A : Type 0} (store : Ghosts S) (old new : S) (fault : StoreFault) → FailsAsRead {A = A} store old new (Err fault) → IsUndrawn store old new (refusal_of fault)
+undrawn_read store old new stores.Device fails = record { device = λ e. fails.device refl; clash = λ honest e. (cc); memory = λ e. (cc) }
+undrawn_read store old new stores.Clash fails = record { device = λ e. absurd (cc); clash = λ honest e. fails.clash honest refl; memory = λ e. (cc) }
+undrawn_read store old new stores.Memory fails = record { device = λ e. absurd (cc); clash = λ honest e. (cc); memory = λ e. (cc) }
+
+-- what was asked before, and what is read behind, takes no cause away
+pub undrawn_after : {S : Type 0} (store : Ghosts S) (old mid new : S) (refusal : Refusal) → store.failures old ≤ store.failures mid → IsUndrawn store mid new refusal → IsUndrawn store old new refusal
+undrawn_after store old mid new refusal few is =
+    record { device = λ e. let rose = is.device e in omega (arith, few, rose); clash = is.clash; memory = is.memory }
+
+pub undrawn_before : {S : Type 0} (store : Ghosts S) (old mid new : S) (refusal : Refusal) → IsUndrawn store old mid refusal → OnlyReads store mid new → IsUndrawn store old new refusal
+undrawn_before store old mid new refusal is reads =
+    record { device = λ e. let rose = is.device e in omega (arith, rose, reads.failures); clash = λ honest. is.clash (reads.was_honest honest); memory = is.memory }
+
+-- the same of a fault
+pub of_diff_after : {S : Type 0} (store : Ghosts S) (old mid new : S) (fault : Fault) → store.failures old ≤ store.failures mid → IsOfDiff store mid new fault → IsOfDiff store old new fault
+of_diff_after store old mid new (faults.NoDiff refusal) few is = undrawn_after store old mid new refusal few is
+of_diff_after store old mid new faults.Memory few is = tt
+of_diff_after store old mid new fault few is = absurd is
+
+-- and of a diff
+pub diff_after : {A S : Type 0} (store : Ghosts S) (old mid new : S) (diff : Result (Vec ℕ A) Fault) → store.failures old ≤ store.failures mid → IfErr diff (IsOfDiff store mid new)
+    → IfErr diff (IsOfDiff store old new)
+diff_after store old mid new (Ok diff) few is = tt
+diff_after store old mid new (Err fault) few is = of_diff_after store old mid new fault few is
+
+pub undrawn_by : {A S : Type 0} (store : Ghosts S) (old new : S) (diff : Result (Vec ℕ A) Fault) → IfErr diff (IsOfDiff store old new) → IfNoDiff diff (IsUndrawn store old new)
+undrawn_by store old new (Ok diff) is = tt
+undrawn_by store old new (Err (faults.NoDiff refusal)) is = is
+undrawn_by store old new (Err fault) is = tt
+
+-- what is told of a diff is what was found of it
+pub undrawn_told : {A T : Type 0} (result : Result T Fault) (diff : Result (Vec ℕ A) Fault) (Cause : Refusal → Type 0) (Same : Type 0)
+    → IfNoDiff result (λ refusal. (diff ≡ Err (faults.NoDiff refusal)) × Same) → IfNoDiff diff Cause → IfNoDiff result (λ refusal. Cause refusal × Same)
+undrawn_told (Ok value) diff Cause Same told cause = tt
+undrawn_told (Err (faults.NoDiff refusal)) diff Cause Same told cause = (subst (λ d. IfNoDiff d Cause) told.0 cause, told.1)
+undrawn_told (Err fault) diff Cause Same told cause = tt

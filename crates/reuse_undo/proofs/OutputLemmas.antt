@@ -45,3 +45,21 @@ front_written old new text rest so = (so.0, rest, so.1, so.2)
 -- all that is behind the part that was taken
 pub whole_rest : (n : ℕ) (rest : List ℕ) → take (length rest - n) (drop n rest) ≡ drop n rest
 whole_rest n rest = take_all (length rest - n) (drop n rest) (omega (arith, length-drop n rest))
+
+-- no byte that was written changes nothing
+pub keeps_none : (old new : Option (List ℕ)) → Appends old new [] → Keeps old new
+keeps_none None new so = tt
+keeps_none (Some xs) None so = absurd so
+keeps_none (Some xs) (Some ys) so = so ∙ append-nil xs
+
+pub keeps_more : (old mid new : Option (List ℕ)) → Keeps old mid → Keeps mid new → Keeps old new
+keeps_more None mid new kept more = tt
+keeps_more (Some xs) None new kept more = absurd kept
+keeps_more (Some xs) (Some ys) None kept more = absurd more
+keeps_more (Some xs) (Some ys) (Some zs) kept more = more ∙ kept
+
+pub appends_behind : (old mid new : Option (List ℕ)) (bytes : List ℕ) → Keeps old mid → Appends mid new bytes → Appends old new bytes
+appends_behind None mid new bytes kept so = tt
+appends_behind (Some xs) None new bytes kept so = absurd kept
+appends_behind (Some xs) (Some ys) None bytes kept so = absurd so
+appends_behind (Some xs) (Some ys) (Some zs) bytes kept so = so ∙ ap (λ l. l ++ bytes) kept

@@ -1,5 +1,6 @@
 -- The lines that an answer is printed as.
 use Rattle.std.specs.Prelude.{◌≡◌, ℕ, List, [], ◌∷◌, ◌++◌, codes, length}
+use Rattle.reuse_tree.specs.Change.{path_of}
 use Rattle.reuse_tree.specs.declared.change.Change.{Change}
 use Rattle.reuse_tree.specs.declared.change.Change.TheVariants.{Make, Drop, Splice}
 use Rattle.reuse_undo.specs.RowLines.{AreRowLines, IsRowLine}
@@ -34,10 +35,13 @@ abbrev pub fate_lines : List Fate → List ℕ
 fate_lines fates = joined fate_line fates
 
 -- what a change made of its path
+abbrev pub kind_word : Change → List ℕ
+kind_word (Make path new after) = codes "made"
+kind_word (Drop path old before) = codes "removed"
+kind_word (Splice path at old new rest seal) = codes "changed"
+
 abbrev pub change_line : Change → List ℕ
-change_line (Make path new after) = line_of (codes "made") path
-change_line (Drop path old before) = line_of (codes "removed") path
-change_line (Splice path at old new rest seal) = line_of (codes "changed") path
+change_line change = line_of (kind_word change) (path_of change)
 
 abbrev pub change_lines : List Change → List ℕ
 change_lines changes = joined change_line changes

@@ -6,11 +6,11 @@ use Rattle.serde_json.specs.Data.{Data, string, boolean}
 use Rattle.serde_json.specs.Written.{compact_text}
 use Rattle.reuse_tree.specs.Change.{path_of}
 use Rattle.reuse_tree.specs.declared.change.Change.{Change}
-use Rattle.reuse_tree.specs.declared.change.Change.TheVariants.{Make, Drop, Splice}
 use Rattle.reuse_session.specs.Json.{count, object_of, array_of}
 use Rattle.reuse_session.specs.declared.reply.Row.{Row}
 use Rattle.reuse_session.specs.declared.reply.Shown.{Shown}
 use Rattle.reuse_undo.specs.Dates.{IsDateOf}
+use Rattle.reuse_undo.specs.Lines.{kind_word}
 use Rattle.reuse_undo.specs.RowLines.{AreJoined, command_word}
 
 -- the members of a row, in the order of their keys
@@ -21,12 +21,6 @@ row_members row date =
 
 abbrev pub row_value : Row → Date → Data
 row_value row date = object_of (row_members row date)
-
--- what a change made of its path
-abbrev pub kind_word : Change → List ℕ
-kind_word (Make path new after) = codes "made"
-kind_word (Drop path old before) = codes "removed"
-kind_word (Splice path at old new rest seal) = codes "changed"
 
 abbrev pub change_value : Change → Data
 change_value change = object_of ((codes "kind", string (kind_word change)) ∷ (codes "path", string (path_of change)) ∷ [])

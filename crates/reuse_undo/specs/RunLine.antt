@@ -10,10 +10,11 @@ use Rattle.reuse_session.specs.Machine.{Kept, Snapshots, step, run_fates, as_rep
 use Rattle.reuse_session.specs.Opening.{IsFirstBad, IsStuckAt, OpensOn, StopsOpening}
 use Rattle.reuse_session.specs.Previews.{run_fates_on, Foresees}
 use Rattle.reuse_session.specs.RevertCalls.{Reverts, as_run}
-use Rattle.reuse_session.specs.Session.{Runs, StopsAfterRun, StopsAfter}
+use Rattle.reuse_session.specs.Session.{Runs, StopsAfterRun, StopsAfter, IsSameBut, IsSameButTwo}
 use Rattle.reuse_session.specs.Showing.{IsUnused, ShowsIn, ShowsAt, LedTo}
 use Rattle.reuse_session.specs.Standing.{IsStanding, InDoubt}
 use Rattle.reuse_session.specs.Stops.{HoldState, AreLeft}
+use Rattle.reuse_session.specs.Tree.{undo_folder_of}
 use Rattle.reuse_session.specs.declared.command.Command.{Command}
 use Rattle.reuse_session.specs.declared.command.Command.TheVariants.{Revert}
 use Rattle.reuse_session.specs.declared.entry.Way.TheVariants as go
@@ -125,6 +126,15 @@ HasCallClash (requests.Call events.Undo) old files = HasClash ⊥ (Clashes files
 HasCallClash (requests.Call events.Redo) old files = HasClash ⊥ (Clashes files head_path)
 HasCallClash request old files = IsNoClash
 
+-- Of the journal's files none but these holds something else: a run and a revert put the next entry and the head, an undo and a redo the head. What only
+-- looks leaves every file.
+abbrev pub KeepsFolder : Request → State → Files → Files → Type 0
+KeepsFolder (requests.Call (events.Run command when)) old before after = IsSameButTwo (entry_path (old.journal.used + 1)) head_path (undo_folder_of before) (undo_folder_of after)
+KeepsFolder (requests.Revert number skip_moved when) old before after = IsSameButTwo (entry_path (old.journal.used + 1)) head_path (undo_folder_of before) (undo_folder_of after)
+KeepsFolder (requests.Call events.Undo) old before after = IsSameBut head_path (undo_folder_of before) (undo_folder_of after)
+KeepsFolder (requests.Call events.Redo) old before after = IsSameBut head_path (undo_folder_of before) (undo_folder_of after)
+KeepsFolder request old before after = after ≡ before
+
 -- no session was opened
 pub record IsUnopened (before : Files) (refusal : Refusal) (after : Files) : Type 0 where
   pub is_of_opening : IsOpenRefusal refusal
@@ -136,10 +146,14 @@ pub record IsUnopened (before : Files) (refusal : Refusal) (after : Files) : Typ
   pub stopped : (cause : Cause) → refusal ≡ refusals.Interrupted cause → StopsOpening before after
   -- files in doubt stay in doubt between the same two
   pub settles : (first second : State) → InDoubt first second before → IsFailure refusal × InDoubt first second after
+  -- of the journal's files none but the head holds something else
+  pub folder : IsSameBut head_path (undo_folder_of before) (undo_folder_of after)
 
--- a session was opened, and the call was made on the standing that it found; a clash that is told is one of the files as the opening left them
+-- A session was opened, which of the journal's files puts none but the head, and the call was made on the standing that it found. A clash that is told is
+-- one of the files as the opening left them.
 pub record IsMade (before : Files) (request : Request) (answer : Result Told Refusal) (after : Files) : Type 0 where
   pub made : (found : State) × (opened : Files) × OpensOn before found opened × Meets request found answer after × IfErr answer (HasCallClash request found opened)
+      × IsSameBut head_path (undo_folder_of before) (undo_folder_of opened) × KeepsFolder request found opened after
   -- of files in doubt that is one of the two
   pub settles : (first second : State) → InDoubt first second before → Meets request first answer after ⊎ Meets request second answer after
 
@@ -213,6 +227,11 @@ Tells telling IsAnswer old new (Err faults.Memory) = ((told : Told) × IsAnswer 
 abbrev pub IfRefused : {T : Type 0} → Result T Fault → (Refusal → Type 0) → Type 0
 IfRefused (Err (faults.Refused refusal)) Claim = Claim refusal
 IfRefused result Claim = Unit {0}
+
+-- a diff that can't be made
+abbrev pub IfNoDiff : {T : Type 0} → Result T Fault → (Refusal → Type 0) → Type 0
+IfNoDiff (Err (faults.NoDiff refusal)) Claim = Claim refusal
+IfNoDiff result Claim = Unit {0}
 
 -- ---- for private clauses
 

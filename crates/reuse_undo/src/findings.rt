@@ -1,4 +1,6 @@
 //! What is found out about a call beside its outcome, for notes.
+ghost use Rattle.reuse_tree.specs.Asked.{OnlyReads};
+
 use crate::above::journal_above;
 use crate::disk::{DiskStore, Failure};
 use crate::fault::Fault;
@@ -72,12 +74,14 @@ pub struct Findings {
 
 impl Findings {
     /// What is found before the call. Want of memory or a fault leaves a finding out.
-    pub fn before<R: Runtime + AllocGlobal>(
+    pub fn before<R: Runtime + AllocGlobal, S: Store>(
         rt: &R,
         alloc: Global,
         line: &Line,
-        store: &mut impl Store,
-    ) -> Findings {
+        store: &mut S,
+    ) -> Findings
+        ensures { OnlyReads S.Store store.old store.new }
+    {
         let texts = match line.action.deed() {
             Some(Deed::Download { folder, .. }) => String::from_str(alloc, folder.as_str()).ok(),
             _ => None,
@@ -158,7 +162,9 @@ pub fn unrecognised_among(fates: &[Fate], passed_over: bool) -> usize {
         .count()
 }
 
-fn read(alloc: Global, store: &mut impl Store, path: &str) -> Option<Bytes> {
+fn read<S: Store>(alloc: Global, store: &mut S, path: &str) -> Option<Bytes>
+    ensures { OnlyReads S.Store store.old store.new }
+{
     let path = PathText::new(alloc, path).ok()?;
     match store.read(alloc, &path, LONGEST) {
         Ok(Reading::Found(bytes)) => Some(bytes),
@@ -166,19 +172,25 @@ fn read(alloc: Global, store: &mut impl Store, path: &str) -> Option<Bytes> {
     }
 }
 
-fn head_of(alloc: Global, store: &mut impl Store) -> Option<Head> {
+fn head_of<S: Store>(alloc: Global, store: &mut S) -> Option<Head>
+    ensures { OnlyReads S.Store store.old store.new }
+{
     let text = read(alloc, store, HEAD)?;
     decode_head(alloc, text.as_slice()).ok()
 }
 
 /// The step that is under way.
-fn begun_step(alloc: Global, store: &mut impl Store) -> Option<u32> {
+fn begun_step<S: Store>(alloc: Global, store: &mut S) -> Option<u32>
+    ensures { OnlyReads S.Store store.old store.new }
+{
     let pending = head_of(alloc, store)?.pending?;
     Some(pending.entry)
 }
 
 /// Whether the journal can be read and no step is under way.
-fn has_settled(alloc: Global, store: &mut impl Store) -> bool {
+fn has_settled<S: Store>(alloc: Global, store: &mut S) -> bool
+    ensures { OnlyReads S.Store store.old store.new }
+{
     match head_of(alloc, store) {
         Some(head) => head.pending.is_none(),
         None => false,
@@ -186,7 +198,9 @@ fn has_settled(alloc: Global, store: &mut impl Store) -> bool {
 }
 
 /// Whether there is a table, and it has no paragraph.
-fn is_table_empty(alloc: Global, store: &mut impl Store) -> bool {
+fn is_table_empty<S: Store>(alloc: Global, store: &mut S) -> bool
+    ensures { OnlyReads S.Store store.old store.new }
+{
     match read(alloc, store, TABLE) {
         Some(bytes) => match str::from_utf8(bytes.as_slice()) {
             Ok(text) => !text.contains(TABLE_PARAGRAPH),

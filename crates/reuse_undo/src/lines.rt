@@ -1,7 +1,7 @@
 //! The lines that an answer is printed as.
 ghost use Rattle.std.specs.Prelude.{◌≡◌, OnOk};
 ghost use Rattle.std.specs.Io.KnownBytes.{Appends};
-ghost use Rattle.reuse_undo.specs.Lines.{line_of, lines_of, fate_line, fate_lines, change_line, change_lines, path_count, IsReplyText, IsShownText, changed_text, reverted_text};
+ghost use Rattle.reuse_undo.specs.Lines.{line_of, lines_of, fate_line, fate_lines, change_lines, kind_word, path_count, IsReplyText, IsShownText, changed_text, reverted_text};
 ghost use Rattle.reuse_undo.specs.RowLines.{AppendsSome};
 
 use crate::rows::{print_row, print_rows};
@@ -73,18 +73,19 @@ fn print_changes<W: Write>(out: &mut W, changes: &[Change]) -> io::Result<()>
     ensures { OnOk result (Appends (W.contents out.old) (W.contents out.new) (change_lines changes.now)) }
 {
     for change in changes {
-        print_change(out, change)?;
+        print_path(out, kind_word(change), change.path())?;
     }
     Ok(())
 }
 
-fn print_change<W: Write>(out: &mut W, change: &Change) -> io::Result<()>
-    ensures { OnOk result (Appends (W.contents out.old) (W.contents out.new) (change_line change.now)) }
+/// What a change made of its path.
+pub fn kind_word(change: &Change) -> &'static str
+    ensures { result.now ≡ kind_word change.now }
 {
     match change {
-        Change::Make { path, .. } => print_path(out, "made", path),
-        Change::Drop { path, .. } => print_path(out, "removed", path),
-        Change::Splice { path, .. } => print_path(out, "changed", path),
+        Change::Make { .. } => "made",
+        Change::Drop { .. } => "removed",
+        Change::Splice { .. } => "changed",
     }
 }
 

@@ -3,10 +3,11 @@ ghost use Rattle.std.specs.Prelude.{◌≡◌, false, IfOk, OnOk};
 ghost use Rattle.std.specs.Io.KnownBytes.{Appends};
 ghost use Rattle.serde_json.specs.View.{view};
 ghost use Rattle.serde_json.specs.Written.{has_float};
-ghost use Rattle.reuse_undo.specs.Objects.{row_value, shown_value, change_value, changes_value, kind_word, object_line, AreRowObjects, IsRowObject, IsShownObject};
+ghost use Rattle.reuse_undo.specs.Objects.{row_value, shown_value, change_value, changes_value, object_line, AreRowObjects, IsRowObject, IsShownObject};
 ghost use Rattle.reuse_undo.specs.RowLines.{AppendsSome};
 
 use crate::date::date_of;
+use crate::lines::kind_word;
 use crate::rows::command_word;
 use jiff::civil::Date;
 use reuse_session::{Row, Shown};
@@ -94,14 +95,4 @@ fn change_value(alloc: Global, change: &Change) -> Result<Value, AllocError>
     ensures { IfOk result (λ value. view value ≡ change_value change.now) }
 {
     json!(in alloc; {"kind": kind_word(change), "path": change.path().text()})
-}
-
-fn kind_word(change: &Change) -> &'static str
-    ensures { result.now ≡ kind_word change.now }
-{
-    match change {
-        Change::Make { .. } => "made",
-        Change::Drop { .. } => "removed",
-        Change::Splice { .. } => "changed",
-    }
 }

@@ -8,35 +8,34 @@ ghost use Rattle.reuse_undo.specs.Told.{TellsFailure};
 use crate::disk::DiskStore;
 use crate::fault::Fault;
 use crate::line::Telling;
-use crate::output::Output;
+use crate::output::Sink;
 use crate::progress::Progress;
 use crate::request::Request;
 use crate::run_line::run_request;
 use crate::watched::WatchedStore;
 use reuse_tree::Store;
 use std::alloc::Global;
-use std::io::Write;
 use std::rt::{Files, Runtime};
 
 /// Opens a session on the folder, makes the one call that is asked for, and writes the lines of its answer; how many paths that tells. The folder is given
 /// back as a store, with what is known of its last failure.
-pub fn run_on_folder<R: Runtime + Files + AllocGlobal + Clone + Drop, W: Write + Drop>(
+pub fn run_on_folder<R: Runtime + Files + AllocGlobal + Clone + Drop, O: Sink>(
     folder: DiskStore<R>,
     progress: &Progress<R>,
     alloc: Global,
     request: &Request,
     telling: Telling,
-    out: &mut Output<W>,
+    out: &mut O,
 ) -> (DiskStore<R>, Result<usize, Fault>)
     // For whatever files the folder holds, where it answers as an honest one: what is told is the session's answer, and the files are as it left them.
     ensures exact { ⟦<DiskStore<R> as Store>⟧.honest result.0
-        → Tells telling (λ answer. Carries (⟦<DiskStore<R> as Store>⟧.files folder) request.now answer (⟦<DiskStore<R> as Store>⟧.files result.0)) (W.contents out.old.inner) (W.contents out.new.inner) result.1 }
+        → Tells telling (λ answer. Carries (⟦<DiskStore<R> as Store>⟧.files folder) request.now answer (⟦<DiskStore<R> as Store>⟧.files result.0)) (O.contents out.old) (O.contents out.new) result.1 }
     // From any state that they hold it is that of the machine that keeps whole copies.
     ensures machine { ⟦<DiskStore<R> as Store>⟧.honest result.0 → (state : Snapshots) → HoldState (⟦<DiskStore<R> as Store>⟧.files folder) state
-        → Tells telling (λ answer. Steps state request.now answer (⟦<DiskStore<R> as Store>⟧.files result.0)) (W.contents out.old.inner) (W.contents out.new.inner) result.1 }
+        → Tells telling (λ answer. Steps state request.now answer (⟦<DiskStore<R> as Store>⟧.files result.0)) (O.contents out.old) (O.contents out.new) result.1 }
     // A refusal is told before anything is written, and that the reply couldn't be written exactly where the writer failed.
     ensures quiet { IfRefused result.1 (λ refusal. out.new ≡ out.old) }
-    ensures failed { TellsFailure out.old.failed out.new.failed result.1 }
+    ensures failed { TellsFailure (O.failed out.old) (O.failed out.new) result.1 }
 {
     let watched = WatchedStore::new(folder, progress);
     let (watched, outcome) = run_request(alloc, request, telling, watched, out);

@@ -7,9 +7,9 @@ ghost use Rattle.reuse_session.specs.Machine.{Snapshots};
 ghost use Rattle.reuse_session.specs.Session.{store_of};
 ghost use Rattle.reuse_session.specs.Standing.{IsStanding};
 ghost use Rattle.reuse_session.specs.Stops.{HoldState};
-ghost use Rattle.reuse_undo.specs.WriterFaults.{IsOfDiff};
+ghost use Rattle.reuse_undo.specs.WriterFaults.{IsOfDiff, IsUndrawn};
 ghost use Rattle.reuse_undo.specs.Requests.{IsLook};
-ghost use Rattle.reuse_undo.specs.RunLine.{HasCallClash, Carries, Steps, Tells, IfRefused};
+ghost use Rattle.reuse_undo.specs.RunLine.{HasCallClash, Carries, Steps, Tells, IfRefused, IfNoDiff};
 ghost use Rattle.reuse_undo.specs.Told.{IsDiffOf, IsNoDiff, IsWanted, TellsFailure};
 
 mod calls;
@@ -18,7 +18,7 @@ mod printed;
 
 use crate::fault::Fault;
 use crate::line::Telling;
-use crate::output::Output;
+use crate::output::Sink;
 use crate::request::{Request, Told};
 use calls::ask;
 use drawn::{Foreseen, draw, foresee};
@@ -26,31 +26,32 @@ use printed::{finish, is_refused};
 use reuse_session::{Refusal, Reply, Session};
 use reuse_tree::Store;
 use std::alloc::Global;
-use std::io::Write;
 
 /// Opens a session on the store, makes the one call that is asked for, and writes the lines of its answer. The store is given back, and how
 /// many paths the answer tells that changed; where it can't be written, what the call changed stands.
-pub fn run_request<S: Store + Drop, W: Write + Drop>(
+pub fn run_request<S: Store + Drop, O: Sink>(
     alloc: Global,
     request: &Request,
     telling: Telling,
     store: S,
-    out: &mut Output<W>,
+    out: &mut O,
 ) -> (S, Result<usize, Fault>)
     // From any files, where the store is honest: what is told is the session's answer, and the files are as it left them.
     ensures exact { S.honest result.0
-        → Tells telling (λ answer. Carries (S.files store) request.now answer (S.files result.0)) (W.contents out.old.inner) (W.contents out.new.inner) result.1 }
+        → Tells telling (λ answer. Carries (S.files store) request.now answer (S.files result.0)) (O.contents out.old) (O.contents out.new) result.1 }
     // From any state that the files hold it is that of the machine that keeps whole copies.
     ensures machine { S.honest result.0 → (state : Snapshots) → HoldState (S.files store) state
-        → Tells telling (λ answer. Steps state request.now answer (S.files result.0)) (W.contents out.old.inner) (W.contents out.new.inner) result.1 }
+        → Tells telling (λ answer. Steps state request.now answer (S.files result.0)) (O.contents out.old) (O.contents out.new) result.1 }
     // What only asks leaves each file as it is, where nothing is pending.
     ensures looks { S.honest result.0 → IsLook request.now → (held : State) → IsStanding (S.files store) held → S.files result.0 ≡ S.files store }
     // A refusal is told before anything is written, and that the reply couldn't be written exactly where the writer failed.
     ensures quiet { IfRefused result.1 (λ refusal. out.new ≡ out.old) }
-    ensures failed { TellsFailure out.old.failed out.new.failed result.1 }
+    ensures failed { TellsFailure (O.failed out.old) (O.failed out.new) result.1 }
     // A fault has its cause; where nothing is pending, a clash is told only where the path that the call puts clashes.
     ensures fault { IfRefused result.1 (HasCause (S.failures store < S.failures result.0)) }
     ensures clash { S.honest result.0 → (held : State) → IsStanding (S.files store) held → IfRefused result.1 (HasCallClash request.now held (S.files store)) }
+    // That a diff can't be made has its cause too, and is told before anything is written.
+    ensures undrawn { IfNoDiff result.1 (λ refusal. IsUndrawn S.Store store result.0 refusal × (out.new ≡ out.old)) }
     ensures failures { S.failures store ≤ S.failures result.0 }
     ensures was_honest { S.honest result.0 → S.honest store }
 {
@@ -74,6 +75,7 @@ fn call<S: Store + Drop>(
     ensures fault { IfErr result.1 (HasCause (S.failures store < S.failures result.0)) }
     ensures clash { S.honest result.0 → (held : State) → IsStanding (S.files store) held → IfErr result.1 (HasCallClash request.now held (S.files store)) }
     ensures diff { IfOk result.1 (λ told. IsDiffOf telling told result.2) }
+    ensures undrawn { IfNoDiff result.2 (IsUndrawn S.Store store result.0) }
     ensures failures { S.failures store ≤ S.failures result.0 }
     ensures was_honest { S.honest result.0 → S.honest store }
 {
@@ -107,7 +109,7 @@ fn close<S: Store + Drop>(
 ) -> (S, Result<Vec<u8>, Fault>)
     ensures reads { OnlyReads S.Store (store_of session) result.0 }
     ensures none { wants_diff ≡ false → IsNoDiff result.1 }
-    ensures diff { IfErr result.1 IsOfDiff }
+    ensures diff { IfErr result.1 (IsOfDiff S.Store (store_of session) result.0) }
 {
     if wants_diff {
         look(alloc, session, request)
@@ -122,7 +124,7 @@ fn look<S: Store + Drop>(
     request: &Request,
 ) -> (S, Result<Vec<u8>, Fault>)
     ensures reads { OnlyReads S.Store (store_of session) result.0 }
-    ensures diff { IfErr result.1 IsOfDiff }
+    ensures diff { IfErr result.1 (IsOfDiff S.Store (store_of session) result.0) }
 {
     let mut session = session;
     match foresee(alloc, &mut session, request) {
@@ -137,7 +139,7 @@ fn draw_from<S: Store + Drop>(
     foreseen: &Foreseen,
 ) -> (S, Result<Vec<u8>, Fault>)
     ensures reads { OnlyReads S.Store store result.0 }
-    ensures diff { IfErr result.1 IsOfDiff }
+    ensures diff { IfErr result.1 (IsOfDiff S.Store store result.0) }
 {
     let mut store = store;
     let diff = draw(alloc, &mut store, foreseen);

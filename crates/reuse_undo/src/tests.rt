@@ -130,6 +130,19 @@ fn tells(
     Ok(store)
 }
 
+/// Carries lines out on a file with one line, where each tells this; the store then, where the file has these bytes.
+fn leaves(
+    rt: &impl Abort,
+    alloc: Global,
+    lines: &[(&str, &str)],
+    bytes: &[u8],
+) -> Result<MemoryStore, Fail> {
+    let store = store_of(alloc, "a.py", b"print(1)\n")?;
+    let mut store = tells(rt, alloc, store, lines)?;
+    assert!(rt; holds(alloc, &mut store, "a.py", bytes)?);
+    Ok(store)
+}
+
 /// Whether words are no line, with this status and a fault whose text begins so.
 fn is_fault(alloc: Global, words: &str, status: u8, text: &str) -> Result<bool, Fail> {
     let (found, told) = fault_of(alloc, words)?;
@@ -237,10 +250,7 @@ const ANNOTATIONS: &[(&str, &str)] = &[
 
 #[test]
 fn prints_what_annotations_change(rt: HostRuntime) -> Result<(), Fail> {
-    let alloc = rt.alloc();
-    let store = store_of(alloc, "a.py", b"print(1)\n")?;
-    let mut store = tells(&rt, alloc, store, ANNOTATIONS)?;
-    assert!(rt; holds(alloc, &mut store, "a.py", JANE)?);
+    leaves(&rt, rt.alloc(), ANNOTATIONS, JANE)?;
     Ok(())
 }
 
@@ -311,13 +321,8 @@ fn is_told(alloc: Global, fault: Fault, text: &str) -> Result<bool, Fail> {
 #[test]
 fn tells_faults(rt: HostRuntime) -> Result<(), Fail> {
     let alloc = rt.alloc();
-    assert!(rt;
-        is_told(
-            alloc,
-            Fault::Refused(Refusal::NothingToUndo),
-            "nothing to undo"
-        )?
-    );
+    let refused = Fault::Refused(Refusal::NothingToUndo);
+    assert!(rt; is_told(alloc, refused, "nothing to undo")?);
     assert!(rt; is_told(alloc, Fault::Memory, "out of memory")?);
     assert!(rt; is_told(alloc, Fault::Write, "write fault")?);
     Ok(())

@@ -101,36 +101,23 @@ fn read_action(
     matches: &ArgMatches<'_>,
     moment: Moment,
 ) -> Result<Action, LineFault> {
-    match name {
-        "log" => Ok(Action::Log),
-        "show" => Ok(Action::Show(read_number(matches))),
-        _ => {
-            let deed = read_deed(alloc, name, matches, moment)?;
-            Ok(Action::of(deed, matches.get_flag("dry-run")))
-        }
-    }
-}
-
-fn read_deed(
-    alloc: Global,
-    name: &str,
-    matches: &ArgMatches<'_>,
-    moment: Moment,
-) -> Result<Deed, LineFault> {
-    match name {
-        "annotate" => Ok(Deed::Annotate(read_annotate(alloc, matches, moment)?)),
-        "convert-dep5" => Ok(Deed::ConvertDep5),
-        "download" => Ok(Deed::Download {
+    let deed = match name {
+        "log" => return Ok(Action::Log),
+        "show" => return Ok(Action::Show(read_number(matches))),
+        "annotate" => Deed::Annotate(read_annotate(alloc, matches, moment)?),
+        "convert-dep5" => Deed::ConvertDep5,
+        "download" => Deed::Download {
             folder: String::from_str(alloc, matches.get_str("texts").unwrap_or("."))?,
             ids: read_ids(alloc, matches)?,
-        }),
-        "undo" => Ok(Deed::Undo),
-        "redo" => Ok(Deed::Redo),
-        _ => Ok(Deed::Revert {
+        },
+        "undo" => Deed::Undo,
+        "redo" => Deed::Redo,
+        _ => Deed::Revert {
             number: read_number(matches),
             skip_moved: matches.get_flag("skip-moved"),
-        }),
-    }
+        },
+    };
+    Ok(Action::of(deed, matches.get_flag("dry-run")))
 }
 
 /// The number of a step. The command line gives one that fits.

@@ -201,14 +201,7 @@ fn splice_of(alloc: Global, value: &Value, sealed: bool) -> Result<Change, Decod
     let path = path_of(alloc, field(&mut members, "path")?)?;
     let rest = number_of(field(&mut members, "rest")?)? as usize;
     finish(members)?;
-    Ok(Change::Splice {
-        path,
-        at,
-        old,
-        new,
-        rest,
-        seal,
-    })
+    Ok(Change::splice(path, at, old, new, rest, seal))
 }
 
 // Both digests, or none.

@@ -191,14 +191,7 @@ fn read_splice(
     text.expect(",\"rest\":")?;
     let rest = text.number()? as usize;
     text.expect("}")?;
-    Ok(Change::Splice {
-        path,
-        at,
-        old,
-        new,
-        rest,
-        seal,
-    })
+    Ok(Change::splice(path, at, old, new, rest, seal))
 }
 
 // The seal of these digests: both are there, or none is.

@@ -1,5 +1,5 @@
 // Previews: what a call would do, and the changes that a run would record. They only read.
-ghost use Rattle.std.specs.Prelude.{◌≡◌, ◌↔◌, ◌++◌, ◌∷◌, [], List, true, false, length, IfOk, IfErr};
+ghost use Rattle.std.specs.Prelude.{◌≡◌, ◌⊎◌, ◌↔◌, ◌++◌, ◌∷◌, [], List, true, false, length, IfOk, IfErr};
 ghost use Rattle.reuse_session.specs.Answer.{IsOfPlan, TellsNoFault};
 ghost use Rattle.reuse_session.specs.Fates.{fates_of};
 ghost use Rattle.reuse_session.specs.History.{entries_ahead};
@@ -100,6 +100,7 @@ impl<S: Store + Drop> Session<S> {
             → IfOk result (λ changes. Records held.tree (edits_of command.now held.tree) changes) }
         ensures refused { S.honest (store_of self.new) → (held : State) → StandsOn S.files self.old held
             → IfErr result (λ refusal. IsOfPlan refusal → IsRefusalOf (outcome_of command.now held.tree) refusal) }
+        ensures kinds { IfErr result (λ refusal. (refusal ≡ Refusal.Broken) ⊎ (refusal ≡ Refusal.JournalFull) ⊎ IsOfPlan refusal) }
         ensures looks { OnlyLooks S.Store result self.old self.new }
     {
         if self.broken {

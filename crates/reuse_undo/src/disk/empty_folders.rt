@@ -1,6 +1,6 @@
 //! Removing folders that hold nothing but folders.
 use crate::disk::fault::{FolderFault, Obstacle};
-use crate::disk::listing::MOST_NAMES;
+use crate::disk::listing::{MOST_NAMES, push_text};
 use std::alloc::Global;
 use std::fs;
 use std::rt::Files;
@@ -17,7 +17,7 @@ fn push_folders<R: Files + AllocGlobal + Clone + Drop>(
         if !entry.file_type()?.is_dir() {
             return Err(FolderFault::Device(Obstacle::Foreign));
         }
-        folders.push(String::from_str(alloc, entry.path().as_str())?)?;
+        push_text(alloc, folders, entry.path().as_str())?;
     }
     Ok(())
 }
@@ -29,7 +29,7 @@ fn folders_below<R: Files + AllocGlobal + Clone + Drop>(
     folder: &str,
 ) -> Result<Vec<String>, FolderFault> {
     let mut folders = Vec::new(alloc);
-    folders.push(String::from_str(alloc, folder)?)?;
+    push_text(alloc, &mut folders, folder)?;
     for index in 0..MOST_NAMES {
         let Some(folder) = folders.get(index) else {
             return Ok(folders);

@@ -4,35 +4,44 @@ ghost use Rattle.reuse_undo.specs.FolderFault.{fault_of_system, fault_of_path, f
 ghost use Rattle.reuse_undo.specs.declared.disk.fault.FolderFault.TheVariants.{Memory};
 
 use reuse_tree::{PathError, StoreFault};
-use std::alloc::{AllocError, AllocFailed};
-use std::fmt;
+use std::alloc::AllocError;
 use std::io::{self, ErrorKind};
+use thiserror::Error;
 
 /// What keeps a folder from doing what it is asked.
-#[derive(Clone, Copy, Debug)]
+#[derive(Clone, Copy, Debug, Error)]
 pub enum Obstacle {
     /// The system refused a call.
+    #[error("{0}")]
     System(io::Error),
     /// The root is no folder.
+    #[error("the root is no folder")]
     NoRoot,
     /// Something that is no part of a tree stands there.
+    #[error("a link, a device or version control stands there")]
     Foreign,
     /// A name makes no path.
+    #[error("a name there makes no path")]
     BadName,
     /// There are more names than a listing takes.
+    #[error("too many names")]
     TooManyNames,
     /// Other files took the place of the one that was looked at.
+    #[error("another program changes it")]
     Changing,
 }
 
 /// Why a call on a folder failed.
-#[derive(Clone, Copy, Debug)]
+#[derive(Clone, Copy, Debug, Error)]
 pub enum FolderFault {
     /// The system refused a call, or what stands there is nothing that a store may hold.
+    #[error("{0}")]
     Device(Obstacle),
     /// The path is a folder with files in it, or a part above it is a file.
+    #[error("a folder with files stands there, or a file above")]
     Clash,
     /// Memory ran out.
+    #[error("out of memory")]
     Memory,
 }
 
@@ -52,14 +61,6 @@ impl From<AllocError> for FolderFault {
     ghost from_gives = { λ _ fault. fault ≡ Memory };
 
     fn from(_: AllocError) -> FolderFault {
-        FolderFault::Memory
-    }
-}
-
-impl<T: Drop> From<AllocFailed<T>> for FolderFault {
-    ghost from_gives = { λ _ fault. fault ≡ Memory };
-
-    fn from(_: AllocFailed<T>) -> FolderFault {
         FolderFault::Memory
     }
 }
@@ -84,29 +85,6 @@ impl From<FolderFault> for StoreFault {
             FolderFault::Device(_) => StoreFault::Device,
             FolderFault::Clash => StoreFault::Clash,
             FolderFault::Memory => StoreFault::Memory,
-        }
-    }
-}
-
-impl fmt::Display for Obstacle {
-    fn fmt<W: fmt::Write>(&self, f: &mut fmt::Formatter<W>) -> fmt::Result {
-        match self {
-            Obstacle::System(error) => write!(f, "{error}"),
-            Obstacle::NoRoot => write!(f, "the root is no folder"),
-            Obstacle::Foreign => write!(f, "a link, a device or version control stands there"),
-            Obstacle::BadName => write!(f, "a name there makes no path"),
-            Obstacle::TooManyNames => write!(f, "too many names"),
-            Obstacle::Changing => write!(f, "another program changes it"),
-        }
-    }
-}
-
-impl fmt::Display for FolderFault {
-    fn fmt<W: fmt::Write>(&self, f: &mut fmt::Formatter<W>) -> fmt::Result {
-        match self {
-            FolderFault::Device(obstacle) => write!(f, "{obstacle}"),
-            FolderFault::Clash => write!(f, "a folder with files stands there, or a file above"),
-            FolderFault::Memory => write!(f, "out of memory"),
         }
     }
 }

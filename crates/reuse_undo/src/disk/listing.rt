@@ -9,12 +9,18 @@ use crate::disk::fault::{FolderFault, Obstacle};
 use crate::disk::kept_out::{is_folder_kept_out, is_kept_out};
 use crate::disk::place::FullPath;
 use reuse_tree::PathText;
-use std::alloc::Global;
+use std::alloc::{AllocError, Global};
 use std::fs::{self, DirEntry};
 use std::rt::Files;
 
 /// A listing that finds more names than this fails.
 pub const MOST_NAMES: usize = 100_000_000;
+
+/// Adds a text to others.
+pub fn push_text(alloc: Global, texts: &mut Vec<String>, text: &str) -> Result<(), AllocError> {
+    texts.push(String::from_str(alloc, text)?)?;
+    Ok(())
+}
 
 /// What a listing has found so far.
 #[derive(Drop)]
@@ -29,7 +35,7 @@ impl Listing {
     /// Nothing found, and one folder to look at.
     fn of(alloc: Global, folder: &str) -> Result<Listing, FolderFault> {
         let mut folders = Vec::new(alloc);
-        folders.push(String::from_str(alloc, folder)?)?;
+        push_text(alloc, &mut folders, folder)?;
         Ok(Listing {
             names: 0,
             folders,
@@ -57,10 +63,11 @@ impl Listing {
         let path = entry.path().as_str().get(start..).unwrap_or("");
         if kind.is_dir() {
             if !is_folder_kept_out(path) {
-                self.folders.push(String::from_str(alloc, path)?)?;
+                push_text(alloc, &mut self.folders, path)?;
             }
         } else if kind.is_file() && !is_kept_out(path) {
-            self.paths.push(PathText::new(alloc, path)?)?;
+            let path = PathText::new(alloc, path)?;
+            self.paths.push(path).map_err(AllocError::from)?;
         }
         Ok(())
     }

@@ -5,7 +5,7 @@ ghost use Rattle.reuse_session.specs.Journal.{State};
 ghost use Rattle.reuse_session.specs.Session.{store_of, StandsOn};
 ghost use Rattle.reuse_undo.specs.Peeks.{Peeks};
 ghost use Rattle.reuse_undo.specs.Requests.{IsLook};
-ghost use Rattle.reuse_undo.specs.RunLine.{as_told, Calls, Meets, Previews, PreviewsRevert, HasCallClash, TakesBackStep};
+ghost use Rattle.reuse_undo.specs.RunLine.{as_told, Calls, Meets, Previews, PreviewsRevert, HasCallClash, KeepsFolder, TakesBackStep};
 
 use crate::request::{Request, Told};
 use reuse_session::{
@@ -25,6 +25,8 @@ pub fn ask<S: Store + Drop>(
     ensures fault { IfErr result (HasCause (S.failures (store_of session.old) < S.failures (store_of session.new))) }
     ensures clash { S.honest (store_of session.new) → (held : State) → StandsOn S.files session.old held
         → IfErr result (HasCallClash request.now held (S.files (store_of session.old))) }
+    ensures folder { S.honest (store_of session.new) → (held : State) → StandsOn S.files session.old held
+        → KeepsFolder request.now held (S.files (store_of session.old)) (S.files (store_of session.new)) }
     ensures failures { S.failures (store_of session.old) ≤ S.failures (store_of session.new) }
     ensures was_honest { S.honest (store_of session.new) → S.honest (store_of session.old) }
 {
@@ -85,6 +87,8 @@ fn ask_event<S: Store + Drop>(alloc: Global, session: &mut Session<S>, event: &E
     ensures fault { IfErr result (HasCause (S.failures (store_of session.old) < S.failures (store_of session.new))) }
     ensures clash { S.honest (store_of session.new) → (held : State) → StandsOn S.files session.old held
         → IfErr result (HasCallClash (Request.Call event.now) held (S.files (store_of session.old))) }
+    ensures folder { S.honest (store_of session.new) → (held : State) → StandsOn S.files session.old held
+        → KeepsFolder (Request.Call event.now) held (S.files (store_of session.old)) (S.files (store_of session.new)) }
     ensures failures { S.failures (store_of session.old) ≤ S.failures (store_of session.new) }
     ensures was_honest { S.honest (store_of session.new) → S.honest (store_of session.old) }
 {

@@ -1,8 +1,9 @@
 //! The diff of what a call would change.
-ghost use Rattle.std.specs.Prelude.{IfErr};
+ghost use Rattle.std.specs.Prelude.{◌≡◌, IfErr};
 ghost use Rattle.reuse_tree.specs.Asked.{OnlyReads};
 ghost use Rattle.reuse_session.specs.Session.{store_of};
-ghost use Rattle.reuse_undo.specs.WriterFaults.{IsOfDiff};
+ghost use Rattle.reuse_undo.specs.WriterFaults.{IsOfDiff, IsUndrawn};
+ghost use Rattle.reuse_undo.specs.declared.fault.Fault.TheVariants as faults;
 
 use crate::diff::{Turn, print_diff};
 use crate::fault::{Fault, in_memory};
@@ -35,7 +36,8 @@ pub fn foresee<S: Store + Drop>(
     session: &mut Session<S>,
     request: &Request,
 ) -> Result<Foreseen, Refusal>
-    ensures { OnlyReads S.Store (store_of session.old) (store_of session.new) }
+    ensures reads { OnlyReads S.Store (store_of session.old) (store_of session.new) }
+    ensures fault { IfErr result (IsUndrawn S.Store (store_of session.old) (store_of session.new)) }
 {
     match request {
         Request::Call(Event::Preview(Call::Run(command))) => {
@@ -57,7 +59,8 @@ fn foresee_step<S: Store + Drop>(
     session: &mut Session<S>,
     back: bool,
 ) -> Result<Foreseen, Refusal>
-    ensures { OnlyReads S.Store (store_of session.old) (store_of session.new) }
+    ensures reads { OnlyReads S.Store (store_of session.old) (store_of session.new) }
+    ensures fault { IfErr result (IsUndrawn S.Store (store_of session.old) (store_of session.new)) }
 {
     let rows = session.log(alloc)?;
     let Some(number) = next_step(rows.as_slice(), back) else {
@@ -84,7 +87,7 @@ fn next_step(rows: &[Row], back: bool) -> Option<u32> {
 /// The diff of what would change. It only reads.
 pub fn draw<S: Store>(alloc: Global, store: &mut S, foreseen: &Foreseen) -> Result<Vec<u8>, Fault>
     ensures reads { OnlyReads S.Store store.old store.new }
-    ensures fault { IfErr result IsOfDiff }
+    ensures fault { IfErr result (IsOfDiff S.Store store.old store.new) }
 {
     match foreseen {
         Foreseen::Nothing => Ok(Vec::new(alloc)),
@@ -101,7 +104,7 @@ fn draw_all<S: Store>(
     back: bool,
 ) -> Result<Vec<u8>, Fault>
     ensures reads { OnlyReads S.Store store.old store.new }
-    ensures fault { IfErr result IsOfDiff }
+    ensures fault { IfErr result (IsOfDiff S.Store store.old store.new) }
 {
     let mut text = Vec::new(alloc);
     for change in changes {
@@ -118,7 +121,7 @@ fn draw_one<S: Store>(
     back: bool,
 ) -> Result<(), Fault>
     ensures reads { OnlyReads S.Store store.old store.new }
-    ensures fault { IfErr result IsOfDiff }
+    ensures fault { IfErr result (IsOfDiff S.Store store.old store.new) }
 {
     let recorded = Turn::of(change);
     let turn = if back { recorded.back() } else { recorded };
@@ -137,7 +140,7 @@ fn draw_range<S: Store>(
     at: usize,
 ) -> Result<(), Fault>
     ensures reads { OnlyReads S.Store store.old store.new }
-    ensures fault { IfErr result IsOfDiff }
+    ensures fault { IfErr result (IsOfDiff S.Store store.old store.new) }
 {
     let length = range.before.unwrap_or(b"").len();
     let new = range.after.unwrap_or(b"");
@@ -160,7 +163,7 @@ fn draw_within<'a>(
     length: usize,
     new: &[u8],
 ) -> Result<(), Fault>
-    ensures { IfErr result IsOfDiff }
+    ensures { IfErr result (λ fault. fault ≡ faults.Memory) }
 {
     if at > file.len() || length > file.len() - at || new.len() > LONGEST {
         return Ok(());

@@ -1,6 +1,7 @@
 //! What is told of an answer.
-ghost use Rattle.std.specs.Prelude.{◌≡◌, ◌⊎◌, [], IfOk, IfErr, OnOk};
+ghost use Rattle.std.specs.Prelude.{◌≡◌, ◌⊎◌, [], Err, IfOk, IfErr, OnOk};
 ghost use Rattle.reuse_undo.specs.RowLines.{AppendsSome};
+ghost use Rattle.reuse_undo.specs.RunLine.{IfNoDiff};
 ghost use Rattle.reuse_undo.specs.Told.{Accepts, Finishes, is_refusal, is_refused, IsBehind, IsDiffOf, IsLinesText, IsToldText, TellsFailure, WouldBeMade};
 ghost use Rattle.reuse_undo.specs.declared.fault.Fault.TheVariants as faults;
 
@@ -9,7 +10,7 @@ use crate::fault::{Fault, in_memory};
 use crate::line::Telling;
 use crate::lines::{path_count, print_reply, print_reverted, print_shown};
 use crate::objects::{print_row_objects, print_shown_object};
-use crate::output::Output;
+use crate::output::{Sink, write_text};
 use crate::request::Told;
 use reuse_session::{Fate, Fates, Reply};
 use reuse_tree::Change;
@@ -18,20 +19,21 @@ use std::io::{self, Write};
 
 /// Prints an answer, and behind it the diff where one is wanted; how many paths it tells that changed. A preview of a call that would be
 /// refused is a fault.
-pub fn finish<W: Write + Drop>(
-    out: &mut Output<W>,
+pub fn finish<O: Sink>(
+    out: &mut O,
     alloc: Global,
     told: Told,
     telling: Telling,
     diff: Result<Vec<u8>, Fault>,
 ) -> Result<usize, Fault>
     requires { IsDiffOf telling told diff }
-    ensures told { Finishes telling told (W.contents out.old.inner) (W.contents out.new.inner) result }
-    ensures failed { TellsFailure out.old.failed out.new.failed result }
+    ensures told { Finishes telling told (O.contents out.old) (O.contents out.new) result }
+    ensures undrawn { IfNoDiff result (λ refusal. (diff ≡ Err (faults.NoDiff refusal)) × (out.new ≡ out.old)) }
+    ensures failed { TellsFailure (O.failed out.old) (O.failed out.new) result }
 {
     let diff = whole_diff(alloc, &told, telling, diff)?;
     let text = text_of(alloc, &told, telling, diff.as_slice())?;
-    out.write_text(text.as_slice())?;
+    write_text(out, text.as_slice())?;
     accept(told)
 }
 
@@ -53,7 +55,8 @@ fn whole_diff(
     diff: Result<Vec<u8>, Fault>,
 ) -> Result<Vec<u8>, Fault>
     requires { IsDiffOf telling told.now diff }
-    ensures { IsBehind telling told.now result }
+    ensures behind { IsBehind telling told.now result }
+    ensures undrawn { IfNoDiff result (λ refusal. diff ≡ Err (faults.NoDiff refusal)) }
 {
     match (telling, told) {
         (Telling::Diff, Told::Shown(shown)) => records_of(alloc, shown.changes.as_slice()),

@@ -1,7 +1,7 @@
 //! Which fault is told as one, and which as a stop, where one call of the store fails and memory is ample: in openings that take a stopped step
-//! back, and in runs, undos and redos.
+//! back, and in runs, undos and redos. And as what a clash of the journal's own files is told.
 use crate::session_tests::stops::{CALLS, PATHS, before_the_head_of_a_run, left_by};
-use crate::session_tests::trees::{copy, dump, signing};
+use crate::session_tests::trees::{PLAIN, copy, dump, signing, tree};
 use reuse_session::{Answer, Cause, Event, Refusal, Session, drive};
 use reuse_tree::{MemoryStore, OnceStore, StoreFault};
 use std::alloc::Global;
@@ -12,6 +12,8 @@ fn mark(refusal: &Refusal) -> &'static str {
     match refusal {
         Refusal::Fault(StoreFault::Device) => "f",
         Refusal::Interrupted(Cause::Device) => "i",
+        Refusal::Fault(StoreFault::Clash) => "clash",
+        Refusal::Interrupted(Cause::Clash) => "stop at a clash",
         Refusal::Broken => "b",
         _ => "?",
     }
@@ -102,5 +104,23 @@ fn a_fault_of_an_undo_or_a_redo_is_a_stop_once_the_step_is_pending(
     let mut undone = left_by(alloc, &[signing(alloc, &PATHS)?, Event::Undo])?;
     let marks = event_marks(alloc, &mut undone, Event::Redo)?;
     assert_eq!(rt; marks.as_str(), "bbbbffffiiiiiiii.");
+    Ok(())
+}
+
+/// A mark for what a run is answered where this file stands beneath a path of the journal.
+fn mark_beside(alloc: Global, name: &str) -> Result<&'static str, Fail> {
+    let start = tree(alloc, &[("a.py", PLAIN), (name, PLAIN)])?;
+    let (_, answers) = drive(alloc, start, &[signing(alloc, &["a.py"])?]);
+    Ok(last_mark(&answers))
+}
+
+#[test]
+fn a_clash_of_a_head_is_a_stop_and_that_of_an_entry_none(rt: HostRuntime) -> Result<(), Fail> {
+    let alloc = rt.alloc();
+    assert_eq!(rt; mark_beside(alloc, ".reuse/undo/000001.json/x")?, "clash");
+    assert_eq!(rt;
+        mark_beside(alloc, ".reuse/undo/head.json/x")?,
+        "stop at a clash"
+    );
     Ok(())
 }

@@ -1,6 +1,6 @@
 //! Rows, steps that are shown, dry runs, and a revert.
 // The tags below are data: REUSE-IgnoreStart
-use super::{START_OF_2024, holds, run_at, store_of, tells};
+use super::{START_OF_2024, leaves, run_at, store_of, tells};
 use std::alloc::Global;
 use std::test::Fail;
 
@@ -52,17 +52,13 @@ const LOOKS: &[(&str, &str)] = &[
     ("revert|1", "changed a.py\n"),
 ];
 
-const LOOKS_AGAIN: &[(&str, &str)] = &[
-    ("revert|--skip-moved|1", "nothing changed\nskipped a.py\n"),
-    ("undo", "undone a.py\n"),
-];
-
 #[test]
 fn looks_before_and_back(rt: HostRuntime) -> Result<(), Fail> {
-    let alloc = rt.alloc();
-    let store = store_of(alloc, "a.py", b"print(1)\n")?;
-    let mut store = tells(&rt, alloc, store, LOOKS)?;
-    assert!(rt; holds(alloc, &mut store, "a.py", b"print(1)\n")?);
-    tells(&rt, alloc, store, LOOKS_AGAIN)?;
+    let store = leaves(&rt, rt.alloc(), LOOKS, b"print(1)\n")?;
+    let back = [
+        ("revert|--skip-moved|1", "nothing changed\nskipped a.py\n"),
+        ("undo", "undone a.py\n"),
+    ];
+    tells(&rt, rt.alloc(), store, &back)?;
     Ok(())
 }

@@ -1,7 +1,8 @@
 use Rattle.std.proofs.Common.{ap, ◌∙◌, sym, Option}
 use Rattle.std.specs.Option.{option_map}
 use Rattle.reuse_header.specs.declared.writer.Marks.{Marks}
-use Rattle.reuse_header.specs.Marks.{marks_of, marks_view}
+use Rattle.reuse_header.specs.Marks.{marks_of}
+use Rattle.reuse_header.specs.MarkViews.{marks_view}
 use Rattle.reuse_header.specs.Header.{HeaderSpan}
 use Rattle.reuse_header.specs.Annotation.{chosen_form}
 use Rattle.reuse_header.proofs.AnnotationLemmas.{without_form, replaced_within}

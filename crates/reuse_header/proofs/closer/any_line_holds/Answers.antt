@@ -1,5 +1,5 @@
 use Rattle.reuse_header.specs.Search.{holds}
-use Rattle.reuse_header.specs.Marks.{marks_view}
+use Rattle.reuse_header.specs.MarkViews.{marks_view}
 use Rattle.reuse_header.proofs.CloserLemmas.{any-inner}
 use Rattle.reuse_header.proofs.closer.any_line_holds.Goals as goal
 

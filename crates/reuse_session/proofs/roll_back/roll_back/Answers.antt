@@ -28,30 +28,30 @@ pub returns-in-Err-clause-clash : goal.returns-in-Err-clause-clash
 returns-in-Err-clause-clash g c honest good free =
     let files = g.S.Store.files in
     let tested = c.set_all_back.ensures.later.was_honest honest in
-    let same = c.test_setting_back.ensures.reads.files tested in
-    let can = subst (λ f. All (CanBeSetBack c.args.way (tree_of f)) c.args.changes.now) (sym same) (c.in_ok-test_setting_back.ensures.ready tested good) in
+    let same = c.test_each.ensures.reads.files tested in
+    let can = subst (λ f. All (CanBeSetBack c.args.way (tree_of f)) c.args.changes.now) (sym same) (c.in_ok-test_each.ensures.ready tested good) in
     let none = c.set_all_back.ensures.cause honest good can (λ clash. free (subst (λ f. Clashes f head_path) same clash)) in
     subst IsNoClash (sym c.told.ensures)
     (told_no_clash c.set_all_back.new.started c.in-Err.cause (λ e. none.0 (c.in-Err.is ∙ ap (λ x. Err x) e)) (λ e. none.1 (c.in-Err.is ∙ ap (λ x. Err x) e)))
 
 -- on the way from a tree no change is in doubt
-pub returns-in_err-test_setting_back-clause-settles : goal.returns-in_err-test_setting_back-clause-settles
-returns-in_err-test_setting_back-clause-settles g c honest good start are some ready path e =
+pub returns-in_err-test_each-clause-settles : goal.returns-in_err-test_each-clause-settles
+returns-in_err-test_each-clause-settles g c honest good start are some ready path e =
     let tree = tree_of (g.S.Store.files c.args.store.now) in
     let p = err_from_is_err_and c.from_residual.result c.from_residual.ensures.1 in
     let from = p.1 in
     let same = p.2 in
-    let was = c.in_err-test_setting_back.was in
-    let moved : c.test_setting_back.result ≡ Err (Moved path) = cc in
+    let was = c.in_err-test_each.was in
+    let moved : c.test_each.result ≡ Err (Moved path) = cc in
     none_without (CanBeSetBack c.args.way tree) c.args.changes.now path
     (settles_from c.args.way start tree c.args.changes.now good are some ready)
-    (c.test_setting_back.ensures.moved honest good path moved)
+    (c.test_each.ensures.moved honest good path moved)
 
 pub returns-in-Err-clause-stopped : goal.returns-in-Err-clause-stopped
 returns-in-Err-clause-stopped g c honest good start some ready cause e =
     let store = g.S.Store in
-    let same = c.test_setting_back.ensures.reads.files (c.set_all_back.ensures.later.was_honest honest) in
+    let same = c.test_each.ensures.reads.files (c.set_all_back.ensures.later.was_honest honest) in
     let after = store.files c.set_all_back.new.store in
     let stopped = c.set_all_back.ensures.stopped honest good start (subst (λ files. SomeMade c.args.way c.args.changes.now start (tree_of files)) (sym same) some) ready in
     subst (λ files. StopsRollingBack c.args.way c.args.changes.now c.args.settled.now start files after) same
-    (subst (λ r. OnErr r (StopsRollingBack c.args.way c.args.changes.now c.args.settled.now start (store.files c.test_setting_back.new.store) after)) c.in-Err.is stopped)
+    (subst (λ r. OnErr r (StopsRollingBack c.args.way c.args.changes.now c.args.settled.now start (store.files c.test_each.new.store) after)) c.in-Err.is stopped)

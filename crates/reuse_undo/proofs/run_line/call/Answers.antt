@@ -15,7 +15,8 @@ returns-in-Ok-clause-carries g c honest =
     let was_honest = c.ask-answer.ensures.was_honest is_honest in
     subst (λ f. Carries before request answer f) (sym (c.close-store.ensures.reads.files honest))
     (carried files before request c.in-Ok.opened answer (files (store_of c.ask-answer.new.session)) (c.in-Ok.ensures.opened was_honest)
-    (λ first second doubt. c.in-Ok.ensures.settles first second doubt was_honest) (c.ask-answer.ensures.meets is_honest) (c.ask-answer.ensures.clash is_honest))
+    (λ first second doubt. c.in-Ok.ensures.settles first second doubt was_honest) (c.ask-answer.ensures.meets is_honest) (c.ask-answer.ensures.clash is_honest)
+    (c.in-Ok.ensures.folder was_honest) (c.ask-answer.ensures.folder is_honest))
 
 pub returns-in-Ok-clause-looks : goal.returns-in-Ok-clause-looks
 returns-in-Ok-clause-looks g c honest look held standing =
@@ -63,6 +64,7 @@ returns-in-Err-clause-carries g c honest =
         unchanged = λ early. (c.in-Err.ensures.early early).files honest;
         stopped = c.in-Err.ensures.interrupted honest;
         settles = λ first second doubt. c.in-Err.ensures.settles first second doubt honest;
+        folder = c.in-Err.ensures.folder honest;
       },
     )
 

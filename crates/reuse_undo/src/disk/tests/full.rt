@@ -1,5 +1,5 @@
 //! A file system that has no room left, so that each write fails.
-use std::alloc::{AllocError, Allocator, Global};
+use std::alloc::{Allocator, Global};
 use std::fs::{File, Metadata, OpenOptions};
 use std::io::{self, ErrorKind};
 use std::rt::Files;
@@ -8,16 +8,9 @@ use std::rt::Files;
 const FULL: &str = "/dev/full";
 
 /// The system's folders, where each file that is opened is the one without room.
-#[derive(Drop)]
+#[derive(Clone, Drop)]
 pub struct FullDisk {
     pub rt: HostRuntime,
-}
-
-impl Clone for FullDisk {
-    fn clone(&self) -> Result<FullDisk, AllocError> {
-        let rt = self.rt.clone()?;
-        Ok(FullDisk { rt })
-    }
 }
 
 impl Alloc for FullDisk {

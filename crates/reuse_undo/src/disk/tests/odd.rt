@@ -1,11 +1,11 @@
 //! A file system whose one folder holds a name that isn't UTF-8, which no call of `std` can make.
-use std::alloc::{AllocError, Global};
+use std::alloc::Global;
 use std::fs::{File, Metadata, OpenOptions};
 use std::io::{self, ErrorKind, Read};
 use std::rt::Files;
 
 /// Hands out the folder; all other calls fail.
-#[derive(Drop)]
+#[derive(Clone, Drop)]
 pub struct OddName {
     pub rt: HostRuntime,
 }
@@ -14,13 +14,6 @@ pub struct OddName {
 #[derive(Drop)]
 pub struct Names {
     is_read: bool,
-}
-
-impl Clone for OddName {
-    fn clone(&self) -> Result<OddName, AllocError> {
-        let rt = self.rt.clone()?;
-        Ok(OddName { rt })
-    }
 }
 
 impl Alloc for OddName {

@@ -1,6 +1,6 @@
 use Rattle.std.proofs.Common.{◌++◌}
 use Rattle.std.proofs.lemmas.Result.{on_ok_weaker}
-use Rattle.reuse_header.specs.Marks.{marks_view}
+use Rattle.reuse_header.specs.MarkViews.{marks_view}
 use Rattle.reuse_header.specs.Writing.{separator_of}
 use Rattle.reuse_header.proofs.BoundedLemmas.{writes_more, writes_same}
 use Rattle.reuse_header.proofs.WritingLemmas.{free-set_off}

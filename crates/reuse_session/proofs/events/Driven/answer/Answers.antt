@@ -3,7 +3,8 @@ use Rattle.reuse_tree.specs.Files.{Files}
 use Rattle.reuse_session.specs.Answer.{HasCause}
 use Rattle.reuse_session.specs.JournalFiles.{IsFree}
 use Rattle.reuse_session.specs.Session.{store_of}
-use Rattle.reuse_session.specs.Stops.{Point, open_at, Answers, AreLeft, store_in}
+use Rattle.reuse_session.specs.Driven.{store_in}
+use Rattle.reuse_session.specs.Stops.{Point, open_at, Answers, AreLeft}
 use Rattle.reuse_session.specs.Tree.{undo_folder_of}
 use Rattle.reuse_session.specs.declared.events.Event.{Event}
 use Rattle.reuse_session.specs.declared.reply.Refusal.TheVariants.{Broken}

@@ -18,4 +18,4 @@ returns-clause-text c =
     c.in_ok-new.ensures.text c.in_ok-expect-3.ensures c.in_ok-old.ensures.text c.in_ok-expect-4.ensures
     ∙ four_steps bytes (quoted c.in_ok-path.path) (codes ",\"rest\":") (decimal c.in_ok-rest.rest) (codes "}") c.expect-4.new.self c.path.new.self c.expect-5.new.self c.number-2.new.self c.expect-6.new.self
     c.in_ok-path.ensures.text c.in_ok-expect-5.ensures c.in_ok-rest.ensures c.in_ok-expect-6.ensures in
-    rw (c.in_ok-seal.ensures.before, c.in_ok-seal.ensures.after) read
+    rw (c.splice.ensures, c.in_ok-seal.ensures.before, c.in_ok-seal.ensures.after) read

@@ -2,13 +2,14 @@ use Rattle.std.proofs.Common.{◌+◌, Ok, IfErr, refl, sym, ap, subst}
 use Rattle.reuse_tree.specs.Files.{Clashes}
 use Rattle.reuse_session.specs.Answer.{HasClash}
 use Rattle.reuse_session.specs.JournalFiles.{head_path, entry_path}
-use Rattle.reuse_session.specs.Session.{store_of}
+use Rattle.reuse_session.specs.Session.{store_of, IsSameButTwo}
+use Rattle.reuse_session.specs.Tree.{undo_folder_of}
 use Rattle.reuse_session.specs.declared.events.Event.{Event}
 use Rattle.reuse_session.specs.declared.events.Event.TheVariants as events
 use Rattle.reuse_session.specs.declared.reply.Reply.TheVariants as replies
 use Rattle.reuse_session.proofs.OnlyReading.{early_files}
 use Rattle.reuse_undo.specs.Requests.{IsLook}
-use Rattle.reuse_undo.specs.RunLine.{Calls, HasCallClash}
+use Rattle.reuse_undo.specs.RunLine.{Calls, HasCallClash, KeepsFolder}
 use Rattle.reuse_undo.specs.declared.request.Request.TheVariants as requests
 use Rattle.reuse_undo.proofs.LookLemmas.{peek_unclashed}
 use Rattle.reuse_undo.proofs.CallLemmas.{calls_by, stands_on, unclashed, log_tells_none}
@@ -30,6 +31,13 @@ returns-in-Run-clause-clash g c honest held stands =
     subst (λ (e : Event). IfErr c.run.result (HasCallClash (requests.Call e) held files)) (sym c.in-Run.is)
     (subst (λ n. IfErr c.run.result (HasClash (Clashes files (entry_path (n + 1))) (Clashes files head_path))) stands.remembers.used (c.run.ensures.leaves.clash honest))
 
+pub returns-in-Run-clause-folder : goal.returns-in-Run-clause-folder
+returns-in-Run-clause-folder g c honest held stands =
+    let old = g.S.Store.files (store_of c.args.session.now) in
+    let new = g.S.Store.files (store_of c.run.new.self) in
+    subst (λ (e : Event). KeepsFolder (requests.Call e) held old new) (sym c.in-Run.is)
+    (subst (λ n. IsSameButTwo (entry_path (n + 1)) head_path (undo_folder_of old) (undo_folder_of new)) stands.remembers.used (c.run.ensures.leaves.folder honest))
+
 pub returns-in-Undo-clause-calls : goal.returns-in-Undo-clause-calls
 returns-in-Undo-clause-calls g c honest held stands =
     let files = g.S.Store.files in
@@ -44,6 +52,11 @@ returns-in-Undo-clause-looks g c honest look = absurd (subst (λ (e : Event). Is
 pub returns-in-Undo-clause-clash : goal.returns-in-Undo-clause-clash
 returns-in-Undo-clause-clash g c honest held stands =
     subst (λ (e : Event). IfErr c.undo.result (HasCallClash (requests.Call e) held (g.S.Store.files (store_of c.args.session.now)))) (sym c.in-Undo.is) (c.undo.ensures.leaves.clash honest)
+
+pub returns-in-Undo-clause-folder : goal.returns-in-Undo-clause-folder
+returns-in-Undo-clause-folder g c honest held stands =
+    let files = g.S.Store.files in
+    subst (λ (e : Event). KeepsFolder (requests.Call e) held (files (store_of c.args.session.now)) (files (store_of c.undo.new.self))) (sym c.in-Undo.is) (c.undo.ensures.leaves.folder honest)
 
 pub returns-in-Redo-clause-calls : goal.returns-in-Redo-clause-calls
 returns-in-Redo-clause-calls g c honest held stands =
@@ -60,10 +73,25 @@ pub returns-in-Redo-clause-clash : goal.returns-in-Redo-clause-clash
 returns-in-Redo-clause-clash g c honest held stands =
     subst (λ (e : Event). IfErr c.redo.result (HasCallClash (requests.Call e) held (g.S.Store.files (store_of c.args.session.now)))) (sym c.in-Redo.is) (c.redo.ensures.leaves.clash honest)
 
+pub returns-in-Redo-clause-folder : goal.returns-in-Redo-clause-folder
+returns-in-Redo-clause-folder g c honest held stands =
+    let files = g.S.Store.files in
+    subst (λ (e : Event). KeepsFolder (requests.Call e) held (files (store_of c.args.session.now)) (files (store_of c.redo.new.self))) (sym c.in-Redo.is) (c.redo.ensures.leaves.folder honest)
+
 pub returns-in-Ok-clause-calls : goal.returns-in-Ok-clause-calls
 returns-in-Ok-clause-calls g c honest held stands =
     subst (λ (e : Event). Calls e held (Ok (replies.Log c.in-Ok.rows)) (g.S.Store.files (store_of c.args.session.now))) (sym c.in-Log.is)
     (held, (ap (λ rows. Ok (replies.Log rows)) (c.in-Ok.ensures.exact held stands), refl), stands.standing)
+
+pub returns-in-Ok-clause-folder : goal.returns-in-Ok-clause-folder
+returns-in-Ok-clause-folder g c honest held stands =
+    let files = g.S.Store.files (store_of c.args.session.now) in
+    subst (λ (e : Event). KeepsFolder (requests.Call e) held files files) (sym c.in-Log.is) refl
+
+pub returns-in-Err-clause-folder : goal.returns-in-Err-clause-folder
+returns-in-Err-clause-folder g c honest held stands =
+    let files = g.S.Store.files (store_of c.args.session.now) in
+    subst (λ (e : Event). KeepsFolder (requests.Call e) held files files) (sym c.in-Log.is) refl
 
 pub returns-in-Err-clause-clash : goal.returns-in-Err-clause-clash
 returns-in-Err-clause-clash g c honest held stands =
@@ -77,6 +105,16 @@ pub returns-in-Preview-clause-clash : goal.returns-in-Preview-clause-clash
 returns-in-Preview-clause-clash g c honest held stands =
     subst (λ (e : Event). IfErr c.foretell.result (HasCallClash (requests.Call e) held (g.S.Store.files (store_of c.args.session.now)))) (sym c.in-Preview.is)
     (peek_unclashed g.S.Store c.foretell.result c.args.session.now c.foretell.new.session held c.foretell.ensures.peeks honest stands)
+
+pub returns-in-Preview-clause-folder : goal.returns-in-Preview-clause-folder
+returns-in-Preview-clause-folder g c honest held stands =
+    let files = g.S.Store.files in
+    subst (λ (e : Event). KeepsFolder (requests.Call e) held (files (store_of c.args.session.now)) (files (store_of c.foretell.new.session))) (sym c.in-Preview.is) (c.foretell.ensures.peeks.reads.files honest)
+
+pub returns-in-Reopen-clause-folder : goal.returns-in-Reopen-clause-folder
+returns-in-Reopen-clause-folder g c honest held stands =
+    let files = g.S.Store.files (store_of c.args.session.now) in
+    subst (λ (e : Event). KeepsFolder (requests.Call e) held files files) (sym c.in-Reopen.is) refl
 
 pub returns-in-Reopen-clause-calls : goal.returns-in-Reopen-clause-calls
 returns-in-Reopen-clause-calls g c honest held stands =

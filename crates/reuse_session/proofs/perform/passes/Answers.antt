@@ -1,4 +1,4 @@
-use Rattle.std.proofs.Common.{◌≡◌, ◌↔◌, inl, inr, ⊎_elim, Bool, true, false, IsTrue, ap, sym, refl, subst, ◌∙◌}
+use Rattle.std.proofs.Common.{◌≡◌, ◌↔◌, IfOk, inl, inr, ⊎_elim, Bool, true, false, IsTrue, ap, sym, refl, subst, ◌∙◌}
 use Rattle.std.specs.FinMap.{get, keys}
 use Rattle.std.proofs.lemmas.Bool.{false≢true}
 use Rattle.std.proofs.lemmas.Result.{IfOk-weaker}
@@ -8,8 +8,10 @@ use Rattle.reuse_tree.specs.declared.change.Change.{Change}
 use Rattle.reuse_session.specs.declared.entry.Way.{Way}
 use Rattle.reuse_session.specs.Tree.{is_of_tree}
 use Rattle.reuse_session.specs.Entry.{IsReady, CanBeMade, CanBeSetBack, makes, opposite}
+use Rattle.reuse_session.specs.Tested.{aimed, Passes}
+use Rattle.reuse_session.specs.declared.perform.Aim.{Aim}
 use Rattle.reuse_session.proofs.OfTree.{tree_at}
-use Rattle.reuse_session.proofs.roll_back.can_be_set_back.Goals as goal
+use Rattle.reuse_session.proofs.perform.passes.Goals as goal
 
 module _ (way : Way) (change : Change) (files : Files) (of_tree : is_of_tree (path_of change) ≡ true) (ready : Bool) (is : IsTrue ready ↔ IsReady way change (get files (path_of change))) where
   not_made : ready ≡ true → CanBeSetBack way (tree_of files) change
@@ -26,20 +28,29 @@ module _ (way : Way) (change : Change) (files : Files) (of_tree : is_of_tree (pa
             either,
       )
 
+pub returns-in-Go-clause-ok : goal.returns-in-Go-clause-ok
+returns-in-Go-clause-ok g c honest proper small of_tree paths =
+    subst (λ (aim : Aim). IfOk c.can_be_made.result (λ (b : Bool). IsTrue b ↔ Passes aim c.args.way (tree_of (g.S.Store.files c.args.store.now)) c.args.change.now)) (sym c.in-Go.is)
+    (c.can_be_made.ensures.ok honest proper small of_tree (λ makes_one. paths (subst (λ (aim : Aim). makes (aimed aim c.args.way) c.args.change.now ≡ true) (sym c.in-Go.is) makes_one)))
+
 pub returns-then-branch-clause-ok : goal.returns-then-branch-clause-ok
 returns-then-branch-clause-ok g c honest proper small of_tree paths =
     let files = g.S.Store.files c.args.store.now in
-    (λ _. not_made c.args.way c.args.change.now files of_tree c.in_ok-can_turn.field-0 (c.in_ok-can_turn.ensures.ok honest proper small) c.if-branch.true, λ _. refl)
+    subst (λ (aim : Aim). IsTrue true ↔ Passes aim c.args.way (tree_of files) c.args.change.now) (sym c.in-SetBack.is)
+    (λ _. not_made c.args.way c.args.change.now files of_tree c.in_ok-can_turn-in-SetBack.field-0 (c.in_ok-can_turn-in-SetBack.ensures.ok honest proper small) c.if-branch.true, λ _. refl)
 
-pub returns-clause-ok : goal.returns-clause-ok
-returns-clause-ok g c honest proper small of_tree paths =
+pub returns-else-branch-clause-ok : goal.returns-else-branch-clause-ok
+returns-else-branch-clause-ok g c honest proper small of_tree paths =
     let files = g.S.Store.files c.args.store.now in
     let way = c.args.way in
     let change = c.args.change.now in
-    let before = c.can_be_made.ensures.reads.was_honest honest in
+    let before = c.can_be_made-in-SetBack.ensures.reads.was_honest honest in
     let same = c.can_turn.ensures.reads.files before in
-    IfOk-weaker c.can_be_made.result
+    let heeds : makes (opposite way) change ≡ true → makes (aimed c.args.aim way) change ≡ true = subst (λ (aim : Aim). makes (aimed aim way) change ≡ true) (sym c.in-SetBack.is) in
+    subst (λ (aim : Aim). IfOk c.can_be_made-in-SetBack.result (λ (b : Bool). IsTrue b ↔ Passes aim way (tree_of files) change)) (sym c.in-SetBack.is) (
+    IfOk-weaker c.can_be_made-in-SetBack.result
     (λ (b : Bool). IsTrue b ↔ CanBeMade c.opposite.result (tree_of (g.S.Store.files c.can_turn.new.store)) change)
     (λ (b : Bool). IsTrue b ↔ CanBeSetBack way (tree_of files) change)
-    (made way change files of_tree c.in_ok-can_turn.field-0 (c.in_ok-can_turn.ensures.ok before proper small) c.if-branch.false c.opposite.result c.opposite.ensures (g.S.Store.files c.can_turn.new.store) same)
-    (c.can_be_made.ensures.ok honest proper small of_tree (λ makes_one. paths (subst (λ w. makes w change ≡ true) c.opposite.ensures makes_one) ∙ ap keys (sym same)))
+    (made way change files of_tree c.in_ok-can_turn-in-SetBack.field-0 (c.in_ok-can_turn-in-SetBack.ensures.ok before proper small) c.if-branch.false c.opposite.result c.opposite.ensures (g.S.Store.files c.can_turn.new.store) same)
+    (c.can_be_made-in-SetBack.ensures.ok honest proper small of_tree (λ makes_one. paths (heeds (subst (λ w. makes w change ≡ true) c.opposite.ensures makes_one)) ∙ ap keys (sym same)))
+    )

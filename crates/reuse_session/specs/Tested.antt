@@ -1,0 +1,17 @@
+-- What is tested of each change of an entry, before one of them is made.
+use Rattle.reuse_tree.specs.Files.{Files}
+use Rattle.reuse_tree.specs.declared.change.Change.{Change}
+use Rattle.reuse_session.specs.Entry.{opposite, CanBeMade, CanBeSetBack}
+use Rattle.reuse_session.specs.declared.entry.Way.{Way}
+use Rattle.reuse_session.specs.declared.perform.Aim.{Aim}
+use Rattle.reuse_session.specs.declared.perform.Aim.TheVariants.{Go, SetBack}
+
+-- on the tree, the change is as the aim needs it
+abbrev pub Passes : Aim → Way → Files → Change → Type 0
+Passes Go way tree = CanBeMade way tree
+Passes SetBack way tree = CanBeSetBack way tree
+
+-- the way in which the aim makes changes
+abbrev pub aimed : Aim → Way → Way
+aimed Go way = way
+aimed SetBack way = opposite way
