@@ -12,6 +12,9 @@ use memchr::{memchr, memrchr};
 use simdutf8::is_utf8_baseline;
 use std::alloc::{AllocError, Global};
 
+/// The most bytes of a file that is read to be changed, or that is made: 16 MiB.
+pub const LONGEST_FILE: usize = 16_777_216;
+
 /// The ending of a line: LF or CR LF.
 #[derive(Clone, Copy, Debug, PartialEq, Eq)]
 pub enum LineKind {
