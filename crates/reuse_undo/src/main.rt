@@ -38,13 +38,13 @@ use disk::DiskStore;
 use fault::Fault;
 use file_list::with_list;
 use findings::Findings;
-use line::{Deed, Line, LineFault};
-use lock::lock_root;
+use line::{Deed, Line, LineFault, Telling};
+use lock::{RootLock, lock_root};
 use notes::{note_call, note_words};
 use on_folder::run_on_folder;
 use output::Output;
 use progress::{ClearedOutput, Progress};
-use request::request_of;
+use request::{Request, request_of};
 use reuse_session::{Fate, LicenceTexts, Moment};
 use status::{exit_status, line_status};
 use std::alloc::{AllocError, Global};
@@ -91,32 +91,107 @@ struct Extras {
     progress: bool,
 }
 
-/// Carries a line out on the folder that it names, and prints its answer; how many paths that tells. Until that is done no other run works
-/// on the folder. Where notes are asked for, what they tell is found too.
+/// What a call works with. Until this is let go no other run works on the folder.
+#[derive(Drop)]
+struct Tools<R: Runtime + Files + AllocGlobal> {
+    _lock: RootLock,
+    folder: DiskStore<R>,
+    texts: LicenceTexts,
+    progress: Progress<R>,
+}
+
+/// What the line needs: the folder that it names, locked, and the texts.
+fn tools_for<R: Runtime + Files<File = File> + AllocGlobal>(
+    rt: &R,
+    alloc: Global,
+    line: &Line,
+    extras: Extras,
+) -> Result<Tools<R>, Fault> {
+    let lock = lock_root(rt, line.root.as_str())?;
+    let texts = texts_for(rt, alloc, line)?;
+    let root = String::from_str(alloc, line.root.as_str())?;
+    let folder = DiskStore::at(rt.clone()?, root);
+    let progress = Progress::new(rt.clone()?, extras.progress);
+    Ok(Tools {
+        _lock: lock,
+        folder,
+        texts,
+        progress,
+    })
+}
+
+/// Carries a line out on the folder that it names, and prints its answer; how many paths that tells, and, where notes are asked for, what they tell.
 fn carry_out<R: Runtime + Files<File = File> + AllocGlobal>(
     rt: &R,
     alloc: Global,
     line: Line,
     extras: Extras,
-    findings: &mut Option<Findings>,
-) -> Result<usize, Fault> {
-    let _lock = lock_root(rt, line.root.as_str())?;
-    let texts = texts_for(rt, alloc, &line)?;
-    let root = String::from_str(alloc, line.root.as_str())?;
-    let mut folder = DiskStore::at(rt.clone()?, root);
-    if extras.notes {
-        *findings = Some(Findings::before(rt, alloc, &line, &mut folder));
+) -> (Result<usize, Fault>, Option<Findings>) {
+    match tools_for(rt, alloc, &line, extras) {
+        Ok(tools) => work_with(rt, alloc, tools, line, extras.notes),
+        Err(fault) => (Err(fault), None),
     }
-    let progress = Progress::new(rt.clone()?, extras.progress);
-    let mut out = Output::new(ClearedOutput::new(&progress));
+}
+
+fn work_with<R: Runtime + Files<File = File> + AllocGlobal>(
+    rt: &R,
+    alloc: Global,
+    tools: Tools<R>,
+    line: Line,
+    notes: bool,
+) -> (Result<usize, Fault>, Option<Findings>) {
+    let Tools {
+        _lock,
+        mut folder,
+        texts,
+        progress,
+    } = tools;
+    let findings = found_before(rt, alloc, &line, &mut folder, notes);
     let telling = line.telling;
     let request = request_of(line, texts);
-    let (folder, outcome) = run_on_folder(folder, &progress, alloc, &request, telling, &mut out);
+    let (folder, outcome) = answer(folder, &progress, alloc, &request, telling);
+    let findings = found_after(alloc, findings, folder, &request, &outcome);
+    (outcome, findings)
+}
+
+/// Carries out what is asked for, and prints the answer.
+fn answer<R: Runtime + Files + AllocGlobal>(
+    folder: DiskStore<R>,
+    progress: &Progress<R>,
+    alloc: Global,
+    request: &Request,
+    telling: Telling,
+) -> (DiskStore<R>, Result<usize, Fault>) {
+    let mut out = Output::new(ClearedOutput::new(progress));
+    let answered = run_on_folder(folder, progress, alloc, request, telling, &mut out);
     progress.clear();
-    if let Some(findings) = findings {
-        findings.look_after(alloc, folder, &request, &outcome);
+    answered
+}
+
+fn found_before<R: Runtime + Files + AllocGlobal>(
+    rt: &R,
+    alloc: Global,
+    line: &Line,
+    folder: &mut DiskStore<R>,
+    notes: bool,
+) -> Option<Findings> {
+    if notes {
+        Some(Findings::before(rt, alloc, line, folder))
+    } else {
+        None
     }
-    outcome
+}
+
+fn found_after<R: Runtime + Files + AllocGlobal>(
+    alloc: Global,
+    findings: Option<Findings>,
+    folder: DiskStore<R>,
+    request: &Request,
+    outcome: &Result<usize, Fault>,
+) -> Option<Findings> {
+    let mut findings = findings?;
+    findings.look_after(alloc, folder, request, outcome);
+    Some(findings)
 }
 
 /// Tells why the words are no line: help on standard output, all else on standard error.
@@ -148,8 +223,7 @@ fn run_noted<R: Runtime + Files<File = File> + AllocGlobal>(
     line: Line,
     extras: Extras,
 ) -> u8 {
-    let mut findings = None;
-    let outcome = carry_out(rt, alloc, line, extras, &mut findings);
+    let (outcome, findings) = carry_out(rt, alloc, line, extras);
     if let Err(fault) = &outcome {
         tell_fault(rt, fault);
     }
