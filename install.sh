@@ -40,17 +40,42 @@ start=$SECONDS
 declare -A running=() lanes=() done=() told=()
 # (each check has a process group of its own, so that all of it ends with this script)
 set -m
-trap '{ for it in "${!running[@]}"; do kill -- "-${running[$it]}" || true; done; wait; } 2> /dev/null; rm -rf "$logs"' EXIT
+trap '{ for it in "${!running[@]}"; do kill -- "-${running[$it]}" || true; done; wait; take_back; } 2> /dev/null; rm -rf "$logs"' EXIT
 trap 'echo "interrupted; run it again to go on" >&2; exit 130' INT TERM
 
 say() {
     printf '%3d:%02d  %s\n' $(((SECONDS - start) / 60)) $(((SECONDS - start) % 60)) "$*"
 }
-# Proves a crate by so many jobs, and builds it.
+# Proves a crate by so many jobs, and builds it. A crate beside others is proved in a copy of the repository, since one check at a time works over a
+# library; what it leaves goes back into the repository.
 prove() {
-    cd "$top/crates/$1"
-    rt check --jobs "$2"
-    if [ -e src/main.rt ]; then rt run --jobs "$2" -- --version; else rt lib --jobs "$2"; fi
+    local crate=$1 jobs=$2 at=$top
+    if [ "$3" ]; then
+        at=$logs/copies/$crate
+        copy_for "$crate" "$at"
+    fi
+    cd "$at/crates/$crate"
+    rt check --jobs "$jobs"
+    if [ -e src/main.rt ]; then rt run --jobs "$jobs" -- --version; else rt lib --jobs "$jobs"; fi
+    [ "$at" = "$top" ] || take_back_one "$crate"
+}
+# A copy of the repository with what is kept of a crate and of those that it stands on
+copy_for() {
+    local it
+    mkdir -p "$2"
+    tar -C "$top" --exclude=./.git --exclude=out -cf - . | tar -C "$2" -xf -
+    for it in "$1" $(below "$1"); do
+        [ ! -d "$top/crates/$it/out" ] || cp -a "$top/crates/$it/out" "$2/crates/$it/"
+    done
+}
+take_back_one() {
+    [ -d "$logs/copies/$1/crates/$1/out" ] || return 0
+    rm -rf "$top/crates/$1/out"
+    mv "$logs/copies/$1/crates/$1/out" "$top/crates/$1/"
+}
+take_back() {
+    local it
+    for it in "$logs"/copies/*; do take_back_one "$(basename "$it")"; done
 }
 # The crates of the repository that a crate stands on
 below() {
@@ -64,11 +89,11 @@ is_ready() {
     [ ! "${done[$1]:-}" ] && [ ! "${running[$1]:-}" ] || return 1
     for it in $(below "$1"); do [ "${done[$it]:-}" ] || return 1; done
 }
-# How many jobs a check may take: the idle processors shared out, 2 GB of free memory for each
+# How many jobs a check may take: the idle processors shared out, the first one more, 2 GB of free memory for each
 jobs_of() {
     local idle=$1 ready=$2 room jobs
     room=$(awk '/^MemAvailable:/ { print int($2 / 2000000) }' /proc/meminfo)
-    jobs=$((idle / ready < room / ready ? idle / ready : room / ready))
+    jobs=$(((idle + ready - 1) / ready < room / ready ? (idle + ready - 1) / ready : room / ready))
     echo $((jobs > 1 ? jobs : 1))
 }
 
@@ -80,13 +105,15 @@ while [ ${#done[@]} -lt ${#crates[@]} ]; do
     for it in "${!running[@]}"; do idle=$((idle - lanes[$it])); done
     ready=()
     for it in "${crates[@]}"; do ! is_ready "$it" || ready+=("$it"); done
-    # lowest first; the last ready one gets what is left
+    # lowest first, which has most above it
     for at in "${!ready[@]}"; do
         it=${ready[$at]}
         [ $idle -gt 0 ] || break
         lanes[$it]=$(jobs_of $idle $((${#ready[@]} - at)))
         idle=$((idle - lanes[$it]))
-        prove "$it" "${lanes[$it]}" < /dev/null > "$logs/$it" 2>&1 &
+        beside=
+        [ ${#ready[@]} -eq 1 ] && [ ${#running[@]} -eq 0 ] || beside=yes
+        prove "$it" "${lanes[$it]}" "$beside" < /dev/null > "$logs/$it" 2>&1 &
         running[$it]=$!
         told[$it]=$SECONDS
         say "$it: begun"
