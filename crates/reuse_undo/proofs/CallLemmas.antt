@@ -198,9 +198,3 @@ found_again files before session held standing opened settles = (
   ⊎_elim (λ (stands : StandsOn files session held). stands) (λ (stands : StandsOn files session held). stands) (settles held held (inl standing)),
   stays_open before (files (store_of session)) held opened.0 standing opened.2,
 )
-
--- a refused opening of a standing leaves the files
-pub unchanged_opening : (before after : Files) (held : State) (refusal : Refusal) → IsStanding before held → (IsEarly refusal → after ≡ before)
-    → ((cause : Cause) → refusal ≡ Interrupted cause → StopsOpening before after) → after ≡ before
-unchanged_opening before after held (Interrupted cause) standing same stopped = let under = stopped cause refl in absurd (none_under_way before held under.1 under.2 under.0 standing under.3)
-unchanged_opening before after held refusal standing same stopped = same tt

@@ -42,8 +42,8 @@ pub fn run_request<S: Store + Drop, O: Sink>(
     // From any state that the files hold it is that of the machine that keeps whole copies.
     ensures machine { S.honest result.0 → (state : Snapshots) → HoldState (S.files store) state
         → Tells telling (λ answer. Steps state request.now answer (S.files result.0)) (O.contents out.old) (O.contents out.new) result.1 }
-    // What only asks leaves each file as it is, where nothing is pending.
-    ensures looks { S.honest result.0 → IsLook request.now → (held : State) → IsStanding (S.files store) held → S.files result.0 ≡ S.files store }
+    // What only asks only reads the store, where nothing is pending.
+    ensures looks { S.honest result.0 → IsLook request.now → (held : State) → IsStanding (S.files store) held → OnlyReads S.Store store result.0 }
     // A refusal is told before anything is written, and that the reply couldn't be written exactly where the writer failed.
     ensures quiet { IfRefused result.1 (λ refusal. out.new ≡ out.old) }
     ensures failed { TellsFailure (O.failed out.old) (O.failed out.new) result.1 }
@@ -71,7 +71,7 @@ fn call<S: Store + Drop>(
     telling: Telling,
 ) -> (S, Result<Told, Refusal>, Result<Vec<u8>, Fault>)
     ensures carries { S.honest result.0 → Carries (S.files store) request.now result.1 (S.files result.0) }
-    ensures looks { S.honest result.0 → IsLook request.now → (held : State) → IsStanding (S.files store) held → S.files result.0 ≡ S.files store }
+    ensures looks { S.honest result.0 → IsLook request.now → (held : State) → IsStanding (S.files store) held → OnlyReads S.Store store result.0 }
     ensures fault { IfErr result.1 (HasCause (S.failures store < S.failures result.0)) }
     ensures clash { S.honest result.0 → (held : State) → IsStanding (S.files store) held → IfErr result.1 (HasCallClash request.now held (S.files store)) }
     ensures diff { IfOk result.1 (λ told. IsDiffOf telling told result.2) }

@@ -1,5 +1,6 @@
 //! The call of a session that a line asks for.
 ghost use Rattle.std.specs.Prelude.{◌≡◌, ◌≤◌, ◌<◌, IfErr, true, false};
+ghost use Rattle.reuse_tree.specs.Asked.{OnlyReads};
 ghost use Rattle.reuse_session.specs.Answer.{HasCause, TellsNoFault};
 ghost use Rattle.reuse_session.specs.Journal.{State};
 ghost use Rattle.reuse_session.specs.Session.{store_of, StandsOn};
@@ -21,7 +22,7 @@ pub fn ask<S: Store + Drop>(
     request: &Request,
 ) -> Result<Told, Refusal>
     ensures meets { S.honest (store_of session.new) → (held : State) → StandsOn S.files session.old held → Meets request.now held result (S.files (store_of session.new)) }
-    ensures looks { S.honest (store_of session.new) → IsLook request.now → S.files (store_of session.new) ≡ S.files (store_of session.old) }
+    ensures looks { IsLook request.now → OnlyReads S.Store (store_of session.old) (store_of session.new) }
     ensures fault { IfErr result (HasCause (S.failures (store_of session.old) < S.failures (store_of session.new))) }
     ensures clash { S.honest (store_of session.new) → (held : State) → StandsOn S.files session.old held
         → IfErr result (HasCallClash request.now held (S.files (store_of session.old))) }
@@ -83,7 +84,7 @@ fn fates_told(answer: Result<Fates, Refusal>) -> Result<Told, Refusal>
 // Makes a call of an event. A session that is asked to be opened is open.
 fn ask_event<S: Store + Drop>(alloc: Global, session: &mut Session<S>, event: &Event) -> Answer
     ensures calls { S.honest (store_of session.new) → (held : State) → StandsOn S.files session.old held → Calls event.now held result (S.files (store_of session.new)) }
-    ensures looks { S.honest (store_of session.new) → IsLook (Request.Call event.now) → S.files (store_of session.new) ≡ S.files (store_of session.old) }
+    ensures looks { IsLook (Request.Call event.now) → OnlyReads S.Store (store_of session.old) (store_of session.new) }
     ensures fault { IfErr result (HasCause (S.failures (store_of session.old) < S.failures (store_of session.new))) }
     ensures clash { S.honest (store_of session.new) → (held : State) → StandsOn S.files session.old held
         → IfErr result (HasCallClash (Request.Call event.now) held (S.files (store_of session.old))) }

@@ -1,8 +1,9 @@
 use Rattle.std.proofs.Common.{◌<◌, inl, IfErr, refl, sym, subst, arith, ◌∙◌}
 use Rattle.reuse_session.specs.Session.{store_of}
 use Rattle.reuse_undo.specs.RunLine.{Carries, HasCallClash}
+use Rattle.reuse_tree.proofs.AskedLemmas.{reads_more}
 use Rattle.reuse_undo.proofs.LookLemmas.{caused}
-use Rattle.reuse_undo.proofs.CallLemmas.{carried, found_again, unclashed, unchanged_opening}
+use Rattle.reuse_undo.proofs.CallLemmas.{carried, found_again, unclashed}
 use Rattle.reuse_undo.proofs.run_line.call.Goals as goal
 
 pub returns-in-Ok-clause-carries : goal.returns-in-Ok-clause-carries
@@ -20,12 +21,11 @@ returns-in-Ok-clause-carries g c honest =
 
 pub returns-in-Ok-clause-looks : goal.returns-in-Ok-clause-looks
 returns-in-Ok-clause-looks g c honest look held standing =
-    let files = g.S.Store.files in
     let is_honest = c.close-store.ensures.reads.was_honest honest in
-    let was_honest = c.ask-answer.ensures.was_honest is_honest in
-    let found =
-    found_again files (files c.args.store) c.in-Ok.opened held standing (c.in-Ok.ensures.opened was_honest) (λ first second doubt. c.in-Ok.ensures.settles first second doubt was_honest) in
-    c.close-store.ensures.reads.files honest ∙ c.ask-answer.ensures.looks is_honest look ∙ found.1
+    let opened = store_of c.in-Ok.opened in
+    let asked = store_of c.ask-answer.new.session in
+    let found = c.in-Ok.ensures.quiet (c.ask-answer.ensures.was_honest is_honest) held standing in
+    reads_more g.S.Store c.args.store asked c.close-store.result.0 (reads_more g.S.Store c.args.store opened asked found (c.ask-answer.ensures.looks look)) c.close-store.ensures.reads
 
 pub returns-in-Ok-clause-clash : goal.returns-in-Ok-clause-clash
 returns-in-Ok-clause-clash g c honest held standing =
@@ -69,9 +69,7 @@ returns-in-Err-clause-carries g c honest =
     )
 
 pub returns-in-Err-clause-looks : goal.returns-in-Err-clause-looks
-returns-in-Err-clause-looks g c honest look held standing =
-    unchanged_opening (g.S.Store.files c.args.store) (g.S.Store.files c.in-Err.store) held c.in-Err.refusal standing (λ early. (c.in-Err.ensures.early early).files honest)
-    (c.in-Err.ensures.interrupted honest)
+returns-in-Err-clause-looks g c honest look held standing = c.in-Err.ensures.quiet honest held standing
 
 pub returns-in-Err-clause-clash : goal.returns-in-Err-clause-clash
 returns-in-Err-clause-clash g c honest held standing = unclashed c.args.request.now held (g.S.Store.files c.args.store) c.in-Err.refusal (c.in-Err.ensures.clash honest)

@@ -23,7 +23,7 @@ returns-in-Call-clause-meets g c honest held stands =
     (c.ask_event.result, c.reply_told.ensures, c.ask_event.ensures.calls honest held stands)
 
 pub returns-in-Call-clause-looks : goal.returns-in-Call-clause-looks
-returns-in-Call-clause-looks g c honest look = c.ask_event.ensures.looks honest (subst (λ (r : Request). IsLook r) c.in-Call.is look)
+returns-in-Call-clause-looks g c look = c.ask_event.ensures.looks (subst (λ (r : Request). IsLook r) c.in-Call.is look)
 
 pub returns-in-Call-clause-fault : goal.returns-in-Call-clause-fault
 returns-in-Call-clause-fault g c =
@@ -53,7 +53,7 @@ returns-in-Show-clause-meets g c honest held stands =
     )
 
 pub returns-in-Show-clause-looks : goal.returns-in-Show-clause-looks
-returns-in-Show-clause-looks g c honest look = c.show.ensures.reads.files honest
+returns-in-Show-clause-looks g c look = c.show.ensures.reads
 
 pub returns-in-Show-clause-fault : goal.returns-in-Show-clause-fault
 returns-in-Show-clause-fault g c =
@@ -84,7 +84,7 @@ returns-in-Revert-clause-meets g c honest held stands =
     )
 
 pub returns-in-Revert-clause-looks : goal.returns-in-Revert-clause-looks
-returns-in-Revert-clause-looks g c honest look = absurd (subst (λ (r : Request). IsLook r) c.in-Revert.is look)
+returns-in-Revert-clause-looks g c look = absurd (subst (λ (r : Request). IsLook r) c.in-Revert.is look)
 
 pub returns-in-Revert-clause-fault : goal.returns-in-Revert-clause-fault
 returns-in-Revert-clause-fault g c =
@@ -120,7 +120,7 @@ returns-in-PreviewRevert-clause-meets g c honest held stands =
     )
 
 pub returns-in-PreviewRevert-clause-looks : goal.returns-in-PreviewRevert-clause-looks
-returns-in-PreviewRevert-clause-looks g c honest look = c.preview_revert.ensures.peeks.reads.files honest
+returns-in-PreviewRevert-clause-looks g c look = c.preview_revert.ensures.peeks.reads
 
 pub returns-in-PreviewRevert-clause-fault : goal.returns-in-PreviewRevert-clause-fault
 returns-in-PreviewRevert-clause-fault g c =

@@ -7,6 +7,7 @@ use Rattle.reuse_session.specs.Tree.{undo_folder_of}
 use Rattle.reuse_session.specs.declared.events.Event.{Event}
 use Rattle.reuse_session.specs.declared.events.Event.TheVariants as events
 use Rattle.reuse_session.specs.declared.reply.Reply.TheVariants as replies
+use Rattle.reuse_tree.proofs.AskedLemmas.{reads_none}
 use Rattle.reuse_session.proofs.OnlyReading.{early_files}
 use Rattle.reuse_undo.specs.Requests.{IsLook}
 use Rattle.reuse_undo.specs.RunLine.{Calls, HasCallClash, KeepsFolder}
@@ -23,7 +24,7 @@ returns-in-Run-clause-calls g c honest held stands =
     (calls_by files (events.Run c.in-Run.command c.in-Run.when) held new c.run.result (c.run.ensures.exact honest held stands) (c.run.ensures.leaves.stands honest held stands) (c.run.ensures.leaves.doubt honest held stands))
 
 pub returns-in-Run-clause-looks : goal.returns-in-Run-clause-looks
-returns-in-Run-clause-looks g c honest look = absurd (subst (λ (e : Event). IsLook (requests.Call e)) c.in-Run.is look)
+returns-in-Run-clause-looks g c look = absurd (subst (λ (e : Event). IsLook (requests.Call e)) c.in-Run.is look)
 
 pub returns-in-Run-clause-clash : goal.returns-in-Run-clause-clash
 returns-in-Run-clause-clash g c honest held stands =
@@ -47,7 +48,7 @@ returns-in-Undo-clause-calls g c honest held stands =
     (calls_by files events.Undo held new c.undo.result (c.undo.ensures.exact honest held stands) kept (c.undo.ensures.leaves.doubt honest held stands))
 
 pub returns-in-Undo-clause-looks : goal.returns-in-Undo-clause-looks
-returns-in-Undo-clause-looks g c honest look = absurd (subst (λ (e : Event). IsLook (requests.Call e)) c.in-Undo.is look)
+returns-in-Undo-clause-looks g c look = absurd (subst (λ (e : Event). IsLook (requests.Call e)) c.in-Undo.is look)
 
 pub returns-in-Undo-clause-clash : goal.returns-in-Undo-clause-clash
 returns-in-Undo-clause-clash g c honest held stands =
@@ -67,7 +68,7 @@ returns-in-Redo-clause-calls g c honest held stands =
     (calls_by files events.Redo held new c.redo.result (c.redo.ensures.exact honest held stands) kept (c.redo.ensures.leaves.doubt honest held stands))
 
 pub returns-in-Redo-clause-looks : goal.returns-in-Redo-clause-looks
-returns-in-Redo-clause-looks g c honest look = absurd (subst (λ (e : Event). IsLook (requests.Call e)) c.in-Redo.is look)
+returns-in-Redo-clause-looks g c look = absurd (subst (λ (e : Event). IsLook (requests.Call e)) c.in-Redo.is look)
 
 pub returns-in-Redo-clause-clash : goal.returns-in-Redo-clause-clash
 returns-in-Redo-clause-clash g c honest held stands =
@@ -119,3 +120,15 @@ returns-in-Reopen-clause-folder g c honest held stands =
 pub returns-in-Reopen-clause-calls : goal.returns-in-Reopen-clause-calls
 returns-in-Reopen-clause-calls g c honest held stands =
     subst (λ (e : Event). Calls e held (Ok replies.Opened) (g.S.Store.files (store_of c.args.session.now))) (sym c.in-Reopen.is) (held, (refl, refl), stands.standing)
+
+pub returns-in-Ok-clause-looks : goal.returns-in-Ok-clause-looks
+returns-in-Ok-clause-looks g c look = reads_none g.S.Store (store_of c.args.session.now)
+
+pub returns-in-Err-clause-looks : goal.returns-in-Err-clause-looks
+returns-in-Err-clause-looks g c look = reads_none g.S.Store (store_of c.args.session.now)
+
+pub returns-in-Reopen-clause-looks : goal.returns-in-Reopen-clause-looks
+returns-in-Reopen-clause-looks g c look = reads_none g.S.Store (store_of c.args.session.now)
+
+pub returns-in-Preview-clause-looks : goal.returns-in-Preview-clause-looks
+returns-in-Preview-clause-looks g c look = c.foretell.ensures.peeks.reads
