@@ -7,6 +7,7 @@ use Rattle.std.proofs.lemmas.Bool.{false≢true, and_parts}
 use Rattle.std.proofs.lemmas.Bool.Decides.{nat_tests, Decides-int_eq}
 use Rattle.std.proofs.lemmas.Slice.Eq.{bytes_eq-Decides}
 use Rattle.toml.specs.Data.{Data, string, integer, array, table, Items, no_items, item, Members, no_members, member}
+use Rattle.reuse_text.specs.declared.TheConstants.{LONGEST_FILE}
 use Rattle.reuse_dep5.specs.declared.refusal.Dep5Refusal.{Dep5Refusal}
 use Rattle.reuse_dep5.specs.declared.refusal.Dep5Refusal.TheVariants as refusal
 use Rattle.reuse_dep5.specs.SourceText.{is_nil}
@@ -159,7 +160,7 @@ pub toml_answer : (dep5 : Dep5Value) (result : Result (Vec ℕ Global) Dep5Refus
 toml_answer dep5 (Ok text) ok err =
     ap (λ q. text_unless q dep5) ok.no_question
     ∙ by_tests _ _ refusal.TooLong refusal.NotToml (toml_text dep5) false true
-    (not_longer 16_777_216 (length (toml_text dep5)) (subst (λ t. length t ≤ 16_777_216) ok.stated ok.fits))
+    (not_longer LONGEST_FILE (length (toml_text dep5)) (subst (λ t. length t ≤ LONGEST_FILE) ok.stated ok.fits))
     (read_back dep5 (read_toml (toml_text dep5)) (ap read_toml (sym ok.stated) ∙ ok.reads_back))
     ∙ ap (λ t. Ok t) (sym ok.stated)
 toml_answer dep5 (Err refusal.NotUtf8) ok err = absurd err
@@ -167,11 +168,11 @@ toml_answer dep5 (Err (refusal.BadDep5 line cause)) ok err = absurd err
 toml_answer dep5 (Err (refusal.Question line)) ok err = ap (λ q. text_unless q dep5) err
 toml_answer dep5 (Err refusal.TooLong) ok err =
     ap (λ q. text_unless q dep5) err.0
-    ∙ ap (λ b. cond b (refused refusal.TooLong) (cond (is_table (read_toml (toml_text dep5)) (table_of dep5)) (Ok (toml_text dep5)) (refused refusal.NotToml))) (longer 16_777_216 (length (toml_text dep5)) err.1)
+    ∙ ap (λ b. cond b (refused refusal.TooLong) (cond (is_table (read_toml (toml_text dep5)) (table_of dep5)) (Ok (toml_text dep5)) (refused refusal.NotToml))) (longer LONGEST_FILE (length (toml_text dep5)) err.1)
 toml_answer dep5 (Err refusal.NotToml) ok err =
     ap (λ q. text_unless q dep5) err.0
     ∙ by_tests _ _ refusal.TooLong refusal.NotToml (toml_text dep5) false false
-    (not_longer 16_777_216 (length (toml_text dep5)) err.1) (not_read_back dep5 (read_toml (toml_text dep5)) err.2)
+    (not_longer LONGEST_FILE (length (toml_text dep5)) err.1) (not_read_back dep5 (read_toml (toml_text dep5)) err.2)
 toml_answer dep5 (Err refusal.Memory) ok err = tt
 
 -- a refusal of the dep5 is that of its conversion
@@ -180,6 +181,6 @@ refusal_stays refusal.Memory given h = tt
 refusal_stays e given h = ap converted_from h
 
 -- a text that is answered isn't too long
-pub text_fits : (dep5 : Dep5Value) (result : Result (Vec ℕ Global) Dep5Refusal) → IfOk result (λ text. IsReuseToml dep5 text.items) → IfOk result (λ text. length text.items ≤ 16_777_216)
+pub text_fits : (dep5 : Dep5Value) (result : Result (Vec ℕ Global) Dep5Refusal) → IfOk result (λ text. IsReuseToml dep5 text.items) → IfOk result (λ text. length text.items ≤ LONGEST_FILE)
 text_fits dep5 (Ok text) ok = ok.fits
 text_fits dep5 (Err e) ok = tt

@@ -4,6 +4,7 @@ use Rattle.std.specs.Str.{is_utf8}
 use Rattle.std.proofs.lemmas.Bool.{false≢true}
 use Rattle.std.proofs.lemmas.Bool.Decides.{nat_tests}
 use Rattle.toml.specs.Data.{Members}
+use Rattle.reuse_text.specs.declared.TheConstants.{LONGEST_FILE}
 use Rattle.reuse_dep5.specs.declared.refusal.Dep5Refusal.{Dep5Refusal}
 use Rattle.reuse_dep5.specs.declared.refusal.Dep5Refusal.TheVariants as refusal
 use Rattle.reuse_dep5.specs.declared.refusal.Dep5Cause.{Dep5Cause}
@@ -53,19 +54,19 @@ text_is dep5 text = by_question (question_of dep5.files) refl
     by_question : (q : Option ℕ) → question_of dep5.files ≡ q → text_unless q dep5 ≡ Ok text → IsReuseToml dep5 text
     by_question (Some line) e h = cc
     by_question None e h =
-        let parts = given_text (nat_lt 16_777_216 (length (toml_text dep5))) (is_table (read_toml (toml_text dep5)) (table_of dep5)) (toml_text dep5) text h in
+        let parts = given_text (nat_lt LONGEST_FILE (length (toml_text dep5))) (is_table (read_toml (toml_text dep5)) (table_of dep5)) (toml_text dep5) text h in
         subst (IsReuseToml dep5) parts.2 (record {
           no_question = e;
           stated = refl;
-          fits = not_over 16_777_216 (length (toml_text dep5)) parts.0;
+          fits = not_over LONGEST_FILE (length (toml_text dep5)) parts.0;
           reads_back = found_table (read_toml (toml_text dep5)) dep5 parts.1;
         })
 
 pub text_given : (dep5 : Dep5Value) (text : List ℕ) → IsReuseToml dep5 text → toml_of dep5 ≡ Ok text
 text_given dep5 text is =
     ap (λ q. text_unless q dep5) is.no_question
-    ∙ both (nat_lt 16_777_216 (length (toml_text dep5))) (is_table (read_toml (toml_text dep5)) (table_of dep5))
-    (not_longer 16_777_216 (length (toml_text dep5)) (subst (λ t. length t ≤ 16_777_216) is.stated is.fits))
+    ∙ both (nat_lt LONGEST_FILE (length (toml_text dep5))) (is_table (read_toml (toml_text dep5)) (table_of dep5))
+    (not_longer LONGEST_FILE (length (toml_text dep5)) (subst (λ t. length t ≤ LONGEST_FILE) is.stated is.fits))
     (read_back dep5 (read_toml (toml_text dep5)) (ap read_toml (sym is.stated) ∙ is.reads_back))
     ∙ ap (λ t. Ok t) (sym is.stated)
   where
@@ -83,13 +84,13 @@ text_given dep5 text is =
 abbrev IsStatedRefusal : Dep5Value → Dep5Refusal → Type 0
 IsStatedRefusal dep5 e = IsTomlRefusal dep5 e × (e ≢ refusal.Memory)
 
-given_refusal : (dep5 : Dep5Value) (long same : Bool) (e : Dep5Refusal) → question_of dep5.files ≡ None → nat_lt 16_777_216 (length (toml_text dep5)) ≡ long → is_table (read_toml (toml_text dep5)) (table_of dep5) ≡ same → given long same (toml_text dep5) ≡ Err e → IsStatedRefusal dep5 e
+given_refusal : (dep5 : Dep5Value) (long same : Bool) (e : Dep5Refusal) → question_of dep5.files ≡ None → nat_lt LONGEST_FILE (length (toml_text dep5)) ≡ long → is_table (read_toml (toml_text dep5)) (table_of dep5) ≡ same → given long same (toml_text dep5) ≡ Err e → IsStatedRefusal dep5 e
 given_refusal dep5 true same e none long_is same_is h =
-    subst (IsStatedRefusal dep5) (let f : refusal.TooLong ≡ e = cc in f) ((none, over 16_777_216 (length (toml_text dep5)) long_is), λ f. cc)
+    subst (IsStatedRefusal dep5) (let f : refusal.TooLong ≡ e = cc in f) ((none, over LONGEST_FILE (length (toml_text dep5)) long_is), λ f. cc)
 given_refusal dep5 false true e none long_is same_is h = cc
 given_refusal dep5 false false e none long_is same_is h =
     subst (IsStatedRefusal dep5) (let f : refusal.NotToml ≡ e = cc in f)
-    ((none, not_over 16_777_216 (length (toml_text dep5)) long_is, no_table (read_toml (toml_text dep5)) dep5 same_is), λ f. cc)
+    ((none, not_over LONGEST_FILE (length (toml_text dep5)) long_is, no_table (read_toml (toml_text dep5)) dep5 same_is), λ f. cc)
 
 pub refusal_is : (dep5 : Dep5Value) (e : Dep5Refusal) → toml_of dep5 ≡ Err e → IsStatedRefusal dep5 e
 refusal_is dep5 e = by_question (question_of dep5.files) refl
@@ -97,7 +98,7 @@ refusal_is dep5 e = by_question (question_of dep5.files) refl
     by_question : (q : Option ℕ) → question_of dep5.files ≡ q → text_unless q dep5 ≡ Err e → IsStatedRefusal dep5 e
     by_question (Some line) f h = subst (IsStatedRefusal dep5) (let g : refusal.Question line ≡ e = cc in g) (f, λ g. cc)
     by_question None f h =
-        given_refusal dep5 (nat_lt 16_777_216 (length (toml_text dep5))) (is_table (read_toml (toml_text dep5)) (table_of dep5)) e f refl refl h
+        given_refusal dep5 (nat_lt LONGEST_FILE (length (toml_text dep5))) (is_table (read_toml (toml_text dep5)) (table_of dep5)) e f refl refl h
 
 -- ---- the text of the bytes of a dep5
 
@@ -109,7 +110,7 @@ converted_text bytes text = (read (dep5_of bytes) refl, λ found. ap converted_f
     read (Ok dep5) e h = (dep5, e, text_is dep5 text h)
     read (Err refused) e h = cc
 
-pub converted_fits : (bytes text : List ℕ) → converted bytes ≡ Ok text → length text ≤ 16_777_216
+pub converted_fits : (bytes text : List ℕ) → converted bytes ≡ Ok text → length text ≤ LONGEST_FILE
 converted_fits bytes text h =
     let found = (converted_text bytes text).0 h in
     found.2.fits

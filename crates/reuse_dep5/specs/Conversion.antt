@@ -1,5 +1,6 @@
 -- From the bytes of a dep5 to the text of the `REUSE.toml` that says the same.
 use Rattle.std.specs.Prelude.{ℕ, List, length, nat_lt, Option, Some, None, Result, Ok, Err, if◌then◌else◌}
+use Rattle.reuse_text.specs.declared.TheConstants.{LONGEST_FILE}
 use Rattle.reuse_dep5.specs.declared.refusal.Dep5Refusal.{Dep5Refusal}
 use Rattle.reuse_dep5.specs.declared.refusal.Dep5Refusal.TheVariants.{Question, NotToml, TooLong}
 use Rattle.reuse_dep5.specs.Dep5.{Dep5Value, dep5_of}
@@ -11,7 +12,7 @@ use Rattle.reuse_dep5.specs.SameData.{is_table}
 -- the stated text, unless it is over 16 MiB or isn't read back as the stated table
 abbrev pub text_of : Dep5Value → Result (List ℕ) Dep5Refusal
 text_of dep5 =
-    if nat_lt 16_777_216 (length (toml_text dep5)) then Err TooLong
+    if nat_lt LONGEST_FILE (length (toml_text dep5)) then Err TooLong
     else if is_table (read_toml (toml_text dep5)) (table_of dep5) then Ok (toml_text dep5)
     else Err NotToml
 

@@ -17,6 +17,7 @@ ghost use Rattle.reuse_dep5.specs.Conversion.{converted};
 
 use crate::glob::GlobPiece;
 use crate::refusal::{Dep5Cause, Dep5Refusal};
+use reuse_text::LONGEST_FILE;
 
 /// Paragraphs are read as a dep5 exactly where they are grammatical, and refused exactly by their first fault.
 pub fn dep5_is_grammatical()
@@ -64,7 +65,7 @@ pub fn stated_tables_are_known()
 /// refused exactly as the dep5 or its text is, and never for want of memory.
 pub fn conversions_are_stated()
     ensures text { (bytes text : List ℕ) → (converted bytes ≡ Ok text) ↔ ((dep5 : Dep5Value) × (dep5_of bytes ≡ Ok dep5) × IsReuseToml dep5 text) }
-    ensures fits { (bytes text : List ℕ) → converted bytes ≡ Ok text → length text ≤ 16_777_216 }
+    ensures fits { (bytes text : List ℕ) → converted bytes ≡ Ok text → length text ≤ LONGEST_FILE }
     ensures refused { (bytes : List ℕ) (e : Dep5Refusal) → (converted bytes ≡ Err e)
         ↔ ((e ≢ Dep5Refusal.Memory) × ((dep5_of bytes ≡ Err e) ⊎ ((dep5 : Dep5Value) × (dep5_of bytes ≡ Ok dep5) × IsTomlRefusal dep5 e))) }
 {}

@@ -3,6 +3,7 @@ use Rattle.std.proofs.Common.{◌≡◌, ℕ, ◌+◌, ◌-◌, ◌≤◌, ◌<�
 use Rattle.std.specs.Prelude.{◌||◌, nat_le, if◌then◌else◌}
 use Rattle.std.proofs.lemmas.List.{length-take-le}
 use Rattle.std.proofs.lemmas.Bool.Decides.{nat_tests}
+use Rattle.reuse_text.specs.declared.TheConstants.{LONGEST_FILE}
 use Rattle.reuse_text.specs.declared.LineKind.{LineKind}
 use Rattle.reuse_text.specs.declared.LineKind.TheVariants.{Lf, Crlf}
 use Rattle.reuse_text.specs.Text.{is_empty, spliced}
@@ -10,7 +11,7 @@ use Rattle.reuse_header.specs.declared.place.Place.{Place}
 use Rattle.reuse_header.specs.declared.writer.LineWriter.{LineWriter}
 use Rattle.reuse_header.specs.declared.writer.Format.{Format}
 use Rattle.reuse_header.specs.Writing.{ended_by}
-use Rattle.reuse_header.specs.Annotation.{ending_if, edited, size_limit}
+use Rattle.reuse_header.specs.Annotation.{ending_if, edited}
 use Rattle.reuse_header.specs.Bounded.{with_more, written, Writes}
 use Rattle.reuse_header.specs.Drafts.{edit_at, IsDraft}
 use Rattle.reuse_header.proofs.BoundedLemmas.{writes_more}
@@ -130,8 +131,8 @@ module _ (place : Place) (kind : LineKind) (room : ℕ) (lines : List (List ℕ)
       ∙ ap (λ (format : Format). with_more format.room (Some []) (ended_by format.kind (((first_lines ++ second_lines) ++ lines) ++ last_lines))) steps.format
       ∙ ap (with_more room (Some [])) all-bytes
 
-  module _ (file : List ℕ) (within : place.start + place.old_len ≤ length file) (short : length file ≤ size_limit) (is_room : room ≡ size_limit - (length file - place.old_len)) where
-    pub too_long : written w4 ≡ None → size_limit < length (edited file (edit_at place kind text))
+  module _ (file : List ℕ) (within : place.start + place.old_len ≤ length file) (short : length file ≤ LONGEST_FILE) (is_room : room ≡ LONGEST_FILE - (length file - place.old_len)) where
+    pub too_long : written w4 ≡ None → LONGEST_FILE < length (edited file (edit_at place kind text))
     too_long none =
         let over = none_fit room all (sym whole ∙ none) in
         omega (arith, over, is_room, short, within, length-spliced file all place.start place.old_len within)

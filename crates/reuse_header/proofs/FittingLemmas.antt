@@ -3,6 +3,7 @@ use Rattle.std.proofs.Common.{◌≡◌, ℕ, ◌+◌, ◌≤◌, Bool, true, fa
 use Rattle.std.specs.Prelude.{Ok, nat_lt}
 use Rattle.std.specs.Option.{option_map}
 use Rattle.std.proofs.lemmas.Bool.Decides.{nat_tests}
+use Rattle.reuse_text.specs.declared.TheConstants.{LONGEST_FILE}
 use Rattle.reuse_text.specs.Text.{lines_of, after_mark, text_of}
 use Rattle.reuse_notice.specs.declared.adding.Additions.{Additions}
 use Rattle.reuse_header.specs.declared.style.Style.{Style}
@@ -10,7 +11,7 @@ use Rattle.reuse_header.specs.declared.annotation.How.{How}
 use Rattle.reuse_header.specs.Styles.{punctuation_of}
 use Rattle.reuse_header.specs.Header.{HeaderSpan, span_in, header_of}
 use Rattle.reuse_header.specs.Writing.{new_info, block_text, neighbour_marks}
-use Rattle.reuse_header.specs.Annotation.{Edit, edited, size_limit, replaced_block, old_contents, edit_of, kind_of_file, annotation_of}
+use Rattle.reuse_header.specs.Annotation.{Edit, edited, replaced_block, old_contents, edit_of, kind_of_file, annotation_of}
 use Rattle.reuse_header.specs.Neighbour.{replaced_contents, neighbour_edit, neighbour_annotation_of}
 use Rattle.reuse_header.proofs.CutLemmas.{span_cuts, block_within, body_within, mark_within}
 use Rattle.reuse_header.proofs.SpanLemmas.{neighbour_end-within}
@@ -37,16 +38,16 @@ neighbour_within true file text joined = let h = neighbour_end-within joined fil
 neighbour_within false file text joined = omega (arith, mark_within file)
 
 pub annotation_fits : (style : Style) (how : How) (additions : Additions) (file : List ℕ) (edit : Edit) → text_of (lines_of (after_mark file)) ≡ after_mark file → annotation_of style how additions file ≡ Ok edit
-    → (edit.start + edit.old_len ≤ length file) × (length (edited file edit) ≤ size_limit)
+    → (edit.start + edit.old_len ≤ length file) × (length (edited file edit) ≤ LONGEST_FILE)
 annotation_fits style how additions file edit law e =
     let found = option_map (span_in file) (header_of style file) in
     let w = annotated_ok style how additions file found edit refl e in
     let text = block_text w.0 (kind_of_file file) (new_info (punctuation_of style) (old_contents (replaced_block how.replace found)) how.merge additions) in
-    (subst (IsWithin file) (sym w.2.same) (edit_within style file text found how.replace law refl), not_over size_limit (length (edited file edit)) w.2.few)
+    (subst (IsWithin file) (sym w.2.same) (edit_within style file text found how.replace law refl), not_over LONGEST_FILE (length (edited file edit)) w.2.few)
 
 pub neighbour_fits : (how : How) (additions : Additions) (file : List ℕ) (edit : Edit) → ((other : List ℕ) → text_of (lines_of other) ≡ other) → neighbour_annotation_of how additions file ≡ Ok edit
-    → (edit.start + edit.old_len ≤ length file) × (length (edited file edit) ≤ size_limit)
+    → (edit.start + edit.old_len ≤ length file) × (length (edited file edit) ≤ LONGEST_FILE)
 neighbour_fits how additions file edit joined e =
     let w = neighbour_ok how additions file edit e in
     let text = block_text neighbour_marks (kind_of_file file) (new_info [] (replaced_contents how.replace file) how.merge additions) in
-    (subst (IsWithin file) (sym w.same) (neighbour_within how.replace file text joined), not_over size_limit (length (edited file edit)) w.few)
+    (subst (IsWithin file) (sym w.same) (neighbour_within how.replace file text joined), not_over LONGEST_FILE (length (edited file edit)) w.few)

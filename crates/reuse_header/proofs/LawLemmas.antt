@@ -4,6 +4,7 @@ use Rattle.std.specs.Prelude.{Ok, Err, if◌then◌else◌, Contains, ◌↔◌,
 use Rattle.std.proofs.lemmas.Bool.{false≢true}
 use Rattle.std.proofs.lemmas.List.Elements.{Contains-append_left}
 use Rattle.std.specs.Option.{option_map}
+use Rattle.reuse_text.specs.declared.TheConstants.{LONGEST_FILE}
 use Rattle.reuse_text.specs.declared.LineKind.{LineKind}
 use Rattle.reuse_text.specs.Text.{TextLine, AreLines, lines_of, file_lines, after_mark, mark_len_of, text_of, spliced}
 use Rattle.reuse_notice.specs.declared.infos.Info.{Info}
@@ -21,7 +22,7 @@ use Rattle.reuse_header.specs.Marks.{LineMarks, marks_of}
 use Rattle.reuse_header.specs.Body.{body_lines, place_in}
 use Rattle.reuse_header.specs.Header.{HeaderSpan, span_in, header_of, neighbour_contents}
 use Rattle.reuse_header.specs.Writing.{new_info, block_text, block_lines, ended_by, neighbour_marks}
-use Rattle.reuse_header.specs.Annotation.{Edit, new_bytes, edited, text_start, text_end, size_limit, chosen_form, replaced_block, old_contents, edit_of, kind_of_file, annotation_of}
+use Rattle.reuse_header.specs.Annotation.{Edit, new_bytes, edited, text_start, text_end, chosen_form, replaced_block, old_contents, edit_of, kind_of_file, annotation_of}
 use Rattle.reuse_header.specs.Neighbour.{is_text, neighbour_end, replaced_contents, neighbour_edit, neighbour_stands, neighbour_written, neighbour_annotation_of}
 use Rattle.reuse_header.specs.declared.blocks.BlockSize.{BlockSize}
 use Rattle.reuse_header.specs.Blocks.{contents_of}
@@ -130,7 +131,7 @@ replacing_keeps same keeping style how additions file edit span yes_replace e is
 
 pub record NeighbourWritten (how : How) (additions : Additions) (file : List ℕ) (edit : Edit) : Type 0 where
   pub same : edit ≡ neighbour_edit how.replace file (block_text neighbour_marks (kind_of_file file) (new_info [] (replaced_contents how.replace file) how.merge additions))
-  pub few : nat_lt size_limit (length (edited file edit)) ≡ false
+  pub few : nat_lt LONGEST_FILE (length (edited file edit)) ≡ false
   pub stands : neighbour_stands how.replace (edited file edit) (text_start edit) (text_end edit) ≡ true
 
 pub neighbour_ok : (how : How) (additions : Additions) (file : List ℕ) (edit : Edit) → neighbour_annotation_of how additions file ≡ Ok edit → NeighbourWritten how additions file edit
@@ -144,7 +145,7 @@ neighbour_ok how additions file edit e = by_text (is_text file) e
         let s = settled_ok (edited file first) first edit (neighbour_stands how.replace (edited file first) (text_start first) (text_end first)) e in
         record {
           same = s.same;
-          few = ap (λ (x : Edit). nat_lt size_limit (length (edited file x))) s.same ∙ s.few;
+          few = ap (λ (x : Edit). nat_lt LONGEST_FILE (length (edited file x))) s.same ∙ s.few;
           stands = ap (λ (x : Edit). neighbour_stands how.replace (edited file x) (text_start x) (text_end x)) s.same ∙ s.found;
         }
 

@@ -5,6 +5,7 @@ use Rattle.std.proofs.lemmas.Bool.{eqb-true, eq-eqb, and_parts, leb-true, false�
 use Rattle.std.proofs.lemmas.List.{append-nil, map-append, length-map}
 use Rattle.std.proofs.lemmas.List.Concat.{flat_map-append}
 use Rattle.std.proofs.Math.Seq.{drop-append_seam, take-append_seam}
+use Rattle.reuse_text.specs.declared.TheConstants.{LONGEST_FILE}
 use Rattle.reuse_text.specs.declared.LineKind.{LineKind}
 use Rattle.reuse_text.specs.declared.LineKind.TheVariants.{Lf, Crlf}
 use Rattle.reuse_text.specs.Text.{TextLine, IsLine, AreLines, line_bytes, ending_bytes, lines_of, placed, file_lines, after_mark, mark_len_of, text_of, ends_in_return, spliced}
@@ -21,7 +22,7 @@ use Rattle.reuse_header.specs.Body.{is_barrier, open_contents, place_in}
 use Rattle.reuse_header.specs.Header.{neighbour_contents}
 use Rattle.reuse_header.specs.Blocks.{without_returns}
 use Rattle.reuse_header.specs.Writing.{new_info, neighbour_marks, inner_lines, block_lines, block_text, ended_by}
-use Rattle.reuse_header.specs.Annotation.{Edit, edited, text_start, text_end, size_limit, settled, replacement, insertion, kind_of_file, made_by}
+use Rattle.reuse_header.specs.Annotation.{Edit, edited, text_start, text_end, settled, replacement, insertion, kind_of_file, made_by}
 use Rattle.reuse_header.specs.Neighbour.{is_text, closed_lines, neighbour_end, replaced_contents, neighbour_edit, neighbour_stands, neighbour_written, neighbour_annotation_of}
 use Rattle.reuse_header.specs.Splices.{answer_of}
 use Rattle.reuse_header.specs.Reading.{IsSayable}
@@ -185,7 +186,7 @@ stands_yes made start end p q =
 
 -- the block where it stands, written again
 neighbour_again : (made : List ℕ) (info : Info) → (let edit = replacement (mark_len_of made) (neighbour_end made) (block_text neighbour_marks (kind_of_file made) info) in
-    edited made edit ≡ made → nat_lt size_limit (length made) ≡ false → neighbour_stands true made (text_start edit) (text_end edit) ≡ true → neighbour_written true made info ≡ Ok edit)
+    edited made edit ≡ made → nat_lt LONGEST_FILE (length made) ≡ false → neighbour_stands true made (text_start edit) (text_end edit) ≡ true → neighbour_written true made info ≡ Ok edit)
 unfolding neighbour_written neighbour_edit
 neighbour_again made info same few stands =
     let edit = replacement (mark_len_of made) (neighbour_end made) (block_text neighbour_marks (kind_of_file made) info) in

@@ -5,6 +5,7 @@ use Rattle.std.specs.Option.{option_map}
 use Rattle.std.proofs.lemmas.Slice.Eq.{bytes_eq-Decides}
 use Rattle.std.proofs.lemmas.List.{append-nil}
 use Rattle.std.proofs.Math.Seq.{drop-append_seam, take-append_seam}
+use Rattle.reuse_text.specs.declared.TheConstants.{LONGEST_FILE}
 use Rattle.reuse_text.specs.declared.LineKind.{LineKind}
 use Rattle.reuse_text.specs.Text.{file_lines, after_mark, spliced}
 use Rattle.reuse_notice.specs.declared.infos.Info.{Info}
@@ -22,7 +23,7 @@ use Rattle.reuse_header.specs.Styles.{punctuation_of}
 use Rattle.reuse_header.specs.Marks.{LineMarks, marks_of}
 use Rattle.reuse_header.specs.Header.{HeaderSpan, span_in, header_of}
 use Rattle.reuse_header.specs.Writing.{new_info, block_text, block_lines, ended_by, holds_closer}
-use Rattle.reuse_header.specs.Annotation.{Edit, edited, text_start, text_end, size_limit, has_lines, is_last_ended, prefix_lines, chosen_form, replaced_block, old_contents, settled, edit_of, kind_of_file, stands_at, written_by, annotation_of, made_by}
+use Rattle.reuse_header.specs.Annotation.{Edit, edited, text_start, text_end, has_lines, is_last_ended, prefix_lines, chosen_form, replaced_block, old_contents, settled, edit_of, kind_of_file, stands_at, written_by, annotation_of, made_by}
 use Rattle.reuse_header.specs.Splices.{splice_at, answer_of}
 use Rattle.reuse_header.specs.Laws.{IsBlockText, AreContents, EndsPlainly, info_written}
 use Rattle.reuse_header.proofs.WrittenLemmas.{error_is_ok}
@@ -67,7 +68,7 @@ pub no_splice : (made : List ℕ) (start len : ℕ) (new : List ℕ) → spliced
 no_splice made start len new e =
     ap (λ (b : Bool). if b then None else Some (record { at = start; old = take len (drop start made); new = new })) ((bytes_eq-Decides (spliced made start len new) made).1 e)
 
-pub settled_yes : (made : List ℕ) (edit : Edit) (stands : Bool) → nat_lt size_limit (length made) ≡ false → stands ≡ true → settled made edit stands ≡ Ok edit
+pub settled_yes : (made : List ℕ) (edit : Edit) (stands : Bool) → nat_lt LONGEST_FILE (length made) ≡ false → stands ≡ true → settled made edit stands ≡ Ok edit
 settled_yes made edit stands few found =
     ap (λ (b : Bool). if b then Err TooLong else (if stands then Ok edit else Err Unsettled)) few ∙ ap (λ (b : Bool). if b then Ok edit else Err Unsettled) found
 
@@ -107,7 +108,7 @@ same_text file edit marks info is good begins plain = by (block_lines marks info
 -- the block where it stands, written again
 written_again : (style : Style) (made : List ℕ) (span : HeaderSpan) (info : Info) (marks : LineMarks) → holds_closer marks info ≡ false
     → (let edit = edit_of style made (Some span) (block_text marks (kind_of_file made) info) in
-    (edited made edit ≡ made) → nat_lt size_limit (length made) ≡ false → stands_at style made (text_start edit) (text_end edit) ≡ true → written_by style made (Some span) info (Some marks) ≡ Ok edit)
+    (edited made edit ≡ made) → nat_lt LONGEST_FILE (length made) ≡ false → stands_at style made (text_start edit) (text_end edit) ≡ true → written_by style made (Some span) info (Some marks) ≡ Ok edit)
 unfolding written_by
 written_again style made span info marks clear same few stands =
     let edit = edit_of style made (Some span) (block_text marks (kind_of_file made) info) in

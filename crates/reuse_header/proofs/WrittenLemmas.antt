@@ -3,6 +3,7 @@ use Rattle.std.proofs.Common.{◌≡◌, ℕ, ◌+◌, ◌-◌, ◌≤◌, Bool,
 use Rattle.std.specs.Prelude.{Ok, Err, nat_lt, if◌then◌else◌}
 use Rattle.std.proofs.Math.Seq.{drop-append-add}
 use Rattle.std.proofs.lemmas.List.{drop-drop}
+use Rattle.reuse_text.specs.declared.TheConstants.{LONGEST_FILE}
 use Rattle.reuse_text.specs.Text.{spliced}
 use Rattle.reuse_notice.specs.declared.infos.Info.{Info}
 use Rattle.reuse_header.specs.declared.style.Style.{Style}
@@ -11,7 +12,7 @@ use Rattle.reuse_header.specs.declared.annotation.HeaderRefusal.TheVariants.{NoS
 use Rattle.reuse_header.specs.Marks.{LineMarks}
 use Rattle.reuse_header.specs.Header.{HeaderSpan}
 use Rattle.reuse_header.specs.Writing.{block_text, holds_closer}
-use Rattle.reuse_header.specs.Annotation.{Edit, edited, text_start, text_end, size_limit, settled, stands_at, edit_of, kind_of_file, written_by}
+use Rattle.reuse_header.specs.Annotation.{Edit, edited, text_start, text_end, settled, stands_at, edit_of, kind_of_file, written_by}
 use Rattle.reuse_header.specs.Laws.{part}
 
 pub error_is_ok : {X : Type 0} (e : HeaderRefusal) (x : X) → Err e ≡ Ok x → ⊥
@@ -19,13 +20,13 @@ error_is_ok e x h = cc
 
 pub record IsSettled (made : List ℕ) (first edit : Edit) (is_found : Bool) : Type 0 where
   pub same : edit ≡ first
-  pub few : nat_lt size_limit (length made) ≡ false
+  pub few : nat_lt LONGEST_FILE (length made) ≡ false
   pub found : is_found ≡ true
 
 pub settled_ok : (made : List ℕ) (first edit : Edit) (is_found : Bool) → settled made first is_found ≡ Ok edit → IsSettled made first edit is_found
-settled_ok made first edit is_found e = by_size (nat_lt size_limit (length made)) refl is_found e
+settled_ok made first edit is_found e = by_size (nat_lt LONGEST_FILE (length made)) refl is_found e
   where
-    by_size : (long : Bool) → nat_lt size_limit (length made) ≡ long → (found : Bool) → (if long then Err TooLong else (if found then Ok first else Err Unsettled)) ≡ Ok edit → IsSettled made first edit found
+    by_size : (long : Bool) → nat_lt LONGEST_FILE (length made) ≡ long → (found : Bool) → (if long then Err TooLong else (if found then Ok first else Err Unsettled)) ≡ Ok edit → IsSettled made first edit found
     by_size true is found e = absurd (error_is_ok TooLong edit e)
     by_size false is true e = record { same = cc; few = is; found = refl }
     by_size false is false e = absurd (error_is_ok Unsettled edit e)
@@ -34,7 +35,7 @@ settled_ok made first edit is_found e = by_size (nat_lt size_limit (length made)
 pub record IsWritten (style : Style) (file : List ℕ) (old : Option HeaderSpan) (info : Info) (marks : LineMarks) (edit : Edit) : Type 0 where
   pub same : edit ≡ edit_of style file old (block_text marks (kind_of_file file) info)
   pub clear : holds_closer marks info ≡ false
-  pub few : nat_lt size_limit (length (edited file edit)) ≡ false
+  pub few : nat_lt LONGEST_FILE (length (edited file edit)) ≡ false
   pub stands : stands_at style (edited file edit) (text_start edit) (text_end edit) ≡ true
 
 pub written_ok : (style : Style) (file : List ℕ) (old : Option HeaderSpan) (info : Info) (marks : Option LineMarks) (edit : Edit) → written_by style file old info marks ≡ Ok edit
@@ -54,7 +55,7 @@ written_ok style file old info (Some m) edit e = (m, refl, by_closer (holds_clos
         record {
           same = s.same;
           clear = is;
-          few = ap (λ (x : Edit). nat_lt size_limit (length (edited file x))) s.same ∙ s.few;
+          few = ap (λ (x : Edit). nat_lt LONGEST_FILE (length (edited file x))) s.same ∙ s.few;
           stands = ap (λ (x : Edit). stands_at style (edited file x) (text_start x) (text_end x)) s.same ∙ s.found;
         }
 

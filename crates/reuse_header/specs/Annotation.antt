@@ -2,6 +2,7 @@
 -- manual page of `annotate`; form, place and refusals: docs/SPECIFICATION.md, "What annotate writes").
 use Rattle.std.specs.Prelude.{ℕ, ◌+◌, ◌-◌, Bool, true, false, not, ◌&&◌, ◌==◌, nat_lt, List, [], ◌∷◌, ◌++◌, length, Option, None, Some, Result, Ok, Err, is_some, unwrap_or, if◌then◌else◌}
 use Rattle.std.specs.Option.{option_map, option_map_or, option_or}
+use Rattle.reuse_text.specs.declared.TheConstants.{LONGEST_FILE}
 use Rattle.reuse_text.specs.declared.LineKind.{LineKind}
 use Rattle.reuse_text.specs.Text.{ending_bytes, kind_of, lines_of, after_mark, file_lines, spliced, is_empty}
 use Rattle.reuse_notice.specs.declared.infos.Info.{Info}
@@ -115,14 +116,10 @@ replaced_block replace found = if replace then found else None
 abbrev pub old_contents : Option HeaderSpan → List (List ℕ)
 old_contents old = option_map_or (λ span. span.contents) old []
 
--- the longest file, 16 MiB
-abbrev pub size_limit : ℕ
-size_limit = 16777216
-
 -- an edit, unless the file that it makes is too long, or the block is not found again in it
 abbrev pub settled : List ℕ → Edit → Bool → Result Edit HeaderRefusal
 settled made edit is_found =
-    if nat_lt size_limit (length made) then Err TooLong else (if is_found then Ok edit else Err Unsettled)
+    if nat_lt LONGEST_FILE (length made) then Err TooLong else (if is_found then Ok edit else Err Unsettled)
 
 -- whether the header block of a file stands from one place to another
 abbrev pub stands_at : Style → List ℕ → ℕ → ℕ → Bool

@@ -1,12 +1,13 @@
 -- Edits as they are made: first their place, then their bytes (this project's own).
 use Rattle.std.specs.Prelude.{◌≡◌, ℕ, ◌<◌, ◌≤◌, List, ◌++◌, length, Option, None, Some, Result, Ok, Err}
+use Rattle.reuse_text.specs.declared.TheConstants.{LONGEST_FILE}
 use Rattle.reuse_text.specs.declared.LineKind.{LineKind}
 use Rattle.reuse_header.specs.declared.place.Place.{Place}
 use Rattle.reuse_header.specs.declared.draft.Draft.{Draft}
 use Rattle.reuse_header.specs.declared.annotation.HeaderRefusal.{HeaderRefusal}
 use Rattle.reuse_header.specs.declared.annotation.HeaderRefusal.TheVariants.{NotText, NoSuchForm, HoldsCloser, TooLong, Unsettled, Memory}
 use Rattle.reuse_header.specs.Header.{HeaderSpan}
-use Rattle.reuse_header.specs.Annotation.{Edit, ending_if, new_bytes, edited, text_start, text_end, size_limit}
+use Rattle.reuse_header.specs.Annotation.{Edit, ending_if, new_bytes, edited, text_start, text_end}
 
 -- the edit that puts a text into a place
 abbrev pub edit_at : Place → LineKind → List ℕ → Edit
@@ -25,12 +26,12 @@ pub record IsDraft (file : List ℕ) (edit : Edit) (draft : Draft) : Type 0 wher
   pub new : draft.new ≡ new_bytes edit
   pub text_start : draft.text_start ≡ text_start edit
   pub text_end : draft.text_end ≡ text_end edit
-  pub short : length (edited file edit) ≤ size_limit
+  pub short : length (edited file edit) ≤ LONGEST_FILE
 
 -- a draft of the edit, or the refusal of a file that is too long
 abbrev pub Drafts : List ℕ → Edit → Result Draft HeaderRefusal → Type 0
 Drafts file edit (Ok draft) = IsDraft file edit draft
-Drafts file edit (Err TooLong) = size_limit < length (edited file edit)
+Drafts file edit (Err TooLong) = LONGEST_FILE < length (edited file edit)
 Drafts file edit (Err (Memory e)) = Unit {0}
 Drafts file edit (Err NotText) = ⊥
 Drafts file edit (Err NoSuchForm) = ⊥

@@ -3,18 +3,14 @@ ghost use Rattle.std.specs.Prelude.{◌≡◌, ◌+◌, ◌-◌, ◌^◌, ◌<�
 ghost use Rattle.reuse_text.specs.Text.{spliced};
 ghost use Rattle.reuse_header.specs.MarkViews.{marks_view};
 ghost use Rattle.reuse_header.specs.Writing.{block_text};
-ghost use Rattle.reuse_header.specs.Annotation.{size_limit};
 ghost use Rattle.reuse_header.specs.Drafts.{edit_at, Drafts};
 
 use crate::annotation::HeaderRefusal;
 use crate::place::Place;
 use crate::writer::{Format, LineWriter, Marks};
 use reuse_notice::Info;
-use reuse_text::{Bytes, LineKind, splice};
+use reuse_text::{Bytes, LONGEST_FILE, LineKind, splice};
 use std::alloc::{AllocError, Global};
-
-// The longest file, 16 MiB.
-const SIZE_LIMIT: usize = 16_777_216;
 
 // The bytes that take the place of others, and where the block's text stands in the new file.
 #[derive(Debug, Drop)]
@@ -47,10 +43,10 @@ pub(crate) fn make_draft(
     info: &Info,
 ) -> Result<Draft, HeaderRefusal>
     requires within { place.start + place.old_len ≤ length file.now }
-    requires short { length file.now ≤ size_limit }
+    requires short { length file.now ≤ LONGEST_FILE }
     ensures { Drafts file.now (edit_at place kind (block_text (marks_view marks) kind info.now)) result }
 {
-    let room = SIZE_LIMIT - (file.len() - place.old_len);
+    let room = LONGEST_FILE - (file.len() - place.old_len);
     let mut writer = LineWriter::new(alloc, Format { kind, room });
     writer.empty_line_if(place.ends_line)?;
     writer.empty_line_if(place.empty_before)?;

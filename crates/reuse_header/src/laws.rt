@@ -8,7 +8,7 @@ ghost use Rattle.reuse_header.specs.Search.{place_of};
 ghost use Rattle.reuse_header.specs.Header.{Header, HeaderSpan, header_in, header_of, span_in, neighbour_contents};
 ghost use Rattle.reuse_notice.specs.declared.adding.Additions.{Additions};
 ghost use Rattle.reuse_header.specs.declared.annotation.How.{How};
-ghost use Rattle.reuse_header.specs.Annotation.{Edit, size_limit, annotation_of, annotated, edited, new_bytes, kind_of_file, text_start, text_end};
+ghost use Rattle.reuse_header.specs.Annotation.{Edit, annotation_of, annotated, edited, new_bytes, kind_of_file, text_start, text_end};
 ghost use Rattle.reuse_header.specs.Neighbour.{is_text, neighbour_annotation_of, neighbour_annotated, neighbour_end};
 ghost use Rattle.reuse_header.specs.Writing.{block_lines, block_text, neighbour_marks};
 ghost use Rattle.reuse_header.specs.Marks.{LineMarks, marks_of};
@@ -38,7 +38,7 @@ use reuse_notice::{
     holders_are_values, longest_prefix_counts, merged_notices_are_written, merging_keeps_holders,
     repeating_adds_nothing, sets_are_one,
 };
-use reuse_text::lines_are_one;
+use reuse_text::{LONGEST_FILE, lines_are_one};
 
 // What the laws of the crates below say, as the proofs of this crate's laws take it.
 fn lower_laws()
@@ -103,9 +103,9 @@ pub fn neighbours_are_cut_at_barriers()
 /// The edit that annotating is lies within its file, and the file that it makes has at most 16 MiB.
 pub fn annotations_fit()
     ensures files { (style : Style) (how : How) (additions : Additions) (file : List ℕ) (edit : Edit) → annotation_of style how additions file ≡ Ok edit
-        → (edit.start + edit.old_len ≤ length file) × (length (edited file edit) ≤ size_limit) }
+        → (edit.start + edit.old_len ≤ length file) × (length (edited file edit) ≤ LONGEST_FILE) }
     ensures neighbours { (how : How) (additions : Additions) (file : List ℕ) (edit : Edit) → neighbour_annotation_of how additions file ≡ Ok edit
-        → (edit.start + edit.old_len ≤ length file) × (length (edited file edit) ≤ size_limit) }
+        → (edit.start + edit.old_len ≤ length file) × (length (edited file edit) ≤ LONGEST_FILE) }
 {
     lines_are_one();
 }

@@ -2,7 +2,6 @@
 ghost use Rattle.std.specs.Prelude.{◌≡◌, ◌≤◌, IfOk, length, map};
 ghost use Rattle.reuse_header.specs.Open.{open_left};
 ghost use Rattle.reuse_header.specs.Blocks.{without_returns};
-ghost use Rattle.reuse_header.specs.Annotation.{size_limit};
 ghost use Rattle.reuse_header.specs.Neighbour.{is_text, neighbour_annotation_of, neighbour_stands, neighbour_written, replaced_contents};
 ghost use Rattle.reuse_header.specs.Splices.{IsDue, answer_of};
 
@@ -14,7 +13,7 @@ use crate::place::{neighbour_end, neighbour_place};
 use crate::search::trim_returns;
 use crate::writer::Marks;
 use reuse_notice::{Additions, Info};
-use reuse_text::{Lines, is_text, line_kind, mark_len};
+use reuse_text::{LONGEST_FILE, Lines, is_text, line_kind, mark_len};
 use std::alloc::{AllocError, Global};
 
 // A neighbour file has no marks of a comment.
@@ -39,7 +38,7 @@ pub fn annotate_neighbour(
     additions: &Additions,
     how: &How,
 ) -> Result<Option<Splice>, HeaderRefusal>
-    requires { length file.now ≤ size_limit }
+    requires { length file.now ≤ LONGEST_FILE }
     ensures { IsDue (answer_of file.now (neighbour_annotation_of how.now additions.now file.now)) result }
 {
     if !is_text_file(file) {
@@ -65,7 +64,7 @@ fn write_neighbour(
     replace: bool,
     info: &Info,
 ) -> Result<Option<Splice>, HeaderRefusal>
-    requires { length file.now ≤ size_limit }
+    requires { length file.now ≤ LONGEST_FILE }
     ensures { IsDue (answer_of file.now (neighbour_written replace file.now info.now)) result }
 {
     let place = neighbour_place(file, replace);

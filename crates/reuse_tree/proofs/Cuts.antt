@@ -2,7 +2,7 @@
 use Rattle.std.proofs.Common.{◌≡◌, ℕ, ◌+◌, ◌-◌, List, ◌++◌, length, take, drop, Some, refl, sym, ap, ◌∙◌, arith, append_assoc, length-append, length-take, length-drop, drop-drop}
 use Rattle.std.proofs.lemmas.List.{take-append-drop, take_at, drop_at}
 use Rattle.std.specs.List.{slice_range}
-use Rattle.reuse_tree.specs.Change.{Holds, HoldsPart}
+use Rattle.reuse_tree.specs.Change.{HoldsBetween, HoldsPart}
 
 -- where a front has this length, the part and the back are these cuts of the file
 pub record Cuts (file front part back : List ℕ) (at rest : ℕ) : Type 0 where
@@ -18,7 +18,7 @@ range_at front part back at e =
     ap (λ k. take k (drop at (front ++ part ++ back))) n ∙ ap (take (length part)) (ap (drop at) (append_assoc front part back) ∙ drop_at front (part ++ back) at e) ∙ take_at part back (length part) refl
 
 -- what holds the part is cut so
-pub cuts : (file front part back : List ℕ) (at rest : ℕ) → Holds (Some file) front part back at rest → Cuts file front part back at rest
+pub cuts : (file front part back : List ℕ) (at rest : ℕ) → HoldsBetween (Some file) front part back at rest → Cuts file front part back at rest
 cuts file front part back at rest h =
     let whole : file ≡ front ++ part ++ back = let e = h.whole in cc in
     record {

@@ -6,10 +6,10 @@ use Rattle.reuse_text.specs.Text.{spliced}
 use Rattle.reuse_tree.specs.declared.change.Change.{Change}
 use Rattle.reuse_tree.specs.declared.change.Change.TheVariants.{Make, Drop, Splice}
 use Rattle.reuse_tree.specs.declared.digest.Seal.{Seal}
-use Rattle.reuse_tree.specs.Digest.{IsDigestOf, IsSealOf, swapped}
-use Rattle.reuse_tree.specs.Change.{digest_before, digest_after, inverse_of, is_sealed, HoldsPart, TurnsByRange, Turns, IsBefore, IsAfter, IsBeforeByRange, IsAfterByRange}
+use Rattle.reuse_tree.specs.Digest.{IsDigestOf, IsSealOf}
+use Rattle.reuse_tree.specs.Change.{digest_before, digest_after, inverse_of, is_sealed, HoldsPart, TurnsByRange, Turns, IsBefore, IsAfter}
 use Rattle.reuse_tree.proofs.Cuts.{cuts}
-use Rattle.reuse_tree.proofs.Turning.{turns_once_by_range, turns_back_by_range, turns_back, inverse_before, inverse_after, is_sealed-inverse}
+use Rattle.reuse_tree.proofs.Turning.{turns_once_by_range, turns_back, inverse_before, inverse_after, is_sealed-inverse}
 
 -- a change that leads from the file by range and length leads from it where the digests are those of the files
 pub sealed_before : (change : Change) (before after : Option (List ℕ)) (P : Type 0) → TurnsByRange change before after
@@ -37,20 +37,15 @@ module _ (path : List ℕ) (at : ℕ) (old new : List ℕ) (rest : ℕ) (seal : 
       let back = ap (λ b. Some (h.0 ++ new ++ b)) c.behind in
       (h.0, h.1, h.2, record { whole = front ∙ back; before = h.2.before; behind = h.2.behind })
 
-  pub splice_sealed_before : (P : Type 0) → IsBeforeByRange (Splice path at old new rest seal) (Some file)
+  pub splice_sealed_before : (P : Type 0) → HoldsPart (Some file) old at rest
       → P ↔ IsSealOf seal file (spliced file at (length old) new) → P ↔ IsBefore (Splice path at old new rest seal) (Some file)
-  splice_sealed_before P b h =
+  splice_sealed_before P held h =
       let d = seal_digests seal file (spliced file at (length old) new) in
-      sealed_before (Splice path at old new rest seal) (Some file) _ P (splices (b.1.0, b.1.1, b.1.2)) (λ p. d.0 (h.0 p), λ x. h.1 (d.1 x))
+      sealed_before (Splice path at old new rest seal) (Some file) _ P (splices held) (λ p. d.0 (h.0 p), λ x. h.1 (d.1 x))
 
-pub splice_sealed_after : (path : List ℕ) (at : ℕ) (old new : List ℕ) (rest : ℕ) (seal : Option Seal) (file : List ℕ) (P : Type 0)
-    → IsAfterByRange (Splice path at old new rest seal) (Some file) → P ↔ IsSealOf (option_map swapped seal) file (spliced file at (length new) old)
-    → P ↔ IsAfter (Splice path at old new rest seal) (Some file)
-splice_sealed_after path at old new rest seal file P a h =
-    let change = Splice path at old new rest seal in
-    let back = splice_sealed_before path at new old rest (option_map swapped seal) file P (a.0, turns_back_by_range change a.0 (Some file) a.1) h in
-    let ends = inverse_before change (Some file) in
-    (λ p. ends.0 (back.0 p), λ x. back.1 (ends.1 x))
+-- what the way back can be made of is after the change
+pub sealed_after : (change : Change) (file : Option (List ℕ)) (P : Type 0) → P ↔ IsBefore (inverse_of change) file → P ↔ IsAfter change file
+sealed_after change file P back = let ends = inverse_before change file in (λ p. ends.0 (back.0 p), λ a. back.1 (ends.1 a))
 
 -- a file after a sealed change has the digest of the file that the change led to
 pub same_after : (change : Change) (before after file : Option (List ℕ)) → Turns change before after → IsTrue (is_sealed change) → IsAfter change file → option_map sha256 file ≡ option_map sha256 after

@@ -25,14 +25,14 @@ left_after true (Some zero) = Some 0
 left_after false (Some zero) = None
 
 -- a listing or a reading: at its turn it fails here alone, and else only inside
-pub record Asks {S T : Type 0} {n : ℕ} (stays : Bool) (before after : FaultyStore S n) (answer : Result T StoreFault) : Type 0 where
+pub record ReadsWithFaults {S T : Type 0} {n : ℕ} (stays : Bool) (before after : FaultyStore S n) (answer : Result T StoreFault) : Type 0 where
   pub counted : after.left ≡ left_after stays before.left
   pub effect : after.takes_effect ≡ before.takes_effect
   pub passed : before.left ≢ Some 0 → after.failed ≡ before.failed
   pub burnt : before.left ≡ Some 0 → (answer ≡ Err Device) × (after.inner ≡ before.inner)
 
 -- a put or a removal: the first that fails here is the only one that may take effect, and where it is told to it is passed on
-pub record Makes {S T : Type 0} {n : ℕ} (stays : Bool) (Passes : S → S → Result T StoreFault → Type 0) (before after : FaultyStore S n) (answer : Result T StoreFault) : Type 0 where
+pub record WritesWithFaults {S T : Type 0} {n : ℕ} (stays : Bool) (Passes : S → S → Result T StoreFault → Type 0) (before after : FaultyStore S n) (answer : Result T StoreFault) : Type 0 where
   pub counted : after.left ≡ left_after stays before.left
   pub passed : before.left ≢ Some 0 → (after.failed ≡ before.failed) × (after.takes_effect ≡ before.takes_effect)
   pub burnt : before.left ≡ Some 0 → (answer ≡ Err Device) × (after.takes_effect ≡ false)

@@ -1,9 +1,9 @@
-// A change of one file, and its inverse.
+//! A change of one file, and its inverse.
 ghost use Rattle.std.specs.Prelude.{◌≡◌, ◌≢◌, ◌↔◌, ◌+◌, ◌≤◌, ◌++◌, ℕ, List, IfOk, IsTrue, length, take, drop};
 ghost use Rattle.std.specs.Option.{option_copied, option_map};
 ghost use Rattle.reuse_text.specs.Text.{spliced};
 ghost use Rattle.reuse_tree.specs.Digest.{IsDigestOf, IsSealOf, NothingHas, swapped};
-ghost use Rattle.reuse_tree.specs.Change.{HoldsPart};
+ghost use Rattle.reuse_tree.specs.Change.{HoldsPart, IsBefore};
 
 use crate::{Digest, PathText, Seal};
 use reuse_text::{Bytes, splice};
@@ -47,7 +47,7 @@ pub enum Change {
 }
 
 impl Change {
-    ghost use Rattle.reuse_tree.specs.Change.{path_of, inverse_of, is_sealed, sealed_make, sealed_drop, sealed_splice, IsProper, IsBefore, IsAfter, IsBeforeByRange, IsAfterByRange, Records, Turns};
+    ghost use Rattle.reuse_tree.specs.Change.{path_of, inverse_of, is_sealed, sealed_make, sealed_drop, sealed_splice, IsProper, IsAfter, IsBeforeByRange, IsAfterByRange, Records, Turns};
 
     /// A file made of these bytes, sealed.
     pub fn sealed_make(path: PathText, new: Bytes) -> Change
@@ -259,10 +259,7 @@ impl Change {
                 new,
                 seal,
                 ..
-            } => {
-                let Some(file) = file else { unreachable!() };
-                is_seal_of(*seal, file, *at, old.len(), new.as_slice())
-            }
+            } => has_seal(file, *at, old, new, *seal),
         }
     }
 
@@ -280,10 +277,7 @@ impl Change {
                 new,
                 seal,
                 ..
-            } => {
-                let Some(file) = file else { unreachable!() };
-                is_seal_of(swapped(*seal), file, *at, new.len(), old.as_slice())
-            }
+            } => has_seal(file, *at, new, old, swapped(*seal)),
         }
     }
 
@@ -310,6 +304,17 @@ fn is_digest_of(digest: Option<Digest>, bytes: &[u8]) -> bool
     match digest {
         None => true,
         Some(digest) => Digest::of(bytes) == digest,
+    }
+}
+
+// Whether a file that holds the part `old` at `at` is sealed with what `new` in its place makes of it.
+fn has_seal(file: Option<&[u8]>, at: usize, old: &Bytes, new: &Bytes, seal: Option<Seal>) -> bool
+    ensures { (path : List ℕ) (rest : ℕ) → HoldsPart (option_copied file.entry) old.now at rest
+        → (IsTrue result ↔ IsBefore (Change.Splice path at old.now new.now rest seal) (option_copied file.entry)) }
+{
+    match file {
+        None => false,
+        Some(file) => is_seal_of(seal, file, at, old.len(), new.as_slice()),
     }
 }
 

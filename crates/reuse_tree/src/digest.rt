@@ -1,4 +1,4 @@
-// The SHA-256 of a file, as a change records it.
+//! The SHA-256 of a file, as a change records it.
 ghost use Rattle.std.specs.Prelude.{◌≡◌, ◌==◌, ℕ, List, length, if◌then◌else◌};
 ghost use Rattle.reuse_text.specs.Text.{spliced};
 ghost use Rattle.sha2.specs.Sha256.{sha256};

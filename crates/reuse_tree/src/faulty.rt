@@ -1,4 +1,4 @@
-// A store whose calls fail from some call on, or at one call alone.
+//! A store whose calls fail from some call on, or at one call alone.
 ghost use Rattle.std.specs.Prelude.{◌≡◌, ◌≤◌, ◌+◌, ◌↔◌, IsTrue, Some};
 ghost use Rattle.reuse_tree.specs.FaultyStore.{left_after};
 ghost use Rattle.reuse_tree.specs.Parts.{joined};
@@ -96,7 +96,7 @@ impl<S: Store + Drop, const STAYS: bool> Store for FaultyStore<S, STAYS> {
     ghost use Rattle.std.specs.FinMap as map;
     ghost use Rattle.reuse_tree.specs.Store.{reading_of};
     ghost use Rattle.reuse_tree.specs.Asked.{OnlyReads, IsLater, FailsAsRead, IsPut, IsRemoval};
-    ghost use Rattle.reuse_tree.specs.FaultyStore.{with_faults, Asks, Makes};
+    ghost use Rattle.reuse_tree.specs.FaultyStore.{with_faults, ReadsWithFaults, WritesWithFaults};
 
     ghost files = { (with_faults S.Store).files };
 
@@ -113,7 +113,7 @@ impl<S: Store + Drop, const STAYS: bool> Store for FaultyStore<S, STAYS> {
         ensures paths { S.honest self.new.inner → IfOk result (λ paths. paths.items ≡ map.keys (S.files self.old.inner)) }
         ensures fails { FailsAsRead (with_faults S.Store) self.old self.new result }
         ensures reads { OnlyReads (with_faults S.Store) self.old self.new }
-        ensures asks { Asks STAYS self.old self.new result }
+        ensures asks { ReadsWithFaults STAYS self.old self.new result }
     {
         if !is_due(&mut self.left, STAYS) {
             return self.inner.list(alloc);
@@ -128,7 +128,7 @@ impl<S: Store + Drop, const STAYS: bool> Store for FaultyStore<S, STAYS> {
         ensures reading { S.honest self.new.inner → IfOk result (λ reading. reading ≡ reading_of (map.get (S.files self.old.inner) path.now) limit) }
         ensures fails { FailsAsRead (with_faults S.Store) self.old self.new result }
         ensures reads { OnlyReads (with_faults S.Store) self.old self.new }
-        ensures asks { Asks STAYS self.old self.new result }
+        ensures asks { ReadsWithFaults STAYS self.old self.new result }
     {
         if !is_due(&mut self.left, STAYS) {
             return self.inner.read(alloc, path, limit);
@@ -141,7 +141,7 @@ impl<S: Store + Drop, const STAYS: bool> Store for FaultyStore<S, STAYS> {
     fn put_parts(&mut self, alloc: Global, path: &PathText, parts: Parts) -> Result<(), StoreFault>
         ensures puts { IsPut (with_faults S.Store) path.now (joined parts.entry) self.old self.new result }
         ensures later { IsLater (with_faults S.Store) self.old self.new }
-        ensures makes { Makes STAYS (IsPut S.Store path.now (joined parts.entry)) self.old self.new result }
+        ensures makes { WritesWithFaults STAYS (IsPut S.Store path.now (joined parts.entry)) self.old self.new result }
     {
         if !is_due(&mut self.left, STAYS) {
             return self.inner.put_parts(alloc, path, parts);
@@ -158,7 +158,7 @@ impl<S: Store + Drop, const STAYS: bool> Store for FaultyStore<S, STAYS> {
     fn put(&mut self, alloc: Global, path: &PathText, bytes: &[u8]) -> Result<(), StoreFault>
         ensures puts { IsPut (with_faults S.Store) path.now bytes.now self.old self.new result }
         ensures later { IsLater (with_faults S.Store) self.old self.new }
-        ensures makes { Makes STAYS (IsPut S.Store path.now bytes.now) self.old self.new result }
+        ensures makes { WritesWithFaults STAYS (IsPut S.Store path.now bytes.now) self.old self.new result }
     {
         self.put_parts(alloc, path, Parts::whole(bytes))
     }
@@ -166,7 +166,7 @@ impl<S: Store + Drop, const STAYS: bool> Store for FaultyStore<S, STAYS> {
     fn remove(&mut self, alloc: Global, path: &PathText) -> Result<(), StoreFault>
         ensures removes { IsRemoval (with_faults S.Store) path.now self.old self.new result }
         ensures later { IsLater (with_faults S.Store) self.old self.new }
-        ensures makes { Makes STAYS (IsRemoval S.Store path.now) self.old self.new result }
+        ensures makes { WritesWithFaults STAYS (IsRemoval S.Store path.now) self.old self.new result }
     {
         if !is_due(&mut self.left, STAYS) {
             return self.inner.remove(alloc, path);

@@ -1,4 +1,4 @@
-// Files in a map by their paths, none of which is a folder of another.
+//! Files in a map by their paths, none of which is a folder of another.
 ghost use Rattle.std.specs.Prelude.{◌≡◌, ◌≢◌, ◌++◌, ◌||◌, IfOk, IfErr, OnOk, IsErrOf};
 ghost use Rattle.std.specs.FinMap as map;
 ghost use Rattle.std.specs.List.{list_any};

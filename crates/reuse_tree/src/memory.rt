@@ -1,4 +1,4 @@
-// A store in memory.
+//! A store in memory.
 ghost use Rattle.std.specs.Prelude.{◌≡◌, ⊤};
 ghost use Rattle.std.specs.FinMap as map;
 

@@ -1,4 +1,4 @@
-// The calls of a store, which only contracts see.
+//! The calls of a store, which only contracts see.
 ghost use Rattle.std.specs.Prelude.{◌≡◌, ◌++◌, Bool, List, [], ◌∷◌};
 ghost use Rattle.std.specs.Borrow.{ftrue};
 ghost use Rattle.std.specs.FinMap as map;

@@ -1,4 +1,4 @@
-// A store of files, as the code above asks it, path by path.
+//! A store of files, as the code above asks it, path by path.
 ghost use Rattle.std.specs.Prelude.{◌≡◌, ◌≢◌, ℕ, ◌++◌, MatchResult, IfOk};
 ghost use Rattle.std.specs.FinMap as map;
 ghost use Rattle.reuse_tree.specs.Files.{Files, AreFiles};

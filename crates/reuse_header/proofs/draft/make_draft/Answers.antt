@@ -1,5 +1,5 @@
 use Rattle.std.proofs.Common.{◌∙◌, ◌-◌, length, sym, refl}
-use Rattle.reuse_header.specs.Annotation.{size_limit}
+use Rattle.reuse_text.specs.declared.TheConstants.{LONGEST_FILE}
 use Rattle.reuse_header.specs.MarkViews.{marks_view}
 use Rattle.reuse_header.specs.Writing.{block_text, block_lines}
 use Rattle.reuse_header.proofs.DraftLemmas.{Steps, too_long, drafted}
@@ -7,7 +7,7 @@ use Rattle.reuse_header.proofs.draft.make_draft.Goals.{In_ok-empty_line_if-3}
 use Rattle.reuse_header.proofs.draft.make_draft.Goals as goal
 
 -- what the writer went through
-steps_of : (c : In_ok-empty_line_if-3) → Steps c.args.place c.args.kind (size_limit - (length c.args.file.now - c.args.place.old_len)) (block_lines (marks_view c.args.marks) c.args.info.now) c.new-writer.result c.empty_line_if.new.self c.empty_line_if-2.new.self c.block.new.self c.empty_line_if-3.new.self
+steps_of : (c : In_ok-empty_line_if-3) → Steps c.args.place c.args.kind (LONGEST_FILE - (length c.args.file.now - c.args.place.old_len)) (block_lines (marks_view c.args.marks) c.args.info.now) c.new-writer.result c.empty_line_if.new.self c.empty_line_if-2.new.self c.block.new.self c.empty_line_if-3.new.self
 steps_of c = record {
   format = c.new-writer.ensures.format;
   nothing = c.new-writer.ensures.text;
