@@ -28,7 +28,7 @@ use Rattle.reuse_header.specs.declared.annotation.How.{How}
 use Rattle.reuse_session.specs.TreeStyles.{OwnNames}
 use Rattle.reuse_notice.specs.declared.adding.Additions.{Additions}
 use Rattle.reuse_session.specs.declared.command.Scope.{Scope}
-use Rattle.reuse_session.specs.Plan.{IsPlan, IsRefusalOf, Makes, MakesEdit, MakesEach, MakesEdits}
+use Rattle.reuse_session.specs.Plan.{IsPlan, IsRefusalOf, CarriesOutEdit, MakesEdit, MakesEach, MakesEdits}
 use Rattle.reuse_session.proofs.ListingLemmas.{under_from_test}
 use Rattle.reuse_session.proofs.TreeLemmas.{among_keys}
 use Rattle.reuse_session.proofs.Planning.{paths_at, AreEdits, same_many, plan_of_edits}
@@ -177,7 +177,7 @@ without_edit : (r : Result (List Edit) Refusal) → with_edit None r ≡ r
 without_edit (Ok more) = refl
 without_edit (Err refusal) = refl
 
-each_push : (tree : Files) (changes : List Change) (edits : List Edit) (c : Change) (e : Edit) → MakesEach tree changes edits → Makes tree c e → MakesEach tree (changes ++ c ∷ []) (edits ++ e ∷ [])
+each_push : (tree : Files) (changes : List Change) (edits : List Edit) (c : Change) (e : Edit) → MakesEach tree changes edits → CarriesOutEdit tree c e → MakesEach tree (changes ++ c ∷ []) (edits ++ e ∷ [])
 each_push tree [] [] c e each makes = (makes, tt)
 each_push tree [] (x ∷ edits) c e each makes = absurd each
 each_push tree (x ∷ changes) [] c e each makes = absurd each
@@ -208,7 +208,7 @@ module _ (at : List ℕ → Result (Option Edit) Refusal) (tree : Files) (all : 
     same = so.same ∙ ap (λ r. prepended so.edits (or_first r (edits_at at left))) e ∙ ap (prepended so.edits) (without_edit (edits_at at left));
   }
 
-  pub after_some : (p : List ℕ) (left : List (List ℕ)) (changes : List Change) (c : Change) (e : Edit) → SoFar at tree all (p ∷ left) changes → at p ≡ Ok (Some e) → Makes tree c e → SoFar at tree all left (changes ++ c ∷ [])
+  pub after_some : (p : List ℕ) (left : List (List ℕ)) (changes : List Change) (c : Change) (e : Edit) → SoFar at tree all (p ∷ left) changes → at p ≡ Ok (Some e) → CarriesOutEdit tree c e → SoFar at tree all left (changes ++ c ∷ [])
   after_some p left changes c e so h makes = record {
     edits = so.edits ++ e ∷ [];
     made = each_push tree changes so.edits c e so.made makes;

@@ -20,7 +20,7 @@ use Rattle.reuse_session.specs.Licence.{is_id, licence_path, licence_id}
 use Rattle.reuse_session.specs.Downloads.{text_for, refusal_of_found, id_refusal, ids_refusal, licence_edit, unless_refused, download_of, download_edits}
 use Rattle.reuse_session.specs.DownloadPlan.{made_at}
 use Rattle.reuse_session.specs.Refused.{IsRefused}
-use Rattle.reuse_session.specs.Plan.{Makes, MakesEach, MakesEdits, IsRefusalOf}
+use Rattle.reuse_session.specs.Plan.{CarriesOutEdit, MakesEach, MakesEdits, IsRefusalOf}
 use Rattle.reuse_session.specs.declared.licence.LicenceText.{LicenceText}
 use Rattle.reuse_session.specs.declared.reply.Refusal.{Refusal}
 use Rattle.reuse_session.specs.declared.reply.Refusal.TheVariants as refusals
@@ -112,7 +112,7 @@ module _ (tree : Files) (texts : List LicenceText) where
   text_at : (path : List ℕ) (made : IsMade tree texts path) → text_for texts (licence_id path) ≡ Some made.text
   text_at path made = ap (λ p. text_for texts (licence_id p)) made.here ∙ ap (text_for texts) (id_of_path made.id) ∙ made.found
 
-  makes : (path : List ℕ) → IsMade tree texts path → Makes tree (made_at texts path) (licence_edit texts path)
+  makes : (path : List ℕ) → IsMade tree texts path → CarriesOutEdit tree (made_at texts path) (licence_edit texts path)
   makes path made = record {
     path = refl;
     removed = refl;

@@ -23,7 +23,7 @@ use Rattle.reuse_session.specs.declared.reply.Refusal.TheVariants as refusals
 use Rattle.reuse_session.specs.declared.target.Target.{Target}
 use Rattle.reuse_session.specs.declared.target.Target.TheVariants.{Beside}
 use Rattle.reuse_session.specs.Annotations.{Due, Fits}
-use Rattle.reuse_session.specs.Plan.{Makes, MakesEdit}
+use Rattle.reuse_session.specs.Plan.{CarriesOutEdit, MakesEdit}
 use Rattle.reuse_session.specs.Steps.{short_file}
 use Rattle.reuse_session.specs.declared.annotation.Annotation.{Annotation}
 use Rattle.reuse_session.specs.declared.reply.Refusal.{Refusal}
@@ -62,17 +62,17 @@ change_made tree path at clone bytes (Ok edit) splice here short fits answer sam
     made : Splice
     made = record { at = edit.start; old = take edit.old_len (drop edit.start bytes); new = header.new_bytes edit }
 
-    makes : bytes_eq (header.edited bytes edit) bytes ≡ false → Makes tree (sealed_splice at bytes edit.start (take edit.old_len (drop edit.start bytes)) (header.new_bytes edit)) it
+    makes : bytes_eq (header.edited bytes edit) bytes ≡ false → CarriesOutEdit tree (sealed_splice at bytes edit.start (take edit.old_len (drop edit.start bytes)) (header.new_bytes edit)) it
     makes e = makes_splice bytes edit.start edit.old_len fits.0 tree at (header.new_bytes edit) here short fits.1 e
 
     by_test : (b : Bool) → bytes_eq (header.edited bytes edit) bytes ≡ b → answered (cond b None (Some made)) ≡ answered (Some splice)
-        → (x : Edit) × (cond b (edited_to None) (edited_to (Some it)) ≡ edited_to (Some x)) × Makes tree (sealed_splice clone bytes splice.at splice.old splice.new) x
+        → (x : Edit) × (cond b (edited_to None) (edited_to (Some it)) ≡ edited_to (Some x)) × CarriesOutEdit tree (sealed_splice clone bytes splice.at splice.old splice.new) x
     by_test true e h = absurd (none_is_some splice h)
     by_test false e h = (
       it,
       refl,
-      subst (λ (p : List ℕ). Makes tree (sealed_splice p bytes splice.at splice.old splice.new) it) (sym same)
-          (subst (λ (s : Splice). Makes tree (sealed_splice at bytes s.at s.old s.new) it) (same_splice made splice h) (makes e)),
+      subst (λ (p : List ℕ). CarriesOutEdit tree (sealed_splice p bytes splice.at splice.old splice.new) it) (sym same)
+          (subst (λ (s : Splice). CarriesOutEdit tree (sealed_splice at bytes s.at s.old s.new) it) (same_splice made splice h) (makes e)),
     )
 
 take_none : (n : ℕ) → take {A = ℕ} n [] ≡ []
@@ -102,7 +102,7 @@ making_made tree path at clone (Ok edit) splice here fits answer same = by_test 
     around : header.edited [] edit ≡ header.new_bytes edit
     around = ap₂ (λ x y. x ++ header.new_bytes edit ++ y) (take_none edit.start) (drop_none (edit.start + edit.old_len)) ∙ append_none (header.new_bytes edit)
 
-    makes : Makes tree (sealed_make at (header.new_bytes edit)) it
+    makes : CarriesOutEdit tree (sealed_make at (header.new_bytes edit)) it
     makes = record {
       path = refl;
       removed = sym (ap (take edit.old_len) (drop_none edit.start) ∙ take_none edit.old_len);
@@ -114,12 +114,12 @@ making_made tree path at clone (Ok edit) splice here fits answer same = by_test 
     }
 
     by_test : (b : Bool) → answered (cond b None (Some made)) ≡ answered (Some splice)
-        → (x : Edit) × (cond b (edited_to None) (edited_to (Some it)) ≡ edited_to (Some x)) × Makes tree (sealed_make clone splice.new) x
+        → (x : Edit) × (cond b (edited_to None) (edited_to (Some it)) ≡ edited_to (Some x)) × CarriesOutEdit tree (sealed_make clone splice.new) x
     by_test true h = absurd (none_is_some splice h)
     by_test false h = (
       it,
       refl,
-      subst (λ (p : List ℕ). Makes tree (sealed_make p splice.new) it) (sym same) (subst (λ (s : Splice). Makes tree (sealed_make at s.new) it) (same_splice made splice h) makes),
+      subst (λ (p : List ℕ). CarriesOutEdit tree (sealed_make p splice.new) it) (sym same) (subst (λ (s : Splice). CarriesOutEdit tree (sealed_make at s.new) it) (same_splice made splice h) makes),
     )
 
 -- ---- files that are not skipped

@@ -14,7 +14,7 @@ use Rattle.reuse_tree.proofs.Turning.{not_both}
 use Rattle.reuse_session.specs.declared.entry.Way.{Way}
 use Rattle.reuse_session.specs.declared.entry.Way.TheVariants.{Do, Undo}
 use Rattle.reuse_session.specs.Carried.{IsSetBack}
-use Rattle.reuse_session.specs.Entry.{touches, IsEntry, TurnsBy, Steps, LeadsBy, SomeMade, IsReady, CanBeMade, CanBeSetBack, opposite, makes}
+use Rattle.reuse_session.specs.Entry.{touches, IsEntry, TurnsBy, LeadsByOneChange, LeadsBy, SomeMade, IsReady, CanBeMade, CanBeSetBack, opposite, makes}
 use Rattle.reuse_session.specs.Tree.{is_of_tree, undo_folder_of}
 use Rattle.reuse_session.proofs.Differ.{touching}
 use Rattle.reuse_session.proofs.OfTree.{tree_at, step_of_tree, folder_stays}
@@ -73,13 +73,13 @@ with_file_elsewhere tree path None other differ = get-removed_other tree path ot
 with_file_elsewhere tree path (Some bytes) other differ = get-put_other tree path bytes other differ
 
 -- a change is made by its file alone
-pub step_with : (way : Way) (change : Change) (tree : Files) (new : Option (List ℕ)) → TurnsBy way change (get tree (path_of change)) new → Steps way change tree (with_file tree (path_of change) new)
+pub step_with : (way : Way) (change : Change) (tree : Files) (new : Option (List ℕ)) → TurnsBy way change (get tree (path_of change)) new → LeadsByOneChange way change tree (with_file tree (path_of change) new)
 step_with way change tree new turns = record {
   here = subst (TurnsBy way change (get tree (path_of change))) (sym (with_file_here tree (path_of change) new)) turns;
   elsewhere = λ path other. with_file_elsewhere tree (path_of change) new path other;
 }
 
-step_on : (way : Way) (change : Change) (tree : Files) → IsReady way change (get tree (path_of change)) → (after : Files) × Steps way change tree after
+step_on : (way : Way) (change : Change) (tree : Files) → IsReady way change (get tree (path_of change)) → (after : Files) × LeadsByOneChange way change tree after
 step_on way change tree ready = (with_file tree (path_of change) ready.0, step_with way change tree ready.0 ready.1)
 
 -- the element at a place

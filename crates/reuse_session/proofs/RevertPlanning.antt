@@ -20,7 +20,7 @@ use Rattle.reuse_session.specs.Answer.{IsTestRefusal}
 use Rattle.reuse_session.specs.Clash.{is_clash}
 use Rattle.reuse_session.specs.Edit.{Edit, made, dropped}
 use Rattle.reuse_session.specs.Entry.{makes}
-use Rattle.reuse_session.specs.Plan.{IsRefusalOf, Makes, MakesEach, MakesEdit, MakesEdits}
+use Rattle.reuse_session.specs.Plan.{IsRefusalOf, CarriesOutEdit, MakesEach, MakesEdit, MakesEdits}
 use Rattle.reuse_session.specs.Reverting.{stands_at, is_as_left, stands_as_written, is_short, put_back, taken_back, taken_back_on, stuck_on, unless_stuck, revert_edits}
 use Rattle.reuse_session.specs.declared.entry.Way.TheVariants.{Undo}
 use Rattle.reuse_session.specs.declared.reply.Refusal.{Refusal}
@@ -62,7 +62,7 @@ module _ (tree : Files) (path file new : List ℕ) (after : Option (List ℕ)) w
       let is : file ≡ new = (bytes_eq-Decides file new).0 same in (
         dropped path new,
         ap (λ b. found (cond b (Some (dropped path new)) None)) same,
-        subst (λ p. Makes tree (sealed_drop p file) (dropped path new)) (sym cloned) (record {
+        subst (λ p. CarriesOutEdit tree (sealed_drop p file) (dropped path new)) (sym cloned) (record {
           path = refl;
           removed = is;
           written = refl;
@@ -80,7 +80,7 @@ pub make_makes : (tree : Files) (path old : List ℕ) (before : Option (List ℕ
 make_makes tree path old before clone bytes cloned same here short = (
   made path old,
   refl,
-  subst (λ p. Makes tree (sealed_make p bytes) (made path old)) (sym cloned) (subst (λ b. Makes tree (sealed_make path b) (made path old)) (sym same) (record {
+  subst (λ p. CarriesOutEdit tree (sealed_make p bytes) (made path old)) (sym cloned) (subst (λ b. CarriesOutEdit tree (sealed_make path b) (made path old)) (sym same) (record {
     path = refl;
     removed = refl;
     written = refl;
@@ -147,9 +147,9 @@ module _ (tree : Files) (path file old new : List ℕ) (at rest : ℕ) (seal : O
       ap (λ b. found (cond b (Some (put_back path file at old new)) None))
           (all_true (stands_as_written file at old new rest seal) (is_short file) (is_short (spliced file at (length new) old)) as_written (short_test (length file) short)
           ∙ short_test (length (spliced file at (length new) old)) (omega (arith, fits, spliced_len))),
-      subst (λ p. Makes tree (sealed_splice p file at removed written) (put_back path file at old new)) (sym cloned)
-          (subst (λ r. Makes tree (sealed_splice path file at r written) (put_back path file at old new)) (sym is_new)
-          (subst (λ w. Makes tree (sealed_splice path file at new w) (put_back path file at old new)) (sym is_old) (record {
+      subst (λ p. CarriesOutEdit tree (sealed_splice p file at removed written) (put_back path file at old new)) (sym cloned)
+          (subst (λ r. CarriesOutEdit tree (sealed_splice path file at r written) (put_back path file at old new)) (sym is_new)
+          (subst (λ w. CarriesOutEdit tree (sealed_splice path file at new w) (put_back path file at old new)) (sym is_old) (record {
             path = refl;
             removed = refl;
             written = refl;
@@ -186,7 +186,7 @@ pub record SoFar (tree : Files) (skip : Bool) (all left : List Change) (taken : 
   pub same : filter_map (taken_back_on tree) all ≡ edits ++ filter_map (taken_back_on tree) left
   pub stuck : (skip ≡ true) ⊎ (stuck_on tree all ≡ stuck_on tree left)
 
-each_push : (tree : Files) (changes : List Change) (edits : List Edit) (c : Change) (e : Edit) → MakesEach tree changes edits → Makes tree c e → MakesEach tree (changes ++ c ∷ []) (edits ++ e ∷ [])
+each_push : (tree : Files) (changes : List Change) (edits : List Edit) (c : Change) (e : Edit) → MakesEach tree changes edits → CarriesOutEdit tree c e → MakesEach tree (changes ++ c ∷ []) (edits ++ e ∷ [])
 each_push tree [] [] c e each makes = (makes, tt)
 each_push tree [] (f ∷ edits) c e each makes = absurd each
 each_push tree (b ∷ changes) [] c e each makes = absurd each

@@ -7,7 +7,7 @@ ghost use Rattle.reuse_tree.specs.Change.{path_of, IsProper};
 ghost use Rattle.reuse_tree.specs.Files.{Files, AreFiles, Clashes, tree_of};
 ghost use Rattle.reuse_session.specs.Answer.{told_of, HasCause, IsEarly, IsNoClash, IsTestRefusal, IsRollBackRefusal, RefusedAsRead};
 ghost use Rattle.reuse_session.specs.Carried.{IsSetBack, IsRolledBack, NotesMoves, StopsRollingBack};
-ghost use Rattle.reuse_session.specs.Entry.{makes, opposite, IsEntry, IsReady, IsSmall, SomeMade, Steps, CanBeSetBack, IsFirstWithout};
+ghost use Rattle.reuse_session.specs.Entry.{makes, opposite, IsEntry, IsReady, IsSmall, SomeMade, LeadsByOneChange, CanBeSetBack, IsFirstWithout};
 ghost use Rattle.reuse_session.specs.Session.{IsSameBut};
 ghost use Rattle.reuse_session.specs.Tree.{is_of_tree, undo_folder_of};
 ghost use Rattle.reuse_session.specs.JournalFiles.{head_path};
@@ -88,7 +88,7 @@ fn set_back<S: Store>(
     ensures ok { S.honest store.new → IsProper change.now → IsSmall change.now
         → OnOk result (IsSetBack way change.now (S.files store.old) (S.files store.new)) }
     ensures err { S.honest store.new → IsProper change.now → IsSmall change.now → OnErr result ((S.files store.new ≡ S.files store.old)
-        ⊎ Steps (opposite way) change.now (S.files store.old) (S.files store.new)) }
+        ⊎ LeadsByOneChange (opposite way) change.now (S.files store.old) (S.files store.new)) }
     ensures moved { S.honest store.new → IsProper change.now → IsSmall change.now → result ≡ Err Cause.Moved
         → ¬ (IsReady (opposite way) change.now (map.get (S.files store.old) (path_of change.now))) × ¬ (IsReady way change.now (map.get (S.files store.old) (path_of change.now))) }
     ensures clash { S.honest store.new → IsProper change.now → IsSmall change.now → result ≡ Err Cause.Clash
@@ -119,7 +119,7 @@ fn set_back_from<S: Store>(
     ensures ok { S.honest store.new → map.get (S.files store.old) (path_of change.now) ≡ option_copied file.entry
         → OnOk result (IsSetBack way change.now (S.files store.old) (S.files store.new)) }
     ensures err { S.honest store.new → map.get (S.files store.old) (path_of change.now) ≡ option_copied file.entry
-        → OnErr result ((S.files store.new ≡ S.files store.old) ⊎ Steps (opposite way) change.now (S.files store.old) (S.files store.new)) }
+        → OnErr result ((S.files store.new ≡ S.files store.old) ⊎ LeadsByOneChange (opposite way) change.now (S.files store.old) (S.files store.new)) }
     ensures moved { IsProper change.now → result ≡ Err Cause.Moved
         → ¬ (IsReady (opposite way) change.now (option_copied file.entry)) × ¬ (IsReady way change.now (option_copied file.entry)) }
     ensures clash { S.honest store.new → IsProper change.now → map.get (S.files store.old) (path_of change.now) ≡ option_copied file.entry → result ≡ Err Cause.Clash

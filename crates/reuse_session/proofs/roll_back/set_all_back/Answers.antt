@@ -10,7 +10,7 @@ use Rattle.reuse_session.proofs.NotedMoves.{notes_none, notes_more, notes_last}
 use Rattle.reuse_session.specs.declared.entry.Way.{Way}
 use Rattle.reuse_session.specs.Carried.{IsRolledBack, StopsRollingBack}
 use Rattle.reuse_session.specs.Tree.{undo_folder_of, Sets}
-use Rattle.reuse_session.specs.Entry.{IsEntry, IsReady, CanBeSetBack, SomeMade, Steps, opposite}
+use Rattle.reuse_session.specs.Entry.{IsEntry, IsReady, CanBeSetBack, SomeMade, LeadsByOneChange, opposite}
 use Rattle.reuse_session.specs.JournalFiles.{head_path}
 use Rattle.reuse_session.specs.Session.{IsSameBut}
 use Rattle.reuse_session.proofs.AtChange.{IsOfEntry, at_change, folder_at_stop, of_entry, walked, stays_none, stays_on}
@@ -28,7 +28,7 @@ here g c = of_entry c.args.changes.now c.loop-change.change-index c.loop-change-
 -- where it stops at a change, before that is set back or after it, some are still made
 some_at_stop : (way : Way) (changes : List Change) (good : IsEntry changes) (i : ℕ) (lt : i < length changes) (change : Change) (is : change ≡ get_or changes i change) (start old now after : Files)
     → SomeMade way changes start (tree_of old) → All (λ change. IsReady way change (get start (path_of change))) changes → AreBack way (take i changes) (tree_of old) (tree_of now)
-    → (after ≡ now) ⊎ Steps (opposite way) change now after → SomeMade way changes start (tree_of after)
+    → (after ≡ now) ⊎ LeadsByOneChange (opposite way) change now after → SomeMade way changes start (tree_of after)
 some_at_stop way changes good i lt change is start old now after some ready back (inl same) =
     subst (λ files. SomeMade way changes start (tree_of files)) (sym same) (made_from_start way changes good start (tree_of old) (tree_of now) some ready i back)
 some_at_stop way changes good i lt change is start old now after some ready back (inr step) =
@@ -60,7 +60,7 @@ loop-change-preserved g c =
 
 -- the folder of the journal stays where it stops at a change
 folder_stopped : (g : Over) (c : After-set_back g) → g.S.Store.honest c.set_back.new.store → IsEntry c.args.changes.now
-    → (g.S.Store.files c.set_back.new.store ≡ g.S.Store.files c.loop-change.store) ⊎ Steps (opposite c.args.way) c.change-item.result (g.S.Store.files c.loop-change.store) (g.S.Store.files c.set_back.new.store)
+    → (g.S.Store.files c.set_back.new.store ≡ g.S.Store.files c.loop-change.store) ⊎ LeadsByOneChange (opposite c.args.way) c.change-item.result (g.S.Store.files c.loop-change.store) (g.S.Store.files c.set_back.new.store)
     → undo_folder_of (g.S.Store.files c.set_back.new.store) ≡ undo_folder_of (g.S.Store.files c.args.store.now)
 folder_stopped g c honest good stops =
     folder_at_stop (opposite c.args.way) c.change-item.result (g.S.Store.files c.loop-change.store) (g.S.Store.files c.set_back.new.store) (of_entry c.args.changes.now c.loop-change.change-index c.loop-change-test.true c.change-item.result c.change-item.is good).of_tree stops
