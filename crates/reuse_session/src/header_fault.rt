@@ -1,4 +1,4 @@
-// Why a header can't be written.
+//! Why a header can't be written.
 use thiserror::Error;
 
 /// Why a file's header block can't be written.

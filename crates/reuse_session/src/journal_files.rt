@@ -1,4 +1,4 @@
-// The files of the journal: reads and puts its head and its entries.
+//! The files of the journal: reads and puts its head and its entries.
 ghost use Rattle.std.specs.Prelude.{◌≡◌, ◌≢◌, ◌⊎◌, ◌<◌, ◌≤◌, ◌+◌, ℕ, List, Option, Some, true, IfOk, IfErr, OnOk, OnErr, IsErrOf, length, IsSome};
 ghost use Rattle.std.specs.FinMap as map;
 ghost use Rattle.reuse_tree.specs.Files.{Clashes, tree_of};

@@ -1,4 +1,4 @@
-// Opens the journal of a store: reads the head and each entry that it names, and rolls back what is pending.
+//! Opens the journal of a store: reads the head and each entry that it names, and rolls back what is pending.
 ghost use Rattle.std.specs.Prelude.{◌≡◌, ◌≢◌, ◌⊎◌, ◌<◌, ◌≤◌, ◌+◌, ℕ, List, IfOk, IfErr, OnOk, IsSome, Some, None, length, codes, MatchResult};
 ghost use Rattle.std.specs.FinMap as map;
 ghost use Rattle.std.specs.List.{All, AllZip};

@@ -1,4 +1,4 @@
-// Plans a conversion: a `REUSE.toml` in the place of `.reuse/dep5`.
+//! Plans a conversion: a `REUSE.toml` in the place of `.reuse/dep5`.
 ghost use Rattle.std.specs.Prelude.{◌≡◌, ◌<◌, ◌≤◌, IfOk, IfErr, Ok, Some, false, length, [], ◌∷◌};
 ghost use Rattle.reuse_session.specs.Reading.{get, keys, reading_of, tree_of, Files, IsOfPlan, ReadsAlone};
 ghost use Rattle.reuse_tree.specs.Change.{sealed_drop, sealed_make};

@@ -1,4 +1,4 @@
-// Plans a download: a file for each licence's text.
+//! Plans a download: a file for each licence's text.
 ghost use Rattle.std.specs.Prelude.{◌≡◌, ◌<◌, ◌≤◌, IfOk, IfErr, map, None, unwrap_or, []};
 ghost use Rattle.std.specs.Option.{option_copied};
 ghost use Rattle.reuse_session.specs.Reading.{keys, tree_of, Files, IsOfPlan, ReadsAlone};

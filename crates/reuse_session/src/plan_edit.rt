@@ -1,4 +1,4 @@
-// The change of a place, by what an annotation makes of its bytes.
+//! The change of a place, by what an annotation makes of its bytes.
 ghost use Rattle.std.specs.Prelude.{◌≡◌, ◌≤◌, [], IfOk, IfErr, Some, None, length};
 ghost use Rattle.reuse_session.specs.Reading.{get, Files};
 ghost use Rattle.reuse_header.specs.Splices.{IsDue, answer_of};

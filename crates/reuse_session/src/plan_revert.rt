@@ -1,4 +1,4 @@
-// Plans a revert: takes the changes of a step back on whatever the tree is now.
+//! Plans a revert: takes the changes of a step back on whatever the tree is now.
 ghost use Rattle.std.specs.Prelude.{◌≡◌, ◌≢◌, ◌↔◌, ◌+◌, ◌++◌, ◌≤◌, ℕ, IfOk, IfErr, OnOk, IsSome, IsTrue, List, Ok, Option, Some, None, false, true, length};
 ghost use Rattle.std.specs.Option.{option_to_list};
 ghost use Rattle.reuse_session.specs.Reading.{get, keys, reading_of, tree_of, Files, IsOfPlan, ReadsAlone};

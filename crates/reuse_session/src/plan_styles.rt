@@ -1,4 +1,4 @@
-// The styles that a tree gives to its own names.
+//! The styles that a tree gives to its own names.
 ghost use Rattle.std.specs.Prelude.{◌≡◌, List, ℕ, Option, IfOk, IfErr, Ok, Err};
 ghost use Rattle.reuse_header.specs.Names.{lookup};
 ghost use Rattle.reuse_session.specs.Reading.{reading_of, tree_of, IsOfPlan, ReadsAlone};

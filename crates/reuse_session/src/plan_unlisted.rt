@@ -1,4 +1,4 @@
-// What annotate does at a path, as far as that is known without a listing of the tree.
+//! What annotate does at a path, as far as that is known without a listing of the tree.
 ghost use Rattle.std.specs.Prelude.{◌≡◌, ℕ, List, true, false, length, nat_lt, IfErr, None, Some};
 ghost use Rattle.reuse_session.specs.Reading.{get, reading_of, tree_of, IsOfPlan, ReadsAlone};
 ghost use Rattle.reuse_session.specs.Annotate.{neighbour_of};

@@ -1,4 +1,4 @@
-// Rolls a pending step back: its files are as they were before it, and the head tells it no more.
+//! Rolls a pending step back: its files are as they were before it, and the head tells it no more.
 ghost use Rattle.std.specs.Prelude.{◌≡◌, ◌≢◌, ◌⊎◌, ◌<◌, ◌≤◌, ◌+◌, ℕ, List, IfErr, OnOk, OnErr, IfOk, IsErrOf, IsTrue, ◌↔◌, length, true, false};
 ghost use Rattle.std.specs.Option.{option_copied};
 ghost use Rattle.std.specs.FinMap as map;

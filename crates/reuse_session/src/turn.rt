@@ -1,4 +1,4 @@
-// Makes one change in a store: the only place where a file of the tree is written.
+//! Makes one change in a store: the only place where a file of the tree is written.
 ghost use Rattle.std.specs.Prelude.{◌≡◌, ◌≢◌, ◌↔◌, ◌+◌, ◌<◌, ◌≤◌, ◌⊎◌, true, Some, length, IsTrue, IfOk, IfErr, OnOk, OnErr, IsErrOf, IsSome};
 ghost use Rattle.std.specs.Option.{option_copied};
 ghost use Rattle.std.specs.FinMap as map;

@@ -1,4 +1,4 @@
-// Whether changes are those of a good entry.
+//! Whether changes are those of a good entry.
 ghost use Rattle.std.specs.Prelude.{◌≡◌, ◌+◌, ◌≤◌, ◌↔◌, ◌++◌, ◌∷◌, [], IsTrue, length, true, false};
 ghost use Rattle.std.specs.List.{All};
 ghost use Rattle.std.specs.Ordering.{is_lt, nat_cmp};

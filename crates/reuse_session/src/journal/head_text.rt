@@ -1,4 +1,4 @@
-// The head as text, and back.
+//! The head as text, and back.
 ghost use Rattle.std.specs.Prelude.{◌≡◌, ◌≢◌, ◌≤◌, ◌+◌, ◌*◌, ◌↔◌, true, AllPairs, IfOk, IsTrue, length};
 ghost use Rattle.serde_json.specs.View.{view};
 ghost use Rattle.reuse_session.specs.Decoded.{Gives, IsAnswer};
