@@ -20,6 +20,7 @@ ghost use Rattle.reuse_tree.specs.Asked.{OnlyReads, IsLater};
 use crate::journal::{
     DecodeFault, Entry, EntryNumbers, Head, decode_entry, decode_head, encode_entry,
 };
+use crate::known_path::known_path;
 use crate::reply::{Cause, Refusal};
 use reuse_tree::{PathText, Reading, Store, StoreFault};
 use std::alloc::{AllocError, Global};
@@ -33,7 +34,7 @@ const LONGEST_ENTRY: usize = 268_435_456;
 pub fn head_path(alloc: Global) -> Result<PathText, AllocError>
     ensures { IfOk result (λ path. path ≡ head_path) }
 {
-    path_of_text(alloc, ".reuse/undo/head.json")
+    known_path(alloc, ".reuse/undo/head.json")
 }
 
 /// The path of the head. It is made before the first put, so that want of memory for it is no stop.
@@ -73,7 +74,7 @@ pub fn entry_path(alloc: Global, number: u32) -> Result<PathText, AllocError>
     text.push(digit(number, 10))?;
     text.push(digit(number, 1))?;
     text.push_str(".json")?;
-    path_of_text(alloc, text.as_str())
+    known_path(alloc, text.as_str())
 }
 
 // The digit of a number at this place.
@@ -82,16 +83,6 @@ fn digit(number: u32, place: u32) -> char
     ensures { result ≡ digit number place }
 {
     char::from(b'0' + (number / place % 10) as u8)
-}
-
-/// A path that is known to be a good one.
-pub fn path_of_text(alloc: Global, text: &str) -> Result<PathText, AllocError>
-    ensures { IfOk result (λ path. path ≡ text.now) }
-{
-    match PathText::new(alloc, text) {
-        Ok(path) => Ok(path),
-        Err(_) => Err(AllocError),
-    }
 }
 
 /// The head; that of an empty journal where it has no file.

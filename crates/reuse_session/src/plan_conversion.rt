@@ -9,6 +9,7 @@ ghost use Rattle.reuse_dep5.specs.Conversion.{converted};
 ghost use Rattle.reuse_session.specs.Plan.{AnswersEdits};
 
 use crate::clash::is_clash;
+use crate::known_path::known_path;
 use crate::limits::LONGEST_FILE;
 use crate::listing::{is_among, tree_paths};
 use crate::reply::Refusal;
@@ -29,16 +30,6 @@ pub(crate) fn plan_conversion<S: Store>(
     let paths = tree_paths(alloc, store)?;
     let reading = store.read(alloc, &dep5, LONGEST_FILE)?;
     conversion_of(alloc, &paths, dep5, reading)
-}
-
-// A path that is known to be a good one.
-fn known_path(alloc: Global, text: &str) -> Result<PathText, AllocError>
-    ensures { IfOk result (λ path. path ≡ text.now) }
-{
-    match PathText::new(alloc, text) {
-        Ok(path) => Ok(path),
-        Err(_) => Err(AllocError),
-    }
 }
 
 // The changes of a conversion, given what was read of the dep5, on the tree that has these paths.

@@ -6,7 +6,7 @@ ghost use Rattle.reuse_session.specs.Plan.{IsRefusalOf};
 ghost use Rattle.reuse_session.specs.Refused.{IsNoFault};
 ghost use Rattle.reuse_session.specs.TreeStyles.{styles_path, styles_where, styles_in, styles_refusal};
 
-use crate::journal_files::path_of_text;
+use crate::known_path::known_path;
 use crate::limits::LONGEST_FILE;
 use crate::reply::Refusal;
 use reuse_header::{StyleTable, StylesRefusal};
@@ -19,7 +19,7 @@ pub(crate) fn read_styles<S: Store>(alloc: Global, store: &mut S) -> Result<Styl
     ensures refusal { S.honest store.new → IfErr result (λ refusal. IsRefusalOf (styles_in (tree_of (S.files store.old))) refusal) }
     ensures asks { ReadsAlone S.Store IsOfPlan store.old store.new result }
 {
-    let path = path_of_text(alloc, ".reuse/styles.toml")?;
+    let path = known_path(alloc, ".reuse/styles.toml")?;
     let reading = store.read(alloc, &path, LONGEST_FILE)?;
     styles_by(alloc, path, reading)
 }
