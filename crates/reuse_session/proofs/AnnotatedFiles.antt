@@ -17,6 +17,7 @@ use Rattle.reuse_header.specs.Header.{Header, HeaderSpan, header_of, span_in}
 use Rattle.reuse_header.specs.Laws.{IsInsertion}
 use Rattle.reuse_header.specs.Neighbour.{neighbour_annotation_of, neighbour_end}
 use Rattle.reuse_tree.specs.Files.{Files}
+use Rattle.reuse_text.specs.declared.TheConstants.{LONGEST_FILE}
 use Rattle.reuse_session.specs.Annotate.{neighbour_of, neighbour_is_tagged, goes_beside, target_of, edit_by, edit_neighbour, edit_target, annotated_where, annotated_at}
 use Rattle.reuse_session.specs.Annotated.{IsSameAround, KeepsOthers, block_replaced, part_replaced, Pair, pair_at, TakesNeighbour, IsCommented, IsAccompanied, IsSkipped, IsAnnotated, file_written}
 use Rattle.reuse_session.specs.Annotations.{Due}
@@ -216,7 +217,7 @@ module _ (replaces : ReplacesBlock) (inserts : InsertsBlock) (replaces_beside : 
         let kept = λ (other : List ℕ) (there : get tree (neighbour_of path) ≡ Some other). absurd (none-some other (sym is ∙ there)) in
         accompanied None is reason (beside_not_skipped scope own path bytes old reason kept) given made.0 made.1 made.2 (then_made tree (neighbour_of path) (header.edited [] made.0) given made.2 is)
     beside (Some there) is reason given h =
-        let short = err_or (nat_lt 16_777_216 (length there)) (refusals.TooLong path) (cond (scope.skip_existing && neighbour_is_tagged there) (done None) (edit_by path (neighbour_of path) there (neighbour_annotation_of how additions there))) given h in
+        let short = err_or (nat_lt LONGEST_FILE (length there)) (refusals.TooLong path) (cond (scope.skip_existing && neighbour_is_tagged there) (done None) (edit_by path (neighbour_of path) there (neighbour_annotation_of how additions there))) given h in
         beside_there there is reason (scope.skip_existing && neighbour_is_tagged there) refl given short.1
 
     by_target : (target : Target) → TakesTo target → (given : Option Edit) → edit_target how scope additions tree path bytes (Ok target) ≡ Ok given → Becomes (pair_then tree given path)

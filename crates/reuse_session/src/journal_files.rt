@@ -22,11 +22,10 @@ use crate::journal::{
 };
 use crate::known_path::known_path;
 use crate::reply::{Cause, Refusal};
+use reuse_text::LONGEST_FILE;
 use reuse_tree::{PathText, Reading, Store, StoreFault};
 use std::alloc::{AllocError, Global};
 use std::marker::Model;
-
-const LONGEST_HEAD: usize = 16_777_216;
 
 const LONGEST_ENTRY: usize = 268_435_456;
 
@@ -96,14 +95,14 @@ pub fn read_head<S: Store>(alloc: Global, store: &mut S) -> Result<Head, Refusal
     ensures reads { OnlyReads S.Store store.old store.new }
 {
     let path = head_path(alloc)?;
-    let reading = store.read(alloc, &path, LONGEST_HEAD)?;
+    let reading = store.read(alloc, &path, LONGEST_FILE)?;
     head_in(alloc, path, reading)
 }
 
 // The head that was read at the path.
 fn head_in(alloc: Global, path: PathText, reading: Reading) -> Result<Head, Refusal>
-    ensures ok { (file : Option (List ℕ)) → reading ≡ reading_of file 16_777_216 → IfOk result (HeadSays file) }
-    ensures bad { (file : Option (List ℕ)) → reading ≡ reading_of file 16_777_216 → (place : List ℕ) → result ≡ Err (Refusal.BadJournal place)
+    ensures ok { (file : Option (List ℕ)) → reading ≡ reading_of file LONGEST_FILE → IfOk result (HeadSays file) }
+    ensures bad { (file : Option (List ℕ)) → reading ≡ reading_of file LONGEST_FILE → (place : List ℕ) → result ≡ Err (Refusal.BadJournal place)
         → (place ≡ path) × ((head : Head) → ¬ (HeadSays file head)) }
     ensures sound { IfOk result IsSoundHead }
     ensures refusal { IfErr result IsReadRefusal }

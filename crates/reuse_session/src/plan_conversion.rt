@@ -10,11 +10,10 @@ ghost use Rattle.reuse_session.specs.Plan.{AnswersEdits};
 
 use crate::clash::is_clash;
 use crate::known_path::known_path;
-use crate::limits::LONGEST_FILE;
 use crate::listing::{is_among, tree_paths};
 use crate::reply::Refusal;
 use reuse_dep5::{Dep5Refusal, convert_dep5};
-use reuse_text::Bytes;
+use reuse_text::{Bytes, LONGEST_FILE};
 use reuse_tree::{Change, PathText, Reading, Store};
 use std::alloc::{AllocError, Global};
 
@@ -39,7 +38,7 @@ fn conversion_of(
     dep5: PathText,
     reading: Reading,
 ) -> Result<Vec<Change>, Refusal>
-    ensures edits { (tree : Files) → paths.now ≡ keys tree → dep5 ≡ dep5_path → reading ≡ reading_of (get tree dep5_path) 16_777_216
+    ensures edits { (tree : Files) → paths.now ≡ keys tree → dep5 ≡ dep5_path → reading ≡ reading_of (get tree dep5_path) LONGEST_FILE
         → AnswersEdits tree (conversion_edits tree) result }
     ensures no_fault { IfErr result IsNoFault }
 {
@@ -57,7 +56,7 @@ fn replacement(
     dep5: PathText,
     bytes: Bytes,
 ) -> Result<Vec<Change>, Refusal>
-    ensures edits { (tree : Files) → paths.now ≡ keys tree → dep5 ≡ dep5_path → get tree dep5_path ≡ Some bytes → length bytes ≤ 16_777_216
+    ensures edits { (tree : Files) → paths.now ≡ keys tree → dep5 ≡ dep5_path → get tree dep5_path ≡ Some bytes → length bytes ≤ LONGEST_FILE
         → AnswersEdits tree (conversion_edits tree) result }
     ensures no_fault { IfErr result IsNoFault }
 {
@@ -81,8 +80,8 @@ fn changes_to(
     toml: PathText,
     new: Bytes,
 ) -> Result<Vec<Change>, Refusal>
-    ensures edits { (tree : Files) → paths.now ≡ keys tree → dep5 ≡ dep5_path → toml ≡ toml_path → get tree dep5_path ≡ Some old → length old ≤ 16_777_216
-        → is_among paths.now toml_path ≡ false → converted old ≡ Ok new → length new ≤ 16_777_216 → AnswersEdits tree (conversion_edits tree) result }
+    ensures edits { (tree : Files) → paths.now ≡ keys tree → dep5 ≡ dep5_path → toml ≡ toml_path → get tree dep5_path ≡ Some old → length old ≤ LONGEST_FILE
+        → is_among paths.now toml_path ≡ false → converted old ≡ Ok new → length new ≤ LONGEST_FILE → AnswersEdits tree (conversion_edits tree) result }
     ensures no_fault { IfErr result IsNoFault }
 {
     if is_clash(alloc, paths, &toml)? {

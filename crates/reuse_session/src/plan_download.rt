@@ -13,11 +13,10 @@ use crate::clash::is_clash;
 use crate::licence::LicenceText;
 use crate::licence_file::{licence_id, licence_path, text_for};
 use crate::licence_id::as_id;
-use crate::limits::LONGEST_FILE;
 use crate::listing::{is_among, tree_paths};
 use crate::places::sorted;
 use crate::reply::Refusal;
-use reuse_text::Bytes;
+use reuse_text::{Bytes, LONGEST_FILE};
 use reuse_tree::{Change, PathText, Store};
 use std::alloc::{AllocError, Global};
 

@@ -7,9 +7,9 @@ ghost use Rattle.reuse_session.specs.Refused.{IsNoFault};
 ghost use Rattle.reuse_session.specs.TreeStyles.{styles_path, styles_where, styles_in, styles_refusal};
 
 use crate::known_path::known_path;
-use crate::limits::LONGEST_FILE;
 use crate::reply::Refusal;
 use reuse_header::{StyleTable, StylesRefusal};
+use reuse_text::LONGEST_FILE;
 use reuse_tree::{PathText, Reading, Store};
 use std::alloc::Global;
 
@@ -26,8 +26,8 @@ pub(crate) fn read_styles<S: Store>(alloc: Global, store: &mut S) -> Result<Styl
 
 // The styles by what was read of the file.
 fn styles_by(alloc: Global, path: PathText, reading: Reading) -> Result<StyleTable, Refusal>
-    ensures styles { (file : Option (List ℕ)) → reading ≡ reading_of file 16_777_216 → IfOk result (λ styles. styles_where file ≡ Ok (lookup styles)) }
-    ensures refusal { (file : Option (List ℕ)) → path ≡ styles_path → reading ≡ reading_of file 16_777_216 → IfErr result (λ refusal. IsRefusalOf (styles_where file) refusal) }
+    ensures styles { (file : Option (List ℕ)) → reading ≡ reading_of file LONGEST_FILE → IfOk result (λ styles. styles_where file ≡ Ok (lookup styles)) }
+    ensures refusal { (file : Option (List ℕ)) → path ≡ styles_path → reading ≡ reading_of file LONGEST_FILE → IfErr result (λ refusal. IsRefusalOf (styles_where file) refusal) }
     ensures no_fault { IfErr result IsNoFault }
 {
     let read = match &reading {

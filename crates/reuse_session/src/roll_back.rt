@@ -17,10 +17,10 @@ ghost use Rattle.reuse_tree.specs.Asked.{OnlyReads, IsLater, FailsAsRead};
 
 use crate::entry::Way;
 use crate::journal_files::{HeadPath, put_head};
-use crate::limits::LONGEST_FILE;
 use crate::perform::{Aim, opposite, test_each};
 use crate::reply::{Cause, Refusal};
 use crate::turn::{is_ready, put_turned, turned};
+use reuse_text::LONGEST_FILE;
 use reuse_tree::{Change, PathText, Reading, Store, StoreFault};
 use std::alloc::Global;
 

@@ -11,8 +11,8 @@ ghost use Rattle.reuse_session.specs.Entry.{makes, IsSmall, IsReady, LeadsByOneC
 ghost use Rattle.reuse_tree.specs.Asked.{OnlyReads, IsLater, FailsAsRead};
 
 use crate::entry::Way;
-use crate::limits::LONGEST_FILE;
 use crate::reply::Cause;
+use reuse_text::LONGEST_FILE;
 use reuse_tree::{Change, ChangeState, Parts, Reading, Store, StoreFault};
 use std::alloc::Global;
 
