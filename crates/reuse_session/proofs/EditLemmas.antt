@@ -4,6 +4,7 @@ use Rattle.std.specs.Option.{option_map}
 use Rattle.std.specs.Str.{bytes_eq}
 use Rattle.std.specs.FinMap.{get}
 use Rattle.std.proofs.lemmas.Bool.{false≢true}
+use Rattle.std.proofs.lemmas.List.{append-nil}
 use Rattle.reuse_header.specs.declared.style.Style.{Style}
 use Rattle.reuse_header.specs.declared.annotation.HeaderRefusal.{HeaderRefusal}
 use Rattle.reuse_header.specs.declared.annotation.Splice.{Splice}
@@ -84,10 +85,6 @@ drop_none : (n : ℕ) → drop {A = ℕ} n [] ≡ []
 drop_none zero = refl
 drop_none (suc n) = refl
 
-append_none : (xs : List ℕ) → xs ++ [] ≡ xs
-append_none [] = refl
-append_none (x ∷ xs) = ap (λ ys. x ∷ ys) (append_none xs)
-
 -- the change that makes a file
 pub making_made : (tree : Files) (path at clone : List ℕ) (due : Due) (splice : Splice) → get tree at ≡ None → Fits [] due → answer_of [] due ≡ answered (Some splice) → clone ≡ at
     → MakesEdit tree (edit_by path at [] due) (Some (sealed_make clone splice.new))
@@ -101,7 +98,7 @@ making_made tree path at clone (Ok edit) splice here fits answer same = by_test 
     made = record { at = edit.start; old = take edit.old_len (drop edit.start []); new = header.new_bytes edit }
 
     around : header.edited [] edit ≡ header.new_bytes edit
-    around = ap₂ (λ x y. x ++ header.new_bytes edit ++ y) (take_none edit.start) (drop_none (edit.start + edit.old_len)) ∙ append_none (header.new_bytes edit)
+    around = ap₂ (λ x y. x ++ header.new_bytes edit ++ y) (take_none edit.start) (drop_none (edit.start + edit.old_len)) ∙ append-nil (header.new_bytes edit)
 
     makes : CarriesOutEdit tree (sealed_make at (header.new_bytes edit)) it
     makes = record {

@@ -26,6 +26,7 @@ use Rattle.reuse_session.specs.Reverting.{stands_at, is_as_left, stands_as_writt
 use Rattle.reuse_session.specs.declared.entry.Way.TheVariants.{Undo}
 use Rattle.reuse_session.specs.declared.reply.Refusal.{Refusal}
 use Rattle.reuse_session.specs.declared.reply.Refusal.TheVariants.{Fault, Memory, Moved}
+use Rattle.reuse_session.proofs.Planning.{each_push}
 
 abbrev pub found : Option Edit → Result (Option Edit) Refusal
 found edit = Ok edit
@@ -186,12 +187,6 @@ pub record SoFar (tree : Files) (skip : Bool) (all left : List Change) (taken : 
   pub each : MakesEach tree taken edits
   pub same : filter_map (taken_back_on tree) all ≡ edits ++ filter_map (taken_back_on tree) left
   pub stuck : (skip ≡ true) ⊎ (stuck_on tree all ≡ stuck_on tree left)
-
-each_push : (tree : Files) (changes : List Change) (edits : List Edit) (c : Change) (e : Edit) → MakesEach tree changes edits → CarriesOutEdit tree c e → MakesEach tree (changes ++ c ∷ []) (edits ++ e ∷ [])
-each_push tree [] [] c e each makes = (makes, tt)
-each_push tree [] (f ∷ edits) c e each makes = absurd each
-each_push tree (b ∷ changes) [] c e each makes = absurd each
-each_push tree (b ∷ changes) (f ∷ edits) c e each makes = (each.0, each_push tree changes edits c e each.1 makes)
 
 same_found : (a b : Option Edit) → found a ≡ found b → a ≡ b
 same_found a b e = cc
