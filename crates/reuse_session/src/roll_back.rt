@@ -7,7 +7,7 @@ ghost use Rattle.reuse_tree.specs.Change.{path_of, IsProper};
 ghost use Rattle.reuse_tree.specs.Files.{Files, AreFiles, Clashes, tree_of};
 ghost use Rattle.reuse_session.specs.Answer.{told_of, HasCause, IsEarly, IsNoClash, IsTestRefusal, IsRollBackRefusal, RefusedAsRead};
 ghost use Rattle.reuse_session.specs.Carried.{IsSetBack, IsRolledBack, NotesMoves, StopsRollingBack};
-ghost use Rattle.reuse_session.specs.Entry.{makes, opposite, IsEntry, IsReady, IsSmall, SomeMade, LeadsByOneChange, CanBeSetBack, IsFirstWithout};
+ghost use Rattle.reuse_session.specs.Entry.{makes, opposite, IsEntry, IsReady, IsSmall, ArePartlyMade, LeadsByOneChange, CanBeSetBack, IsFirstWithout};
 ghost use Rattle.reuse_session.specs.Session.{IsSameBut};
 ghost use Rattle.reuse_session.specs.Tree.{is_of_tree, undo_folder_of};
 ghost use Rattle.reuse_session.specs.JournalFiles.{head_path};
@@ -38,12 +38,11 @@ pub fn roll_back<S: Store>(
     ensures moved { S.honest store.new → IsEntry changes.now → (path : List ℕ) → result ≡ Err (Refusal.Moved path)
         → IsFirstWithout (CanBeSetBack way (tree_of (S.files store.old))) changes.now path }
     // From a tree on which some of the changes were made, it stops on the way back to that tree.
-    ensures stopped { S.honest store.new → IsEntry changes.now → (start : Files) → SomeMade way changes.now start (tree_of (S.files store.old))
-        → All (λ change. IsReady way change (map.get start (path_of change))) changes.now
+    ensures stopped { S.honest store.new → IsEntry changes.now → (start : Files) → ArePartlyMade way changes.now start (tree_of (S.files store.old))
         → (cause : Cause) → result ≡ Err (refusals.Interrupted cause) → StopsRollingBack way changes.now settled.now start (S.files store.old) (S.files store.new) }
     // It is never refused on the way from a tree.
-    ensures settles { S.honest store.new → IsEntry changes.now → (start : Files) → AreFiles start → SomeMade way changes.now start (tree_of (S.files store.old))
-        → All (λ change. IsReady way change (map.get start (path_of change))) changes.now → (path : List ℕ) → result ≢ Err (Refusal.Moved path) }
+    ensures settles { S.honest store.new → IsEntry changes.now → (start : Files) → AreFiles start → ArePartlyMade way changes.now start (tree_of (S.files store.old))
+        → (path : List ℕ) → result ≢ Err (Refusal.Moved path) }
     ensures refusal { IfErr result IsRollBackRefusal }
     ensures clash { S.honest store.new → IsEntry changes.now → ¬ (Clashes (S.files store.old) head_path) → IfErr result IsNoClash }
     // It stops only where each change isn't made or can be taken back.
@@ -152,8 +151,7 @@ fn set_all_back<S: Store>(
     started: &mut bool,
 ) -> Result<(), Cause>
     ensures done { S.honest store.new → IsEntry changes.now → OnOk result (IsRolledBack way changes.now settled.now (S.files store.old) (S.files store.new)) }
-    ensures stopped { S.honest store.new → IsEntry changes.now → (start : Files) → SomeMade way changes.now start (tree_of (S.files store.old))
-        → All (λ change. IsReady way change (map.get start (path_of change))) changes.now
+    ensures stopped { S.honest store.new → IsEntry changes.now → (start : Files) → ArePartlyMade way changes.now start (tree_of (S.files store.old))
         → OnErr result (StopsRollingBack way changes.now settled.now start (S.files store.old) (S.files store.new)) }
     ensures cause { S.honest store.new → IsEntry changes.now → All (CanBeSetBack way (tree_of (S.files store.old))) changes.now
         → ¬ (Clashes (S.files store.old) head_path) → (result ≢ Err Cause.Moved) × (result ≢ Err Cause.Clash) }
