@@ -17,6 +17,7 @@ use Rattle.reuse_header.specs.Header.{Header, HeaderSpan, header_of, span_in}
 use Rattle.reuse_header.specs.Laws.{IsInsertion}
 use Rattle.reuse_header.specs.Neighbour.{neighbour_annotation_of, neighbour_end}
 use Rattle.reuse_tree.specs.Files.{Files}
+use Rattle.reuse_text.specs.declared.TheConstants.{LONGEST_FILE}
 use Rattle.reuse_session.specs.Annotate.{neighbour_of, neighbour_is_tagged, goes_beside, target_of, edit_by, edit_neighbour, edit_target, annotated_where, annotated_at}
 use Rattle.reuse_session.specs.Annotated.{IsSameAround, KeepsOthers, block_replaced, part_replaced, Pair, pair_at, TakesNeighbour, IsCommented, IsAccompanied, IsSkipped, IsAnnotated, file_written}
 use Rattle.reuse_session.specs.Annotations.{Due}
@@ -55,27 +56,27 @@ abbrev pair : Option (List ℕ) → Option (List ℕ) → Pair
 pair file neighbour = record { file = file; neighbour = neighbour }
 
 -- these bytes are made of those at a place: nothing is done where they are the same
-abbrev Makes : List ℕ → List ℕ → List ℕ → Option Edit → Type 0
-Makes at bytes made None = made ≡ bytes
-Makes at bytes made (Some edit) = (edit.path ≡ at) × (edit.file ≡ Some made) × (bytes_eq made bytes ≡ false)
+abbrev IsEditTo : List ℕ → List ℕ → List ℕ → Option Edit → Type 0
+IsEditTo at bytes made None = made ≡ bytes
+IsEditTo at bytes made (Some edit) = (edit.path ≡ at) × (edit.file ≡ Some made) × (bytes_eq made bytes ≡ false)
 
-makes_by : (path at bytes : List ℕ) (due : Due) (given : Option Edit) → edit_by path at bytes due ≡ Ok given → (edit : header.Edit) × (due ≡ Ok edit) × Makes at bytes (header.edited bytes edit) given
+makes_by : (path at bytes : List ℕ) (due : Due) (given : Option Edit) → edit_by path at bytes due ≡ Ok given → (edit : header.Edit) × (due ≡ Ok edit) × IsEditTo at bytes (header.edited bytes edit) given
 makes_by path at bytes (Err refusal) given h = absurd (cc)
 makes_by path at bytes (Ok edit) given h = (edit, refl, of_test (bytes_eq (header.edited bytes edit) bytes) refl h)
   where
     it : Edit
     it = record { path = at; removed = take edit.old_len (drop edit.start bytes); written = header.new_bytes edit; file = Some (header.edited bytes edit) }
 
-    of_test : (b : Bool) → bytes_eq (header.edited bytes edit) bytes ≡ b → cond b (done None) (done (Some it)) ≡ done given → Makes at bytes (header.edited bytes edit) given
-    of_test true e k = subst (Makes at bytes (header.edited bytes edit)) (same_Ok None given k) ((bytes_eq-Decides (header.edited bytes edit) bytes).0 e)
-    of_test false e k = subst (Makes at bytes (header.edited bytes edit)) (same_Ok (Some it) given k) (refl, refl, e)
+    of_test : (b : Bool) → bytes_eq (header.edited bytes edit) bytes ≡ b → cond b (done None) (done (Some it)) ≡ done given → IsEditTo at bytes (header.edited bytes edit) given
+    of_test true e k = subst (IsEditTo at bytes (header.edited bytes edit)) (same_Ok None given k) ((bytes_eq-Decides (header.edited bytes edit) bytes).0 e)
+    of_test false e k = subst (IsEditTo at bytes (header.edited bytes edit)) (same_Ok (Some it) given k) (refl, refl, e)
 
 module _ (tree : Files) (at bytes made : List ℕ) where
-  then_here : (given : Option Edit) → Makes at bytes made given → get tree at ≡ Some bytes → file_then tree given at ≡ Some made
+  then_here : (given : Option Edit) → IsEditTo at bytes made given → get tree at ≡ Some bytes → file_then tree given at ≡ Some made
   then_here None makes here = here ∙ ap (λ xs. Some xs) (sym makes)
   then_here (Some edit) makes here = ap (λ b. cond b edit.file (get tree at)) ((bytes_eq-Decides at edit.path).1 (sym makes.0)) ∙ makes.1
 
-  then_other : (given : Option Edit) (path : List ℕ) → Makes at bytes made given → path ≢ at → file_then tree given path ≡ get tree path
+  then_other : (given : Option Edit) (path : List ℕ) → IsEditTo at bytes made given → path ≢ at → file_then tree given path ≡ get tree path
   then_other None path makes other = refl
   then_other (Some edit) path makes other = ap (λ b. cond b edit.file (get tree path)) (of_test (bytes_eq path edit.path) refl)
     where
@@ -83,7 +84,7 @@ module _ (tree : Files) (at bytes made : List ℕ) where
       of_test true e = absurd (other ((bytes_eq-Decides path edit.path).0 e ∙ makes.0))
       of_test false e = refl
 
-then_made : (tree : Files) (at made : List ℕ) (given : Option Edit) → Makes at [] made given → get tree at ≡ None → file_then tree given at ≡ file_written None made
+then_made : (tree : Files) (at made : List ℕ) (given : Option Edit) → IsEditTo at [] made given → get tree at ≡ None → file_then tree given at ≡ file_written None made
 then_made tree at made None makes here = here ∙ ap (file_written None) (sym makes)
 then_made tree at made (Some edit) makes here = ap (λ b. cond b edit.file (get tree at)) ((bytes_eq-Decides at edit.path).1 (sym makes.0)) ∙ makes.1 ∙ some_made made makes.2
   where
@@ -186,7 +187,7 @@ module _ (replaces : ReplacesBlock) (inserts : InsertsBlock) (replaces_beside : 
     IsBeside file new = IsAccompanied additions how scope own path bytes (pair (get tree path) file) new
 
     accompanied : (file : Option (List ℕ)) → get tree (neighbour_of path) ≡ file → TakesTo Beside → ¬ (IsSkipped scope own path bytes old) → (given : Option Edit) (edit : header.Edit)
-        → neighbour_annotation_of how additions (unwrap_or file []) ≡ Ok edit → Makes (neighbour_of path) (unwrap_or file []) (header.edited (unwrap_or file []) edit) given
+        → neighbour_annotation_of how additions (unwrap_or file []) ≡ Ok edit → IsEditTo (neighbour_of path) (unwrap_or file []) (header.edited (unwrap_or file []) edit) given
         → file_then tree given (neighbour_of path) ≡ file_written file (header.edited (unwrap_or file []) edit) → Becomes (pair_then tree given path)
     accompanied file is reason unskipped given edit due makes written = inr (
       unskipped,
@@ -216,7 +217,7 @@ module _ (replaces : ReplacesBlock) (inserts : InsertsBlock) (replaces_beside : 
         let kept = λ (other : List ℕ) (there : get tree (neighbour_of path) ≡ Some other). absurd (none-some other (sym is ∙ there)) in
         accompanied None is reason (beside_not_skipped scope own path bytes old reason kept) given made.0 made.1 made.2 (then_made tree (neighbour_of path) (header.edited [] made.0) given made.2 is)
     beside (Some there) is reason given h =
-        let short = err_or (nat_lt 16_777_216 (length there)) (refusals.TooLong path) (cond (scope.skip_existing && neighbour_is_tagged there) (done None) (edit_by path (neighbour_of path) there (neighbour_annotation_of how additions there))) given h in
+        let short = err_or (nat_lt LONGEST_FILE (length there)) (refusals.TooLong path) (cond (scope.skip_existing && neighbour_is_tagged there) (done None) (edit_by path (neighbour_of path) there (neighbour_annotation_of how additions there))) given h in
         beside_there there is reason (scope.skip_existing && neighbour_is_tagged there) refl given short.1
 
     by_target : (target : Target) → TakesTo target → (given : Option Edit) → edit_target how scope additions tree path bytes (Ok target) ≡ Ok given → Becomes (pair_then tree given path)

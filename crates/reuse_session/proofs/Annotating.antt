@@ -7,7 +7,7 @@ use Rattle.std.specs.List.Sorted.{IsStrictlySortedBy}
 use Rattle.std.specs.Str.{bytes_eq}
 use Rattle.std.specs.Prelude.{filter_map}
 use Rattle.std.specs.Option.{option_to_list}
-use Rattle.std.proofs.lemmas.List.{take_more}
+use Rattle.std.proofs.lemmas.List.{append-nil, take_more}
 use Rattle.std.proofs.lemmas.List.Elements.{filter_map-append}
 use Rattle.std.specs.FinMap.{get, keys}
 use Rattle.std.proofs.lemmas.Bool.{false≢true}
@@ -28,10 +28,10 @@ use Rattle.reuse_header.specs.declared.annotation.How.{How}
 use Rattle.reuse_session.specs.TreeStyles.{OwnNames}
 use Rattle.reuse_notice.specs.declared.adding.Additions.{Additions}
 use Rattle.reuse_session.specs.declared.command.Scope.{Scope}
-use Rattle.reuse_session.specs.Plan.{IsPlan, IsRefusalOf, Makes, MakesEdit, MakesEach, MakesEdits}
+use Rattle.reuse_session.specs.Plan.{IsPlan, IsRefusalOf, CarriesOutEdit, MakesEdit, MakesEach, MakesEdits}
 use Rattle.reuse_session.proofs.ListingLemmas.{under_from_test}
 use Rattle.reuse_session.proofs.TreeLemmas.{among_keys}
-use Rattle.reuse_session.proofs.Planning.{paths_at, AreEdits, same_many, plan_of_edits}
+use Rattle.reuse_session.proofs.Planning.{paths_at, each_push, AreEdits, same_many, plan_of_edits}
 use Rattle.reuse_session.specs.Entry.{entry_size}
 
 -- ---- refusals
@@ -177,20 +177,6 @@ without_edit : (r : Result (List Edit) Refusal) → with_edit None r ≡ r
 without_edit (Ok more) = refl
 without_edit (Err refusal) = refl
 
-each_push : (tree : Files) (changes : List Change) (edits : List Edit) (c : Change) (e : Edit) → MakesEach tree changes edits → Makes tree c e → MakesEach tree (changes ++ c ∷ []) (edits ++ e ∷ [])
-each_push tree [] [] c e each makes = (makes, tt)
-each_push tree [] (x ∷ edits) c e each makes = absurd each
-each_push tree (x ∷ changes) [] c e each makes = absurd each
-each_push tree (x ∷ changes) (y ∷ edits) c e each makes = (each.0, each_push tree changes edits c e each.1 makes)
-
-append_nil : (edits : List Edit) → edits ++ [] ≡ edits
-append_nil [] = refl
-append_nil (e ∷ edits) = ap (λ es. e ∷ es) (append_nil edits)
-
-append_none : (changes : List Change) → changes ++ [] ≡ changes
-append_none [] = refl
-append_none (c ∷ changes) = ap (λ cs. c ∷ cs) (append_none changes)
-
 -- the changes so far do what the edits so far say; these paths are left
 pub record SoFar (at : List ℕ → Result (Option Edit) Refusal) (tree : Files) (all left : List (List ℕ)) (changes : List Change) : Type 0 where
   pub edits : List Edit
@@ -208,7 +194,7 @@ module _ (at : List ℕ → Result (Option Edit) Refusal) (tree : Files) (all : 
     same = so.same ∙ ap (λ r. prepended so.edits (or_first r (edits_at at left))) e ∙ ap (prepended so.edits) (without_edit (edits_at at left));
   }
 
-  pub after_some : (p : List ℕ) (left : List (List ℕ)) (changes : List Change) (c : Change) (e : Edit) → SoFar at tree all (p ∷ left) changes → at p ≡ Ok (Some e) → Makes tree c e → SoFar at tree all left (changes ++ c ∷ [])
+  pub after_some : (p : List ℕ) (left : List (List ℕ)) (changes : List Change) (c : Change) (e : Edit) → SoFar at tree all (p ∷ left) changes → at p ≡ Ok (Some e) → CarriesOutEdit tree c e → SoFar at tree all left (changes ++ c ∷ [])
   after_some p left changes c e so h makes = record {
     edits = so.edits ++ e ∷ [];
     made = each_push tree changes so.edits c e so.made makes;
@@ -216,14 +202,14 @@ module _ (at : List ℕ → Result (Option Edit) Refusal) (tree : Files) (all : 
   }
 
   pub after_path : (p : List ℕ) (left : List (List ℕ)) (changes : List Change) (change : Option Change) → SoFar at tree all (p ∷ left) changes → MakesEdit tree (at p) change → SoFar at tree all left (changes ++ option_to_list change)
-  after_path p left changes None so makes = subst (SoFar at tree all left) (sym (append_none changes)) (after_none p left changes so makes)
+  after_path p left changes None so makes = subst (SoFar at tree all left) (sym (append-nil changes)) (after_none p left changes so makes)
   after_path p left changes (Some c) so makes = after_some p left changes c makes.0 so makes.1 makes.2
 
   pub at_refusal : (p : List ℕ) (left : List (List ℕ)) (changes : List Change) (r : Refusal) → SoFar at tree all (p ∷ left) changes → IsRefusalOf (at p) r → IsRefusalOf (edits_at at all) r
   at_refusal p left changes r so h = refusal_passes (at p) (edits_at at all) (λ s e. so.same ∙ ap (λ x. prepended so.edits (or_first x (edits_at at left))) e) r h
 
   pub at_end : (changes : List Change) → SoFar at tree all [] changes → MakesEdits tree (edits_at at all) changes
-  at_end changes so = (so.edits, so.same ∙ ap (λ es. Ok es) (append_nil so.edits), so.made)
+  at_end changes so = (so.edits, so.same ∙ ap (λ es. Ok es) (append-nil so.edits), so.made)
 
 -- ---- a path without a file
 

@@ -12,6 +12,7 @@ use Rattle.reuse_header.specs.declared.annotation.How.{How}
 use Rattle.reuse_header.specs.declared.style.Style.{Style}
 use Rattle.reuse_header.specs.Header.{header_of}
 use Rattle.reuse_tree.specs.Files.{Files}
+use Rattle.reuse_text.specs.declared.TheConstants.{LONGEST_FILE}
 use Rattle.reuse_session.specs.Annotate.{neighbour_of, neighbour_is_tagged, goes_beside, target_of, edit_neighbour, edit_target, annotated_where, annotated_at}
 use Rattle.reuse_session.specs.Annotated.{Pair, pair_at, IsSkipped, IsSkippedAt}
 use Rattle.reuse_session.specs.Command.{has_root, paths_among}
@@ -73,7 +74,7 @@ module _ (how : How) (scope : Scope) (additions : Additions) (own : OwnNames) (t
   beside None is reason h =
       subst TellsOf (sym (and_right scope.skip_existing false refl)) (beside_not_skipped scope own path bytes (pair_at tree path) reason (λ other there. absurd (none-some other (sym is ∙ there))))
   beside (Some there) is reason h =
-      tagged there is reason _ (scope.skip_existing && neighbour_is_tagged there) refl (if_not (nat_lt 16_777_216 (length there)) (refusals.TooLong path) _ given h)
+      tagged there is reason _ (scope.skip_existing && neighbour_is_tagged there) refl (if_not (nat_lt LONGEST_FILE (length there)) (refusals.TooLong path) _ given h)
 
   by_aim : (aim : Result Target Refusal) → ((target : Target) → aim ≡ Ok target → Takes scope own tree path bytes target) → edit_target how scope additions tree path bytes aim ≡ Ok given
       → TellsOf (is_skipped_at scope tree path bytes aim)

@@ -12,7 +12,7 @@ use Rattle.reuse_tree.specs.Change.{path_of, IsProper}
 use Rattle.reuse_tree.specs.declared.store.Store.{Ghosts}
 use Rattle.reuse_tree.proofs.AskedLemmas.{later_none, later_more, reads_more}
 use Rattle.reuse_tree.specs.declared.change.Change.{Change}
-use Rattle.reuse_session.specs.Entry.{makes, IsEntry, IsFirstWithout, IsSmall, LeadsBy, Steps}
+use Rattle.reuse_session.specs.Entry.{makes, IsEntry, IsFirstWithout, IsSmall, LeadsBy, LeadsByOneChange}
 use Rattle.reuse_session.specs.Tree.{is_of_tree, undo_folder_of}
 use Rattle.reuse_session.specs.declared.entry.Way.{Way}
 use Rattle.reuse_session.proofs.OfTree.{folder_stays, step_of_tree}
@@ -102,12 +102,12 @@ walked changes n last = ap (λ k. take k changes) last ∙ take-length changes
 
 -- ---- a walk that stops at the change, before it is made or after it
 
-pub folder_at_stop : (way : Way) (change : Change) (now after : Files) → is_of_tree (path_of change) ≡ true → (after ≡ now) ⊎ Steps way change now after → undo_folder_of after ≡ undo_folder_of now
+pub folder_at_stop : (way : Way) (change : Change) (now after : Files) → is_of_tree (path_of change) ≡ true → (after ≡ now) ⊎ LeadsByOneChange way change now after → undo_folder_of after ≡ undo_folder_of now
 folder_at_stop way change now after of_tree (inl same) = ap undo_folder_of same
 folder_at_stop way change now after of_tree (inr step) = folder_stays way change now after of_tree step
 
 pub leads_at_stop : (way : Way) (changes : List Change) (good : IsEntry changes) (i : ℕ) (lt : i < length changes) (change : Change) (is : change ≡ get_or changes i change) (start now after : Files)
-    → LeadsBy way (take i changes) start (tree_of now) → (after ≡ now) ⊎ Steps way change now after → (count : ℕ) × LeadsBy way (take count changes) start (tree_of after)
+    → LeadsBy way (take i changes) start (tree_of now) → (after ≡ now) ⊎ LeadsByOneChange way change now after → (count : ℕ) × LeadsBy way (take count changes) start (tree_of after)
 leads_at_stop way changes good i lt change is start now after made (inl same) = (i, subst (λ files. LeadsBy way (take i changes) start (tree_of files)) (sym same) made)
 leads_at_stop way changes good i lt change is start now after made (inr step) =
     (i + 1, leads_more way changes good i lt change is start (tree_of now) made (tree_of after) (step_of_tree way change now after (of_entry changes i lt change is good).of_tree step))

@@ -17,6 +17,7 @@ use Rattle.reuse_header.specs.Annotation as header
 use Rattle.reuse_header.specs.Header.{header_of}
 use Rattle.reuse_header.specs.Neighbour.{neighbour_annotation_of}
 use Rattle.reuse_tree.specs.Files.{Files}
+use Rattle.reuse_text.specs.declared.TheConstants.{LONGEST_FILE}
 use Rattle.reuse_session.specs.Annotate.{neighbour_of, neighbour_is_tagged, target_of, edit_by, edit_neighbour, edit_target, annotated_where, annotated_at}
 use Rattle.reuse_session.specs.Annotations.{Due}
 use Rattle.reuse_session.specs.Clash.{is_clash}
@@ -190,7 +191,7 @@ module _ (how : How) (scope : Scope) (additions : Additions) (tree : Files) (pat
       differs_new tree path (neighbour_of path) (neighbour_annotation_of how additions []) edit here (if_not (is_clash tree (neighbour_of path)) (refusals.Clash (neighbour_of path)) _ (Some edit) e)
   neighbour_differs (Some bytes) here e =
       differs_there tree path (neighbour_of path) bytes (neighbour_annotation_of how additions bytes) edit here
-      (unskipped (scope.skip_existing && neighbour_is_tagged bytes) _ edit (if_not (nat_lt 16_777_216 (length bytes)) (refusals.TooLong path) _ (Some edit) e)).1
+      (unskipped (scope.skip_existing && neighbour_is_tagged bytes) _ edit (if_not (nat_lt LONGEST_FILE (length bytes)) (refusals.TooLong path) _ (Some edit) e)).1
 
   target_differs : (bytes : List ℕ) (target : Result Target Refusal) → get tree path ≡ Some bytes → edit_target how scope additions tree path bytes target ≡ some_edit edit → Differs tree edit
   target_differs bytes (Err refusal) here e = absurd (cc)
@@ -224,7 +225,7 @@ conversion_differs tree edits h = of_file (get tree dep5_path) refl h
     of_file : (file : Option (List ℕ)) → get tree dep5_path ≡ file → conversion_where tree file ≡ Ok edits → AllByRecursion (Differs tree) edits
     of_file None here e = absurd (cc)
     of_file (Some bytes) here e =
-        let one = err_or (nat_lt 16_777_216 (length bytes)) (refusals.TooLong dep5_path) (cond (is_some (get tree toml_path)) (Err (refusals.Exists toml_path)) (replaced_by tree bytes (converted bytes))) edits e in
+        let one = err_or (nat_lt LONGEST_FILE (length bytes)) (refusals.TooLong dep5_path) (cond (is_some (get tree toml_path)) (Err (refusals.Exists toml_path)) (replaced_by tree bytes (converted bytes))) edits e in
         let two = err_or (is_some (get tree toml_path)) (refusals.Exists toml_path) (replaced_by tree bytes (converted bytes)) edits one.1 in
         of_text bytes (converted bytes) here (none_from_test (get tree toml_path) two.0) two.1
 

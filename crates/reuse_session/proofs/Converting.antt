@@ -17,6 +17,7 @@ use Rattle.reuse_tree.specs.declared.store.Reading.TheVariants.{Absent, TooLong}
 use Rattle.reuse_tree.specs.Change.{sealed_drop, sealed_make}
 use Rattle.std.specs.Option.{option_map}
 use Rattle.sha2.specs.Sha256.{sha256}
+use Rattle.reuse_text.specs.declared.TheConstants.{LONGEST_FILE}
 use Rattle.reuse_session.specs.Clash.{is_clash, is_clash_of}
 use Rattle.reuse_session.specs.Edit.{Edit, made, dropped}
 use Rattle.reuse_session.specs.Conversion.{dep5_path, toml_path, replaced_by, conversion_where, conversion_edits}
@@ -87,7 +88,7 @@ replaced_fits tree bytes (Ok text) edits h =
 fits_where : (tree : Files) (file : Option (List ℕ)) (edits : List Edit) → conversion_where tree file ≡ ok_edits edits → AreEdits tree edits
 fits_where tree None edits h = absurd (cc)
 fits_where tree (Some bytes) edits h =
-    let first = err_or (nat_lt 16_777_216 (length bytes)) (refusals.TooLong dep5_path) (cond (is_some (get tree toml_path)) (Err (refusals.Exists toml_path)) (replaced_by tree bytes (converted bytes))) edits h in
+    let first = err_or (nat_lt LONGEST_FILE (length bytes)) (refusals.TooLong dep5_path) (cond (is_some (get tree toml_path)) (Err (refusals.Exists toml_path)) (replaced_by tree bytes (converted bytes))) edits h in
     let second = err_or (is_some (get tree toml_path)) (refusals.Exists toml_path) (replaced_by tree bytes (converted bytes)) edits first.1 in
     replaced_fits tree bytes (converted bytes) edits second.1
 
@@ -110,21 +111,21 @@ longer most n h = grind (arith, nat_tests)
 not_longer : (most n : ℕ) → n ≤ most → nat_lt most n ≡ false
 not_longer most n h = grind (arith, nat_tests)
 
-pub none_read : (tree : Files) → Absent ≡ reading_of (get tree dep5_path) 16_777_216 → conversion_edits tree ≡ Err refusals.NoDep5
-none_read tree e = ap (conversion_where tree) (absent_is (get tree dep5_path) 16_777_216 e)
+pub none_read : (tree : Files) → Absent ≡ reading_of (get tree dep5_path) LONGEST_FILE → conversion_edits tree ≡ Err refusals.NoDep5
+none_read tree e = ap (conversion_where tree) (absent_is (get tree dep5_path) LONGEST_FILE e)
 
-pub long_read : (tree : Files) → TooLong ≡ reading_of (get tree dep5_path) 16_777_216 → conversion_edits tree ≡ Err (refusals.TooLong dep5_path)
+pub long_read : (tree : Files) → TooLong ≡ reading_of (get tree dep5_path) LONGEST_FILE → conversion_edits tree ≡ Err (refusals.TooLong dep5_path)
 long_read tree e =
-    let long = long_is (get tree dep5_path) 16_777_216 e in
-    ap (conversion_where tree) long.1 ∙ refused_by _ true (refusals.TooLong dep5_path) _ (longer 16_777_216 (length long.0) long.2)
+    let long = long_is (get tree dep5_path) LONGEST_FILE e in
+    ap (conversion_where tree) long.1 ∙ refused_by _ true (refusals.TooLong dep5_path) _ (longer LONGEST_FILE (length long.0) long.2)
 
 -- the dep5 is there and isn't too long; these are the paths of the tree
-module _ (tree : Files) (paths : List (List ℕ)) (bytes : List ℕ) (are : paths ≡ keys tree) (here : get tree dep5_path ≡ Some bytes) (short : length bytes ≤ 16_777_216) where
+module _ (tree : Files) (paths : List (List ℕ)) (bytes : List ℕ) (are : paths ≡ keys tree) (here : get tree dep5_path ≡ Some bytes) (short : length bytes ≤ LONGEST_FILE) where
   abbrev rest : Result (List Edit) Refusal
   rest = cond (is_some (get tree toml_path)) (Err (refusals.Exists toml_path)) (replaced_by tree bytes (converted bytes))
 
   read : conversion_edits tree ≡ rest
-  read = ap (conversion_where tree) here ∙ refused_by _ false (refusals.TooLong dep5_path) rest (not_longer 16_777_216 (length bytes) short)
+  read = ap (conversion_where tree) here ∙ refused_by _ false (refusals.TooLong dep5_path) rest (not_longer LONGEST_FILE (length bytes) short)
 
   there : (b : Bool) → is_among paths toml_path ≡ b → is_some (get tree toml_path) ≡ b
   there b e = sym (among_keys tree toml_path) ∙ ap (λ ps. is_among ps toml_path) (sym are) ∙ e
@@ -150,7 +151,7 @@ module _ (tree : Files) (paths : List (List ℕ)) (bytes : List ℕ) (are : path
     pub clash_answer : is_clash_of paths toml_path ≡ true → conversion_edits tree ≡ Err (refusals.Clash toml_path)
     clash_answer e = replaced ∙ refused_by _ true (refusals.Clash toml_path) (ok_edits (dropped dep5_path bytes ∷ made toml_path text ∷ [])) e
 
-    pub made_answer : is_clash_of paths toml_path ≡ false → length text ≤ 16_777_216 → MakesEdits tree (conversion_edits tree) (sealed_drop dep5_path bytes ∷ sealed_make toml_path text ∷ [])
+    pub made_answer : is_clash_of paths toml_path ≡ false → length text ≤ LONGEST_FILE → MakesEdits tree (conversion_edits tree) (sealed_drop dep5_path bytes ∷ sealed_make toml_path text ∷ [])
     made_answer e fits = (
       dropped dep5_path bytes ∷ made toml_path text ∷ [],
       replaced ∙ refused_by _ false (refusals.Clash toml_path) (ok_edits (dropped dep5_path bytes ∷ made toml_path text ∷ [])) e,

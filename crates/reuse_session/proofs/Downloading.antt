@@ -10,6 +10,7 @@ use Rattle.std.proofs.lemmas.Slice.Eq.{bytes_eq-Decides}
 use Rattle.reuse_notice.specs.Sets.{set_of}
 use Rattle.reuse_notice.proofs.SetLemmas.{In, In-set_of, sorted-set_of}
 use Rattle.reuse_tree.specs.Path.{is_path, lies_under}
+use Rattle.reuse_text.specs.declared.TheConstants.{LONGEST_FILE}
 use Rattle.reuse_session.specs.Tree.{is_of_tree}
 use Rattle.reuse_tree.specs.Files.{Files}
 use Rattle.reuse_tree.specs.declared.change.Change.{Change}
@@ -20,7 +21,7 @@ use Rattle.reuse_session.specs.Licence.{is_id, licence_path, licence_id}
 use Rattle.reuse_session.specs.Downloads.{text_for, refusal_of_found, id_refusal, ids_refusal, licence_edit, unless_refused, download_of, download_edits}
 use Rattle.reuse_session.specs.DownloadPlan.{made_at}
 use Rattle.reuse_session.specs.Refused.{IsRefused}
-use Rattle.reuse_session.specs.Plan.{Makes, MakesEach, MakesEdits, IsRefusalOf}
+use Rattle.reuse_session.specs.Plan.{CarriesOutEdit, MakesEach, MakesEdits, IsRefusalOf}
 use Rattle.reuse_session.specs.declared.licence.LicenceText.{LicenceText}
 use Rattle.reuse_session.specs.declared.reply.Refusal.{Refusal}
 use Rattle.reuse_session.specs.declared.reply.Refusal.TheVariants as refusals
@@ -38,7 +39,7 @@ pub record IsMade (tree : Files) (texts : List LicenceText) (path : List ℕ) : 
   pub here : path ≡ licence_path id
   pub text : List ℕ
   pub found : text_for texts id ≡ Some text
-  pub short : length text ≤ 16_777_216
+  pub short : length text ≤ LONGEST_FILE
   pub absent : get tree path ≡ None
   pub free : is_clash tree path ≡ false
 
@@ -64,7 +65,7 @@ module _ (tree : Files) (texts : List LicenceText) (id : List ℕ) where
   made_where : is_id id ≡ true → (found : Option (List ℕ)) → text_for texts id ≡ found → refusal_of_found tree id found ≡ None → IsMade tree texts (licence_path id)
   made_where good None at h = absurd (cc)
   made_where good (Some text) at h =
-      let first = passed (nat_lt 16_777_216 (length text)) (refusals.TooLong (licence_path id))
+      let first = passed (nat_lt LONGEST_FILE (length text)) (refusals.TooLong (licence_path id))
       (cond (is_some (get tree (licence_path id))) (due (refusals.Exists (licence_path id))) (cond (is_clash tree (licence_path id)) (due (refusals.Clash (licence_path id))) None)) h in
       let second = passed (is_some (get tree (licence_path id))) (refusals.Exists (licence_path id)) (cond (is_clash tree (licence_path id)) (due (refusals.Clash (licence_path id))) None) first.1 in
       record {
@@ -73,7 +74,7 @@ module _ (tree : Files) (texts : List LicenceText) (id : List ℕ) where
         here = refl;
         text = text;
         found = at;
-        short = not_long 16_777_216 (length text) first.0;
+        short = not_long LONGEST_FILE (length text) first.0;
         absent = no_file (get tree (licence_path id)) second.0;
         free = last_passed (is_clash tree (licence_path id)) (refusals.Clash (licence_path id)) second.1;
       }
@@ -112,13 +113,13 @@ module _ (tree : Files) (texts : List LicenceText) where
   text_at : (path : List ℕ) (made : IsMade tree texts path) → text_for texts (licence_id path) ≡ Some made.text
   text_at path made = ap (λ p. text_for texts (licence_id p)) made.here ∙ ap (text_for texts) (id_of_path made.id) ∙ made.found
 
-  makes : (path : List ℕ) → IsMade tree texts path → Makes tree (made_at texts path) (licence_edit texts path)
+  makes : (path : List ℕ) → IsMade tree texts path → CarriesOutEdit tree (made_at texts path) (licence_edit texts path)
   makes path made = record {
     path = refl;
     removed = refl;
     written = refl;
     proper = tt;
-    small = subst (λ (o : Option (List ℕ)). length (unwrap_or o []) ≤ 16_777_216) (sym (text_at path made)) made.short;
+    small = subst (λ (o : Option (List ℕ)). length (unwrap_or o []) ≤ LONGEST_FILE) (sym (text_at path made)) made.short;
     turns = record { range = (made.absent, refl); from = tt; to = refl };
     sealed = refl;
   }
@@ -221,7 +222,7 @@ none_due false false true x y z e f g = absurd (false≢true (sym g))
 
 -- what was found for the id is a text that isn't too long; these are the paths of the tree, and that of the id
 module _ (tree : Files) (id path text : List ℕ) (paths : List (List ℕ)) (found : Option (List ℕ))
-    (are : paths ≡ keys tree) (here : path ≡ licence_path id) (is : found ≡ Some text) (short : length text ≤ 16_777_216) where
+    (are : paths ≡ keys tree) (here : path ≡ licence_path id) (is : found ≡ Some text) (short : length text ≤ LONGEST_FILE) where
   there : (b : Bool) → is_among paths path ≡ b → is_some (get tree (licence_path id)) ≡ b
   there b e = ap (λ p. is_some (get tree p)) (sym here) ∙ sym (among_keys tree path) ∙ ap (λ ps. is_among ps path) (sym are) ∙ e
 
@@ -231,16 +232,16 @@ module _ (tree : Files) (id path text : List ℕ) (paths : List (List ℕ)) (fou
   pub exists_answer : is_among paths path ≡ true → refusal_of_found tree id found ≡ Some (refusals.Exists path)
   exists_answer e =
       ap (refusal_of_found tree id) is
-      ∙ second_due _ _ _ _ _ _ (not_longer 16_777_216 (length text) short) (there true e) ∙ ap (λ p. due (refusals.Exists p)) (sym here)
+      ∙ second_due _ _ _ _ _ _ (not_longer LONGEST_FILE (length text) short) (there true e) ∙ ap (λ p. due (refusals.Exists p)) (sym here)
 
   pub clash_answer : is_among paths path ≡ false → is_clash_of paths path ≡ true → refusal_of_found tree id found ≡ Some (refusals.Clash path)
   clash_answer e f =
       ap (refusal_of_found tree id) is
-      ∙ third_due _ _ _ _ _ _ (not_longer 16_777_216 (length text) short) (there false e) (clashes true f) ∙ ap (λ p. due (refusals.Clash p)) (sym here)
+      ∙ third_due _ _ _ _ _ _ (not_longer LONGEST_FILE (length text) short) (there false e) (clashes true f) ∙ ap (λ p. due (refusals.Clash p)) (sym here)
 
   pub made_answer : is_among paths path ≡ false → is_clash_of paths path ≡ false → refusal_of_found tree id found ≡ None
   made_answer e f =
-      ap (refusal_of_found tree id) is ∙ none_due _ _ _ (refusals.TooLong (licence_path id)) (refusals.Exists (licence_path id)) (refusals.Clash (licence_path id)) (not_longer 16_777_216 (length text) short) (there false e) (clashes false f)
+      ap (refusal_of_found tree id) is ∙ none_due _ _ _ (refusals.TooLong (licence_path id)) (refusals.Exists (licence_path id)) (refusals.Clash (licence_path id)) (not_longer LONGEST_FILE (length text) short) (there false e) (clashes false f)
 
 -- the first refusal stands
 pub first_refused : (given more : Option Refusal) (r : Refusal) → IsRefused given r → IsRefused (option_or given more) r

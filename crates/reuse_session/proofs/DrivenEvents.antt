@@ -12,15 +12,15 @@ use Rattle.reuse_session.specs.declared.reply.Refusal.{Refusal}
 use Rattle.reuse_session.specs.declared.reply.Refusal.TheVariants.{Memory, Fault, Interrupted}
 use Rattle.reuse_session.specs.Answer.{IsNoWantOfMemory, IsNoClash, HasCause, TellsNoFault}
 use Rattle.reuse_session.specs.Machine.{Snapshots, Step, step, answers_to, after_all}
-use Rattle.reuse_session.specs.Stops.{Point, open_at, closed, Reopens, Goes, Lists, Foretells, Answers, RunsWithStops, HaveCauses}
+use Rattle.reuse_session.specs.Stops.{Point, open_at, closed, Reopens, GoesOrStops, Lists, Foretells, AnswersEvent, RunsWithStops, HaveCauses}
 use Rattle.reuse_session.proofs.Driving.{answers_reopen}
 
 -- ---- many events
 
 -- one more event at the end
 pub runs_more : (events : List Event) (answers : List (Result Reply Refusal)) (event : Event) (answer : Result Reply Refusal) (old mid new : Point)
-    → RunsWithStops events answers old mid → Answers mid.is_open event answer mid new → RunsWithStops (events ++ event ∷ []) (answers ++ answer ∷ []) old new
-runs_more [] [] event answer old mid new runs last = (new, subst (λ (p : Point). Answers p.is_open event answer p new) runs last, refl)
+    → RunsWithStops events answers old mid → AnswersEvent mid.is_open event answer mid new → RunsWithStops (events ++ event ∷ []) (answers ++ answer ∷ []) old new
+runs_more [] [] event answer old mid new runs last = (new, subst (λ (p : Point). AnswersEvent p.is_open event answer p new) runs last, refl)
 runs_more (e ∷ events) (a ∷ answers) event answer old mid new runs last = (runs.0, runs.1, runs_more events answers event answer runs.0 mid new runs.2 last)
 runs_more [] (a ∷ answers) event answer old mid new runs last = absurd runs
 runs_more (e ∷ events) [] event answer old mid new runs last = absurd runs
@@ -41,7 +41,7 @@ take_event : (events : List Event) (i : ℕ) (event : Event) → i < length even
 take_event events i event lt is = ap (λ e. take i events ++ e ∷ []) is ∙ sym (take_more events i event lt)
 
 pub runs_next : (events : List Event) (i : ℕ) (event : Event) → i < length events → event ≡ get_or events i event → (answers more : List (Result Reply Refusal)) (answer : Result Reply Refusal)
-    → more ≡ answers ++ answer ∷ [] → (old mid new : Point) → RunsWithStops (asked.Reopen ∷ take i events) answers old mid → Answers mid.is_open event answer mid new
+    → more ≡ answers ++ answer ∷ [] → (old mid new : Point) → RunsWithStops (asked.Reopen ∷ take i events) answers old mid → AnswersEvent mid.is_open event answer mid new
     → RunsWithStops (asked.Reopen ∷ take (i + 1) events) more old new
 runs_next events i event lt is answers more answer items old mid new runs last =
     let whole : RunsWithStops (asked.Reopen ∷ (take i events ++ event ∷ [])) (answers ++ answer ∷ []) old new = runs_more (asked.Reopen ∷ take i events) answers event answer old mid new runs last in
@@ -97,7 +97,7 @@ reopened (Err Memory) old new none told h = absurd told
 reopened (Err (Interrupted cause)) old new none told h = absurd told
 reopened (Err refusal) old new none told h = absurd h
 
-went : (next : Step) (answer : Result Reply Refusal) (state : Snapshots) (new : Point) → TellsNoFault answer → Goes next answer (open_at state) new → (answer ≡ next.0) × (new ≡ open_at next.1)
+went : (next : Step) (answer : Result Reply Refusal) (state : Snapshots) (new : Point) → TellsNoFault answer → GoesOrStops next answer (open_at state) new → (answer ≡ next.0) × (new ≡ open_at next.1)
 went next (Ok reply) state new told h = h
 went next (Err (Fault fault)) state new told h = absurd told
 went next (Err Memory) state new told h = absurd told
@@ -115,7 +115,7 @@ foretold next (Err (Fault fault)) state new told h = absurd told
 foretold next (Err Memory) state new told h = absurd told
 foretold next (Err refusal) state new told h = h
 
-answered : (event : Event) (answer : Result Reply Refusal) (state : Snapshots) (new : Point) → TellsNoFault answer → Answers true event answer (open_at state) new
+answered : (event : Event) (answer : Result Reply Refusal) (state : Snapshots) (new : Point) → TellsNoFault answer → AnswersEvent true event answer (open_at state) new
     → (answer ≡ (step state event).0) × (new ≡ open_at (step state event).1)
 answered (asked.Run command when) answer state new told h = went (step state (asked.Run command when)) answer state new told h
 answered asked.Undo answer state new told h = went (step state asked.Undo) answer state new told h

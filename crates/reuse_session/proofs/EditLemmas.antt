@@ -4,6 +4,7 @@ use Rattle.std.specs.Option.{option_map}
 use Rattle.std.specs.Str.{bytes_eq}
 use Rattle.std.specs.FinMap.{get}
 use Rattle.std.proofs.lemmas.Bool.{false≢true}
+use Rattle.std.proofs.lemmas.List.{append-nil}
 use Rattle.reuse_header.specs.declared.style.Style.{Style}
 use Rattle.reuse_header.specs.declared.annotation.HeaderRefusal.{HeaderRefusal}
 use Rattle.reuse_header.specs.declared.annotation.Splice.{Splice}
@@ -13,6 +14,7 @@ use Rattle.reuse_header.specs.Splices.{answer_of}
 use Rattle.reuse_tree.specs.Files.{Files}
 use Rattle.reuse_tree.specs.Change.{sealed_make, sealed_splice}
 use Rattle.sha2.specs.Sha256.{sha256}
+use Rattle.reuse_text.specs.declared.TheConstants.{LONGEST_FILE}
 use Rattle.reuse_session.specs.Edit.{Edit}
 use Rattle.reuse_header.specs.Neighbour.{neighbour_annotation_of}
 use Rattle.reuse_session.specs.Annotate.{neighbour_of, neighbour_is_tagged, goes_beside, target_of, edit_by, annotated_where}
@@ -23,14 +25,14 @@ use Rattle.reuse_session.specs.declared.reply.Refusal.TheVariants as refusals
 use Rattle.reuse_session.specs.declared.target.Target.{Target}
 use Rattle.reuse_session.specs.declared.target.Target.TheVariants.{Beside}
 use Rattle.reuse_session.specs.Annotations.{Due, Fits}
-use Rattle.reuse_session.specs.Plan.{Makes, MakesEdit}
+use Rattle.reuse_session.specs.Plan.{CarriesOutEdit, MakesEdit}
 use Rattle.reuse_session.specs.Steps.{short_file}
 use Rattle.reuse_session.specs.declared.annotation.Annotation.{Annotation}
 use Rattle.reuse_session.specs.declared.reply.Refusal.{Refusal}
 use Rattle.reuse_session.proofs.SpliceLemmas.{makes_splice}
 
 -- what is known of each edit is known of an annotation
-pub fits_by : (bytes : List ℕ) (due : Due) → ((edit : header.Edit) → due ≡ Ok edit → (edit.start + edit.old_len ≤ length bytes) × (length (header.edited bytes edit) ≤ 16_777_216)) → Fits bytes due
+pub fits_by : (bytes : List ℕ) (due : Due) → ((edit : header.Edit) → due ≡ Ok edit → (edit.start + edit.old_len ≤ length bytes) × (length (header.edited bytes edit) ≤ LONGEST_FILE)) → Fits bytes due
 fits_by bytes (Ok edit) each = each edit refl
 fits_by bytes (Err refusal) each = tt
 
@@ -50,7 +52,7 @@ same_splice : (one other : Splice) → answered (Some one) ≡ answered (Some ot
 same_splice one other e = cc
 
 -- the change of a file that is there
-pub change_made : (tree : Files) (path at clone bytes : List ℕ) (due : Due) (splice : Splice) → get tree at ≡ Some bytes → length bytes ≤ 16_777_216 → Fits bytes due
+pub change_made : (tree : Files) (path at clone bytes : List ℕ) (due : Due) (splice : Splice) → get tree at ≡ Some bytes → length bytes ≤ LONGEST_FILE → Fits bytes due
     → answer_of bytes due ≡ answered (Some splice) → clone ≡ at
     → MakesEdit tree (edit_by path at bytes due) (Some (sealed_splice clone bytes splice.at splice.old splice.new))
 change_made tree path at clone bytes (Err refusal) splice here short fits answer same = absurd (refused_is_none refusal splice answer)
@@ -62,17 +64,17 @@ change_made tree path at clone bytes (Ok edit) splice here short fits answer sam
     made : Splice
     made = record { at = edit.start; old = take edit.old_len (drop edit.start bytes); new = header.new_bytes edit }
 
-    makes : bytes_eq (header.edited bytes edit) bytes ≡ false → Makes tree (sealed_splice at bytes edit.start (take edit.old_len (drop edit.start bytes)) (header.new_bytes edit)) it
+    makes : bytes_eq (header.edited bytes edit) bytes ≡ false → CarriesOutEdit tree (sealed_splice at bytes edit.start (take edit.old_len (drop edit.start bytes)) (header.new_bytes edit)) it
     makes e = makes_splice bytes edit.start edit.old_len fits.0 tree at (header.new_bytes edit) here short fits.1 e
 
     by_test : (b : Bool) → bytes_eq (header.edited bytes edit) bytes ≡ b → answered (cond b None (Some made)) ≡ answered (Some splice)
-        → (x : Edit) × (cond b (edited_to None) (edited_to (Some it)) ≡ edited_to (Some x)) × Makes tree (sealed_splice clone bytes splice.at splice.old splice.new) x
+        → (x : Edit) × (cond b (edited_to None) (edited_to (Some it)) ≡ edited_to (Some x)) × CarriesOutEdit tree (sealed_splice clone bytes splice.at splice.old splice.new) x
     by_test true e h = absurd (none_is_some splice h)
     by_test false e h = (
       it,
       refl,
-      subst (λ (p : List ℕ). Makes tree (sealed_splice p bytes splice.at splice.old splice.new) it) (sym same)
-          (subst (λ (s : Splice). Makes tree (sealed_splice at bytes s.at s.old s.new) it) (same_splice made splice h) (makes e)),
+      subst (λ (p : List ℕ). CarriesOutEdit tree (sealed_splice p bytes splice.at splice.old splice.new) it) (sym same)
+          (subst (λ (s : Splice). CarriesOutEdit tree (sealed_splice at bytes s.at s.old s.new) it) (same_splice made splice h) (makes e)),
     )
 
 take_none : (n : ℕ) → take {A = ℕ} n [] ≡ []
@@ -82,10 +84,6 @@ take_none (suc n) = refl
 drop_none : (n : ℕ) → drop {A = ℕ} n [] ≡ []
 drop_none zero = refl
 drop_none (suc n) = refl
-
-append_none : (xs : List ℕ) → xs ++ [] ≡ xs
-append_none [] = refl
-append_none (x ∷ xs) = ap (λ ys. x ∷ ys) (append_none xs)
 
 -- the change that makes a file
 pub making_made : (tree : Files) (path at clone : List ℕ) (due : Due) (splice : Splice) → get tree at ≡ None → Fits [] due → answer_of [] due ≡ answered (Some splice) → clone ≡ at
@@ -100,26 +98,26 @@ making_made tree path at clone (Ok edit) splice here fits answer same = by_test 
     made = record { at = edit.start; old = take edit.old_len (drop edit.start []); new = header.new_bytes edit }
 
     around : header.edited [] edit ≡ header.new_bytes edit
-    around = ap₂ (λ x y. x ++ header.new_bytes edit ++ y) (take_none edit.start) (drop_none (edit.start + edit.old_len)) ∙ append_none (header.new_bytes edit)
+    around = ap₂ (λ x y. x ++ header.new_bytes edit ++ y) (take_none edit.start) (drop_none (edit.start + edit.old_len)) ∙ append-nil (header.new_bytes edit)
 
-    makes : Makes tree (sealed_make at (header.new_bytes edit)) it
+    makes : CarriesOutEdit tree (sealed_make at (header.new_bytes edit)) it
     makes = record {
       path = refl;
       removed = sym (ap (take edit.old_len) (drop_none edit.start) ∙ take_none edit.old_len);
       written = refl;
       proper = tt;
-      small = subst (λ xs. length xs ≤ 16_777_216) around fits.1;
+      small = subst (λ xs. length xs ≤ LONGEST_FILE) around fits.1;
       turns = record { range = (here, ap (λ xs. Some xs) around); from = tt; to = ap (λ xs. Some (sha256 xs)) around };
       sealed = refl;
     }
 
     by_test : (b : Bool) → answered (cond b None (Some made)) ≡ answered (Some splice)
-        → (x : Edit) × (cond b (edited_to None) (edited_to (Some it)) ≡ edited_to (Some x)) × Makes tree (sealed_make clone splice.new) x
+        → (x : Edit) × (cond b (edited_to None) (edited_to (Some it)) ≡ edited_to (Some x)) × CarriesOutEdit tree (sealed_make clone splice.new) x
     by_test true h = absurd (none_is_some splice h)
     by_test false h = (
       it,
       refl,
-      subst (λ (p : List ℕ). Makes tree (sealed_make p splice.new) it) (sym same) (subst (λ (s : Splice). Makes tree (sealed_make at s.new) it) (same_splice made splice h) makes),
+      subst (λ (p : List ℕ). CarriesOutEdit tree (sealed_make p splice.new) it) (sym same) (subst (λ (s : Splice). CarriesOutEdit tree (sealed_make at s.new) it) (same_splice made splice h) makes),
     )
 
 -- ---- files that are not skipped
@@ -144,8 +142,8 @@ abbrev found : List ℕ → Result (List ℕ) Refusal
 found bytes = Ok bytes
 
 -- where its bytes were found, they are not too many
-pub short_is : (path file bytes : List ℕ) → short_file path file ≡ found bytes → (nat_lt 16_777_216 (length file) ≡ false) × (file ≡ bytes)
-short_is path file bytes e = by_test (nat_lt 16_777_216 (length file)) e
+pub short_is : (path file bytes : List ℕ) → short_file path file ≡ found bytes → (nat_lt LONGEST_FILE (length file) ≡ false) × (file ≡ bytes)
+short_is path file bytes e = by_test (nat_lt LONGEST_FILE (length file)) e
   where
     by_test : (b : Bool) → cond b (Err (refusals.TooLong path)) (found file) ≡ found bytes → (b ≡ false) × (file ≡ bytes)
     by_test true h = absurd (cc)
@@ -153,8 +151,8 @@ short_is path file bytes e = by_test (nat_lt 16_777_216 (length file)) e
 
 -- where they are too many, nothing else is made of them
 pub long_is : {A : Type 0} (path file : List ℕ) (rest : Result A Refusal) (refusal : Refusal) → short_file path file ≡ Err refusal
-    → cond (nat_lt 16_777_216 (length file)) (Err (refusals.TooLong path)) rest ≡ Err refusal
-long_is path file rest refusal e = by_test (nat_lt 16_777_216 (length file)) e
+    → cond (nat_lt LONGEST_FILE (length file)) (Err (refusals.TooLong path)) rest ≡ Err refusal
+long_is path file rest refusal e = by_test (nat_lt LONGEST_FILE (length file)) e
   where
     by_test : (b : Bool) → cond b (Err (refusals.TooLong path)) (found file) ≡ Err refusal → cond b (Err (refusals.TooLong path)) rest ≡ Err refusal
     by_test true h = cc
@@ -176,7 +174,7 @@ module _ (asked : Annotation) (tree : Files) (path : List ℕ) where
   abbrev by_neighbour : List ℕ → Result (Option Edit) Refusal
   by_neighbour bytes = edit_by path (neighbour_of path) bytes (neighbour_annotation_of asked.how.now asked.additions.now bytes)
 
-  pub neighbour_is : (bytes : List ℕ) → nat_lt 16_777_216 (length bytes) ≡ false → (asked.scope.now.skip_existing && neighbour_is_tagged bytes) ≡ false
+  pub neighbour_is : (bytes : List ℕ) → nat_lt LONGEST_FILE (length bytes) ≡ false → (asked.scope.now.skip_existing && neighbour_is_tagged bytes) ≡ false
       → neighbour_by asked tree path (Some bytes) ≡ edit_by path (neighbour_of path) bytes (neighbour_annotation_of asked.how.now asked.additions.now bytes)
   neighbour_is bytes short kept =
       ap (λ b. cond b (refused (refusals.TooLong path)) (cond (asked.scope.now.skip_existing && neighbour_is_tagged bytes) (edited_to None) (by_neighbour bytes))) short

@@ -25,7 +25,7 @@ use Rattle.reuse_session.specs.declared.reply.Refusal.{Refusal}
 use Rattle.reuse_session.specs.declared.reply.Refusal.TheVariants.{TooMany}
 use Rattle.reuse_session.specs.Listing.{ArePaths, is_among}
 use Rattle.reuse_session.specs.Outcome.{Edit, edited, edit_size, is_too_many, tree_after}
-use Rattle.reuse_session.specs.Plan.{IsPlan, is_before, Makes, MakesEach, MakesEdits}
+use Rattle.reuse_session.specs.Plan.{IsPlan, is_before, CarriesOutEdit, MakesEach, MakesEdits}
 use Rattle.reuse_session.proofs.Planning.{paths_at, with_same, with_other, edited_other, EachHas, IsFit, AreEdits, same_many, plan_of_edits}
 use Rattle.reuse_session.specs.Outcome.{with_file}
 use Rattle.std.specs.Ordering.{is_eq}
@@ -71,7 +71,7 @@ turned (Splice path at old new rest seal) (Some bytes) after t =
 abbrev edit_made : Files → Change → Edit
 edit_made tree c = record { path = path_of c; removed = removed_by c; written = written_by c; file = file_after c (get tree (path_of c)) }
 
-made_is : (tree : Files) (c : Change) (e : Edit) → Makes tree c e → e ≡ edit_made tree c
+made_is : (tree : Files) (c : Change) (e : Edit) → CarriesOutEdit tree c e → e ≡ edit_made tree c
 made_is tree c e makes =
     let file : e.file ≡ file_after c (get tree (path_of c)) = sym (turned c (get tree e.path) e.file makes.turns) ∙ ap (λ p. file_after c (get tree p)) (sym makes.path) in
     λ i. record { path = sym makes.path i; removed = sym makes.removed i; written = sym makes.written i; file = file i }
@@ -83,14 +83,14 @@ list_made tree (c ∷ changes) [] each = absurd each
 list_made tree (c ∷ changes) (e ∷ edits) each = ap₂ (λ x xs. x ∷ xs) (made_is tree c e each.0) (list_made tree changes edits each.1)
 
 abbrev MakesIts : Files → Change → Type 0
-MakesIts tree c = Makes tree c (edit_made tree c)
+MakesIts tree c = CarriesOutEdit tree c (edit_made tree c)
 
 all_made : (tree : Files) (changes : List Change) (edits : List Edit) → MakesEach tree changes edits → All (MakesIts tree) changes
 all_made tree [] [] each = All-nil (MakesIts tree)
 all_made tree [] (e ∷ edits) each = absurd each
 all_made tree (c ∷ changes) [] each = absurd each
 all_made tree (c ∷ changes) (e ∷ edits) each =
-    All-cons (MakesIts tree) c changes (subst (Makes tree c) (made_is tree c e each.0) each.0) (all_made tree changes edits each.1)
+    All-cons (MakesIts tree) c changes (subst (CarriesOutEdit tree c) (made_is tree c e each.0) each.0) (all_made tree changes edits each.1)
 
 each_made : (tree : Files) (changes : List Change) → All (MakesIts tree) changes → MakesEach tree changes (map (edit_made tree) changes)
 each_made tree [] all = tt

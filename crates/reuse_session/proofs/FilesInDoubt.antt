@@ -35,8 +35,8 @@ under_way_bad files way step first under path bad =
     let folder = undo_folder_of files in
     let good = entry_good (get folder (entry_path (number_of step))) (entry_in step) under.kept in
     none_bad files first.journal (Some (record { entry = number_of step; way = way }))
-    (no_folder_file files first.tree (codes ".reuse") refl (under.some.others (codes ".reuse") (none_outside step.changes (codes ".reuse") good refl)) under.good.no_reuse)
-    (no_folder_file files first.tree journal_folder refl (under.some.others journal_folder (none_outside step.changes journal_folder good refl)) under.good.no_undo)
+    (no_folder_file files first.tree (codes ".reuse") refl (under.partly.made.others (codes ".reuse") (none_outside step.changes (codes ".reuse") good refl)) under.good.no_reuse)
+    (no_folder_file files first.tree journal_folder refl (under.partly.made.others journal_folder (none_outside step.changes journal_folder good refl)) under.good.no_undo)
     under.journal
     (All-cons (IsReadable folder) (number_of step) [] (entry_in step, under.kept) (All-nil (IsReadable folder))) path bad
 

@@ -23,6 +23,7 @@ use Rattle.reuse_header.specs.Header.{header_of}
 use Rattle.reuse_header.specs.Neighbour.{neighbour_annotation_of}
 use Rattle.reuse_tree.specs.Path.{is_path, lies_under, journal_folder}
 use Rattle.reuse_tree.specs.Files.{Files, AreFiles}
+use Rattle.reuse_text.specs.declared.TheConstants.{LONGEST_FILE}
 use Rattle.reuse_session.specs.Edit.{Edit}
 use Rattle.reuse_session.specs.Annotate.{neighbour_of, neighbour_is_tagged, target_of, edit_by, edit_inside, edit_neighbour, edit_beside, edit_target, annotated_where, annotated_at}
 use Rattle.reuse_session.specs.Annotations.{Due}
@@ -189,7 +190,7 @@ module _ (how : How) (scope : Scope) (additions : Additions) (tree : Files) (pat
       let h = after_err (is_clash tree (neighbour_of path)) (refusals.Clash (neighbour_of path)) _ edit e in
       (edit_at path (neighbour_of path) [] (neighbour_annotation_of how additions []) edit h.1, λ none. h.0)
   neighbour_at (Some bytes) e =
-      let h = after_err (nat_lt 16_777_216 (length bytes)) (refusals.TooLong path) _ edit e in (
+      let h = after_err (nat_lt LONGEST_FILE (length bytes)) (refusals.TooLong path) _ edit e in (
         edit_at path (neighbour_of path) bytes (neighbour_annotation_of how additions bytes) edit (after_skip (scope.skip_existing && neighbour_is_tagged bytes) _ edit h.1),
         λ none. absurd (some_is_none bytes none),
       )

@@ -18,7 +18,7 @@ use Rattle.reuse_session.specs.Entry.{paths_of, IsEntry, LeadsBy, LeadsAll}
 use Rattle.reuse_session.specs.Tree.{changed_paths}
 use Rattle.reuse_session.specs.Machine.{Label, Kept, Snapshots, Step, taken, ran, ran_by, is_full, undone, redone, row_of, rows_before, rows_behind, rows_of}
 use Rattle.reuse_session.specs.Journal.{Recorded, State, Undoes, Redoes, rows_in}
-use Rattle.reuse_session.specs.Session.{LeadUpTo, LeadOn, Holds}
+use Rattle.reuse_session.specs.Session.{LeadUpTo, LeadOn, HoldsSnapshots}
 use Rattle.reuse_session.proofs.Differ.{changed_by_entry, changed_by_none}
 use Rattle.reuse_session.proofs.Walk.{leads_once, leads_back, can_lead, none_stuck}
 
@@ -29,7 +29,7 @@ length_up_to tree (step ∷ steps) (kept ∷ past) h = ap suc (length_up_to kept
 length_up_to tree [] (kept ∷ past) h = absurd h
 length_up_to tree (step ∷ steps) [] h = absurd h
 
-module _ (held : State) (state : Snapshots) (holds : Holds held state) where
+module _ (held : State) (state : Snapshots) (holds : HoldsSnapshots held state) where
   -- changes that lead to the machine's tree lead back from the tree that is held
   pub back_from : (changes : List Change) (tree : Files) → LeadsAll changes tree state.tree → LeadsBy way.Undo changes held.tree tree
   back_from changes tree leads = subst (λ t. LeadsBy way.Undo changes t tree) (sym holds.tree) (leads_back changes tree state.tree leads)
@@ -38,8 +38,8 @@ module _ (held : State) (state : Snapshots) (holds : Holds held state) where
   on_from changes tree leads = subst (λ t. LeadsBy way.Do changes t tree) (sym holds.tree) leads
 
   undo_by_cases : (new : State) (result : Result Reply Refusal) (done : List Recorded) (past : List Kept) → LeadUpTo state.tree done past → Undoes done held result new → state.past ≡ past
-      → (result ≡ (undone state past).0) × Holds new (undone state past).1
-  undo_by_cases new result [] [] h u e = (u.0, subst (λ s. Holds s state) (sym u.1) holds)
+      → (result ≡ (undone state past).0) × HoldsSnapshots new (undone state past).1
+  undo_by_cases new result [] [] h u e = (u.0, subst (λ s. HoldsSnapshots s state) (sym u.1) holds)
   undo_by_cases new (Ok given) (step ∷ steps) (kept ∷ past) h u e =
       let tree : new.tree ≡ kept.tree = leads_once way.Undo step.changes held.tree new.tree kept.tree u.2 (back_from step.changes kept.tree h.1.leads) in (
         ap (λ r. Ok r) (u.0 ∙ ap Undone (sym (changed_by_entry step.changes kept.tree state.tree h.1.good h.1.leads))),
@@ -56,12 +56,12 @@ module _ (held : State) (state : Snapshots) (holds : Holds held state) where
   undo_by_cases new result (step ∷ steps) [] h u e = absurd h
 
   -- an undo follows the machine
-  pub undo_follows : (new : State) (result : Result Reply Refusal) → Undoes held.journal.done held result new → (result ≡ (undone state state.past).0) × Holds new (undone state state.past).1
+  pub undo_follows : (new : State) (result : Result Reply Refusal) → Undoes held.journal.done held result new → (result ≡ (undone state state.past).0) × HoldsSnapshots new (undone state state.past).1
   undo_follows new result u = undo_by_cases new result held.journal.done state.past holds.past u refl
 
   redo_by_cases : (new : State) (result : Result Reply Refusal) (steps : List Recorded) (future : List Kept) → LeadOn state.tree steps future → Redoes steps held result new
-      → (result ≡ (redone state future).0) × Holds new (redone state future).1
-  redo_by_cases new result [] [] h u = (u.0, subst (λ s. Holds s state) (sym u.1) holds)
+      → (result ≡ (redone state future).0) × HoldsSnapshots new (redone state future).1
+  redo_by_cases new result [] [] h u = (u.0, subst (λ s. HoldsSnapshots s state) (sym u.1) holds)
   redo_by_cases new (Ok given) (step ∷ steps) (kept ∷ future) h u =
       let tree : new.tree ≡ kept.tree = leads_once way.Do step.changes held.tree new.tree kept.tree u.2 (on_from step.changes kept.tree h.1.leads) in (
         ap (λ r. Ok r) (u.0 ∙ ap Redone (sym (changed_by_entry step.changes state.tree kept.tree h.1.good h.1.leads))),
@@ -78,7 +78,7 @@ module _ (held : State) (state : Snapshots) (holds : Holds held state) where
   redo_by_cases new result (step ∷ steps) [] h u = absurd h
 
   -- a redo follows the machine
-  pub redo_follows : (new : State) (result : Result Reply Refusal) → Redoes held.journal.undone held result new → (result ≡ (redone state state.future).0) × Holds new (redone state state.future).1
+  pub redo_follows : (new : State) (result : Result Reply Refusal) → Redoes held.journal.undone held result new → (result ≡ (redone state state.future).0) × HoldsSnapshots new (redone state state.future).1
   redo_follows new result u = redo_by_cases new result held.journal.undone state.future holds.future u
 
   -- ---- a run
@@ -126,12 +126,12 @@ module _ (held : State) (state : Snapshots) (holds : Holds held state) where
         done = record { label = record { number = held.journal.used + 1; when = when; command = name_of command }; changes = changes } ∷ held.journal.done;
         undone = [];
         used = held.journal.used + 1;
-      } → (Ok (Changed (paths_of changes)) ≡ (ran_by state command when).0) × Holds new (ran_by state command when).1
+      } → (Ok (Changed (paths_of changes)) ≡ (ran_by state command when).0) × HoldsSnapshots new (ran_by state command when).1
   run_follows command when changes after room outcome good leads before_are after_are new tree journal =
       let ran_is = run_planned command when changes after room outcome (changed_by_entry changes held.tree after good leads) ∙ taken_some when (name_of command) after changes good.some in
       let numbered : ◌≡◌ {A = Label} (record { number = state.used + 1; when = when; command = name_of command }) (record { number = held.journal.used + 1; when = when; command = name_of command }) =
       λ i. record { number = sym holds.used i + 1; when = when; command = name_of command } in
-      subst (λ (step : Step). (Ok (Changed (paths_of changes)) ≡ step.0) × Holds new step.1) (sym ran_is) (
+      subst (λ (step : Step). (Ok (Changed (paths_of changes)) ≡ step.0) × HoldsSnapshots new step.1) (sym ran_is) (
         refl,
         record {
           tree = tree;
@@ -165,7 +165,7 @@ behind_rows tree [] (kept ∷ future) h = absurd h
 behind_rows tree (step ∷ steps) [] h = absurd h
 
 -- the rows of the journal are those of the machine
-pub log_follows : (held : State) (state : Snapshots) → Holds held state → rows_in held.journal ≡ rows_of state
+pub log_follows : (held : State) (state : Snapshots) → HoldsSnapshots held state → rows_in held.journal ≡ rows_of state
 log_follows held state holds =
     ap (λ rows. rows ++ map (λ step. row_of step.label (length step.changes) false) held.journal.undone) (before_rows state.tree held.journal.done state.past holds.past)
     ∙ ap (λ rows. rows_before state.tree state.past ++ rows) (behind_rows state.tree held.journal.undone state.future holds.future)
@@ -182,7 +182,7 @@ pub entry_of_plan : (changes : List Change) → 0 < length changes → (changes 
 entry_of_plan changes some good = ⊎_elim (λ none. absurd (omega (arith, some, ap length none))) (λ entry. entry) good
 
 -- a run that changes nothing
-pub run_nothing : (held : State) (state : Snapshots) (holds : Holds held state) (command : Command) (when : ℕ) (changes : List Change) (after : Files) → is_full (length held.journal.done) held.journal.used ≡ false
+pub run_nothing : (held : State) (state : Snapshots) (holds : HoldsSnapshots held state) (command : Command) (when : ℕ) (changes : List Change) (after : Files) → is_full (length held.journal.done) held.journal.used ≡ false
     → outcome_of command held.tree ≡ Ok after → length changes ≡ 0 → LeadsAll changes held.tree after → ran_by state command when ≡ (Ok NothingChanged, state)
 run_nothing held state holds command when changes after room outcome none leads =
     run_planned held state holds command when [] after room outcome (changed_by_none held.tree after (subst (λ cs. LeadsAll cs held.tree after) (nil_from_length changes none) leads))

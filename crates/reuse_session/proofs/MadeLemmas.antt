@@ -14,7 +14,7 @@ use Rattle.reuse_tree.proofs.Turning.{not_both}
 use Rattle.reuse_session.specs.declared.entry.Way.{Way}
 use Rattle.reuse_session.specs.declared.entry.Way.TheVariants.{Do, Undo}
 use Rattle.reuse_session.specs.Carried.{IsSetBack}
-use Rattle.reuse_session.specs.Entry.{touches, IsEntry, TurnsBy, Steps, LeadsBy, SomeMade, IsReady, CanBeMade, CanBeSetBack, opposite, makes}
+use Rattle.reuse_session.specs.Entry.{touches, IsEntry, TurnsBy, LeadsByOneChange, LeadsBy, SomeMade, ArePartlyMade, IsReady, CanBeMade, CanBeSetBack, opposite, makes}
 use Rattle.reuse_session.specs.Tree.{is_of_tree, undo_folder_of}
 use Rattle.reuse_session.proofs.Differ.{touching}
 use Rattle.reuse_session.proofs.OfTree.{tree_at, step_of_tree, folder_stays}
@@ -73,13 +73,13 @@ with_file_elsewhere tree path None other differ = get-removed_other tree path ot
 with_file_elsewhere tree path (Some bytes) other differ = get-put_other tree path bytes other differ
 
 -- a change is made by its file alone
-pub step_with : (way : Way) (change : Change) (tree : Files) (new : Option (List ℕ)) → TurnsBy way change (get tree (path_of change)) new → Steps way change tree (with_file tree (path_of change) new)
+pub step_with : (way : Way) (change : Change) (tree : Files) (new : Option (List ℕ)) → TurnsBy way change (get tree (path_of change)) new → LeadsByOneChange way change tree (with_file tree (path_of change) new)
 step_with way change tree new turns = record {
   here = subst (TurnsBy way change (get tree (path_of change))) (sym (with_file_here tree (path_of change) new)) turns;
   elsewhere = λ path other. with_file_elsewhere tree (path_of change) new path other;
 }
 
-step_on : (way : Way) (change : Change) (tree : Files) → IsReady way change (get tree (path_of change)) → (after : Files) × Steps way change tree after
+step_on : (way : Way) (change : Change) (tree : Files) → IsReady way change (get tree (path_of change)) → (after : Files) × LeadsByOneChange way change tree after
 step_on way change tree ready = (with_file tree (path_of change) ready.0, step_with way change tree ready.0 ready.1)
 
 -- the element at a place
@@ -133,18 +133,13 @@ one_start way change old now start proper ready_now ready_start (inl a) (inr tur
 one_start way change old now start proper ready_now ready_start (inr turns) (inl b) = absurd (ready_once way change start proper ready_start (subst (IsReady (opposite way) change) b (now, turned way change now old turns)))
 one_start way change old now start proper ready_now ready_start (inr turns) (inr others) = turns_once_by (opposite way) change old now start (turned way change now old turns) (turned way change start old others)
 
--- the changes aren't made now, and some were made before
-pub record AreBack (way : Way) (changes : List Change) (old now : Files) : Type 0 where
-  pub made : SomeMade way changes now old
-  pub ready : All (λ change. IsReady way change (get now (path_of change))) changes
-
-pub back_none : (way : Way) (changes : List Change) (tree : Files) → AreBack way (take 0 changes) tree tree
+pub back_none : (way : Way) (changes : List Change) (tree : Files) → ArePartlyMade way (take 0 changes) tree tree
 back_none way changes tree = record {
   made = made_none way (take 0 changes) tree;
   ready = λ k d lt. absurd (omega (arith, lt, length-take 0 changes));
 }
 
-module _ (way : Way) (changes : List Change) (good : IsEntry changes) (i : ℕ) (lt : i < length changes) (change : Change) (is : change ≡ get_or changes i change) (old now : Files) (back : AreBack way (take i changes) old now) where
+module _ (way : Way) (changes : List Change) (good : IsEntry changes) (i : ℕ) (lt : i < length changes) (change : Change) (is : change ≡ get_or changes i change) (old now : Files) (back : ArePartlyMade way (take i changes) now old) where
   not_yet : touches (take i changes) (path_of change) ≡ false
   not_yet = ap (λ c. touches (take i changes) (path_of c)) is ∙ not_touched changes good i change lt
 
@@ -153,7 +148,7 @@ module _ (way : Way) (changes : List Change) (good : IsEntry changes) (i : ℕ) 
   stood = back.made.others (path_of change) not_yet
 
   one_more : (after : Files) → ((path : List ℕ) → path ≢ path_of change → get after path ≡ get now path) → IsReady way change (get after (path_of change))
-      → (get old (path_of change) ≡ get after (path_of change)) ⊎ TurnsBy way change (get after (path_of change)) (get old (path_of change)) → AreBack way (take (i + 1) changes) old after
+      → (get old (path_of change) ≡ get after (path_of change)) ⊎ TurnsBy way change (get after (path_of change)) (get old (path_of change)) → ArePartlyMade way (take (i + 1) changes) after old
   one_more after elsewhere ready made =
       let same : (k : ℕ) (d : Change) → k < length (take i changes) → get now (path_of (get_or (take i changes) k d)) ≡ get after (path_of (get_or (take i changes) k d)) =
       λ k d h. sym (elsewhere (path_of (get_or (take i changes) k d)) (of_no_change (take i changes) (path_of change) not_yet k d h)) in
@@ -171,7 +166,7 @@ module _ (way : Way) (changes : List Change) (good : IsEntry changes) (i : ℕ) 
       }
 
   -- one more change is taken back, or wasn't made
-  pub back_more : (after : Files) → IsSetBack way change now after → AreBack way (take (i + 1) changes) old after
+  pub back_more : (after : Files) → IsSetBack way change now after → ArePartlyMade way (take (i + 1) changes) after old
   back_more after (inl stays) = one_more after
       (λ path other. ap (λ t. get t path) stays.1)
       (subst (λ t. IsReady way change (get t (path_of change))) (sym stays.1) stays.0)
@@ -204,9 +199,9 @@ pub folder_stays_back : (way : Way) (change : Change) (m n : Files) → is_of_tr
 folder_stays_back way change m n of_tree (inl stays) = ap undo_folder_of stays.1
 folder_stays_back way change m n of_tree (inr step) = folder_stays (opposite way) change m n of_tree step
 
-module _ (way : Way) (changes : List Change) (good : IsEntry changes) (start old now : Files) (some : SomeMade way changes start old) (ready : All (λ change. IsReady way change (get start (path_of change))) changes) where
+module _ (way : Way) (changes : List Change) (good : IsEntry changes) (start old now : Files) (partly : ArePartlyMade way changes start old) where
   -- on the way back to a tree, some of the changes are made
-  pub made_from_start : (count : ℕ) → AreBack way (take count changes) old now → SomeMade way changes start now
+  pub made_from_start : (count : ℕ) → ArePartlyMade way (take count changes) now old → SomeMade way changes start now
   made_from_start count back = record {
     each = λ k d lt. ⊎_elim
         (λ (low : k < count).
@@ -215,30 +210,30 @@ module _ (way : Way) (changes : List Change) (good : IsEntry changes) (start old
         let same = get_or-take count changes k d low in
         let made = subst (λ x. (get old (path_of x) ≡ get now (path_of x)) ⊎ TurnsBy way x (get now (path_of x)) (get old (path_of x))) same (back.made.each k d h) in
         let here = subst (λ x. IsReady way x (get now (path_of x))) same (back.ready k d h) in
-        inl (one_start way c (get old (path_of c)) (get now (path_of c)) (get start (path_of c)) (good.proper k d lt) here (ready k d lt) made (some.each k d lt)))
+        inl (one_start way c (get old (path_of c)) (get now (path_of c)) (get start (path_of c)) (good.proper k d lt) here (partly.ready k d lt) made (partly.made.each k d lt)))
         (λ (high : count ≤ k).
         let c = get_or changes k d in
-        subst (λ f. (f ≡ get start (path_of c)) ⊎ TurnsBy way c (get start (path_of c)) f) (back.made.others (path_of c) (not_in_front changes good count k d lt high)) (some.each k d lt))
+        subst (λ f. (f ≡ get start (path_of c)) ⊎ TurnsBy way c (get start (path_of c)) f) (back.made.others (path_of c) (not_in_front changes good count k d lt high)) (partly.made.each k d lt))
         (cases_lt k count);
-    others = λ path none. sym (back.made.others path (front_leaves changes count path none)) ∙ some.others path none;
+    others = λ path none. sym (back.made.others path (front_leaves changes count path none)) ∙ partly.made.others path none;
   }
 
   -- where all are taken back, the tree is that from before
-  pub back_at_start : AreBack way changes old now → now ≡ start
+  pub back_at_start : ArePartlyMade way changes now old → now ≡ start
   back_at_start back = same_files now start (λ path. at_test path (touches changes path) refl)
     where
       at_test : (path : List ℕ) (b : Bool) → touches changes path ≡ b → get now path ≡ get start path
-      at_test path false e = sym (back.made.others path e) ∙ some.others path e
+      at_test path false e = sym (back.made.others path e) ∙ partly.made.others path e
       at_test path true e =
           let found = touching changes path e in
           let c = get_or changes found.0 found.1 in
           subst (λ p. get now p ≡ get start p) (sym found.3)
-          (one_start way c (get old (path_of c)) (get now (path_of c)) (get start (path_of c)) (good.proper found.0 found.1 found.2) (back.ready found.0 found.1 found.2) (ready found.0 found.1 found.2) (back.made.each found.0 found.1 found.2) (some.each found.0 found.1 found.2))
+          (one_start way c (get old (path_of c)) (get now (path_of c)) (get start (path_of c)) (good.proper found.0 found.1 found.2) (back.ready found.0 found.1 found.2) (partly.ready found.0 found.1 found.2) (back.made.each found.0 found.1 found.2) (partly.made.each found.0 found.1 found.2))
 
 -- on the way from a tree, each change can be set back
-pub settles_from : (way : Way) (start now : Files) (changes : List Change) → IsEntry changes → AreFiles start → SomeMade way changes start now → All (λ change. IsReady way change (get start (path_of change))) changes
+pub settles_from : (way : Way) (start now : Files) (changes : List Change) → IsEntry changes → AreFiles start → ArePartlyMade way changes start now
     → All (CanBeSetBack way now) changes
-settles_from way start now changes good are some ready k d lt = at_place_of (some.each k d lt)
+settles_from way start now changes good are partly k d lt = at_place_of (partly.made.each k d lt)
   where
     change : Change
     change = get_or changes k d
@@ -247,10 +242,10 @@ settles_from way start now changes good are some ready k d lt = at_place_of (som
     free turns made clash true e = false≢true (sym (good.apart (path_of change) clash.other (touched changes good k d lt) e) ∙ clash.nested)
     free turns made clash false e =
         are.apart (path_of change) (made_is_file (opposite way) change (get now (path_of change)) (get start (path_of change)) made turns)
-        (record { other = clash.other; is_file = ap is_some (sym (some.others clash.other e)) ∙ clash.is_file; nested = clash.nested })
+        (record { other = clash.other; is_file = ap is_some (sym (partly.made.others clash.other e)) ∙ clash.is_file; nested = clash.nested })
 
     at_place_of : (get now (path_of change) ≡ get start (path_of change)) ⊎ TurnsBy way change (get start (path_of change)) (get now (path_of change)) → CanBeSetBack way now change
-    at_place_of (inl same) = inl (subst (IsReady way change) (sym same) (ready k d lt))
+    at_place_of (inl same) = inl (subst (IsReady way change) (sym same) (partly.ready k d lt))
     at_place_of (inr turns) =
         let back = turned way change (get start (path_of change)) (get now (path_of change)) turns in
         inr (record { ready = (get start (path_of change), back); free = λ made clash. free back made clash (touches changes clash.other) refl })

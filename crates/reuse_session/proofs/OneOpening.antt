@@ -119,7 +119,7 @@ same_state a b tree journal =
 same_tree : (files : Files) (way : PendingWay) (step : Recorded) (a b : State) → IsUnderWay way step a files → IsUnderWay way step b files → a.tree ≡ b.tree
 same_tree files way step a b under other =
     let good = entry_good (get (undo_folder_of files) (entry_path (number_of step))) (entry_in step) under.kept in
-    back_at_start (way_of way) step.changes good b.tree (tree_of files) a.tree other.some other.ready (record { made = under.some; ready = under.ready })
+    back_at_start (way_of way) step.changes good b.tree (tree_of files) a.tree other.partly under.partly
 
 pub opened_once : (files : Files) (a b : State) → CanOpenOn files a → CanOpenOn files b → a ≡ b
 opened_once files a b (inl x) (inl y) = same_state a b (sym x.tree ∙ y.tree) (same_journal (undo_folder_of files) a.journal b.journal None None x.journal y.journal).0
@@ -151,7 +151,7 @@ not_stuck_and_opened files p held stuck (inr (way, step, under)) =
     (subst (λ (w : PendingWay). IsFirstWithout (CanBeSetBack (way_of w) (tree_of files)) stuck.step.changes p) one.ways stuck.stuck) in
     let good = entry_good (get folder (entry_path (number_of step))) (entry_in step) under.kept in
     none_without (CanBeSetBack (way_of way) (tree_of files)) step.changes p
-    (settles_from (way_of way) held.tree (tree_of files) step.changes good under.good.are_files under.some under.ready) here
+    (settles_from (way_of way) held.tree (tree_of files) step.changes good under.good.are_files under.partly) here
 
 -- ---- so an answer that is right is exact
 

@@ -4,7 +4,7 @@ use Rattle.std.specs.Prelude.{flat_map}
 use Rattle.std.specs.List.{list_any}
 use Rattle.std.specs.FinMap.{keys}
 use Rattle.std.proofs.lemmas.Bool.Decides.{nat_tests}
-use Rattle.std.proofs.lemmas.List.{take_more}
+use Rattle.std.proofs.lemmas.List.{append-nil, take_more}
 use Rattle.std.proofs.lemmas.List.Concat.{flat_map-append}
 use Rattle.std.proofs.lemmas.List.Elements.{filter-append}
 use Rattle.reuse_tree.specs.Path.{lies_under}
@@ -22,16 +22,12 @@ kept_more test xs i d start old new low so is =
     is ∙ ap (λ ys. ys ++ filter test (get_or xs i d ∷ [])) so ∙ append_assoc start (filter test (take i xs)) (filter test (get_or xs i d ∷ []))
     ∙ ap (λ ys. start ++ ys) (sym (filter-append test (take i xs) (get_or xs i d ∷ [])) ∙ ap (filter test) (sym (take_more xs i d low)))
 
-append_nil : (xs : List (List ℕ)) → xs ++ [] ≡ xs
-append_nil [] = refl
-append_nil (x ∷ xs) = ap (λ ys. x ∷ ys) (append_nil xs)
-
 -- what stands for one more
 pub expanded_more : (scope : Scope) (tree : Files) (places : List Place) (i : ℕ) (d : Place) (old new : List (List ℕ)) → i < length places → old ≡ flat_map (expanded scope tree) (take i places)
     → new ≡ old ++ expanded scope tree (get_or places i d) → new ≡ flat_map (expanded scope tree) (take (i + 1) places)
 expanded_more scope tree places i d old new low so is =
     is ∙ ap (λ ys. ys ++ expanded scope tree (get_or places i d)) so
-    ∙ ap (λ ys. flat_map (expanded scope tree) (take i places) ++ ys) (sym (append_nil (expanded scope tree (get_or places i d))))
+    ∙ ap (λ ys. flat_map (expanded scope tree) (take i places) ++ ys) (sym (append-nil (expanded scope tree (get_or places i d))))
     ∙ sym (flat_map-append (expanded scope tree) (take i places) (get_or places i d ∷ [])) ∙ ap (flat_map (expanded scope tree)) (sym (take_more places i d low))
 
 -- where nothing is kept, nothing passes

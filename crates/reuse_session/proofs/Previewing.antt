@@ -13,7 +13,7 @@ use Rattle.reuse_session.specs.Fates.{fates_of, IsFateOf, AreFatesOf}
 use Rattle.reuse_session.specs.Journal.{Recorded, State}
 use Rattle.reuse_session.specs.Machine.{Kept, Snapshots, is_full, run_fates, undo_fates, redo_fates}
 use Rattle.reuse_session.specs.Previews.{Foresees, OnlyLooks, IsLookRefusal, IsPreviewRefusal, run_fates_on}
-use Rattle.reuse_session.specs.Session.{store_of, LeadUpTo, LeadOn, Holds, StandsAt}
+use Rattle.reuse_session.specs.Session.{store_of, LeadUpTo, LeadOn, HoldsSnapshots, StandsAt}
 use Rattle.reuse_session.specs.declared.command.Command.{Command}
 use Rattle.reuse_session.specs.declared.entry.Way.{Way}
 use Rattle.reuse_session.specs.declared.entry.Way.TheVariants as way
@@ -54,7 +54,7 @@ all_change way tree (c ∷ cs) [] can are = absurd are
 
 -- ---- the machine
 
-module _ (held : State) (state : Snapshots) (holds : Holds held state) where
+module _ (held : State) (state : Snapshots) (holds : HoldsSnapshots held state) where
   undo_by_cases : (answer : Result (List Fate) Refusal) (done : List Recorded) (past : List Kept) → LeadUpTo state.tree done past → Foresees way.Undo done held.tree answer → answer ≡ undo_fates state.tree past
   undo_by_cases answer [] [] h told = told
   undo_by_cases (Ok fates) (step ∷ steps) (kept ∷ past) h told =

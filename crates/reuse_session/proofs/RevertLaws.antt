@@ -21,6 +21,7 @@ use Rattle.reuse_tree.specs.declared.change.Change.{Change}
 use Rattle.reuse_tree.specs.declared.change.Change.TheVariants.{Make, Drop, Splice}
 use Rattle.reuse_tree.specs.declared.digest.Seal.{Seal}
 use Rattle.reuse_tree.proofs.FileMaps.{same_files}
+use Rattle.reuse_text.specs.declared.TheConstants.{LONGEST_FILE}
 use Rattle.reuse_session.specs.Clash.{is_clash}
 use Rattle.reuse_session.specs.Edit.{Edit, made, dropped}
 use Rattle.reuse_session.specs.Entry.{makes, removed_by, written_by, touches, fixed_size, change_size, AreAllSealed, IsEntry, IsSmall, LeadsAll}
@@ -61,16 +62,16 @@ module _ (path front old new behind : List ℕ) (rest : ℕ) (seal : Option Seal
       (ap (take (length front)) (append_assoc front new behind) ∙ take-append_seam front (new ++ behind))
       (sym (drop-drop (length new) (length front) file) ∙ ap (drop (length new)) beyond ∙ drop-append_seam new behind)
 
-  put_back_there : (not (starts_with nat_eq old new) || is_as_left file (length front) new rest seal) ≡ true → length (front ++ new ++ behind) ≤ 16_777_216 → length (front ++ old ++ behind) ≤ 16_777_216
+  put_back_there : (not (starts_with nat_eq old new) || is_as_left file (length front) new rest seal) ≡ true → length (front ++ new ++ behind) ≤ LONGEST_FILE → length (front ++ old ++ behind) ≤ LONGEST_FILE
       → taken_back (Splice path (length front) old new rest seal) (Some (front ++ new ++ behind)) ≡ Some (record { path = path; removed = new; written = old; file = Some (front ++ old ++ behind) })
   put_back_there told short fits =
       ap (λ b. cond b (Some (put_back path file (length front) old new)) None)
       (all_true (stands_as_written file (length front) old new rest seal) (is_short file) (is_short (spliced file (length front) (length new) old))
-      (and_from (stands_at file new (length front)) (not (starts_with nat_eq old new) || is_as_left file (length front) new rest seal) stands told) (le-leb (length file) 16_777_216 short)
-      (ap is_short spliced_is ∙ le-leb (length (front ++ old ++ behind)) 16_777_216 fits))
+      (and_from (stands_at file new (length front)) (not (starts_with nat_eq old new) || is_as_left file (length front) new rest seal) stands told) (le-leb (length file) LONGEST_FILE short)
+      (ap is_short spliced_is ∙ le-leb (length (front ++ old ++ behind)) LONGEST_FILE fits))
       ∙ ap (λ f. Some (record { path = path; removed = new; written = old; file = Some f })) spliced_is
 
-  pub put_back_below : starts_with nat_eq old new ≡ false → length (front ++ new ++ behind) ≤ 16_777_216 → length (front ++ old ++ behind) ≤ 16_777_216
+  pub put_back_below : starts_with nat_eq old new ≡ false → length (front ++ new ++ behind) ≤ LONGEST_FILE → length (front ++ old ++ behind) ≤ LONGEST_FILE
       → taken_back (Splice path (length front) old new rest seal) (Some (front ++ new ++ behind)) ≡ Some (record { path = path; removed = new; written = old; file = Some (front ++ old ++ behind) })
   put_back_below marked short fits = put_back_there (ap (λ b. not b || is_as_left file (length front) new rest seal) marked) short fits
 
@@ -82,7 +83,7 @@ module _ (path front old new behind : List ℕ) (rest : ℕ) (seal : Option Seal
   recorded None is = refl
   recorded (Some s) is = (bytes_eq-Decides (sha256 file) s.after).1 (same_Some (sha256 file) s.after is)
 
-  pub put_back_left : length behind ≡ rest → IsDigestOf (option_map (λ s. s.after) seal) (Some (front ++ new ++ behind)) → length (front ++ new ++ behind) ≤ 16_777_216 → length (front ++ old ++ behind) ≤ 16_777_216
+  pub put_back_left : length behind ≡ rest → IsDigestOf (option_map (λ s. s.after) seal) (Some (front ++ new ++ behind)) → length (front ++ new ++ behind) ≤ LONGEST_FILE → length (front ++ old ++ behind) ≤ LONGEST_FILE
       → taken_back (Splice path (length front) old new rest seal) (Some (front ++ new ++ behind)) ≡ Some (record { path = path; removed = new; written = old; file = Some (front ++ old ++ behind) })
   put_back_left end digest short fits =
       put_back_there

@@ -16,15 +16,17 @@ use Rattle.reuse_tree.specs.Change.{path_of, sealed_make, sealed_drop, sealed_sp
 use Rattle.reuse_tree.specs.declared.change.Change.{Change}
 use Rattle.reuse_tree.specs.declared.change.Change.TheVariants.{Make, Drop, Splice}
 use Rattle.reuse_tree.specs.declared.digest.Seal.{Seal}
+use Rattle.reuse_text.specs.declared.TheConstants.{LONGEST_FILE}
 use Rattle.reuse_session.specs.Answer.{IsTestRefusal}
 use Rattle.reuse_session.specs.Clash.{is_clash}
 use Rattle.reuse_session.specs.Edit.{Edit, made, dropped}
 use Rattle.reuse_session.specs.Entry.{makes}
-use Rattle.reuse_session.specs.Plan.{IsRefusalOf, Makes, MakesEach, MakesEdit, MakesEdits}
+use Rattle.reuse_session.specs.Plan.{IsRefusalOf, CarriesOutEdit, MakesEach, MakesEdit, MakesEdits}
 use Rattle.reuse_session.specs.Reverting.{stands_at, is_as_left, stands_as_written, is_short, put_back, taken_back, taken_back_on, stuck_on, unless_stuck, revert_edits}
 use Rattle.reuse_session.specs.declared.entry.Way.TheVariants.{Undo}
 use Rattle.reuse_session.specs.declared.reply.Refusal.{Refusal}
 use Rattle.reuse_session.specs.declared.reply.Refusal.TheVariants.{Fault, Memory, Moved}
+use Rattle.reuse_session.proofs.Planning.{each_push}
 
 abbrev pub found : Option Edit → Result (Option Edit) Refusal
 found edit = Ok edit
@@ -40,14 +42,14 @@ and_second false b e = absurd (false≢true e)
 all_true : (a b c : Bool) → a ≡ true → b ≡ true → (a && b && c) ≡ c
 all_true a b c e f = ap₂ (λ x y. x && y && c) e f
 
-short_test : (n : ℕ) → n ≤ 16_777_216 → nat_le n 16_777_216 ≡ true
-short_test n h = le-leb n 16_777_216 h
+short_test : (n : ℕ) → n ≤ LONGEST_FILE → nat_le n LONGEST_FILE ≡ true
+short_test n h = le-leb n LONGEST_FILE h
 
-long_test : (n : ℕ) → (n ≤ 16_777_216 → ⊥) → nat_le n 16_777_216 ≡ false
-long_test n h = of_test (nat_le n 16_777_216) refl
+long_test : (n : ℕ) → (n ≤ LONGEST_FILE → ⊥) → nat_le n LONGEST_FILE ≡ false
+long_test n h = of_test (nat_le n LONGEST_FILE) refl
   where
-    of_test : (b : Bool) → nat_le n 16_777_216 ≡ b → nat_le n 16_777_216 ≡ false
-    of_test true e = absurd (h (leb-true n 16_777_216 e))
+    of_test : (b : Bool) → nat_le n LONGEST_FILE ≡ b → nat_le n LONGEST_FILE ≡ false
+    of_test true e = absurd (h (leb-true n LONGEST_FILE e))
     of_test false e = e
 
 -- ---- a file that was made
@@ -56,18 +58,18 @@ module _ (tree : Files) (path file new : List ℕ) (after : Option (List ℕ)) w
   pub drop_kept : bytes_eq file new ≡ false → MakesEdit tree (found (taken_back (Make path new after) (Some file))) None
   drop_kept e = ap (λ b. found (cond b (Some (dropped path new)) None)) e
 
-  pub drop_makes : (clone : List ℕ) → clone ≡ path → get tree path ≡ Some file → length new ≤ 16_777_216 → bytes_eq file new ≡ true
+  pub drop_makes : (clone : List ℕ) → clone ≡ path → get tree path ≡ Some file → length new ≤ LONGEST_FILE → bytes_eq file new ≡ true
       → MakesEdit tree (found (taken_back (Make path new after) (Some file))) (Some (sealed_drop clone file))
   drop_makes clone cloned here short same =
       let is : file ≡ new = (bytes_eq-Decides file new).0 same in (
         dropped path new,
         ap (λ b. found (cond b (Some (dropped path new)) None)) same,
-        subst (λ p. Makes tree (sealed_drop p file) (dropped path new)) (sym cloned) (record {
+        subst (λ p. CarriesOutEdit tree (sealed_drop p file) (dropped path new)) (sym cloned) (record {
           path = refl;
           removed = is;
           written = refl;
           proper = tt;
-          small = subst (λ (f : List ℕ). length f ≤ 16_777_216) (sym is) short;
+          small = subst (λ (f : List ℕ). length f ≤ LONGEST_FILE) (sym is) short;
           turns = record { range = (here, refl); from = ap (option_map sha256) here; to = tt };
           sealed = refl;
         }),
@@ -75,12 +77,12 @@ module _ (tree : Files) (path file new : List ℕ) (after : Option (List ℕ)) w
 
 -- ---- a file that was removed
 
-pub make_makes : (tree : Files) (path old : List ℕ) (before : Option (List ℕ)) (clone bytes : List ℕ) → clone ≡ path → bytes ≡ old → get tree path ≡ None → length old ≤ 16_777_216
+pub make_makes : (tree : Files) (path old : List ℕ) (before : Option (List ℕ)) (clone bytes : List ℕ) → clone ≡ path → bytes ≡ old → get tree path ≡ None → length old ≤ LONGEST_FILE
     → MakesEdit tree (found (taken_back (Drop path old before) None)) (Some (sealed_make clone bytes))
 make_makes tree path old before clone bytes cloned same here short = (
   made path old,
   refl,
-  subst (λ p. Makes tree (sealed_make p bytes) (made path old)) (sym cloned) (subst (λ b. Makes tree (sealed_make path b) (made path old)) (sym same) (record {
+  subst (λ p. CarriesOutEdit tree (sealed_make p bytes) (made path old)) (sym cloned) (subst (λ b. CarriesOutEdit tree (sealed_make path b) (made path old)) (sym same) (record {
     path = refl;
     removed = refl;
     written = refl;
@@ -134,22 +136,22 @@ module _ (tree : Files) (path file old new : List ℕ) (at rest : ℕ) (seal : O
     pub spliced_len : length (spliced file at (length new) old) ≡ length file - length new + length old
     spliced_len = omega (arith, within, front_len, rest_len, length-append (take at file ++ old) (drop (at + length new) file), length-append (take at file) old)
 
-    pub splice_long : length file ≤ 16_777_216 → (length file - length new + length old ≤ 16_777_216 → ⊥) → MakesEdit tree (found given_back) None
+    pub splice_long : length file ≤ LONGEST_FILE → (length file - length new + length old ≤ LONGEST_FILE → ⊥) → MakesEdit tree (found given_back) None
     splice_long short long =
         ap (λ b. found (cond b (Some (put_back path file at old new)) None))
         (all_true (stands_as_written file at old new rest seal) (is_short file) (is_short (spliced file at (length new) old)) as_written (short_test (length file) short)
         ∙ long_test (length (spliced file at (length new) old)) (λ h. long (omega (arith, h, spliced_len))))
 
-    pub splice_makes : (clone removed written : List ℕ) → clone ≡ path → removed ≡ new → written ≡ old → old ≢ new → get tree path ≡ Some file → length file ≤ 16_777_216
-        → length file - length new + length old ≤ 16_777_216 → MakesEdit tree (found given_back) (Some (sealed_splice clone file at removed written))
+    pub splice_makes : (clone removed written : List ℕ) → clone ≡ path → removed ≡ new → written ≡ old → old ≢ new → get tree path ≡ Some file → length file ≤ LONGEST_FILE
+        → length file - length new + length old ≤ LONGEST_FILE → MakesEdit tree (found given_back) (Some (sealed_splice clone file at removed written))
     splice_makes clone removed written cloned is_new is_old differ here short fits = (
       put_back path file at old new,
       ap (λ b. found (cond b (Some (put_back path file at old new)) None))
           (all_true (stands_as_written file at old new rest seal) (is_short file) (is_short (spliced file at (length new) old)) as_written (short_test (length file) short)
           ∙ short_test (length (spliced file at (length new) old)) (omega (arith, fits, spliced_len))),
-      subst (λ p. Makes tree (sealed_splice p file at removed written) (put_back path file at old new)) (sym cloned)
-          (subst (λ r. Makes tree (sealed_splice path file at r written) (put_back path file at old new)) (sym is_new)
-          (subst (λ w. Makes tree (sealed_splice path file at new w) (put_back path file at old new)) (sym is_old) (record {
+      subst (λ p. CarriesOutEdit tree (sealed_splice p file at removed written) (put_back path file at old new)) (sym cloned)
+          (subst (λ r. CarriesOutEdit tree (sealed_splice path file at r written) (put_back path file at old new)) (sym is_new)
+          (subst (λ w. CarriesOutEdit tree (sealed_splice path file at new w) (put_back path file at old new)) (sym is_old) (record {
             path = refl;
             removed = refl;
             written = refl;
@@ -185,12 +187,6 @@ pub record SoFar (tree : Files) (skip : Bool) (all left : List Change) (taken : 
   pub each : MakesEach tree taken edits
   pub same : filter_map (taken_back_on tree) all ≡ edits ++ filter_map (taken_back_on tree) left
   pub stuck : (skip ≡ true) ⊎ (stuck_on tree all ≡ stuck_on tree left)
-
-each_push : (tree : Files) (changes : List Change) (edits : List Edit) (c : Change) (e : Edit) → MakesEach tree changes edits → Makes tree c e → MakesEach tree (changes ++ c ∷ []) (edits ++ e ∷ [])
-each_push tree [] [] c e each makes = (makes, tt)
-each_push tree [] (f ∷ edits) c e each makes = absurd each
-each_push tree (b ∷ changes) [] c e each makes = absurd each
-each_push tree (b ∷ changes) (f ∷ edits) c e each makes = (each.0, each_push tree changes edits c e each.1 makes)
 
 same_found : (a b : Option Edit) → found a ≡ found b → a ≡ b
 same_found a b e = cc

@@ -11,7 +11,7 @@ use Rattle.reuse_session.specs.Journal.{Journal, State}
 use Rattle.reuse_session.specs.Machine.{Snapshots, Step, is_full, ran_by}
 use Rattle.reuse_session.specs.Outcome.{outcome_of}
 use Rattle.reuse_session.specs.Plan.{IsRefusalOf}
-use Rattle.reuse_session.specs.Session.{Holds, StandsOn, StandsAt, Follows, IsRun, Runs}
+use Rattle.reuse_session.specs.Session.{HoldsSnapshots, StandsOn, StandsAt, Follows, IsRun, Runs}
 use Rattle.reuse_session.specs.declared.command.Command.{Command}
 use Rattle.reuse_session.specs.declared.entry.Way.TheVariants as way
 use Rattle.reuse_session.specs.declared.reply.Reply.{Reply}
@@ -52,10 +52,10 @@ runs_step command when held second changes entry leads run = (sym (changed_by_en
 
 -- ---- that it follows the machine
 
-module _ (held : State) (state : Snapshots) (holds : Holds held state) (command : Command) (when : ℕ) where
+module _ (held : State) (state : Snapshots) (holds : HoldsSnapshots held state) (command : Command) (when : ℕ) where
   -- a step of a run does
   pub step_follows : (second : State) (run : IsRun command when held second) → AreFiles held.tree
-      → (Ok (Changed (paths_of run.step.changes)) ≡ (ran_by state command when).0) × Holds second (ran_by state command when).1
+      → (Ok (Changed (paths_of run.step.changes)) ≡ (ran_by state command when).0) × HoldsSnapshots second (ran_by state command when).1
   step_follows second run are =
       let labelled : ◌≡◌ {A = Journal} (record { done = run.step ∷ held.journal.done; undone = []; used = held.journal.used + 1 })
       (record { done = record { label = record { number = held.journal.used + 1; when = when; command = name_of command }; changes = run.step.changes } ∷ held.journal.done; undone = []; used = held.journal.used + 1 }) =
@@ -64,12 +64,12 @@ module _ (held : State) (state : Snapshots) (holds : Holds held state) (command 
       (run.is_step.moves.1 ∙ labelled)
 
   stays_put : (result : Result Reply Refusal) (left : State) → left ≡ held → ran_by state command when ≡ (result, state)
-      → (result ≡ (ran_by state command when).0) × Holds left (ran_by state command when).1
-  stays_put result left same is = subst (λ (step : Step). (result ≡ step.0) × Holds left step.1) (sym is) (refl, subst (λ h. Holds h state) (sym same) holds)
+      → (result ≡ (ran_by state command when).0) × HoldsSnapshots left (ran_by state command when).1
+  stays_put result left same is = subst (λ (step : Step). (result ≡ step.0) × HoldsSnapshots left step.1) (sym is) (refl, subst (λ h. HoldsSnapshots h state) (sym same) holds)
 
   -- a run does
   pub runs_as_machine : (result : Result Reply Refusal) (left : State) → AreFiles held.tree → Runs command when held result left
-      → (result ≡ (ran_by state command when).0) × Holds left (ran_by state command when).1
+      → (result ≡ (ran_by state command when).0) × HoldsSnapshots left (ran_by state command when).1
   runs_as_machine (Ok (Changed paths)) left are runs =
       let run = runs.1 in
       let follows = step_follows left run are in

@@ -9,7 +9,7 @@ use Rattle.reuse_tree.specs.Change.{path_of}
 use Rattle.reuse_tree.specs.declared.change.Change.{Change}
 use Rattle.reuse_session.specs.Answer.{IsEarly, IsFailure, IsReadRefusal, IsRollBackRefusal}
 use Rattle.reuse_session.specs.Carried.{SetsHead, IsRolledBack, StopsRollingBack}
-use Rattle.reuse_session.specs.Entry.{IsEntry, IsReady, SomeMade, CanBeSetBack, IsFirstWithout}
+use Rattle.reuse_session.specs.Entry.{IsEntry, IsReady, SomeMade, ArePartlyMade, CanBeSetBack, IsFirstWithout}
 use Rattle.reuse_session.specs.Head.{way_of, IsGoodHead, IsSoundHead}
 use Rattle.reuse_session.specs.History.{Memory, head_listing}
 use Rattle.reuse_session.specs.Journal.{Recorded, Journal, State}
@@ -76,7 +76,7 @@ module _ (before : Files) (pending : Pending) (memory : Memory) (journal : Journ
       → IsSettled pending journal before after
   is_settled after text are good rolled =
       let still : (path : List ℕ) → is_of_tree path ≡ false → get before path ≡ None → get (tree_of after) path ≡ None =
-      λ path out none. sym (rolled.tree.others path (none_outside entry.changes path is_entry out)) ∙ none_in_tree before path none in
+      λ path out none. sym (rolled.partly.made.others path (none_outside entry.changes path is_entry out)) ∙ none_in_tree before path none in
       let tree : IsTree (tree_of after) = record {
         are_files = tree_are_files after are;
         no_reuse = still (codes ".reuse") refl read.no_reuse;
@@ -84,7 +84,7 @@ module _ (before : Files) (pending : Pending) (memory : Memory) (journal : Journ
       } in (
         recorded pending.entry entry,
         refl,
-        record { good = tree; journal = read.keeps; kept = says; ready = rolled.ready; some = rolled.tree },
+        record { good = tree; journal = read.keeps; kept = says; partly = rolled.partly },
         record { tree = refl; good = tree; journal = keeps_again (undo_folder_of before) (undo_folder_of after) journal pending text read.keeps rolled.sets good },
       )
 
@@ -96,11 +96,8 @@ module _ (before : Files) (pending : Pending) (memory : Memory) (journal : Journ
     pub of_step : step.changes ≡ entry.changes
     of_step = ap (λ e. e.changes) (same_entry (get (undo_folder_of before) (entry_path pending.entry)) (entry_in step) entry (subst (λ n. EntrySays (get (undo_folder_of before) (entry_path n)) (entry_in step)) number under.kept) says)
 
-    pub some_made : SomeMade (way_of pending.way) entry.changes first.tree (tree_of before)
-    some_made = subst (λ changes. SomeMade (way_of pending.way) changes first.tree (tree_of before)) of_step under.some
-
-    pub all_ready : All (λ change. IsReady (way_of pending.way) change (get first.tree (path_of change))) entry.changes
-    all_ready = subst (All (λ change. IsReady (way_of pending.way) change (get first.tree (path_of change)))) of_step under.ready
+    pub partly_made : ArePartlyMade (way_of pending.way) entry.changes first.tree (tree_of before)
+    partly_made = subst (λ changes. ArePartlyMade (way_of pending.way) changes first.tree (tree_of before)) of_step under.partly
 
     its_journal : journal ≡ first.journal
     its_journal = (same_journal (undo_folder_of before) journal first.journal (Some pending) (Some (record { entry = number_of step; way = pending.way })) read.keeps under.journal).0
@@ -122,7 +119,7 @@ module _ (before : Files) (pending : Pending) (memory : Memory) (journal : Journ
         → IfErr result IsRollBackRefusal
         → MatchResult result (λ _. IsStanding after first) (λ refusal. IsFailure refusal × (IsStanding after first ⊎ IsUnderWay pending.way step first after))
     settles (Ok x) after text good done stopped early moved refusal =
-        stands after text good (back_at_start (way_of pending.way) entry.changes is_entry first.tree (tree_of before) (tree_of after) some_made all_ready (record { made = done.tree; ready = done.ready })) done.sets
+        stands after text good (back_at_start (way_of pending.way) entry.changes is_entry first.tree (tree_of before) (tree_of after) partly_made done.partly) done.sets
     settles (Err (refusals.Interrupted cause)) after text good done stopped early moved refusal = (
       tt,
       ⊎_elim
@@ -130,8 +127,7 @@ module _ (before : Files) (pending : Pending) (memory : Memory) (journal : Journ
             good = under.good;
             journal = subst (λ folder. KeepsJournal folder first.journal (Some (record { entry = number_of step; way = pending.way }))) (sym still.1) under.journal;
             kept = subst (λ folder. IsKeptIn folder step) (sym still.1) under.kept;
-            ready = under.ready;
-            some = subst (λ changes. SomeMade (way_of pending.way) changes first.tree (tree_of after)) (sym of_step) still.0;
+            partly = record { made = subst (λ changes. SomeMade (way_of pending.way) changes first.tree (tree_of after)) (sym of_step) still.0; ready = under.partly.ready };
           }))
           (λ (back : (tree_of after ≡ first.tree) × SetsHead text before after). inl (stands after text good back.0 back.1))
           (stopped cause refl),

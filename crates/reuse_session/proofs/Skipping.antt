@@ -5,6 +5,7 @@ use Rattle.std.specs.FinMap.{get}
 use Rattle.reuse_tree.specs.Files.{Files}
 use Rattle.reuse_tree.specs.Store.{reading_of}
 use Rattle.reuse_tree.specs.declared.store.Reading.TheVariants.{Found, TooLong}
+use Rattle.reuse_text.specs.declared.TheConstants.{LONGEST_FILE}
 use Rattle.reuse_session.specs.Annotate.{neighbour_of, neighbour_is_tagged, goes_beside_unread, goes_beside, target_of, annotated_where}
 use Rattle.reuse_session.specs.AnnotationPlan.{own_of, annotated_by, beside_by, neighbour_by, place_by, edit_by_place, skipped_by}
 use Rattle.reuse_session.specs.Covered.{is_covered}
@@ -64,11 +65,11 @@ module _ (asked : Annotation) (tree : Files) (path : List ℕ) where
 module _ (asked : Annotation) (tree : Files) (path : List ℕ) where
   -- no file that is left has a neighbour that is too long
   pub unread_beside : (file : Option (List ℕ)) → get tree (neighbour_of path) ≡ file → beside_by asked tree path ≡ no_edit
-      → ((bytes : List ℕ) → reading_of file 16_777_216 ≡ Found bytes → ⊥) → (asked.scope.now.skip_existing && has_tagged file) ≡ false
+      → ((bytes : List ℕ) → reading_of file LONGEST_FILE ≡ Found bytes → ⊥) → (asked.scope.now.skip_existing && has_tagged file) ≡ false
   unread_beside None is none unread = and_false asked.scope.now.skip_existing false refl
-  unread_beside (Some bytes) is none unread = by_test (nat_le (length bytes) 16_777_216) refl unread
+  unread_beside (Some bytes) is none unread = by_test (nat_le (length bytes) LONGEST_FILE) refl unread
     where
-      long : (n : ℕ) → nat_le n 16_777_216 ≡ false → nat_lt 16_777_216 n ≡ true
+      long : (n : ℕ) → nat_le n LONGEST_FILE ≡ false → nat_lt LONGEST_FILE n ≡ true
       long n t = grind (arith, nat_tests)
 
       edit : neighbour_by asked tree path (Some bytes) ≡ no_edit
@@ -78,9 +79,9 @@ module _ (asked : Annotation) (tree : Files) (path : List ℕ) where
       too_long true rest t e = cc
       too_long false rest t e = absurd (cc)
 
-      by_test : (b : Bool) → nat_le (length bytes) 16_777_216 ≡ b → ((found : List ℕ) → cond b (Found bytes) TooLong ≡ Found found → ⊥) → (asked.scope.now.skip_existing && neighbour_is_tagged bytes) ≡ false
+      by_test : (b : Bool) → nat_le (length bytes) LONGEST_FILE ≡ b → ((found : List ℕ) → cond b (Found bytes) TooLong ≡ Found found → ⊥) → (asked.scope.now.skip_existing && neighbour_is_tagged bytes) ≡ false
       by_test true t unread = absurd (unread bytes refl)
-      by_test false t unread = absurd (too_long (nat_lt 16_777_216 (length bytes)) _ (long (length bytes) t) edit)
+      by_test false t unread = absurd (too_long (nat_lt LONGEST_FILE (length bytes)) _ (long (length bytes) t) edit)
 
 no_file : (file : Option (List ℕ)) (b : Bool) → (is_some file || b) ≡ false → file ≡ None
 no_file None b e = refl
@@ -94,13 +95,13 @@ pub skips_none : (asked : Annotation) (tree : Files) (path bytes : List ℕ) (gi
 skips_none asked tree path bytes given refusal e = ap (is_skipped_at asked.scope.now tree path bytes) e
 
 -- a file that is too long isn't skipped
-pub unread_alone : (asked : Annotation) (tree : Files) (path bytes : List ℕ) → ((found : List ℕ) → reading_of (Some bytes) 16_777_216 ≡ Found found → ⊥)
+pub unread_alone : (asked : Annotation) (tree : Files) (path bytes : List ℕ) → ((found : List ℕ) → reading_of (Some bytes) LONGEST_FILE ≡ Found found → ⊥)
     → is_skipped_at asked.scope.now tree path bytes (place_by asked path bytes) ≡ false
-unread_alone asked tree path bytes unread = by_test (nat_le (length bytes) 16_777_216) refl unread
+unread_alone asked tree path bytes unread = by_test (nat_le (length bytes) LONGEST_FILE) refl unread
   where
-    past : (n : ℕ) → nat_le n 16_777_216 ≡ false → 16_777_216 < n
+    past : (n : ℕ) → nat_le n LONGEST_FILE ≡ false → LONGEST_FILE < n
     past n t = grind (arith, nat_tests)
 
-    by_test : (b : Bool) → nat_le (length bytes) 16_777_216 ≡ b → ((found : List ℕ) → cond b (Found bytes) TooLong ≡ Found found → ⊥) → is_skipped_at asked.scope.now tree path bytes (place_by asked path bytes) ≡ false
+    by_test : (b : Bool) → nat_le (length bytes) LONGEST_FILE ≡ b → ((found : List ℕ) → cond b (Found bytes) TooLong ≡ Found found → ⊥) → is_skipped_at asked.scope.now tree path bytes (place_by asked path bytes) ≡ false
     by_test true t unread = absurd (unread bytes refl)
     by_test false t unread = skips_none asked tree path bytes (place_by asked path bytes) (refusals.TooLong path) (long_bytes asked.scope.now (own_of asked) path bytes (past (length bytes) t))

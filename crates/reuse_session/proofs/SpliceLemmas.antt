@@ -9,7 +9,8 @@ use Rattle.std.proofs.lemmas.List.{take-append-drop, length-take-le, drop-drop}
 use Rattle.std.proofs.lemmas.Slice.Eq.{bytes_eq-Decides}
 use Rattle.reuse_tree.specs.Files.{Files}
 use Rattle.reuse_tree.specs.Change.{sealed_splice}
-use Rattle.reuse_session.specs.Plan.{Makes}
+use Rattle.reuse_text.specs.declared.TheConstants.{LONGEST_FILE}
+use Rattle.reuse_session.specs.Plan.{CarriesOutEdit}
 
 module _ (bytes : List ℕ) (s n : ℕ) (within : s + n ≤ length bytes) where
   -- the three parts of a file
@@ -29,9 +30,9 @@ module _ (bytes : List ℕ) (s n : ℕ) (within : s + n ≤ length bytes) where
   rest_len = omega (arith, old_len, length-drop (s + n) bytes, within)
 
   -- the sealed splice of a file, where it changes something
-  pub makes_splice : (tree : Files) (at new : List ℕ) → get tree at ≡ Some bytes → length bytes ≤ 16_777_216 → length (take s bytes ++ new ++ drop (s + n) bytes) ≤ 16_777_216
+  pub makes_splice : (tree : Files) (at new : List ℕ) → get tree at ≡ Some bytes → length bytes ≤ LONGEST_FILE → length (take s bytes ++ new ++ drop (s + n) bytes) ≤ LONGEST_FILE
       → bytes_eq (take s bytes ++ new ++ drop (s + n) bytes) bytes ≡ false
-      → Makes tree (sealed_splice at bytes s (take n (drop s bytes)) new) (record { path = at; removed = take n (drop s bytes); written = new; file = Some (take s bytes ++ new ++ drop (s + n) bytes) })
+      → CarriesOutEdit tree (sealed_splice at bytes s (take n (drop s bytes)) new) (record { path = at; removed = take n (drop s bytes); written = new; file = Some (take s bytes ++ new ++ drop (s + n) bytes) })
   makes_splice tree at new here short fits differs = record {
     path = refl;
     removed = refl;

@@ -64,8 +64,10 @@ module _ (files after : Files) (way : PendingWay) (step : Recorded) (first secon
           good = standing.good;
           journal = keeps_pending (undo_folder_of files) (undo_folder_of after) first.journal (record { entry = number_of step; way = way }) pending standing.journal out.sets pending_head;
           kept = kept_stays (undo_folder_of files) (undo_folder_of after) step pending kept out.sets;
-          ready = reach_ready (way_of way) step.changes first.tree second.tree is_step.leads;
-          some = subst (λ tree. SomeMade (way_of way) step.changes tree (tree_of after)) standing.tree out.tree;
+          partly = record {
+            made = subst (λ tree. SomeMade (way_of way) step.changes tree (tree_of after)) standing.tree out.tree;
+            ready = reach_ready (way_of way) step.changes first.tree second.tree is_step.leads;
+          };
         },
       )))
       (λ (out : IsCarriedOut (way_of way) step.changes settled files after). inr (inl (carried settled out settled_head)))

@@ -14,7 +14,7 @@ use Rattle.reuse_session.specs.History.{Memory, row_listing}
 use Rattle.reuse_session.specs.Journal.{Recorded, Journal, State, rows_in}
 use Rattle.reuse_session.specs.JournalFiles.{entry_path, entry_in, number_of, EntrySays, IsKeptIn, KeepsJournal}
 use Rattle.reuse_session.specs.Machine.{Kept, Snapshots, row_of}
-use Rattle.reuse_session.specs.Session.{store_of, memory_of, listed_as, Remembers, StandsOn, Holds, LeadUpTo, LeadOn}
+use Rattle.reuse_session.specs.Session.{store_of, memory_of, listed_as, Remembers, StandsOn, HoldsSnapshots, LeadUpTo, LeadOn}
 use Rattle.reuse_session.specs.Showing.{entry_of, row_among, row_in, lists, steps_in, IsUnused, Shows, ShowsAt, LedTo, LedOn}
 use Rattle.reuse_session.specs.Tree.{undo_folder_of}
 use Rattle.reuse_session.specs.declared.history.ListedEntry.{ListedEntry}
@@ -249,11 +249,11 @@ unkept number tree steps past up none k d low same = at tree steps past up none 
     at tree (s ∷ steps) (kept ∷ past) up none zero low same = none 0 s (omega arith) (sym (ap (λ l. l.number) up.0) ∙ same)
     at tree (s ∷ steps) (kept ∷ past) up none (suc k) low same = at kept.tree steps past up.2 (λ i x lt. none (suc i) x (omega (arith, lt))) k (omega (arith, low)) same
 
-pub led_to_tree : (held : State) (state : Snapshots) → Holds held state → (step : Recorded) (number : ℕ) → Contains held.journal.done step → number_of step ≡ number → LedTo number step.changes state.tree state.past
+pub led_to_tree : (held : State) (state : Snapshots) → HoldsSnapshots held state → (step : Recorded) (number : ℕ) → Contains held.journal.done step → number_of step ≡ number → LedTo number step.changes state.tree state.past
 led_to_tree held state holds step number h e = led_to number step state.tree held.journal.done state.past holds.past h e
 
 -- what is shown is of the machine
-pub shows_at : (held : State) (state : Snapshots) → Holds held state → (number : ℕ) (shown : Shown) → Shows held.journal number shown → ShowsAt state number shown
+pub shows_at : (held : State) (state : Snapshots) → HoldsSnapshots held state → (number : ℕ) (shown : Shown) → Shows held.journal number shown → ShowsAt state number shown
 shows_at held state holds number shown found = record {
   row = subst (λ rows. Contains rows shown.row) (log_follows held state holds) (subst (Contains (rows_in held.journal)) (sym found.row) (by_end shown.row.done found.is_in));
   numbered = ap (λ (r : Row). r.number) found.row ∙ found.numbered;

@@ -6,6 +6,7 @@ use Rattle.std.proofs.lemmas.Slice.Eq.{bytes_eq-Decides}
 use Rattle.reuse_dep5.specs.declared.refusal.Dep5Refusal.{Dep5Refusal}
 use Rattle.reuse_dep5.specs.Conversion.{converted}
 use Rattle.reuse_tree.specs.Files.{Files}
+use Rattle.reuse_text.specs.declared.TheConstants.{LONGEST_FILE}
 use Rattle.reuse_session.specs.Clash.{is_clash}
 use Rattle.reuse_session.specs.Conversion.{dep5_path, toml_path, replaced_by, conversion_where, conversion_edits}
 use Rattle.reuse_session.specs.Edit.{Edit, made, dropped}
@@ -49,7 +50,7 @@ module _ (tree : Files) (edits : List Edit) where
   by_file : (file : Option (List ℕ)) → get tree dep5_path ≡ file → conversion_where tree file ≡ ok_edits edits → IsAccepted tree edits
   by_file None is h = absurd (cc)
   by_file (Some bytes) is h =
-      let short = err_or (nat_lt 16_777_216 (length bytes)) (refusals.TooLong dep5_path) (cond (is_some (get tree toml_path)) (Err (refusals.Exists toml_path)) (replaced_by tree bytes (converted bytes))) edits h in
+      let short = err_or (nat_lt LONGEST_FILE (length bytes)) (refusals.TooLong dep5_path) (cond (is_some (get tree toml_path)) (Err (refusals.Exists toml_path)) (replaced_by tree bytes (converted bytes))) edits h in
       let alone = err_or (is_some (get tree toml_path)) (refusals.Exists toml_path) (replaced_by tree bytes (converted bytes)) edits short.1 in
       by_text bytes (converted bytes) is (none_from_test (get tree toml_path) alone.0) refl alone.1
 

@@ -11,7 +11,7 @@ use Rattle.reuse_tree.specs.Change.{path_of, IsProper}
 use Rattle.reuse_tree.proofs.GoodFiles.{put_keeps, remove_keeps}
 use Rattle.reuse_session.specs.declared.entry.Way.{Way}
 use Rattle.reuse_session.specs.declared.entry.Way.TheVariants.{Do, Undo}
-use Rattle.reuse_session.specs.Entry.{IsEntry, IsReady, TurnsBy, CanBeMade, CanBeSetBack, opposite, makes}
+use Rattle.reuse_session.specs.Entry.{IsEntry, ArePartlyMade, IsReady, TurnsBy, CanBeMade, CanBeSetBack, opposite, makes}
 use Rattle.reuse_session.specs.EntryText.{HavePaths}
 use Rattle.reuse_session.specs.Head.{way_of}
 use Rattle.reuse_session.specs.History.{Memory}
@@ -24,7 +24,7 @@ use Rattle.reuse_session.specs.declared.journal.entry.Entry.{Entry}
 use Rattle.reuse_session.specs.declared.journal.head.Pending.{Pending}
 use Rattle.reuse_session.proofs.TreeLemmas.{tree_are_files}
 use Rattle.reuse_session.proofs.JournalLemmas.{entry_good}
-use Rattle.reuse_session.proofs.MadeLemmas.{AreBack, at_place, back_none, back_more, ready_once, step_with, still_free, stood, with_file}
+use Rattle.reuse_session.proofs.MadeLemmas.{at_place, back_none, back_more, ready_once, step_with, still_free, stood, with_file}
 use Rattle.reuse_session.proofs.OpeningLemmas.{recorded}
 use Rattle.reuse_session.proofs.Settling.{none_in_tree}
 use Rattle.reuse_session.proofs.Walk.{none_outside}
@@ -47,7 +47,7 @@ with_file_keeps tree path (Some bytes) are good free = put_keeps tree path bytes
 module _ (way : Way) (changes : List Change) (good : IsEntry changes) (paths : HavePaths changes) (now : Files) (are : AreFiles now) (can : All (CanBeSetBack way now) changes) where
   -- the first so many are taken back
   abbrev Back : ℕ → Type 0
-  Back count = (tree : Files) × AreFiles tree × AreBack way (take count changes) now tree
+  Back count = (tree : Files) × AreFiles tree × ArePartlyMade way (take count changes) tree now
 
   one_more_back : (count : ℕ) → count < length changes → Back count → Back (count + 1)
   one_more_back count lt so_far =
@@ -82,10 +82,10 @@ module _ (way : Way) (changes : List Change) (good : IsEntry changes) (paths : H
       let next : count + 1 ≡ suc count = omega arith in
       subst Back next (one_more_back count (omega arith) (back_to count (omega arith)))
 
-  pub start_of : (start : Files) × AreFiles start × AreBack way changes now start
+  pub start_of : (start : Files) × AreFiles start × ArePartlyMade way changes start now
   start_of =
       let all = back_to (length changes) (omega arith) in
-      (all.0, all.1, subst (λ front. AreBack way front now all.0) (take-length changes) all.2)
+      (all.0, all.1, subst (λ front. ArePartlyMade way front all.0 now) (take-length changes) all.2)
 
 entry_paths : (file : Option (List ℕ)) (entry : Entry) → EntrySays file entry → HavePaths entry.changes
 entry_paths None entry says = absurd says
@@ -102,5 +102,5 @@ module _ (before : Files) (pending : Pending) (memory : Memory) (journal : Journ
       λ path out here. sym (start.2.made.others path (none_outside entry.changes path good out)) ∙ none_in_tree before path here in
       let tree : IsTree start.0 = record { are_files = start.1; no_reuse = none (codes ".reuse") refl read.no_reuse; no_undo = none journal_folder refl read.no_undo } in (
         record { tree = start.0; journal = journal },
-        record { good = tree; journal = read.keeps; kept = says; ready = start.2.ready; some = start.2.made },
+        record { good = tree; journal = read.keeps; kept = says; partly = start.2 },
       )

@@ -10,6 +10,7 @@ use Rattle.std.specs.Str.{is_utf8}
 use Rattle.reuse_text.specs.Text.{IsText}
 use Rattle.reuse_tree.specs.Files.{Files}
 use Rattle.reuse_header.specs.Neighbour.{is_text}
+use Rattle.reuse_text.specs.declared.TheConstants.{LONGEST_FILE}
 use Rattle.reuse_session.specs.TreeStyles.{OwnNames}
 use Rattle.reuse_session.specs.declared.command.Scope.{Scope}
 use Rattle.reuse_session.specs.declared.target.Target.{Target}
@@ -20,10 +21,10 @@ use Rattle.reuse_session.specs.Listing.{is_among}
 use Rattle.reuse_session.specs.Annotate.{neighbour_of, goes_beside, goes_beside_unread, target_by_style, target_by_bytes}
 use Rattle.reuse_session.proofs.TreeLemmas.{among_keys}
 
-not_over : (n : ℕ) → n ≤ 16_777_216 → nat_lt 16_777_216 n ≡ false
+not_over : (n : ℕ) → n ≤ LONGEST_FILE → nat_lt LONGEST_FILE n ≡ false
 not_over n h = grind (arith, nat_tests)
 
-over : (n : ℕ) → 16_777_216 < n → nat_lt 16_777_216 n ≡ true
+over : (n : ℕ) → LONGEST_FILE < n → nat_lt LONGEST_FILE n ≡ true
 over n h = grind (arith, nat_tests)
 
 abbrev target : Target → Result Target Refusal
@@ -32,12 +33,12 @@ target t = Ok t
 abbrev refused : Refusal → Result Target Refusal
 refused r = Err r
 
-pub by_bytes : (scope : Scope) (own : OwnNames) (path bytes : List ℕ) (b : Bool) → length bytes ≤ 16_777_216 → is_text bytes ≡ b → target_by_bytes scope own path bytes ≡ cond (not b) (target Beside) (target_by_style scope own path scope.style)
+pub by_bytes : (scope : Scope) (own : OwnNames) (path bytes : List ℕ) (b : Bool) → length bytes ≤ LONGEST_FILE → is_text bytes ≡ b → target_by_bytes scope own path bytes ≡ cond (not b) (target Beside) (target_by_style scope own path scope.style)
 by_bytes scope own path bytes b h e =
     ap (λ t. cond t (refused (TooLong path)) (cond (not (is_text bytes)) (target Beside) (target_by_style scope own path scope.style))) (not_over (length bytes) h)
     ∙ ap (λ t. cond (not t) (target Beside) (target_by_style scope own path scope.style)) e
 
-pub long_bytes : (scope : Scope) (own : OwnNames) (path bytes : List ℕ) → 16_777_216 < length bytes → target_by_bytes scope own path bytes ≡ Err (TooLong path)
+pub long_bytes : (scope : Scope) (own : OwnNames) (path bytes : List ℕ) → LONGEST_FILE < length bytes → target_by_bytes scope own path bytes ≡ Err (TooLong path)
 long_bytes scope own path bytes h = ap (λ t. cond t (refused (TooLong path)) (cond (not (is_text bytes)) (target Beside) (target_by_style scope own path scope.style))) (over (length bytes) h)
 
 pub beside_by : (tree : Files) (paths : List (List ℕ)) (path : List ℕ) (scope : Scope) (own : OwnNames) (r : Bool) → paths ≡ keys tree

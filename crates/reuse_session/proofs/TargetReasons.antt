@@ -9,6 +9,7 @@ use Rattle.reuse_header.specs.declared.style.Kind.TheVariants as kind
 use Rattle.reuse_header.specs.Names.{kind_in}
 use Rattle.reuse_header.specs.Neighbour.{is_text}
 use Rattle.reuse_tree.specs.Files.{Files}
+use Rattle.reuse_text.specs.declared.TheConstants.{LONGEST_FILE}
 use Rattle.reuse_session.specs.Annotate.{neighbour_of, is_uncommentable, goes_beside, goes_beside_unread, target_of_unknown, target_by_name, target_by_style, target_by_bytes}
 use Rattle.reuse_session.specs.Annotated.{pair_at, IsStyleOf, HasKind, TakesComment, TakesNeighbour}
 use Rattle.reuse_session.specs.TreeStyles.{OwnNames}
@@ -90,5 +91,5 @@ module _ (scope : Scope) (own : OwnNames) (tree : Files) (path bytes : List ℕ)
   pub takes : (b : Bool) → goes_beside scope own tree path ≡ b → (target : Target) → cond b (aimed Beside) (target_by_bytes scope own path bytes) ≡ Ok target → Takes target
   takes true e target h = subst Takes (same_Ok Beside target h) (beside_takes e)
   takes false e target h =
-      let short = err_or (nat_lt 16_777_216 (length bytes)) (refusals.TooLong path) (cond (not (is_text bytes)) (aimed Beside) (target_by_style scope own path scope.style)) target h in
+      let short = err_or (nat_lt LONGEST_FILE (length bytes)) (refusals.TooLong path) (cond (not (is_text bytes)) (aimed Beside) (target_by_style scope own path scope.style)) target h in
       bytes_take e (is_text bytes) refl target short.1

@@ -9,7 +9,7 @@ use Rattle.reuse_tree.specs.Store.{counted, Puts, PutFails, RemoveFails}
 use Rattle.reuse_tree.specs.declared.fault.StoreFault.{StoreFault}
 use Rattle.reuse_tree.specs.declared.fault.StoreFault.TheVariants.{Device, Clash, Memory}
 use Rattle.reuse_tree.proofs.FileMaps.{get-put_same, get-put_other, get-removed_same, get-removed_other}
-use Rattle.reuse_session.specs.Entry.{makes, TurnsBy, Steps}
+use Rattle.reuse_session.specs.Entry.{makes, TurnsBy, LeadsByOneChange}
 use Rattle.reuse_session.specs.Tree.{is_of_tree, Sets}
 use Rattle.reuse_session.specs.declared.entry.Way.{Way}
 use Rattle.reuse_session.specs.declared.entry.Way.TheVariants.{Do, Undo}
@@ -47,7 +47,7 @@ counts_none path bytes old new of_tree e = e ∙ ap (λ n. old + n) (ap (λ b. c
     no_more n = omega arith
 
 -- where the path of a change holds what the change makes of it, the change is made
-pub step_by : (way : Way) (change : Change) (m n : Files) (held : Option (List ℕ)) → TurnsBy way change (get m (path_of change)) held → Sets (path_of change) held m n → Steps way change m n
+pub step_by : (way : Way) (change : Change) (m n : Files) (held : Option (List ℕ)) → TurnsBy way change (get m (path_of change)) held → Sets (path_of change) held m n → LeadsByOneChange way change m n
 step_by way change m n held turns sets = record { here = subst (TurnsBy way change (get m (path_of change))) (sym sets.here) turns; elsewhere = sets.elsewhere }
 
 -- only a change that makes a file clashes

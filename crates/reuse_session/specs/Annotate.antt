@@ -11,6 +11,7 @@ use Rattle.reuse_header.specs.declared.style.Kind.TheVariants as kind
 use Rattle.reuse_header.specs.declared.annotation.How.{How}
 use Rattle.reuse_header.specs.declared.annotation.HeaderRefusal.{HeaderRefusal}
 use Rattle.reuse_header.specs.Names.{kind_in}
+use Rattle.reuse_text.specs.declared.TheConstants.{LONGEST_FILE}
 use Rattle.reuse_session.specs.TreeStyles.{OwnNames}
 use Rattle.reuse_header.specs.Header.{header_of, neighbour_contents}
 use Rattle.reuse_header.specs.Tagged.{has_tag}
@@ -57,7 +58,7 @@ target_by_style scope own path None = target_by_name scope.unknown path (kind_in
 -- by the bytes of the file: a binary goes to its neighbour
 abbrev pub target_by_bytes : Scope → OwnNames → List ℕ → List ℕ → Result Target Refusal
 target_by_bytes scope own path bytes =
-    if nat_lt 16_777_216 (length bytes) then Err (TooLong path)
+    if nat_lt LONGEST_FILE (length bytes) then Err (TooLong path)
     else if not (is_text bytes) then Ok Beside
     else target_by_style scope own path scope.style
 
@@ -108,7 +109,7 @@ edit_neighbour how scope additions tree path None =
     if is_clash tree (neighbour_of path) then Err (Clash (neighbour_of path))
     else edit_by path (neighbour_of path) [] (neighbour_annotation_of how additions [])
 edit_neighbour how scope additions tree path (Some bytes) =
-    if nat_lt 16_777_216 (length bytes) then Err (TooLong path)
+    if nat_lt LONGEST_FILE (length bytes) then Err (TooLong path)
     else if scope.skip_existing && neighbour_is_tagged bytes then Ok None
     else edit_by path (neighbour_of path) bytes (neighbour_annotation_of how additions bytes)
 

@@ -2,6 +2,7 @@
 use Rattle.std.specs.Prelude.{ℕ, ◌+◌, ◌≤◌, List, length, Result, Ok, Err}
 use Rattle.reuse_header.specs.declared.annotation.HeaderRefusal.{HeaderRefusal}
 use Rattle.reuse_header.specs.Annotation as header
+use Rattle.reuse_text.specs.declared.TheConstants.{LONGEST_FILE}
 
 -- the edit of a file, or the first refusal
 abbrev pub Due : Type 0
@@ -9,5 +10,5 @@ Due = Result header.Edit HeaderRefusal
 
 -- an edit is within its file, and makes none that is too long
 abbrev pub Fits : List ℕ → Due → Type 0
-Fits bytes (Ok edit) = (edit.start + edit.old_len ≤ length bytes) × (length (header.edited bytes edit) ≤ 16_777_216)
+Fits bytes (Ok edit) = (edit.start + edit.old_len ≤ length bytes) × (length (header.edited bytes edit) ≤ LONGEST_FILE)
 Fits bytes (Err refusal) = Unit {0}

@@ -7,7 +7,7 @@ use Rattle.reuse_tree.specs.Asked.{OnlyReads}
 use Rattle.reuse_tree.specs.Change.{path_of}
 use Rattle.reuse_tree.specs.declared.store.Store.{Ghosts}
 use Rattle.reuse_tree.specs.declared.change.Change.{Change}
-use Rattle.reuse_session.specs.Entry.{opposite, LeadsBy, SomeMade, IsReady, Steps}
+use Rattle.reuse_session.specs.Entry.{opposite, LeadsBy, SomeMade, ArePartlyMade, IsReady, LeadsByOneChange}
 use Rattle.reuse_session.specs.JournalFiles.{head_path}
 use Rattle.reuse_session.specs.Tree.{Sets, undo_folder_of}
 use Rattle.reuse_session.specs.declared.entry.Way.{Way}
@@ -28,12 +28,11 @@ pub record IsStopped (way : Way) (changes : List Change) (head : List ℕ) (befo
 
 -- the change was not made, or is taken back
 abbrev pub IsSetBack : Way → Change → Files → Files → Type 0
-IsSetBack way change before after = (IsReady way change (get before (path_of change)) × (after ≡ before)) ⊎ Steps (opposite way) change before after
+IsSetBack way change before after = (IsReady way change (get before (path_of change)) × (after ≡ before)) ⊎ LeadsByOneChange (opposite way) change before after
 
 -- the files were those now with some of the changes made, none of which is made now, and this is the head
 pub record IsRolledBack (way : Way) (changes : List Change) (head : List ℕ) (before after : Files) : Type 0 where
-  pub tree : SomeMade way changes (tree_of after) (tree_of before)
-  pub ready : All (λ change. IsReady way change (get (tree_of after) (path_of change))) changes
+  pub partly : ArePartlyMade way changes (tree_of after) (tree_of before)
   pub sets : SetsHead head before after
 
 -- on the way back to a tree: some of the changes are still made under the old head, or none under the new one

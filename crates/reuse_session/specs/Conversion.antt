@@ -5,6 +5,7 @@ use Rattle.std.specs.FinMap.{get}
 use Rattle.reuse_tree.specs.Files.{Files}
 use Rattle.reuse_dep5.specs.declared.refusal.Dep5Refusal.{Dep5Refusal}
 use Rattle.reuse_dep5.specs.Conversion.{converted}
+use Rattle.reuse_text.specs.declared.TheConstants.{LONGEST_FILE}
 use Rattle.reuse_session.specs.Edit.{Edit, made, dropped}
 use Rattle.reuse_session.specs.Clash.{is_clash}
 use Rattle.reuse_session.specs.declared.reply.Refusal.{Refusal}
@@ -25,7 +26,7 @@ replaced_by tree bytes (Ok text) = if is_clash tree toml_path then Err (Clash to
 abbrev pub conversion_where : Files → Option (List ℕ) → Result (List Edit) Refusal
 conversion_where tree None = Err NoDep5
 conversion_where tree (Some bytes) =
-    if nat_lt 16_777_216 (length bytes) then Err (TooLong dep5_path)
+    if nat_lt LONGEST_FILE (length bytes) then Err (TooLong dep5_path)
     else if is_some (get tree toml_path) then Err (Exists toml_path)
     else replaced_by tree bytes (converted bytes)
 

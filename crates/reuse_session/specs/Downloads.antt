@@ -6,6 +6,7 @@ use Rattle.std.specs.Str.{bytes_eq}
 use Rattle.std.specs.FinMap.{get}
 use Rattle.reuse_notice.specs.Sets.{set_of}
 use Rattle.reuse_tree.specs.Files.{Files}
+use Rattle.reuse_text.specs.declared.TheConstants.{LONGEST_FILE}
 use Rattle.reuse_session.specs.Edit.{Edit, made}
 use Rattle.reuse_session.specs.Clash.{is_clash}
 use Rattle.reuse_session.specs.Licence.{is_id, licence_path, licence_id}
@@ -22,7 +23,7 @@ text_for (given ∷ texts) id = if bytes_eq given.id id then given.text else tex
 abbrev pub refusal_of_found : Files → List ℕ → Option (List ℕ) → Option Refusal
 refusal_of_found tree id None = Some (NoText id)
 refusal_of_found tree id (Some text) =
-    if nat_lt 16_777_216 (length text) then Some (TooLong (licence_path id))
+    if nat_lt LONGEST_FILE (length text) then Some (TooLong (licence_path id))
     else if is_some (get tree (licence_path id)) then Some (Exists (licence_path id))
     else if is_clash tree (licence_path id) then Some (Clash (licence_path id))
     else None

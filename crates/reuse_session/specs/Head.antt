@@ -2,6 +2,7 @@
 use Rattle.std.specs.Prelude.{◌≡◌, ◌≢◌, ℕ, ◌<◌, ◌≤◌, ◌-◌, Bool, List, [], ◌∷◌, ◌++◌, length, map, All, AllPairs, slice_get, codes, decimal, Option, Some, None, ⊤}
 use Rattle.std.specs.List.{join_with_byte}
 use Rattle.serde_json.specs.Data.{Data, string, null}
+use Rattle.reuse_text.specs.declared.TheConstants.{LONGEST_FILE}
 use Rattle.reuse_session.specs.Json.{IsJson, count, counts, object_of}
 use Rattle.reuse_session.specs.Format.{format_number}
 use Rattle.reuse_session.specs.declared.journal.head.Head.{Head}
@@ -94,7 +95,7 @@ pub record IsSoundHead (h : Head) : Type 0 where
 
 -- the most bytes that a head's text has
 abbrev pub max_head : ℕ
-max_head = 16777216
+max_head = LONGEST_FILE
 
 -- The text is good, and stands for the head.
 pub record IsGoodHead (text : List ℕ) (h : Head) : Type 0 where

@@ -31,10 +31,10 @@ pub record State : Type 0 where
 
 -- Each change of the step can be made this way, and they are made. Or the first that can't be names the refusal, and
 -- nothing changes.
-abbrev pub Goes : Way → Recorded → (List (List ℕ) → Reply) → Journal → State → Result Reply Refusal → State → Type 0
-Goes way step reply moved old (Ok given) new =
+abbrev pub GoesOneStep : Way → Recorded → (List (List ℕ) → Reply) → Journal → State → Result Reply Refusal → State → Type 0
+GoesOneStep way step reply moved old (Ok given) new =
     (given ≡ reply (paths_of step.changes)) × All (CanBeMade way old.tree) step.changes × LeadsBy way step.changes old.tree new.tree × (new.journal ≡ moved)
-Goes way step reply moved old (Err refusal) new =
+GoesOneStep way step reply moved old (Err refusal) new =
     ((path : List ℕ) × (refusal ≡ Moved path) × IsFirstStuck way old.tree step.changes path) × (new ≡ old)
 
 -- the steps that a way goes on with, the next first: back over those done, and on over those undone
@@ -59,7 +59,7 @@ end_of way.Do = NothingToRedo
 -- what a call answers and leaves that goes one step this way
 abbrev pub Travels : Way → List Recorded → State → Result Reply Refusal → State → Type 0
 Travels way [] old result new = (result ≡ Err (end_of way)) × (new ≡ old)
-Travels way (step ∷ steps) old result new = Goes way step (reply_of way) (moved_on way step steps old.journal) old result new
+Travels way (step ∷ steps) old result new = GoesOneStep way step (reply_of way) (moved_on way step steps old.journal) old result new
 
 -- what undo answers and leaves: the last step done is taken back, and is the next to be redone
 abbrev pub Undoes : List Recorded → State → Result Reply Refusal → State → Type 0

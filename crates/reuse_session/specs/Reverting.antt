@@ -10,6 +10,7 @@ use Rattle.reuse_tree.specs.Files.{Files}
 use Rattle.reuse_tree.specs.declared.change.Change.{Change}
 use Rattle.reuse_tree.specs.declared.change.Change.TheVariants.{Make, Drop, Splice}
 use Rattle.reuse_tree.specs.declared.digest.Seal.{Seal}
+use Rattle.reuse_text.specs.declared.TheConstants.{LONGEST_FILE}
 use Rattle.reuse_session.specs.Clash.{is_clash}
 use Rattle.reuse_session.specs.Edit.{Edit, made, dropped}
 use Rattle.reuse_session.specs.Entry.{makes}
@@ -37,7 +38,7 @@ stands_as_written file at old new rest seal = stands_at file new at && (not (sta
 
 -- no file of a step is longer
 abbrev pub is_short : List ℕ → Bool
-is_short file = nat_le (length file) 16_777_216
+is_short file = nat_le (length file) LONGEST_FILE
 
 -- of a file that was edited, the new bytes give way to the old ones
 abbrev pub put_back : List ℕ → List ℕ → ℕ → (old new : List ℕ) → Edit

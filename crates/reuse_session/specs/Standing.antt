@@ -6,7 +6,7 @@ use Rattle.reuse_tree.specs.Path.{journal_folder}
 use Rattle.reuse_tree.specs.Files.{Files, AreFiles, tree_of}
 use Rattle.reuse_tree.specs.Change.{path_of}
 use Rattle.reuse_session.specs.Tree.{undo_folder_of}
-use Rattle.reuse_session.specs.Entry.{LeadsBy, SomeMade, IsReady}
+use Rattle.reuse_session.specs.Entry.{LeadsBy, ArePartlyMade}
 use Rattle.reuse_session.specs.Journal.{Recorded, Journal, State}
 use Rattle.reuse_session.specs.JournalFiles.{KeepsJournal, IsKeptIn, number_of}
 use Rattle.reuse_session.specs.Head.{way_of}
@@ -42,8 +42,7 @@ pub record IsUnderWay (way : PendingWay) (step : Recorded) (first : State) (file
   pub good : IsTree first.tree
   pub journal : KeepsJournal (undo_folder_of files) first.journal (Some (record { entry = number_of step; way = way }))
   pub kept : IsKeptIn (undo_folder_of files) step
-  pub ready : All (λ change. IsReady (way_of way) change (get first.tree (path_of change))) step.changes
-  pub some : SomeMade (way_of way) step.changes first.tree (tree_of files)
+  pub partly : ArePartlyMade (way_of way) step.changes first.tree (tree_of files)
 
 -- the files are one of the two standings, or a step is under way from the first to the second
 abbrev pub InDoubt : State → State → Files → Type 0

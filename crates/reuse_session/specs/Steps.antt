@@ -1,6 +1,7 @@
 -- For private clauses: what is known of a file's change once the file was read.
 use Rattle.std.specs.Prelude.{◌≡◌, ℕ, List, length, Option, Result, Ok, Err, nat_lt, if◌then◌else◌}
 use Rattle.reuse_tree.specs.Files.{Files}
+use Rattle.reuse_text.specs.declared.TheConstants.{LONGEST_FILE}
 use Rattle.reuse_session.specs.AnnotationPlan.{edit_by_place, place_by}
 use Rattle.reuse_session.specs.Edit.{Edit}
 use Rattle.reuse_session.specs.Plan.{IsRefusalOf, MakesEdit}
@@ -13,7 +14,7 @@ use Rattle.reuse_session.specs.declared.reply.Refusal.TheVariants.{TooLong}
 
 -- the bytes of a file, unless they are too many
 abbrev pub short_file : List ℕ → List ℕ → Result (List ℕ) Refusal
-short_file path bytes = if nat_lt 16_777_216 (length bytes) then Err (TooLong path) else Ok bytes
+short_file path bytes = if nat_lt LONGEST_FILE (length bytes) then Err (TooLong path) else Ok bytes
 
 -- the change, a refusal, or that the neighbour is the place
 abbrev pub StepsTo : Annotation → Files → List ℕ → List ℕ → Result Step Refusal → Type 0

@@ -4,7 +4,7 @@ use Rattle.reuse_tree.specs.Files.{Files}
 use Rattle.reuse_session.specs.Answer.{HasCause}
 use Rattle.reuse_session.specs.Journal.{State}
 use Rattle.reuse_session.specs.Machine.{Snapshots, Step, step}
-use Rattle.reuse_session.specs.Session.{Holds}
+use Rattle.reuse_session.specs.Session.{HoldsSnapshots}
 use Rattle.reuse_session.specs.Standing.{IsStanding, InDoubt}
 use Rattle.reuse_session.specs.declared.events.Event.{Event}
 use Rattle.reuse_session.specs.declared.events.Event.TheVariants as event
@@ -40,11 +40,11 @@ Reopens answer old new = ⊥
 
 -- An event of an open session that makes a step. One that a fault of the store or want of memory refused is left out; one that was
 -- interrupted closes the session, and is kept or left out; and every other is that of the machine.
-abbrev pub Goes : Step → Result Reply Refusal → Point → Point → Type 0
-Goes next (Err (Fault fault)) old new = new ≡ old
-Goes next (Err Memory) old new = new ≡ old
-Goes next (Err (Interrupted cause)) old new = new ≡ record { is_open = false; state = old.state; next = Some next.1 }
-Goes next answer old new = (answer ≡ next.0) × (new ≡ open_at next.1)
+abbrev pub GoesOrStops : Step → Result Reply Refusal → Point → Point → Type 0
+GoesOrStops next (Err (Fault fault)) old new = new ≡ old
+GoesOrStops next (Err Memory) old new = new ≡ old
+GoesOrStops next (Err (Interrupted cause)) old new = new ≡ record { is_open = false; state = old.state; next = Some next.1 }
+GoesOrStops next answer old new = (answer ≡ next.0) × (new ≡ open_at next.1)
 
 -- a log answers the machine's rows, or memory ran out, and changes nothing
 abbrev pub Lists : Step → Result Reply Refusal → Point → Point → Type 0
@@ -61,18 +61,18 @@ Foretells next answer old new = (answer ≡ next.0) × (new ≡ old)
 abbrev pub Continues : Event → Result Reply Refusal → Point → Point → Type 0
 Continues event.Log answer old new = Lists (step old.state event.Log) answer old new
 Continues (event.Preview asked) answer old new = Foretells (step old.state (event.Preview asked)) answer old new
-Continues event answer old new = Goes (step old.state event) answer old new
+Continues event answer old new = GoesOrStops (step old.state event) answer old new
 
 -- while no session is open, all but an opening is refused as broken
-abbrev pub Answers : Bool → Event → Result Reply Refusal → Point → Point → Type 0
-Answers is_open event.Reopen answer old new = Reopens answer old new
-Answers true event answer old new = Continues event answer old new
-Answers false event answer old new = (answer ≡ Err Broken) × (new ≡ old)
+abbrev pub AnswersEvent : Bool → Event → Result Reply Refusal → Point → Point → Type 0
+AnswersEvent is_open event.Reopen answer old new = Reopens answer old new
+AnswersEvent true event answer old new = Continues event answer old new
+AnswersEvent false event answer old new = (answer ≡ Err Broken) × (new ≡ old)
 
 -- the events are answered so, one after the other, and lead from one point to the other
 abbrev pub RunsWithStops : List Event → List (Result Reply Refusal) → Point → Point → Type 0
 RunsWithStops [] [] old new = new ≡ old
-RunsWithStops (event ∷ events) (answer ∷ answers) old new = (point : Point) × Answers old.is_open event answer old point × RunsWithStops events answers point new
+RunsWithStops (event ∷ events) (answer ∷ answers) old new = (point : Point) × AnswersEvent old.is_open event answer old point × RunsWithStops events answers point new
 RunsWithStops [] (answer ∷ answers) old new = ⊥
 RunsWithStops (event ∷ events) [] old new = ⊥
 
@@ -86,9 +86,9 @@ HaveCauses (answer ∷ answers) first last = (next : ℕ) × (first ≤ next) ×
 
 -- the files hold the state
 abbrev pub HoldState : Files → Snapshots → Type 0
-HoldState files state = (held : State) × IsStanding files held × Holds held state
+HoldState files state = (held : State) × IsStanding files held × HoldsSnapshots held state
 
 -- they do, or are in doubt between it and the next
 abbrev pub AreLeft : Files → Snapshots → Option Snapshots → Type 0
 AreLeft files state None = HoldState files state
-AreLeft files state (Some next) = (first : State) × (second : State) × Holds first state × Holds second next × InDoubt first second files
+AreLeft files state (Some next) = (first : State) × (second : State) × HoldsSnapshots first state × HoldsSnapshots second next × InDoubt first second files

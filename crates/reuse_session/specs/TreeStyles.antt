@@ -6,6 +6,7 @@ use Rattle.reuse_header.specs.declared.style.Kind.{Kind}
 use Rattle.reuse_header.specs.declared.style_refusal.StylesRefusal.{StylesRefusal}
 use Rattle.reuse_header.specs.declared.style_refusal.StylesRefusal.TheVariants as styles
 use Rattle.reuse_tree.specs.Files.{Files}
+use Rattle.reuse_text.specs.declared.TheConstants.{LONGEST_FILE}
 use Rattle.reuse_session.specs.declared.reply.Refusal.{Refusal}
 use Rattle.reuse_session.specs.declared.reply.Refusal.TheVariants.{TooLong, BadStyles, Memory}
 
@@ -29,7 +30,7 @@ styles_read (Err refusal) = Err (styles_refusal refusal)
 -- by the file, where there is one
 abbrev pub styles_where : Option (List ℕ) → Result OwnNames Refusal
 styles_where None = styles_read (styles_of None)
-styles_where (Some bytes) = if nat_lt 16_777_216 (length bytes) then Err (TooLong styles_path) else styles_read (styles_of (Some bytes))
+styles_where (Some bytes) = if nat_lt LONGEST_FILE (length bytes) then Err (TooLong styles_path) else styles_read (styles_of (Some bytes))
 
 abbrev pub styles_in : Files → Result OwnNames Refusal
 styles_in tree = styles_where (get tree styles_path)

@@ -1,4 +1,4 @@
-// An annotation as it is asked for.
+//! An annotation as it is asked for.
 use crate::command::Scope;
 use reuse_header::{How, StyleTable};
 use reuse_notice::Additions;

@@ -1,4 +1,4 @@
-// Which of the files beneath folders a command is asked for.
+//! Which of the files beneath folders a command is asked for.
 ghost use Rattle.std.specs.Prelude.{◌≡◌};
 ghost use Rattle.std.specs.Str.{chars};
 ghost use Rattle.reuse_dep5.specs.GlobMatch.{matches_glob};

@@ -1,4 +1,4 @@
-// Where no file can be made, by the paths of a tree.
+//! Where no file can be made, by the paths of a tree.
 ghost use Rattle.std.specs.Prelude.{◌≡◌, IfOk};
 ghost use Rattle.std.specs.List.{list_any};
 ghost use Rattle.reuse_tree.specs.Path.{lies_under};

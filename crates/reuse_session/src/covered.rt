@@ -1,4 +1,4 @@
-// Which files annotate treats, by their paths.
+//! Which files annotate treats, by their paths.
 ghost use Rattle.std.specs.Prelude.{◌≡◌, slice_index};
 ghost use Rattle.reuse_session.specs.Covered.{is_in, is_outside, has_stem, is_outer_name, is_covered};
 

@@ -1,4 +1,4 @@
-// What a download would do.
+//! What a download would do.
 ghost use Rattle.std.specs.Prelude.{◌≡◌, Result, Ok, Err, Option, Some, None, IfOk, IfErr};
 ghost use Rattle.reuse_session.specs.Reading.{keys, tree_of, Files, ReadsAlone};
 ghost use Rattle.std.specs.Option.{option_map};

@@ -1,4 +1,4 @@
-// The changes of an entry, as a command holds them.
+//! The changes of an entry, as a command holds them.
 ghost use Rattle.std.specs.Prelude.{◌≡◌};
 ghost use Rattle.reuse_session.specs.EntryText.{HavePaths};
 ghost use Rattle.reuse_session.specs.Entry.{IsEntry};

@@ -1,4 +1,4 @@
-// What a call would do, path by path.
+//! What a call would do, path by path.
 ghost use Rattle.std.specs.Prelude.{◌≡◌, IfOk, IfErr};
 ghost use Rattle.reuse_session.specs.Previews.{IsLookRefusal, IsTold};
 

@@ -1,4 +1,4 @@
-// Why a header can't be written.
+//! Why a header can't be written.
 use thiserror::Error;
 
 /// Why a file's header block can't be written.
@@ -10,7 +10,7 @@ pub enum HeaderFault {
     /// A line of the block would close the comment.
     #[error("holds the closer")]
     HoldsCloser,
-    /// The file would be longer than 16,777,216 bytes.
+    /// The file would be longer than `LONGEST_FILE` bytes.
     #[error("too long")]
     TooLong,
     /// The block would not be found again.

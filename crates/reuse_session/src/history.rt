@@ -1,4 +1,4 @@
-// What a session remembers of the journal: its entries' labels, and not their changes.
+//! What a session remembers of the journal: its entries' labels, and not their changes.
 ghost use Rattle.std.specs.Prelude.{◌≡◌, ◌<◌, ◌≤◌, ◌+◌, ◌*◌, ◌++◌, ◌∷◌, [], Option, None, Some, List, IfOk, length, map, true, false};
 ghost use Rattle.std.specs.Option.{option_copied};
 ghost use Rattle.reuse_session.specs.Head.{head_text, IsGoodHead, IsSoundHead};

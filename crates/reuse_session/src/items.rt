@@ -1,4 +1,4 @@
-// A list that is handed on whole.
+//! A list that is handed on whole.
 ghost use Rattle.std.specs.Prelude.{◌≡◌};
 
 use std::marker::Model;

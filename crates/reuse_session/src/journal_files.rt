@@ -1,4 +1,4 @@
-// The files of the journal: reads and puts its head and its entries.
+//! The files of the journal: reads and puts its head and its entries.
 ghost use Rattle.std.specs.Prelude.{◌≡◌, ◌≢◌, ◌⊎◌, ◌<◌, ◌≤◌, ◌+◌, ℕ, List, Option, Some, true, IfOk, IfErr, OnOk, OnErr, IsErrOf, length, IsSome};
 ghost use Rattle.std.specs.FinMap as map;
 ghost use Rattle.reuse_tree.specs.Files.{Clashes, tree_of};
@@ -20,12 +20,12 @@ ghost use Rattle.reuse_tree.specs.Asked.{OnlyReads, IsLater};
 use crate::journal::{
     DecodeFault, Entry, EntryNumbers, Head, decode_entry, decode_head, encode_entry,
 };
+use crate::known_path::known_path;
 use crate::reply::{Cause, Refusal};
+use reuse_text::LONGEST_FILE;
 use reuse_tree::{PathText, Reading, Store, StoreFault};
 use std::alloc::{AllocError, Global};
 use std::marker::Model;
-
-const LONGEST_HEAD: usize = 16_777_216;
 
 const LONGEST_ENTRY: usize = 268_435_456;
 
@@ -33,7 +33,7 @@ const LONGEST_ENTRY: usize = 268_435_456;
 pub fn head_path(alloc: Global) -> Result<PathText, AllocError>
     ensures { IfOk result (λ path. path ≡ head_path) }
 {
-    path_of_text(alloc, ".reuse/undo/head.json")
+    known_path(alloc, ".reuse/undo/head.json")
 }
 
 /// The path of the head. It is made before the first put, so that want of memory for it is no stop.
@@ -73,7 +73,7 @@ pub fn entry_path(alloc: Global, number: u32) -> Result<PathText, AllocError>
     text.push(digit(number, 10))?;
     text.push(digit(number, 1))?;
     text.push_str(".json")?;
-    path_of_text(alloc, text.as_str())
+    known_path(alloc, text.as_str())
 }
 
 // The digit of a number at this place.
@@ -82,16 +82,6 @@ fn digit(number: u32, place: u32) -> char
     ensures { result ≡ digit number place }
 {
     char::from(b'0' + (number / place % 10) as u8)
-}
-
-/// A path that is known to be a good one.
-pub fn path_of_text(alloc: Global, text: &str) -> Result<PathText, AllocError>
-    ensures { IfOk result (λ path. path ≡ text.now) }
-{
-    match PathText::new(alloc, text) {
-        Ok(path) => Ok(path),
-        Err(_) => Err(AllocError),
-    }
 }
 
 /// The head; that of an empty journal where it has no file.
@@ -105,14 +95,14 @@ pub fn read_head<S: Store>(alloc: Global, store: &mut S) -> Result<Head, Refusal
     ensures reads { OnlyReads S.Store store.old store.new }
 {
     let path = head_path(alloc)?;
-    let reading = store.read(alloc, &path, LONGEST_HEAD)?;
+    let reading = store.read(alloc, &path, LONGEST_FILE)?;
     head_in(alloc, path, reading)
 }
 
 // The head that was read at the path.
 fn head_in(alloc: Global, path: PathText, reading: Reading) -> Result<Head, Refusal>
-    ensures ok { (file : Option (List ℕ)) → reading ≡ reading_of file 16_777_216 → IfOk result (HeadSays file) }
-    ensures bad { (file : Option (List ℕ)) → reading ≡ reading_of file 16_777_216 → (place : List ℕ) → result ≡ Err (Refusal.BadJournal place)
+    ensures ok { (file : Option (List ℕ)) → reading ≡ reading_of file LONGEST_FILE → IfOk result (HeadSays file) }
+    ensures bad { (file : Option (List ℕ)) → reading ≡ reading_of file LONGEST_FILE → (place : List ℕ) → result ≡ Err (Refusal.BadJournal place)
         → (place ≡ path) × ((head : Head) → ¬ (HeadSays file head)) }
     ensures sound { IfOk result IsSoundHead }
     ensures refusal { IfErr result IsReadRefusal }

@@ -11,6 +11,7 @@ ghost use Rattle.reuse_notice.specs.Plain.{ArePlain, AreUtf8};
 ghost use Rattle.reuse_tree.specs.Files.{Files, AreFiles, Clashes};
 ghost use Rattle.reuse_tree.specs.Change.{inverse_of};
 ghost use Rattle.reuse_tree.specs.declared.change.Change.{Change};
+ghost use Rattle.reuse_text.specs.declared.TheConstants.{LONGEST_FILE};
 ghost use Rattle.reuse_session.specs.Annotated.{Annotates, IsSkippedAt, StaysOrIsText, pair_at};
 ghost use Rattle.reuse_session.specs.Choice.{is_chosen};
 ghost use Rattle.reuse_session.specs.Chosen.{IsNamed, StandsBeneath, IsAskedFor};
@@ -147,7 +148,7 @@ pub fn reverts_take_steps_back()
         → LeadsAll changes before old.tree → Runs (Revert changes skip_moved) when old (Ok reply) new → new.tree ≡ before }
     ensures returned { (changes : List Change) (skip_moved : Bool) (before after now reverted : Files) (path : List ℕ) → IsEntry changes → LeadsAll changes before after
         → outcome_of (Revert changes skip_moved) now ≡ Ok reverted → (skip_moved ≡ false) ⊎ ¬ (Clashes now path) → get now path ≡ get after path → get reverted path ≡ get before path }
-    ensures below { (path front old new behind : List ℕ) (rest : ℕ) (seal : Option Seal) → starts_with nat_eq old new ≡ false → length (front ++ new ++ behind) ≤ 16_777_216 → length (front ++ old ++ behind) ≤ 16_777_216
+    ensures below { (path front old new behind : List ℕ) (rest : ℕ) (seal : Option Seal) → starts_with nat_eq old new ≡ false → length (front ++ new ++ behind) ≤ LONGEST_FILE → length (front ++ old ++ behind) ≤ LONGEST_FILE
         → taken_back (Splice path (length front) old new rest seal) (Some (front ++ new ++ behind)) ≡ Some (record { path = path; removed = new; written = old; file = Some (front ++ old ++ behind) }) }
     ensures once { (path old new file : List ℕ) (at rest : ℕ) (seal : Option Seal) (edit : Edit) → starts_with nat_eq old new ≡ true → old ≢ new
         → taken_back (Splice path at old new rest seal) (Some file) ≡ Some edit → taken_back (Splice path at old new rest seal) edit.file ≡ None }

@@ -1,4 +1,4 @@
-// The files that hold the texts of licences.
+//! The files that hold the texts of licences.
 ghost use Rattle.std.specs.Prelude.{◌≡◌, IfOk};
 ghost use Rattle.std.specs.Option.{option_copied};
 ghost use Rattle.reuse_session.specs.Licence.{licence_path, licence_id};

@@ -1,4 +1,4 @@
-// Ids of licences.
+//! Ids of licences.
 ghost use Rattle.std.specs.Prelude.{◌≡◌, MatchOption, true, false};
 ghost use Rattle.std.specs.List.{list_all};
 ghost use Rattle.reuse_session.specs.Licence.{is_id, is_id_byte};

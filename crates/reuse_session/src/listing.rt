@@ -1,4 +1,4 @@
-// The paths of a tree, in byte order: what stands at a path.
+//! The paths of a tree, in byte order: what stands at a path.
 ghost use Rattle.std.specs.Prelude.{◌≡◌, ◌<◌, ◌≤◌, [], ◌∷◌, ◌++◌, IfOk, true, false, length, filter};
 ghost use Rattle.std.specs.List.{prefix_len};
 ghost use Rattle.reuse_tree.specs.Path.{lies_under};

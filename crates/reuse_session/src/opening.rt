@@ -1,4 +1,4 @@
-// Opens the journal of a store: reads the head and each entry that it names, and rolls back what is pending.
+//! Opens the journal of a store: reads the head and each entry that it names, and rolls back what is pending.
 ghost use Rattle.std.specs.Prelude.{◌≡◌, ◌≢◌, ◌⊎◌, ◌<◌, ◌≤◌, ◌+◌, ℕ, List, IfOk, IfErr, OnOk, IsSome, Some, None, length, codes, MatchResult};
 ghost use Rattle.std.specs.FinMap as map;
 ghost use Rattle.std.specs.List.{All, AllZip};
@@ -18,7 +18,8 @@ ghost use Rattle.reuse_tree.specs.Asked.{OnlyReads, IsLater};
 
 use crate::history::{History, ListedEntry};
 use crate::journal::{Entry, Head, Pending};
-use crate::journal_files::{HeadPath, entry_path, path_of_text, read_entry, read_head};
+use crate::journal_files::{HeadPath, entry_path, read_entry, read_head};
+use crate::known_path::known_path;
 use crate::reply::Refusal;
 use crate::roll_back::roll_back;
 use reuse_tree::{Reading, Store};
@@ -145,7 +146,7 @@ fn test_folder<S: Store>(alloc: Global, store: &mut S, text: &str) -> Result<(),
     ensures fails { RefusedAsRead S.Store store.old store.new result }
     ensures reads { OnlyReads S.Store store.old store.new }
 {
-    let path = path_of_text(alloc, text)?;
+    let path = known_path(alloc, text)?;
     match store.read(alloc, &path, 0)? {
         Reading::Absent => Ok(()),
         Reading::Found(_) | Reading::TooLong => Err(Refusal::BadJournal(path)),

@@ -1,4 +1,4 @@
-// The paths of a command, in the order in which they are gone through.
+//! The paths of a command, in the order in which they are gone through.
 ghost use Rattle.std.specs.Prelude.{◌≡◌, ◌++◌, [], ◌∷◌, IfOk, OnOk, filter, flat_map};
 ghost use Rattle.std.specs.FinMap.{keys};
 ghost use Rattle.reuse_tree.specs.Files.{Files};

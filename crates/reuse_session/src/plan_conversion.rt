@@ -1,4 +1,4 @@
-// Plans a conversion: a `REUSE.toml` in the place of `.reuse/dep5`.
+//! Plans a conversion: a `REUSE.toml` in the place of `.reuse/dep5`.
 ghost use Rattle.std.specs.Prelude.{◌≡◌, ◌<◌, ◌≤◌, IfOk, IfErr, Ok, Some, false, length, [], ◌∷◌};
 ghost use Rattle.reuse_session.specs.Reading.{get, keys, reading_of, tree_of, Files, IsOfPlan, ReadsAlone};
 ghost use Rattle.reuse_tree.specs.Change.{sealed_drop, sealed_make};
@@ -9,11 +9,11 @@ ghost use Rattle.reuse_dep5.specs.Conversion.{converted};
 ghost use Rattle.reuse_session.specs.Plan.{AnswersEdits};
 
 use crate::clash::is_clash;
-use crate::limits::LONGEST_FILE;
+use crate::known_path::known_path;
 use crate::listing::{is_among, tree_paths};
 use crate::reply::Refusal;
 use reuse_dep5::{Dep5Refusal, convert_dep5};
-use reuse_text::Bytes;
+use reuse_text::{Bytes, LONGEST_FILE};
 use reuse_tree::{Change, PathText, Reading, Store};
 use std::alloc::{AllocError, Global};
 
@@ -31,16 +31,6 @@ pub(crate) fn plan_conversion<S: Store>(
     conversion_of(alloc, &paths, dep5, reading)
 }
 
-// A path that is known to be a good one.
-fn known_path(alloc: Global, text: &str) -> Result<PathText, AllocError>
-    ensures { IfOk result (λ path. path ≡ text.now) }
-{
-    match PathText::new(alloc, text) {
-        Ok(path) => Ok(path),
-        Err(_) => Err(AllocError),
-    }
-}
-
 // The changes of a conversion, given what was read of the dep5, on the tree that has these paths.
 fn conversion_of(
     alloc: Global,
@@ -48,7 +38,7 @@ fn conversion_of(
     dep5: PathText,
     reading: Reading,
 ) -> Result<Vec<Change>, Refusal>
-    ensures edits { (tree : Files) → paths.now ≡ keys tree → dep5 ≡ dep5_path → reading ≡ reading_of (get tree dep5_path) 16_777_216
+    ensures edits { (tree : Files) → paths.now ≡ keys tree → dep5 ≡ dep5_path → reading ≡ reading_of (get tree dep5_path) LONGEST_FILE
         → AnswersEdits tree (conversion_edits tree) result }
     ensures no_fault { IfErr result IsNoFault }
 {
@@ -66,7 +56,7 @@ fn replacement(
     dep5: PathText,
     bytes: Bytes,
 ) -> Result<Vec<Change>, Refusal>
-    ensures edits { (tree : Files) → paths.now ≡ keys tree → dep5 ≡ dep5_path → get tree dep5_path ≡ Some bytes → length bytes ≤ 16_777_216
+    ensures edits { (tree : Files) → paths.now ≡ keys tree → dep5 ≡ dep5_path → get tree dep5_path ≡ Some bytes → length bytes ≤ LONGEST_FILE
         → AnswersEdits tree (conversion_edits tree) result }
     ensures no_fault { IfErr result IsNoFault }
 {
@@ -90,8 +80,8 @@ fn changes_to(
     toml: PathText,
     new: Bytes,
 ) -> Result<Vec<Change>, Refusal>
-    ensures edits { (tree : Files) → paths.now ≡ keys tree → dep5 ≡ dep5_path → toml ≡ toml_path → get tree dep5_path ≡ Some old → length old ≤ 16_777_216
-        → is_among paths.now toml_path ≡ false → converted old ≡ Ok new → length new ≤ 16_777_216 → AnswersEdits tree (conversion_edits tree) result }
+    ensures edits { (tree : Files) → paths.now ≡ keys tree → dep5 ≡ dep5_path → toml ≡ toml_path → get tree dep5_path ≡ Some old → length old ≤ LONGEST_FILE
+        → is_among paths.now toml_path ≡ false → converted old ≡ Ok new → length new ≤ LONGEST_FILE → AnswersEdits tree (conversion_edits tree) result }
     ensures no_fault { IfErr result IsNoFault }
 {
     if is_clash(alloc, paths, &toml)? {

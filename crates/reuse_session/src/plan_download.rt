@@ -1,4 +1,4 @@
-// Plans a download: a file for each licence's text.
+//! Plans a download: a file for each licence's text.
 ghost use Rattle.std.specs.Prelude.{◌≡◌, ◌<◌, ◌≤◌, IfOk, IfErr, map, None, unwrap_or, []};
 ghost use Rattle.std.specs.Option.{option_copied};
 ghost use Rattle.reuse_session.specs.Reading.{keys, tree_of, Files, IsOfPlan, ReadsAlone};
@@ -13,11 +13,10 @@ use crate::clash::is_clash;
 use crate::licence::LicenceText;
 use crate::licence_file::{licence_id, licence_path, text_for};
 use crate::licence_id::as_id;
-use crate::limits::LONGEST_FILE;
 use crate::listing::{is_among, tree_paths};
 use crate::places::sorted;
 use crate::reply::Refusal;
-use reuse_text::Bytes;
+use reuse_text::{Bytes, LONGEST_FILE};
 use reuse_tree::{Change, PathText, Store};
 use std::alloc::{AllocError, Global};
 

@@ -1,5 +1,6 @@
-// The change of a place, by what an annotation makes of its bytes.
+//! The change of a place, by what an annotation makes of its bytes.
 ghost use Rattle.std.specs.Prelude.{◌≡◌, ◌≤◌, [], IfOk, IfErr, Some, None, length};
+ghost use Rattle.reuse_text.specs.declared.TheConstants.{LONGEST_FILE};
 ghost use Rattle.reuse_session.specs.Reading.{get, Files};
 ghost use Rattle.reuse_header.specs.Splices.{IsDue, answer_of};
 ghost use Rattle.reuse_session.specs.Annotate.{edit_by};
@@ -23,7 +24,7 @@ pub(crate) fn change_by(
     file: &[u8],
     made: Result<Option<Splice>, HeaderRefusal>,
 ) -> Result<Option<Change>, Refusal>
-    ensures edit { (tree : Files) (due : Due) → get tree at.now ≡ Some file.now → length file.now ≤ 16_777_216 → Fits file.now due → IsDue (answer_of file.now due) made
+    ensures edit { (tree : Files) (due : Due) → get tree at.now ≡ Some file.now → length file.now ≤ LONGEST_FILE → Fits file.now due → IsDue (answer_of file.now due) made
         → AnswersEdit tree (edit_by path.now at.now file.now due) result }
     ensures no_fault { IfErr result IsNoFault }
 {

@@ -1,4 +1,4 @@
-// What a run of a command would do, path by path.
+//! What a run of a command would do, path by path.
 ghost use Rattle.std.specs.Prelude.{◌≡◌, ◌++◌, ◌∷◌, [], Result, Ok, Err, Option, Some, None, List, IfOk, IfErr, OnOk, not, ◌&&◌, if◌then◌else◌};
 ghost use Rattle.reuse_session.specs.Reading.{keys, tree_of, Files, OnlyReads, ReadsAlone, RefusedAsRead};
 ghost use Rattle.reuse_session.specs.AnnotationPlan.{worked_by, AddsPath, PlansPaths, PlansPlaces};

@@ -1,4 +1,4 @@
-// What annotate does at the place that was chosen.
+//! What annotate does at the place that was chosen.
 ghost use Rattle.std.specs.Prelude.{◌≡◌, ◌≤◌, ◌++◌, ℕ, List, false, true, length, IfOk, IfErr, IfSome, IfNone, Some, None, Ok, Err, nat_lt};
 ghost use Rattle.reuse_session.specs.Reading.{get, keys, reading_of, Files};
 ghost use Rattle.reuse_header.specs.declared.annotation.How.{How};
@@ -15,7 +15,6 @@ ghost use Rattle.reuse_session.specs.declared.command.Scope.{Scope};
 use crate::annotation::Annotation;
 use crate::clash::is_clash;
 use crate::command::Place;
-use crate::limits::LONGEST_FILE;
 use crate::listing::is_folder;
 use crate::plan_edit::{change_by, making_by};
 use crate::plan_target::{neighbour_of, target_by_bytes};
@@ -24,7 +23,7 @@ use crate::target::Target;
 use reuse_header::{
     Style, annotate_file, annotate_neighbour, annotations_fit, find, neighbour_has_tag,
 };
-use reuse_text::Bytes;
+use reuse_text::{Bytes, LONGEST_FILE};
 use reuse_tree::{Change, PathError, PathText, Reading};
 use std::alloc::Global;
 
@@ -76,7 +75,7 @@ pub(crate) fn plan_reading(
     asked: &Annotation<'_>,
     reading: Reading,
 ) -> Result<Step, Refusal>
-    ensures step { (tree : Files) (bytes : List ℕ) → get tree path.now ≡ Some bytes → reading ≡ reading_of (Some bytes) 16_777_216
+    ensures step { (tree : Files) (bytes : List ℕ) → get tree path.now ≡ Some bytes → reading ≡ reading_of (Some bytes) LONGEST_FILE
         → StepsTo asked.now tree path.now bytes result }
     ensures no_fault { IfErr result IsNoFault }
 {
@@ -91,8 +90,8 @@ pub(crate) fn plan_reading(
 
 // The bytes that were read of a file, unless they are too many. A refusal names `path`.
 fn short_bytes(alloc: Global, path: &PathText, reading: Reading) -> Result<Bytes, Refusal>
-    ensures answer { (file : List ℕ) → reading ≡ reading_of (Some file) 16_777_216 → AnswersOf (short_file path.now file) result }
-    ensures short { IfOk result (λ bytes. length bytes ≤ 16_777_216) }
+    ensures answer { (file : List ℕ) → reading ≡ reading_of (Some file) LONGEST_FILE → AnswersOf (short_file path.now file) result }
+    ensures short { IfOk result (λ bytes. length bytes ≤ LONGEST_FILE) }
     ensures no_fault { IfErr result IsNoFault }
 {
     let bytes = match reading {
@@ -114,7 +113,7 @@ fn plan_inside(
     style: Style,
     asked: &Annotation<'_>,
 ) -> Result<Step, Refusal>
-    requires { length bytes.now ≤ 16_777_216 }
+    requires { length bytes.now ≤ LONGEST_FILE }
     ensures step { (tree : Files) → get tree path.now ≡ Some bytes.now → StepsBy tree (inside_by asked.now path.now bytes.now style) result }
     ensures no_fault { IfErr result IsNoFault }
 {
@@ -138,7 +137,7 @@ pub(crate) fn plan_neighbour(
     asked: &Annotation<'_>,
     reading: Reading,
 ) -> Result<Option<Change>, Refusal>
-    ensures edit { (tree : Files) (bytes : List ℕ) → neighbour.now ≡ neighbour_of path.now → get tree neighbour.now ≡ Some bytes → reading ≡ reading_of (Some bytes) 16_777_216
+    ensures edit { (tree : Files) (bytes : List ℕ) → neighbour.now ≡ neighbour_of path.now → get tree neighbour.now ≡ Some bytes → reading ≡ reading_of (Some bytes) LONGEST_FILE
         → AnswersEdit tree (neighbour_by asked.now tree path.now (Some bytes)) result }
     ensures no_fault { IfErr result IsNoFault }
 {

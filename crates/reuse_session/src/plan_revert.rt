@@ -1,4 +1,4 @@
-// Plans a revert: takes the changes of a step back on whatever the tree is now.
+//! Plans a revert: takes the changes of a step back on whatever the tree is now.
 ghost use Rattle.std.specs.Prelude.{◌≡◌, ◌≢◌, ◌↔◌, ◌+◌, ◌++◌, ◌≤◌, ℕ, IfOk, IfErr, OnOk, IsSome, IsTrue, List, Ok, Option, Some, None, false, true, length};
 ghost use Rattle.std.specs.Option.{option_to_list};
 ghost use Rattle.reuse_session.specs.Reading.{get, keys, reading_of, tree_of, Files, IsOfPlan, ReadsAlone};
@@ -19,12 +19,11 @@ ghost use Rattle.reuse_session.specs.declared.entry.Way.TheVariants.{Undo};
 use crate::clash::is_clash;
 use crate::entry::Way;
 use crate::entry_changes::EntryChanges;
-use crate::limits::LONGEST_FILE;
 use crate::listing::tree_paths;
 use crate::perform::makes_any;
 use crate::reply::Refusal;
 use crate::turn::makes;
-use reuse_text::Bytes;
+use reuse_text::{Bytes, LONGEST_FILE};
 use reuse_tree::{Change, Digest, PathText, Reading, Seal, Store};
 use std::alloc::{AllocError, Global};
 
@@ -134,7 +133,7 @@ fn change_back(
     change: &Change,
     reading: Reading,
 ) -> Result<Option<Change>, AllocError>
-    ensures { (tree : Files) → IsProper change.now → IsSmall change.now → reading ≡ reading_of (get tree (path_of change.now)) 16_777_216
+    ensures { (tree : Files) → IsProper change.now → IsSmall change.now → reading ≡ reading_of (get tree (path_of change.now)) LONGEST_FILE
         → IfOk result (MakesEdit tree (Ok (taken_back change.now (get tree (path_of change.now))))) }
 {
     match (change, reading) {
@@ -165,7 +164,7 @@ fn drop_made(
     file: Bytes,
     new: &Bytes,
 ) -> Result<Option<Change>, AllocError>
-    ensures { (tree : Files) (after : Option (List ℕ)) → get tree path.now ≡ Some file → length new.now ≤ 16_777_216
+    ensures { (tree : Files) (after : Option (List ℕ)) → get tree path.now ≡ Some file → length new.now ≤ LONGEST_FILE
         → IfOk result (MakesEdit tree (Ok (taken_back (Make path.now new.now after) (Some file)))) }
 {
     if !is_same(file.as_slice(), new.as_slice()) {
@@ -185,7 +184,7 @@ fn put_back(
     rest: usize,
     seal: Option<Seal>,
 ) -> Result<Option<Change>, AllocError>
-    ensures { (tree : Files) → old.now ≢ new.now → get tree path.now ≡ Some file → length file ≤ 16_777_216
+    ensures { (tree : Files) → old.now ≢ new.now → get tree path.now ≡ Some file → length file ≤ LONGEST_FILE
         → IfOk result (MakesEdit tree (Ok (taken_back (Splice path.now at old.now new.now rest seal) (Some file)))) }
 {
     if !stands_as_written(
@@ -258,7 +257,7 @@ fn stands_at(file: &[u8], part: &[u8], at: usize) -> bool
 
 // Whether a file of so many bytes and so many more isn't too long.
 fn fits(kept: usize, more: usize) -> bool
-    ensures { IsTrue result ↔ (kept + more ≤ 16_777_216) }
+    ensures { IsTrue result ↔ (kept + more ≤ LONGEST_FILE) }
 {
     kept <= LONGEST_FILE && more <= LONGEST_FILE - kept
 }

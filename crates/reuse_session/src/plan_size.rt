@@ -1,4 +1,4 @@
-// Whether changes are more than an entry holds.
+//! Whether changes are more than an entry holds.
 ghost use Rattle.std.specs.Prelude.{◌≡◌, ◌+◌, ◌-◌, ◌*◌, ◌<◌, ◌≤◌, ◌||◌, length, nat_lt, SomeIff};
 ghost use Rattle.reuse_session.specs.Entry.{change_size, entry_size, fixed_size, removed_by, written_by};
 ghost use Rattle.reuse_tree.specs.Change.{is_sealed};

@@ -1,4 +1,4 @@
-// The styles that a tree gives to its own names.
+//! The styles that a tree gives to its own names.
 ghost use Rattle.std.specs.Prelude.{◌≡◌, List, ℕ, Option, IfOk, IfErr, Ok, Err};
 ghost use Rattle.reuse_header.specs.Names.{lookup};
 ghost use Rattle.reuse_session.specs.Reading.{reading_of, tree_of, IsOfPlan, ReadsAlone};
@@ -6,10 +6,10 @@ ghost use Rattle.reuse_session.specs.Plan.{IsRefusalOf};
 ghost use Rattle.reuse_session.specs.Refused.{IsNoFault};
 ghost use Rattle.reuse_session.specs.TreeStyles.{styles_path, styles_where, styles_in, styles_refusal};
 
-use crate::journal_files::path_of_text;
-use crate::limits::LONGEST_FILE;
+use crate::known_path::known_path;
 use crate::reply::Refusal;
 use reuse_header::{StyleTable, StylesRefusal};
+use reuse_text::LONGEST_FILE;
 use reuse_tree::{PathText, Reading, Store};
 use std::alloc::Global;
 
@@ -19,15 +19,15 @@ pub(crate) fn read_styles<S: Store>(alloc: Global, store: &mut S) -> Result<Styl
     ensures refusal { S.honest store.new → IfErr result (λ refusal. IsRefusalOf (styles_in (tree_of (S.files store.old))) refusal) }
     ensures asks { ReadsAlone S.Store IsOfPlan store.old store.new result }
 {
-    let path = path_of_text(alloc, ".reuse/styles.toml")?;
+    let path = known_path(alloc, ".reuse/styles.toml")?;
     let reading = store.read(alloc, &path, LONGEST_FILE)?;
     styles_by(alloc, path, reading)
 }
 
 // The styles by what was read of the file.
 fn styles_by(alloc: Global, path: PathText, reading: Reading) -> Result<StyleTable, Refusal>
-    ensures styles { (file : Option (List ℕ)) → reading ≡ reading_of file 16_777_216 → IfOk result (λ styles. styles_where file ≡ Ok (lookup styles)) }
-    ensures refusal { (file : Option (List ℕ)) → path ≡ styles_path → reading ≡ reading_of file 16_777_216 → IfErr result (λ refusal. IsRefusalOf (styles_where file) refusal) }
+    ensures styles { (file : Option (List ℕ)) → reading ≡ reading_of file LONGEST_FILE → IfOk result (λ styles. styles_where file ≡ Ok (lookup styles)) }
+    ensures refusal { (file : Option (List ℕ)) → path ≡ styles_path → reading ≡ reading_of file LONGEST_FILE → IfErr result (λ refusal. IsRefusalOf (styles_where file) refusal) }
     ensures no_fault { IfErr result IsNoFault }
 {
     let read = match &reading {

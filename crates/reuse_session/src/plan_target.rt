@@ -1,8 +1,9 @@
-// The choice of where the licensing information of a file goes.
+//! The choice of where the licensing information of a file goes.
 ghost use Rattle.std.specs.Prelude.{◌≡◌, ◌≤◌, ◌++◌, IfOk, IfErr, length};
 ghost use Rattle.std.specs.FinMap.{keys};
 ghost use Rattle.reuse_header.specs.Names.{kind_in, lookup};
 ghost use Rattle.reuse_tree.specs.Files.{Files};
+ghost use Rattle.reuse_text.specs.declared.TheConstants.{LONGEST_FILE};
 ghost use Rattle.reuse_session.specs.Annotate.{neighbour_of, is_uncommentable, goes_beside, goes_beside_unread, target_of_unknown, target_by_name, target_by_style};
 ghost use Rattle.reuse_session.specs.AnnotationPlan.{own_of, place_by};
 ghost use Rattle.reuse_session.specs.Plan.{AnswersOf};
@@ -59,14 +60,14 @@ fn is_uncommentable(kind: Kind) -> bool
     }
 }
 
-/// The place by the bytes of the file, which are at most 16,777,216.
+/// The place by the bytes of the file, which are no more than `LONGEST_FILE`.
 pub(crate) fn target_by_bytes(
     alloc: Global,
     path: &PathText,
     bytes: &[u8],
     asked: &Annotation<'_>,
 ) -> Result<Target, Refusal>
-    requires { length bytes.now ≤ 16_777_216 }
+    requires { length bytes.now ≤ LONGEST_FILE }
     ensures target { AnswersOf (place_by asked.now path.now bytes.now) result }
     ensures no_fault { IfErr result IsNoFault }
 {

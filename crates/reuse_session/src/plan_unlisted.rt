@@ -1,4 +1,4 @@
-// What annotate does at a path, as far as that is known without a listing of the tree.
+//! What annotate does at a path, as far as that is known without a listing of the tree.
 ghost use Rattle.std.specs.Prelude.{◌≡◌, ℕ, List, true, false, length, nat_lt, IfErr, None, Some};
 ghost use Rattle.reuse_session.specs.Reading.{get, reading_of, tree_of, IsOfPlan, ReadsAlone};
 ghost use Rattle.reuse_session.specs.Annotate.{neighbour_of};
@@ -8,10 +8,10 @@ ghost use Rattle.reuse_session.specs.Unlisted.{IfKnown};
 
 use crate::annotation::Annotation;
 use crate::covered::is_covered;
-use crate::limits::LONGEST_FILE;
 use crate::plan_place::{Step, neighbour_path, plan_neighbour, plan_reading};
 use crate::plan_target::goes_beside_unread;
 use crate::reply::Refusal;
+use reuse_text::LONGEST_FILE;
 use reuse_tree::{Change, PathText, Reading, Store};
 use std::alloc::Global;
 
@@ -85,7 +85,7 @@ fn plan_beside_file<S: Store>(
     requires covered { is_covered path.now ≡ true }
     requires neighbour { neighbour.now ≡ neighbour_of path.now }
     requires short { nat_lt 4096 (length (neighbour_of path.now)) ≡ false }
-    ensures edit { S.honest store.new → (bytes : List ℕ) → get (tree_of (S.files store.old)) (neighbour_of path.now) ≡ Some bytes → reading ≡ reading_of (Some bytes) 16_777_216
+    ensures edit { S.honest store.new → (bytes : List ℕ) → get (tree_of (S.files store.old)) (neighbour_of path.now) ≡ Some bytes → reading ≡ reading_of (Some bytes) LONGEST_FILE
         → IfKnown (AnswersPath asked.now (tree_of (S.files store.old)) path.now) result }
     ensures asks { ReadsAlone S.Store IsOfPlan store.old store.new result }
 {

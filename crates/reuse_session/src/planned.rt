@@ -1,4 +1,4 @@
-// What is found of a command, path by path: the fates, and the changes beside them.
+//! What is found of a command, path by path: the fates, and the changes beside them.
 ghost use Rattle.std.specs.Prelude.{◌≡◌, ◌∷◌, ◌⊎◌, [], Result, Ok, Err, Option, Some, None, List, IfOk, IfErr, OnOk};
 ghost use Rattle.reuse_tree.specs.Change.{path_of};
 ghost use Rattle.reuse_tree.specs.Files.{Files};

@@ -1,4 +1,4 @@
-// What a revert would do.
+//! What a revert would do.
 ghost use Rattle.std.specs.Prelude.{◌≡◌, IfOk, IfErr, OnOk, map, true};
 ghost use Rattle.reuse_session.specs.Reading.{keys, tree_of, ReadsAlone};
 ghost use Rattle.std.specs.List.{list_any};

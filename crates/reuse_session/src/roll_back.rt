@@ -1,4 +1,4 @@
-// Rolls a pending step back: its files are as they were before it, and the head tells it no more.
+//! Rolls a pending step back: its files are as they were before it, and the head tells it no more.
 ghost use Rattle.std.specs.Prelude.{◌≡◌, ◌≢◌, ◌⊎◌, ◌<◌, ◌≤◌, ◌+◌, ℕ, List, IfErr, OnOk, OnErr, IfOk, IsErrOf, IsTrue, ◌↔◌, length, true, false};
 ghost use Rattle.std.specs.Option.{option_copied};
 ghost use Rattle.std.specs.FinMap as map;
@@ -7,7 +7,7 @@ ghost use Rattle.reuse_tree.specs.Change.{path_of, IsProper};
 ghost use Rattle.reuse_tree.specs.Files.{Files, AreFiles, Clashes, tree_of};
 ghost use Rattle.reuse_session.specs.Answer.{told_of, HasCause, IsEarly, IsNoClash, IsTestRefusal, IsRollBackRefusal, RefusedAsRead};
 ghost use Rattle.reuse_session.specs.Carried.{IsSetBack, IsRolledBack, NotesMoves, StopsRollingBack};
-ghost use Rattle.reuse_session.specs.Entry.{makes, opposite, IsEntry, IsReady, IsSmall, SomeMade, Steps, CanBeSetBack, IsFirstWithout};
+ghost use Rattle.reuse_session.specs.Entry.{makes, opposite, IsEntry, IsReady, IsSmall, ArePartlyMade, LeadsByOneChange, CanBeSetBack, IsFirstWithout};
 ghost use Rattle.reuse_session.specs.Session.{IsSameBut};
 ghost use Rattle.reuse_session.specs.Tree.{is_of_tree, undo_folder_of};
 ghost use Rattle.reuse_session.specs.JournalFiles.{head_path};
@@ -17,10 +17,10 @@ ghost use Rattle.reuse_tree.specs.Asked.{OnlyReads, IsLater, FailsAsRead};
 
 use crate::entry::Way;
 use crate::journal_files::{HeadPath, put_head};
-use crate::limits::LONGEST_FILE;
 use crate::perform::{Aim, opposite, test_each};
 use crate::reply::{Cause, Refusal};
 use crate::turn::{is_ready, put_turned, turned};
+use reuse_text::LONGEST_FILE;
 use reuse_tree::{Change, PathText, Reading, Store, StoreFault};
 use std::alloc::Global;
 
@@ -38,12 +38,11 @@ pub fn roll_back<S: Store>(
     ensures moved { S.honest store.new → IsEntry changes.now → (path : List ℕ) → result ≡ Err (Refusal.Moved path)
         → IsFirstWithout (CanBeSetBack way (tree_of (S.files store.old))) changes.now path }
     // From a tree on which some of the changes were made, it stops on the way back to that tree.
-    ensures stopped { S.honest store.new → IsEntry changes.now → (start : Files) → SomeMade way changes.now start (tree_of (S.files store.old))
-        → All (λ change. IsReady way change (map.get start (path_of change))) changes.now
+    ensures stopped { S.honest store.new → IsEntry changes.now → (start : Files) → ArePartlyMade way changes.now start (tree_of (S.files store.old))
         → (cause : Cause) → result ≡ Err (refusals.Interrupted cause) → StopsRollingBack way changes.now settled.now start (S.files store.old) (S.files store.new) }
     // It is never refused on the way from a tree.
-    ensures settles { S.honest store.new → IsEntry changes.now → (start : Files) → AreFiles start → SomeMade way changes.now start (tree_of (S.files store.old))
-        → All (λ change. IsReady way change (map.get start (path_of change))) changes.now → (path : List ℕ) → result ≢ Err (Refusal.Moved path) }
+    ensures settles { S.honest store.new → IsEntry changes.now → (start : Files) → AreFiles start → ArePartlyMade way changes.now start (tree_of (S.files store.old))
+        → (path : List ℕ) → result ≢ Err (Refusal.Moved path) }
     ensures refusal { IfErr result IsRollBackRefusal }
     ensures clash { S.honest store.new → IsEntry changes.now → ¬ (Clashes (S.files store.old) head_path) → IfErr result IsNoClash }
     // It stops only where each change isn't made or can be taken back.
@@ -88,7 +87,7 @@ fn set_back<S: Store>(
     ensures ok { S.honest store.new → IsProper change.now → IsSmall change.now
         → OnOk result (IsSetBack way change.now (S.files store.old) (S.files store.new)) }
     ensures err { S.honest store.new → IsProper change.now → IsSmall change.now → OnErr result ((S.files store.new ≡ S.files store.old)
-        ⊎ Steps (opposite way) change.now (S.files store.old) (S.files store.new)) }
+        ⊎ LeadsByOneChange (opposite way) change.now (S.files store.old) (S.files store.new)) }
     ensures moved { S.honest store.new → IsProper change.now → IsSmall change.now → result ≡ Err Cause.Moved
         → ¬ (IsReady (opposite way) change.now (map.get (S.files store.old) (path_of change.now))) × ¬ (IsReady way change.now (map.get (S.files store.old) (path_of change.now))) }
     ensures clash { S.honest store.new → IsProper change.now → IsSmall change.now → result ≡ Err Cause.Clash
@@ -119,7 +118,7 @@ fn set_back_from<S: Store>(
     ensures ok { S.honest store.new → map.get (S.files store.old) (path_of change.now) ≡ option_copied file.entry
         → OnOk result (IsSetBack way change.now (S.files store.old) (S.files store.new)) }
     ensures err { S.honest store.new → map.get (S.files store.old) (path_of change.now) ≡ option_copied file.entry
-        → OnErr result ((S.files store.new ≡ S.files store.old) ⊎ Steps (opposite way) change.now (S.files store.old) (S.files store.new)) }
+        → OnErr result ((S.files store.new ≡ S.files store.old) ⊎ LeadsByOneChange (opposite way) change.now (S.files store.old) (S.files store.new)) }
     ensures moved { IsProper change.now → result ≡ Err Cause.Moved
         → ¬ (IsReady (opposite way) change.now (option_copied file.entry)) × ¬ (IsReady way change.now (option_copied file.entry)) }
     ensures clash { S.honest store.new → IsProper change.now → map.get (S.files store.old) (path_of change.now) ≡ option_copied file.entry → result ≡ Err Cause.Clash
@@ -152,8 +151,7 @@ fn set_all_back<S: Store>(
     started: &mut bool,
 ) -> Result<(), Cause>
     ensures done { S.honest store.new → IsEntry changes.now → OnOk result (IsRolledBack way changes.now settled.now (S.files store.old) (S.files store.new)) }
-    ensures stopped { S.honest store.new → IsEntry changes.now → (start : Files) → SomeMade way changes.now start (tree_of (S.files store.old))
-        → All (λ change. IsReady way change (map.get start (path_of change))) changes.now
+    ensures stopped { S.honest store.new → IsEntry changes.now → (start : Files) → ArePartlyMade way changes.now start (tree_of (S.files store.old))
         → OnErr result (StopsRollingBack way changes.now settled.now start (S.files store.old) (S.files store.new)) }
     ensures cause { S.honest store.new → IsEntry changes.now → All (CanBeSetBack way (tree_of (S.files store.old))) changes.now
         → ¬ (Clashes (S.files store.old) head_path) → (result ≢ Err Cause.Moved) × (result ≢ Err Cause.Clash) }

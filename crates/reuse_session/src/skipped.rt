@@ -1,4 +1,4 @@
-// Which of the files that annotate leaves as they are were skipped.
+//! Which of the files that annotate leaves as they are were skipped.
 ghost use Rattle.std.specs.Prelude.{◌≡◌, ◌≤◌, ◌&&◌, Ok, Err, None, true, is_some, length, IfOk, IfErr};
 ghost use Rattle.reuse_session.specs.Reading.{get, keys, tree_of, Files, ReadsAlone};
 ghost use Rattle.reuse_header.specs.Header.{header_of};
@@ -11,12 +11,12 @@ ghost use Rattle.reuse_session.specs.Previews.{IsLookRefusal};
 use crate::annotation::Annotation;
 use crate::command::Scope;
 use crate::fate::told;
-use crate::limits::LONGEST_FILE;
 use crate::plan_place::neighbour_path;
 use crate::plan_target::{goes_beside, target_by_bytes};
 use crate::reply::Refusal;
 use crate::target::Target;
 use reuse_header::{Style, find, neighbour_has_tag};
+use reuse_text::LONGEST_FILE;
 use reuse_tree::{PathText, Reading, Store};
 use std::alloc::Global;
 
@@ -72,7 +72,7 @@ fn is_skipped_alone(
     bytes: &[u8],
     asked: &Annotation<'_>,
 ) -> Result<bool, Refusal>
-    ensures skipped { (tree : Files) → length bytes.now ≤ 16_777_216 → get tree (neighbour_of path.now) ≡ None
+    ensures skipped { (tree : Files) → length bytes.now ≤ LONGEST_FILE → get tree (neighbour_of path.now) ≡ None
         → IfOk result (λ skipped. skipped ≡ is_skipped_at asked.now.scope.now tree path.now bytes.now (place_by asked.now path.now bytes.now)) }
     ensures memory { IfErr result (λ refusal. refusal ≡ Refusal.Memory) }
 {

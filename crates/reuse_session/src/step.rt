@@ -1,4 +1,4 @@
-// Carries a step out: its changes are made between two puts of the head.
+//! Carries a step out: its changes are made between two puts of the head.
 ghost use Rattle.std.specs.Prelude.{◌≡◌, ◌≢◌, ◌⊎◌, ◌<◌, ◌≤◌, ◌+◌, OnOk, OnErr, IsErrOf, length};
 ghost use Rattle.std.specs.List.{All};
 ghost use Rattle.reuse_tree.specs.Files.{Clashes, tree_of};

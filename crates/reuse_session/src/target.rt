@@ -1,4 +1,4 @@
-// Where the licensing information of a file goes.
+//! Where the licensing information of a file goes.
 use reuse_header::Style;
 
 /// Where the licensing information of a file goes, as the definitions of what a command gives speak of it.

@@ -1,4 +1,4 @@
-// What an undo or a redo would do, path by path.
+//! What an undo or a redo would do, path by path.
 ghost use Rattle.std.specs.Prelude.{◌≡◌, IfOk, IfErr, true};
 ghost use Rattle.std.specs.FinMap as map;
 ghost use Rattle.reuse_session.specs.Reading.{tree_of, OnlyReads, ReadsAlone, RefusedAsRead};

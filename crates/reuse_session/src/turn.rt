@@ -1,4 +1,4 @@
-// Makes one change in a store: the only place where a file of the tree is written.
+//! Makes one change in a store: the only place where a file of the tree is written.
 ghost use Rattle.std.specs.Prelude.{◌≡◌, ◌≢◌, ◌↔◌, ◌+◌, ◌<◌, ◌≤◌, ◌⊎◌, true, Some, length, IsTrue, IfOk, IfErr, OnOk, OnErr, IsErrOf, IsSome};
 ghost use Rattle.std.specs.Option.{option_copied};
 ghost use Rattle.std.specs.FinMap as map;
@@ -7,12 +7,12 @@ ghost use Rattle.reuse_tree.specs.Change.{path_of, IsProper};
 ghost use Rattle.reuse_session.specs.Parts.{held_in};
 ghost use Rattle.reuse_session.specs.Seals.{IsReadyByRange};
 ghost use Rattle.reuse_session.specs.Tree.{is_of_tree, Sets};
-ghost use Rattle.reuse_session.specs.Entry.{makes, IsSmall, IsReady, Steps, TurnsBy};
+ghost use Rattle.reuse_session.specs.Entry.{makes, IsSmall, IsReady, LeadsByOneChange, TurnsBy};
 ghost use Rattle.reuse_tree.specs.Asked.{OnlyReads, IsLater, FailsAsRead};
 
 use crate::entry::Way;
-use crate::limits::LONGEST_FILE;
 use crate::reply::Cause;
+use reuse_text::LONGEST_FILE;
 use reuse_tree::{Change, ChangeState, Parts, Reading, Store, StoreFault};
 use std::alloc::Global;
 
@@ -133,9 +133,9 @@ fn turn_from<S: Store>(
 ) -> Result<(), Cause>
     requires { S.honest store.now → IsReady way change.now (map.get (S.files store.now) (path_of change.now)) }
     ensures ok { S.honest store.new → map.get (S.files store.old) (path_of change.now) ≡ option_copied file.entry
-        → OnOk result (Steps way change.now (S.files store.old) (S.files store.new)) }
+        → OnOk result (LeadsByOneChange way change.now (S.files store.old) (S.files store.new)) }
     ensures err { S.honest store.new → map.get (S.files store.old) (path_of change.now) ≡ option_copied file.entry
-        → OnErr result ((S.files store.new ≡ S.files store.old) ⊎ Steps way change.now (S.files store.old) (S.files store.new)) }
+        → OnErr result ((S.files store.new ≡ S.files store.old) ⊎ LeadsByOneChange way change.now (S.files store.old) (S.files store.new)) }
     ensures moved { IsProper change.now → result ≡ Err Cause.Moved → ¬ (IsReady way change.now (option_copied file.entry)) }
     ensures clash { S.honest store.new → map.get (S.files store.old) (path_of change.now) ≡ option_copied file.entry
         → result ≡ Err Cause.Clash → (makes way change.now ≡ true) × Clashes (S.files store.old) (path_of change.now) }
@@ -151,9 +151,9 @@ fn turn_from<S: Store>(
 /// one; here range and length are tested again.
 pub fn turn<S: Store>(alloc: Global, store: &mut S, change: &Change, way: Way) -> Result<(), Cause>
     requires { S.honest store.now → IsReady way change.now (map.get (S.files store.now) (path_of change.now)) }
-    ensures ok { S.honest store.new → OnOk result (Steps way change.now (S.files store.old) (S.files store.new)) }
+    ensures ok { S.honest store.new → OnOk result (LeadsByOneChange way change.now (S.files store.old) (S.files store.new)) }
     // A call that fails leaves the file as it was, or as the change makes it.
-    ensures err { S.honest store.new → OnErr result ((S.files store.new ≡ S.files store.old) ⊎ Steps way change.now (S.files store.old) (S.files store.new)) }
+    ensures err { S.honest store.new → OnErr result ((S.files store.new ≡ S.files store.old) ⊎ LeadsByOneChange way change.now (S.files store.old) (S.files store.new)) }
     ensures moved { S.honest store.new → IsProper change.now → IsSmall change.now → result ≡ Err Cause.Moved
         → ¬ (IsReady way change.now (map.get (S.files store.old) (path_of change.now))) }
     ensures clash { S.honest store.new → result ≡ Err Cause.Clash → (makes way change.now ≡ true) × Clashes (S.files store.old) (path_of change.now) }

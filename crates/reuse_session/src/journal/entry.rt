@@ -1,4 +1,4 @@
-// An entry of the journal.
+//! An entry of the journal.
 use crate::items::Items;
 use crate::{CommandName, Moment};
 use reuse_tree::Change;

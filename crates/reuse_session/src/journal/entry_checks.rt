@@ -1,4 +1,4 @@
-// Whether changes are those of a good entry.
+//! Whether changes are those of a good entry.
 ghost use Rattle.std.specs.Prelude.{◌≡◌, ◌+◌, ◌≤◌, ◌↔◌, ◌++◌, ◌∷◌, [], IsTrue, length, true, false};
 ghost use Rattle.std.specs.List.{All};
 ghost use Rattle.std.specs.Ordering.{is_lt, nat_cmp};
@@ -12,8 +12,8 @@ ghost use Rattle.reuse_session.specs.EntryTests.{AreApart, IsSoundChange, Passes
 ghost use Rattle.reuse_session.specs.Listing.{is_folder_of};
 ghost use Rattle.reuse_session.specs.Tree.{is_of_tree};
 
-use crate::limits::LONGEST_FILE;
 use crate::plan_size::is_too_many;
+use reuse_text::LONGEST_FILE;
 use reuse_tree::{Change, Digest, PathText};
 
 /// Whether an entry may have these changes.
@@ -96,7 +96,7 @@ fn is_small(change: &Change) -> bool
 }
 
 fn fits(at: usize, len: usize, rest: usize) -> bool
-    ensures { IsTrue result ↔ (at + len + rest ≤ 16_777_216) }
+    ensures { IsTrue result ↔ (at + len + rest ≤ LONGEST_FILE) }
 {
     at <= LONGEST_FILE && len <= LONGEST_FILE - at && rest <= LONGEST_FILE - at - len
 }

@@ -1,4 +1,4 @@
-// An entry's text, read.
+//! An entry's text, read.
 ghost use Rattle.std.specs.Prelude.{◌≡◌, ◌≤◌, IfOk, length};
 ghost use Rattle.serde_json.specs.View.{view, items_view};
 ghost use Rattle.reuse_session.specs.Decoded.{Gives, GivesBy, IsAnswer};

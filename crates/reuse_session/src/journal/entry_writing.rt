@@ -1,4 +1,4 @@
-// An entry as text.
+//! An entry as text.
 ghost use Rattle.std.specs.Prelude.{◌≡◌, ◌≤◌, ◌++◌, true, Some, None, IfOk, OnOk, length, map};
 ghost use Rattle.std.specs.List.{All, join_with_byte};
 ghost use Rattle.std.specs.Option.{option_map};

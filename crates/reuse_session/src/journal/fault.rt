@@ -1,4 +1,4 @@
-// Why a text of the journal was not read.
+//! Why a text of the journal was not read.
 use std::alloc::{AllocError, AllocFailed};
 use thiserror::Error;
 

@@ -1,4 +1,4 @@
-// A JSON value taken apart, member by member.
+//! A JSON value taken apart, member by member.
 ghost use Rattle.std.specs.Prelude.{◌≡◌, IfOk};
 ghost use Rattle.serde_json.specs.Data.{Data};
 ghost use Rattle.serde_json.specs.Find.{as_object, as_str};

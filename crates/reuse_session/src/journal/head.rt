@@ -1,4 +1,4 @@
-// The head of the journal.
+//! The head of the journal.
 ghost use Rattle.std.specs.Prelude.{◌≡◌};
 
 use crate::entry::Way;

@@ -1,4 +1,4 @@
-// The head as text, and back.
+//! The head as text, and back.
 ghost use Rattle.std.specs.Prelude.{◌≡◌, ◌≢◌, ◌≤◌, ◌+◌, ◌*◌, ◌↔◌, true, AllPairs, IfOk, IsTrue, length};
 ghost use Rattle.serde_json.specs.View.{view};
 ghost use Rattle.reuse_session.specs.Decoded.{Gives, IsAnswer};
@@ -12,10 +12,9 @@ use crate::journal::fields::{
     field, fields, finish, is_second_format, numbers_of, parse, small_of, text_of,
 };
 use crate::journal::head::{Head, Pending, PendingWay};
+use reuse_text::LONGEST_FILE;
 use serde_json::{Value, json};
 use std::alloc::{AllocError, Global};
-
-const LONGEST_TEXT: usize = 16_777_216;
 
 const MOST_LISTED: usize = 4_096;
 
@@ -72,7 +71,7 @@ pub fn decode_head(alloc: Global, text: &[u8]) -> Result<Head, DecodeFault>
     ensures ok { IfOk result (IsGoodHead text.now) }
     ensures only { (head : Head) → IsGoodHead text.now head → IsAnswer result head }
 {
-    if text.len() > LONGEST_TEXT {
+    if text.len() > LONGEST_FILE {
         return Err(DecodeFault::NotGood);
     }
     let head = read_head(alloc, text)?;

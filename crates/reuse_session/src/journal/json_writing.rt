@@ -1,4 +1,4 @@
-// Pieces of JSON text, put at the end of the text so far.
+//! Pieces of JSON text, put at the end of the text so far.
 ghost use Rattle.std.specs.Prelude.{◌≡◌, ◌++◌, OnOk, decimal};
 ghost use Rattle.std.specs.List.{list_all};
 ghost use Rattle.json.specs.Print.{quoted};

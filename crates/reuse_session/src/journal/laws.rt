@@ -1,5 +1,5 @@
-// Laws of the definitions: what is written for a good value is good, and a text stands for one
-// value at most. With what decoding ensures, a value that was encoded is decoded again.
+//! Laws of the definitions: what is written for a good value is good, and a text stands for one
+//! value at most. With what decoding ensures, a value that was encoded is decoded again.
 ghost use Rattle.std.specs.Prelude.{◌≡◌, ◌≤◌, ◌+◌, ◌*◌, List, ℕ, length};
 ghost use Rattle.reuse_session.specs.Head.{head_text, listed, IsGoodHead, IsSoundHead};
 ghost use Rattle.reuse_session.specs.Entry.{entry_size};

@@ -1,4 +1,4 @@
-// Numbers of entries.
+//! Numbers of entries.
 use crate::items::Items;
 
 /// Numbers of entries, in order.

@@ -1,4 +1,4 @@
-// Bytes read from small hexadecimal digits, without a branch for each digit.
+//! Bytes read from small hexadecimal digits, without a branch for each digit.
 ghost use Rattle.std.specs.Prelude.{◌≡◌, ◌*◌, ◌<◌, ◌≤◌, length, slice_index, IfOk, IsTrue};
 ghost use Rattle.hex.specs.Hex.{encode_lower, lower_digits, IsBytes};
 

@@ -1,4 +1,4 @@
-// An entry's text as this program writes it, read in one pass and without a tree of values.
+//! An entry's text as this program writes it, read in one pass and without a tree of values.
 ghost use Rattle.std.specs.Prelude.{◌≡◌, ◌++◌, ◌≤◌, ◌<◌, ◌↔◌, IfOk, OnOk, IsTrue, Some, true, codes, decimal, length, map};
 ghost use Rattle.std.specs.List.{All, join_with_byte};
 ghost use Rattle.std.specs.Option.{option_map};

@@ -1,4 +1,4 @@
-// A text of the journal, taken apart as this program writes it.
+//! A text of the journal, taken apart as this program writes it.
 ghost use Rattle.std.specs.Prelude.{◌≡◌, ◌↔◌, ◌++◌, ◌∷◌, ◌<◌, ◌≤◌, ◌+◌, [], List, ℕ, Some, IfOk, IfSome, OnOk, IsTrue, IsUtf8, decimal, codes, false, take, slice_index, length};
 ghost use Rattle.std.specs.List.{AllPass};
 ghost use Rattle.json.specs.Print.{quoted};

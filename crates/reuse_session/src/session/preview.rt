@@ -1,4 +1,4 @@
-// Previews: what a call would do, and the changes that a run would record. They only read.
+//! Previews: what a call would do, and the changes that a run would record. They only read.
 ghost use Rattle.std.specs.Prelude.{◌≡◌, ◌⊎◌, ◌↔◌, ◌++◌, ◌∷◌, [], List, true, false, length, IfOk, IfErr};
 ghost use Rattle.reuse_session.specs.Answer.{IsOfPlan, TellsNoFault};
 ghost use Rattle.reuse_session.specs.Fates.{fates_of};

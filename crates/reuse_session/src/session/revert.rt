@@ -1,4 +1,4 @@
-// A session takes a step back that need not be the last.
+//! A session takes a step back that need not be the last.
 ghost use Rattle.std.specs.Prelude.{◌≡◌, ◌↔◌, ◌⊎◌, not, IfOk, true, false};
 ghost use Rattle.reuse_session.specs.Answer.{IsRunAnswer};
 ghost use Rattle.reuse_session.specs.Listing.{ArePaths, is_among};

@@ -1,4 +1,4 @@
-// A session shows what a step changed.
+//! A session shows what a step changed.
 ghost use Rattle.std.specs.Prelude.{◌≡◌, ◌↔◌, ◌||◌, true, false, IfOk};
 
 use crate::entry_changes::EntryChanges;

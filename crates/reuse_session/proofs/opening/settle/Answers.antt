@@ -8,7 +8,7 @@ use Rattle.reuse_tree.specs.Change.{path_of}
 use Rattle.reuse_tree.specs.Files.{AreFiles, Clashes, Files, tree_of}
 use Rattle.reuse_session.specs.Answer.{IsEarly, IsFailure}
 use Rattle.reuse_session.specs.Carried.{IsRolledBack, StopsRollingBack}
-use Rattle.reuse_session.specs.Entry.{IsEntry, IsReady, SomeMade, CanBeSetBack, IsFirstWithout}
+use Rattle.reuse_session.specs.Entry.{IsEntry, ArePartlyMade, CanBeSetBack, IsFirstWithout}
 use Rattle.reuse_session.specs.Head.{way_of, IsGoodHead}
 use Rattle.reuse_session.specs.History.{head_listing}
 use Rattle.reuse_session.specs.JournalFiles.{head_path, entry_path, head_of, number_of, EntrySays}
@@ -20,7 +20,7 @@ use Rattle.reuse_tree.specs.declared.change.Change.{Change}
 use Rattle.reuse_session.specs.declared.entry.Way.{Way}
 use Rattle.reuse_session.specs.declared.reply.Refusal.TheVariants.{Memory}
 use Rattle.reuse_session.specs.Journal.{Journal, Recorded, State}
-use Rattle.reuse_session.proofs.Settling.{is_entry, is_settled, is_stuck, some_made, all_ready, settles, settled_good, settled_sound, head_fits, at_same, pending_readable, stays_under_way, read_failure}
+use Rattle.reuse_session.proofs.Settling.{is_entry, is_settled, is_stuck, partly_made, settles, settled_good, settled_sound, head_fits, at_same, pending_readable, stays_under_way, read_failure}
 use Rattle.reuse_session.proofs.OpeningLemmas.{recorded}
 use Rattle.reuse_session.proofs.TakenBack.{was_under_way}
 use Rattle.reuse_session.proofs.JournalReading.{file_in_folder}
@@ -91,13 +91,12 @@ module _ (g : Over) (c : After-roll_back g) (honest : g.S.Store.honest c.roll_ba
       let entry = c.in_ok-entry.entry in
       let text = c.as_slice-2.result.now in
       let result = c.roll_back.result in
-      let some = given_to (λ f w cs. SomeMade w cs first.tree (tree_of f)) (some_made old c.args.pending c.args.history.now journal read entry says step first number under) in
-      let ready = given_to (λ f w cs. All (λ change. IsReady w change (get first.tree (path_of change))) cs) (all_ready old c.args.pending c.args.history.now journal read entry says step first number under) in
+      let partly = given_to (λ f w cs. ArePartlyMade w cs first.tree (tree_of f)) (partly_made old c.args.pending c.args.history.now journal read entry says step first number under) in
       settles old c.args.pending c.args.history.now journal read entry says step first number under result new text good_text
       (of_step (λ f w cs. OnOk result (IsRolledBack w cs text f new)) (c.roll_back.ensures.done honest good))
-      (λ cause e. of_step (λ f w cs. StopsRollingBack w cs text first.tree f new) (c.roll_back.ensures.stopped honest good first.tree some ready cause e))
+      (λ cause e. of_step (λ f w cs. StopsRollingBack w cs text first.tree f new) (c.roll_back.ensures.stopped honest good first.tree partly cause e))
       (subst (λ f. IfErr result (λ refusal. IsEarly refusal → new ≡ f)) same (early_files g.S.Store c.read_entry.new.store c.roll_back.new.store result c.roll_back.ensures.early honest))
-      (λ path e. c.roll_back.ensures.settles honest good first.tree under.good.are_files some ready path e)
+      (λ path e. c.roll_back.ensures.settles honest good first.tree under.good.are_files partly path e)
       c.roll_back.ensures.refusal
 
 pub returns-clause-done : goal.returns-clause-done

@@ -3,6 +3,7 @@ use Rattle.std.specs.FinMap.{get}
 use Rattle.std.proofs.lemmas.Result.{err_from_is_err_and}
 use Rattle.reuse_tree.specs.Files.{tree_of}
 use Rattle.reuse_tree.specs.Store.{reading_of}
+use Rattle.reuse_text.specs.declared.TheConstants.{LONGEST_FILE}
 use Rattle.reuse_session.specs.Annotate.{neighbour_of}
 use Rattle.reuse_session.specs.AnnotationPlan.{beside_by}
 use Rattle.reuse_session.specs.Listing.{ArePaths, is_among}
@@ -43,4 +44,4 @@ returns-clause-edit g c honest are =
     let found = some_bytes (get (tree_of files) c.in-Some.neighbour) some in
     subst (λ r. AnswersEdit (tree_of (g.S.Store.files c.args.store.now)) r c.plan_neighbour.result)
     (sym (beside_is c.args.asked.now (tree_of files) c.args.path.now (Some found.0) short (ap (get (tree_of (g.S.Store.files c.args.store.now))) (sym is) ∙ found.1)))
-    (c.plan_neighbour.ensures.edit (tree_of files) found.0 is found.1 (c.in_ok-reading.ensures.reading honest ∙ ap (λ f. reading_of f 16_777_216) (sym same ∙ found.1)))
+    (c.plan_neighbour.ensures.edit (tree_of files) found.0 is found.1 (c.in_ok-reading.ensures.reading honest ∙ ap (λ f. reading_of f LONGEST_FILE) (sym same ∙ found.1)))

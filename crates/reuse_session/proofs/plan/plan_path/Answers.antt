@@ -1,6 +1,7 @@
 use Rattle.std.proofs.Common.{◌≡◌, ◌∙◌, Bool, cond, List, ℕ, Some, IsSome, sym, ap, subst, true, false, Ok, Err}
 use Rattle.std.specs.FinMap.{get, keys}
 use Rattle.reuse_tree.specs.Files.{tree_of}
+use Rattle.reuse_text.specs.declared.TheConstants.{LONGEST_FILE}
 use Rattle.reuse_session.specs.declared.reply.Refusal.TheVariants as refusals
 use Rattle.reuse_session.specs.AnnotationPlan.{own_of, annotated_by, beside_by, place_by, edit_by_place}
 use Rattle.reuse_session.specs.declared.target.Target.TheVariants as target
@@ -62,7 +63,7 @@ returns-in-Ok-Done-clause-edit g c honest are =
     let at = goal.at.returns-in-Ok-Done-clause-edit g c in
     let tree = tree_of (g.S.Store.files c.args.store.now) in
     let file = found g at.After-is_covered are in
-    let step = c.in-Ok-Done.ensures.step tree file.0 file.1 (read_there (g.S.Store.files c.args.store.now) c.args.path.now file.0 16_777_216 c.in_ok-reading.reading file.1 (c.in_ok-reading.ensures.reading honest)) in
+    let step = c.in-Ok-Done.ensures.step tree file.0 file.1 (read_there (g.S.Store.files c.args.store.now) c.args.path.now file.0 LONGEST_FILE c.in_ok-reading.reading file.1 (c.in_ok-reading.ensures.reading honest)) in
     subst (λ r. MakesEdit tree r c.in-Ok-Done.change) (sym (due g at.In_ok-goes_beside are file.0 file.1 false c.if-branch.false))
     (subst (λ s. StepsTo c.args.asked.now tree c.args.path.now file.0 (Ok s)) c.in-Ok-Done.field-0-is step)
 
@@ -73,7 +74,7 @@ returns-in-Ok-Beside-clause-edit g c honest are =
     let before = c.plan_beside-in-Ok-Beside.ensures.asks.reads.was_honest honest in
     let same = c.in_ok-reading.ensures.reads.files before in
     let tree = tree_of (g.S.Store.files c.args.store.now) in
-    let step = c.in-Ok-Beside.ensures.step tree file.0 file.1 (read_there (g.S.Store.files c.args.store.now) c.args.path.now file.0 16_777_216 c.in_ok-reading.reading file.1 (c.in_ok-reading.ensures.reading before)) in
+    let step = c.in-Ok-Beside.ensures.step tree file.0 file.1 (read_there (g.S.Store.files c.args.store.now) c.args.path.now file.0 LONGEST_FILE c.in_ok-reading.reading file.1 (c.in_ok-reading.ensures.reading before)) in
     let aim = subst (λ s. StepsTo c.args.asked.now tree c.args.path.now file.0 (Ok s)) c.in-Ok-Beside.field-0-is step in
     subst (λ r. AnswersEdit tree r c.plan_beside-in-Ok-Beside.result)
     (sym (due g at.In_ok-goes_beside are file.0 file.1 false c.if-branch.false ∙ ap (edit_by_place c.args.asked.now tree c.args.path.now file.0) aim))
@@ -86,4 +87,4 @@ returns-in-Err-clause-edit g c honest are =
     let file = found g at.After-is_covered are in
     subst (λ r. IsRefusalOf r c.in-Err.refusal) (sym (due g at.In_ok-goes_beside are file.0 file.1 false c.if-branch.false))
     (c.in-Err.ensures.step (tree_of (g.S.Store.files c.args.store.now)) file.0 file.1
-    (read_there (g.S.Store.files c.args.store.now) c.args.path.now file.0 16_777_216 c.in_ok-reading.reading file.1 (c.in_ok-reading.ensures.reading honest)))
+    (read_there (g.S.Store.files c.args.store.now) c.args.path.now file.0 LONGEST_FILE c.in_ok-reading.reading file.1 (c.in_ok-reading.ensures.reading honest)))

@@ -1,5 +1,6 @@
 use Rattle.std.proofs.Common.{◌∙◌, sym, ap, Err}
 use Rattle.std.specs.FinMap.{get}
+use Rattle.reuse_text.specs.declared.TheConstants.{LONGEST_FILE}
 use Rattle.reuse_session.specs.Conversion.{dep5_path}
 use Rattle.reuse_session.specs.declared.reply.Refusal.TheVariants as refusals
 use Rattle.reuse_session.proofs.ReadingLemmas.{found_is}
@@ -14,5 +15,5 @@ returns-in-TooLong-clause-edits c tree are here is = long_read tree (sym c.in-To
 
 pub returns-in-Found-clause-edits : goal.returns-in-Found-clause-edits
 returns-in-Found-clause-edits c tree are here is =
-    let found = found_is (get tree dep5_path) 16_777_216 c.in-Found.bytes (sym c.in-Found.is ∙ is) in
+    let found = found_is (get tree dep5_path) LONGEST_FILE c.in-Found.bytes (sym c.in-Found.is ∙ is) in
     c.replacement.ensures.edits tree are here found.0 found.1

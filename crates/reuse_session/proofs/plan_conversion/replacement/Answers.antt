@@ -1,6 +1,7 @@
 use Rattle.std.proofs.Common.{◌≤◌, ◌∙◌, length, sym, ap, subst, Ok, Err}
 use Rattle.reuse_dep5.specs.Answers as answers
 use Rattle.reuse_dep5.specs.Conversion.{converted}
+use Rattle.reuse_text.specs.declared.TheConstants.{LONGEST_FILE}
 use Rattle.reuse_session.specs.Conversion.{conversion_edits}
 use Rattle.reuse_session.specs.Listing.{ArePaths, is_among}
 use Rattle.reuse_session.specs.Plan.{IsRefusalOf}
@@ -30,4 +31,4 @@ returns-in-Ok-clause-edits c tree are here found short =
     c.changes_to.ensures.edits tree are here c.in_ok-toml.ensures found short
     (sym (c.is_among.ensures sorted ∙ ap (is_among c.args.paths.now) (c.as_bytes.ensures.bytes ∙ c.in_ok-toml.ensures)) ∙ c.if-is_among.false)
     (ap converted (sym c.as_slice.ensures) ∙ c.in-Ok.ensures.answer ∙ ap (λ t. Ok t) (sym c.from_vec.ensures))
-    (subst (λ t. length t ≤ 16_777_216) (sym c.from_vec.ensures) c.in-Ok.ensures.fits)
+    (subst (λ t. length t ≤ LONGEST_FILE) (sym c.from_vec.ensures) c.in-Ok.ensures.fits)

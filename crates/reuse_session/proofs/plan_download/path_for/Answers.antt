@@ -2,6 +2,7 @@ use Rattle.std.proofs.Common.{◌≡◌, ◌≤◌, ◌∙◌, refl, sym, ap, su
 use Rattle.std.specs.FinMap.{keys}
 use Rattle.std.specs.Option.{option_copied}
 use Rattle.reuse_tree.specs.Files.{Files}
+use Rattle.reuse_text.specs.declared.TheConstants.{LONGEST_FILE}
 use Rattle.reuse_session.specs.Listing.{ArePaths, is_among}
 use Rattle.reuse_session.proofs.TreeLemmas.{keys_ascend}
 use Rattle.reuse_session.proofs.Downloading.{exists_answer, clash_answer, made_answer}
@@ -15,7 +16,7 @@ module _ (c : After-is_among) (tree : Files) (are : c.args.paths.now ≡ keys tr
   among : c.is_among.result ≡ is_among c.args.paths.now c.args.path
   among = c.is_among.ensures sorted ∙ ap (is_among c.args.paths.now) c.as_bytes.ensures.bytes
 
-  short : length c.in-Some.text.now ≤ 16_777_216
+  short : length c.in-Some.text.now ≤ LONGEST_FILE
   short = omega (arith, c.len.ensures, c.if-len-gt-LONGEST_FILE.false)
 
 pub returns-then-is_among-clause-refused : goal.returns-then-is_among-clause-refused

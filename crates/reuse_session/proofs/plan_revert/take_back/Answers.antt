@@ -3,6 +3,7 @@ use Rattle.std.specs.FinMap.{get}
 use Rattle.reuse_tree.specs.Change.{path_of}
 use Rattle.reuse_tree.specs.Files.{tree_of}
 use Rattle.reuse_tree.specs.Store.{reading_of}
+use Rattle.reuse_text.specs.declared.TheConstants.{LONGEST_FILE}
 use Rattle.reuse_session.specs.Clash.{is_clash, is_clash_of}
 use Rattle.reuse_session.specs.Entry.{makes}
 use Rattle.reuse_session.specs.Listing.{ArePaths}
@@ -27,7 +28,7 @@ returns-clause-edit g c honest proper small of_tree heeds =
     let files = g.S.Store.files c.args.store.now in
     let tree = tree_of files in
     let change = c.args.change.now in
-    let reading = c.in_ok-reading.ensures.reading honest ∙ ap (λ p. reading_of (get (g.S.Store.files c.args.store.now) p) 16_777_216) c.path-2.ensures ∙ ap (λ f. reading_of f 16_777_216) (sym (tree_at files (path_of change) of_tree)) in
+    let reading = c.in_ok-reading.ensures.reading honest ∙ ap (λ p. reading_of (get (g.S.Store.files c.args.store.now) p) LONGEST_FILE) c.path-2.ensures ∙ ap (λ f. reading_of f LONGEST_FILE) (sym (tree_at files (path_of change) of_tree)) in
     let free : (makes Undo c.args.change.now && is_clash (tree_of (g.S.Store.files c.args.store.now)) (path_of c.args.change.now)) ≡ false = elim c.else-makes.branch [
       | else-makes-via-then-makes+in_ok-is_clash+else-branch w ↦
           let made : makes Undo c.args.change.now ≡ true = sym c.makes.ensures ∙ w.if-makes.true in

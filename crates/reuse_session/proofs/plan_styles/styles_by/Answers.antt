@@ -3,6 +3,7 @@ use Rattle.std.proofs.lemmas.Bool.Decides.{nat_tests}
 use Rattle.reuse_header.specs.StyleFile.{styles_of, IsRefused}
 use Rattle.reuse_header.specs.declared.style_refusal.StylesRefusal.{StylesRefusal}
 use Rattle.reuse_header.specs.declared.style_refusal.StylesRefusal.TheVariants as styles
+use Rattle.reuse_text.specs.declared.TheConstants.{LONGEST_FILE}
 use Rattle.reuse_session.specs.Plan.{IsRefusalOf}
 use Rattle.reuse_session.specs.TreeStyles.{OwnNames, styles_path, styles_refusal, styles_read, styles_where}
 use Rattle.reuse_session.specs.declared.reply.Refusal.{Refusal}
@@ -15,13 +16,13 @@ refused_is : (due : Result OwnNames StylesRefusal) (refusal : StylesRefusal) →
 refused_is due (styles.Memory e) is = tt
 refused_is due refusal is = ap styles_read is
 
-not_over : (n : ℕ) → n ≤ 16_777_216 → nat_lt 16_777_216 n ≡ false
+not_over : (n : ℕ) → n ≤ LONGEST_FILE → nat_lt LONGEST_FILE n ≡ false
 not_over n h = grind (arith, nat_tests)
 
 abbrev refused : Refusal → Result OwnNames Refusal
 refused refusal = Err refusal
 
-of_bytes : (bytes : List ℕ) → length bytes ≤ 16_777_216 → styles_where (Some bytes) ≡ styles_read (styles_of (Some bytes))
+of_bytes : (bytes : List ℕ) → length bytes ≤ LONGEST_FILE → styles_where (Some bytes) ≡ styles_read (styles_of (Some bytes))
 of_bytes bytes short = ap (λ b. cond b (refused (refusals.TooLong styles_path)) (styles_read (styles_of (Some bytes)))) (not_over (length bytes) short)
 
 pub returns-clause-refusal : goal.returns-clause-refusal
@@ -32,10 +33,10 @@ returns-clause-refusal c file here is =
     (refused_is due c.in-Err.refusal (subst (λ read. IfErr read (λ refusal. IsRefused due refusal)) c.in-Err.is refused))) in
     elim c.match-reading.branch [
       | in-Absent w ↦
-          told (styles_of None) (ap styles_where (absent_is file 16_777_216 (sym w.in-Absent.is ∙ is)))
+          told (styles_of None) (ap styles_where (absent_is file LONGEST_FILE (sym w.in-Absent.is ∙ is)))
           (subst (λ read. IfErr read (λ refusal. IsRefused (styles_of None) refusal)) (sym w.read-is) w.read-read.ensures.refused)
       | in-Found w ↦
-          let found = found_is file 16_777_216 w.in-Found.bytes (sym w.in-Found.is ∙ is) in
+          let found = found_is file LONGEST_FILE w.in-Found.bytes (sym w.in-Found.is ∙ is) in
           told (styles_of (Some w.in-Found.bytes)) (ap styles_where found.0 ∙ of_bytes w.in-Found.bytes found.1)
           (subst (λ read. IfErr read (λ refusal. IsRefused (styles_of (Some w.in-Found.bytes)) refusal)) (sym w.read-is)
           (subst (λ bytes. IfErr w.read-read-in-Found.result (λ refusal. IsRefused (styles_of (Some bytes)) refusal)) w.as_slice.ensures w.read-read-in-Found.ensures.refused))

@@ -2,6 +2,7 @@ use Rattle.std.proofs.Common.{◌≡◌, ◌∙◌, true, IfSome, IsSome, sym, a
 use Rattle.std.specs.FinMap.{get}
 use Rattle.reuse_tree.specs.Files.{tree_of}
 use Rattle.reuse_tree.specs.Store.{reading_of}
+use Rattle.reuse_text.specs.declared.TheConstants.{LONGEST_FILE}
 use Rattle.reuse_session.specs.Annotate.{neighbour_of}
 use Rattle.reuse_session.specs.AnnotationPlan.{annotated_by}
 use Rattle.reuse_session.specs.Covered.{is_covered}
@@ -29,7 +30,7 @@ pub returns-in-Absent-clause-edit : goal.returns-in-Absent-clause-edit
 returns-in-Absent-clause-edit g c honest =
     let before = c.plan_alone.ensures.asks.reads.was_honest honest in
     let same = c.in_ok-reading.ensures.reads.files before in
-    let none = absent_is (get (g.S.Store.files c.args.store.now) c.in-Some.neighbour) 16_777_216 (sym c.in-Absent.is ∙ c.in_ok-reading.ensures.reading before) in
+    let none = absent_is (get (g.S.Store.files c.args.store.now) c.in-Some.neighbour) LONGEST_FILE (sym c.in-Absent.is ∙ c.in_ok-reading.ensures.reading before) in
     subst (λ f. IfKnown (AnswersEdit (tree_of f) (annotated_by c.args.asked.now (tree_of f) c.args.path.now)) c.plan_alone.result) same
     (c.plan_alone.ensures.edit honest (ap (λ f. get (tree_of f) (neighbour_of c.args.path.now)) same ∙ of_store g (goal.at.returns-in-Absent-clause-edit g c).In_ok-reading ∙ none))
 
@@ -38,10 +39,10 @@ returns-clause-edit g c honest =
     let files = g.S.Store.files c.args.store.now in
     let before = c.plan_beside_file.ensures.asks.reads.was_honest honest in
     let read = c.in_ok-reading.ensures.reading before in
-    let some = there_is (get files c.in-Some.neighbour) 16_777_216 (λ e. c.in_default-2.not-Absent (read ∙ e)) in
+    let some = there_is (get files c.in-Some.neighbour) LONGEST_FILE (λ e. c.in_default-2.not-Absent (read ∙ e)) in
     let kept = of_store g (goal.at.returns-clause-edit g c).In_ok-reading in
     let found = some_bytes (get (tree_of files) (neighbour_of c.args.path.now)) (subst IsSome (sym kept) some) in
     let same = c.in_ok-reading.ensures.reads.files before in
     subst (λ f. IfKnown (AnswersEdit (tree_of f) (annotated_by c.args.asked.now (tree_of f) c.args.path.now)) c.plan_beside_file.result) same
     (c.plan_beside_file.ensures.edit honest found.0 (ap (λ f. get (tree_of f) (neighbour_of c.args.path.now)) same ∙ found.1)
-    (read ∙ ap (λ f. reading_of f 16_777_216) (sym kept ∙ found.1)))
+    (read ∙ ap (λ f. reading_of f LONGEST_FILE) (sym kept ∙ found.1)))

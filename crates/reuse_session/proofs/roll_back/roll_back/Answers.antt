@@ -4,7 +4,7 @@ use Rattle.std.proofs.lemmas.Result.{err_from_is_err_and}
 use Rattle.reuse_tree.specs.Files.{Clashes, tree_of}
 use Rattle.reuse_session.specs.Answer.{told_of, IsNoClash}
 use Rattle.reuse_session.specs.Carried.{StopsRollingBack}
-use Rattle.reuse_session.specs.Entry.{SomeMade, CanBeSetBack}
+use Rattle.reuse_session.specs.Entry.{ArePartlyMade, CanBeSetBack}
 use Rattle.reuse_session.specs.JournalFiles.{head_path}
 use Rattle.reuse_session.specs.declared.reply.Cause.{Cause}
 use Rattle.reuse_session.specs.declared.reply.Cause.TheVariants as causes
@@ -36,7 +36,7 @@ returns-in-Err-clause-clash g c honest good free =
 
 -- on the way from a tree no change is in doubt
 pub returns-in_err-test_each-clause-settles : goal.returns-in_err-test_each-clause-settles
-returns-in_err-test_each-clause-settles g c honest good start are some ready path e =
+returns-in_err-test_each-clause-settles g c honest good start are partly path e =
     let tree = tree_of (g.S.Store.files c.args.store.now) in
     let p = err_from_is_err_and c.from_residual.result c.from_residual.ensures.1 in
     let from = p.1 in
@@ -44,14 +44,14 @@ returns-in_err-test_each-clause-settles g c honest good start are some ready pat
     let was = c.in_err-test_each.was in
     let moved : c.test_each.result ≡ Err (Moved path) = cc in
     none_without (CanBeSetBack c.args.way tree) c.args.changes.now path
-    (settles_from c.args.way start tree c.args.changes.now good are some ready)
+    (settles_from c.args.way start tree c.args.changes.now good are partly)
     (c.test_each.ensures.moved honest good path moved)
 
 pub returns-in-Err-clause-stopped : goal.returns-in-Err-clause-stopped
-returns-in-Err-clause-stopped g c honest good start some ready cause e =
+returns-in-Err-clause-stopped g c honest good start partly cause e =
     let store = g.S.Store in
     let same = c.test_each.ensures.reads.files (c.set_all_back.ensures.later.was_honest honest) in
     let after = store.files c.set_all_back.new.store in
-    let stopped = c.set_all_back.ensures.stopped honest good start (subst (λ files. SomeMade c.args.way c.args.changes.now start (tree_of files)) (sym same) some) ready in
+    let stopped = c.set_all_back.ensures.stopped honest good start (subst (λ files. ArePartlyMade c.args.way c.args.changes.now start (tree_of files)) (sym same) partly) in
     subst (λ files. StopsRollingBack c.args.way c.args.changes.now c.args.settled.now start files after) same
     (subst (λ r. OnErr r (StopsRollingBack c.args.way c.args.changes.now c.args.settled.now start (store.files c.test_each.new.store) after)) c.in-Err.is stopped)

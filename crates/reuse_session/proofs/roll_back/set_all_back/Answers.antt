@@ -10,12 +10,12 @@ use Rattle.reuse_session.proofs.NotedMoves.{notes_none, notes_more, notes_last}
 use Rattle.reuse_session.specs.declared.entry.Way.{Way}
 use Rattle.reuse_session.specs.Carried.{IsRolledBack, StopsRollingBack}
 use Rattle.reuse_session.specs.Tree.{undo_folder_of, Sets}
-use Rattle.reuse_session.specs.Entry.{IsEntry, IsReady, CanBeSetBack, SomeMade, Steps, opposite}
+use Rattle.reuse_session.specs.Entry.{IsEntry, IsReady, CanBeSetBack, SomeMade, ArePartlyMade, LeadsByOneChange, opposite}
 use Rattle.reuse_session.specs.JournalFiles.{head_path}
 use Rattle.reuse_session.specs.Session.{IsSameBut}
 use Rattle.reuse_session.proofs.AtChange.{IsOfEntry, at_change, folder_at_stop, of_entry, walked, stays_none, stays_on}
 use Rattle.reuse_session.proofs.OfTree.{tree_at, step_of_tree, clash_in_tree}
-use Rattle.reuse_session.proofs.MadeLemmas.{AreBack, back_none, back_more, still_made, still_free, set_back_of_tree, folder_stays_back, made_from_start, back_at_start}
+use Rattle.reuse_session.proofs.MadeLemmas.{back_none, back_more, still_made, still_free, set_back_of_tree, folder_stays_back, made_from_start, back_at_start}
 use Rattle.reuse_session.proofs.HeadPuts.{head_sets, head_keeps_tree, head_clashed}
 use Rattle.reuse_session.proofs.roll_back.set_all_back.Given.{Over}
 use Rattle.reuse_session.proofs.roll_back.set_all_back.Goals.{After-change-item, After-set_back, After-put_head}
@@ -27,12 +27,12 @@ here g c = of_entry c.args.changes.now c.loop-change.change-index c.loop-change-
 
 -- where it stops at a change, before that is set back or after it, some are still made
 some_at_stop : (way : Way) (changes : List Change) (good : IsEntry changes) (i : ℕ) (lt : i < length changes) (change : Change) (is : change ≡ get_or changes i change) (start old now after : Files)
-    → SomeMade way changes start (tree_of old) → All (λ change. IsReady way change (get start (path_of change))) changes → AreBack way (take i changes) (tree_of old) (tree_of now)
-    → (after ≡ now) ⊎ Steps (opposite way) change now after → SomeMade way changes start (tree_of after)
-some_at_stop way changes good i lt change is start old now after some ready back (inl same) =
-    subst (λ files. SomeMade way changes start (tree_of files)) (sym same) (made_from_start way changes good start (tree_of old) (tree_of now) some ready i back)
-some_at_stop way changes good i lt change is start old now after some ready back (inr step) =
-    made_from_start way changes good start (tree_of old) (tree_of after) some ready (i + 1)
+    → ArePartlyMade way changes start (tree_of old) → ArePartlyMade way (take i changes) (tree_of now) (tree_of old)
+    → (after ≡ now) ⊎ LeadsByOneChange (opposite way) change now after → SomeMade way changes start (tree_of after)
+some_at_stop way changes good i lt change is start old now after partly back (inl same) =
+    subst (λ files. SomeMade way changes start (tree_of files)) (sym same) (made_from_start way changes good start (tree_of old) (tree_of now) partly i back)
+some_at_stop way changes good i lt change is start old now after partly back (inr step) =
+    made_from_start way changes good start (tree_of old) (tree_of after) partly (i + 1)
     (back_more way changes good i lt change is (tree_of old) (tree_of now) back (tree_of after) (inr (step_of_tree (opposite way) change now after (of_entry changes i lt change is good).of_tree step)))
 
 pub loop-change-init : goal.loop-change-init
@@ -60,7 +60,7 @@ loop-change-preserved g c =
 
 -- the folder of the journal stays where it stops at a change
 folder_stopped : (g : Over) (c : After-set_back g) → g.S.Store.honest c.set_back.new.store → IsEntry c.args.changes.now
-    → (g.S.Store.files c.set_back.new.store ≡ g.S.Store.files c.loop-change.store) ⊎ Steps (opposite c.args.way) c.change-item.result (g.S.Store.files c.loop-change.store) (g.S.Store.files c.set_back.new.store)
+    → (g.S.Store.files c.set_back.new.store ≡ g.S.Store.files c.loop-change.store) ⊎ LeadsByOneChange (opposite c.args.way) c.change-item.result (g.S.Store.files c.loop-change.store) (g.S.Store.files c.set_back.new.store)
     → undo_folder_of (g.S.Store.files c.set_back.new.store) ≡ undo_folder_of (g.S.Store.files c.args.store.now)
 folder_stopped g c honest good stops =
     folder_at_stop (opposite c.args.way) c.change-item.result (g.S.Store.files c.loop-change.store) (g.S.Store.files c.set_back.new.store) (of_entry c.args.changes.now c.loop-change.change-index c.loop-change-test.true c.change-item.result c.change-item.is good).of_tree stops
@@ -68,7 +68,7 @@ folder_stopped g c honest good stops =
 
 -- it stops before the change or after it
 pub returns-in_err-set_back-clause-stopped : goal.returns-in_err-set_back-clause-stopped
-returns-in_err-set_back-clause-stopped g c honest good start some ready =
+returns-in_err-set_back-clause-stopped g c honest good start partly =
     let at = goal.at.returns-in_err-set_back-clause-stopped g c in
     let of = here g at.After-change-item good in
     let old = g.S.Store.files c.args.store.now in
@@ -76,7 +76,7 @@ returns-in_err-set_back-clause-stopped g c honest good start some ready =
     let p = err_from_is_err_and c.from_residual.result c.from_residual.ensures.1 in
     let stops = c.in_err-set_back.ensures.err honest of.proper of.small in
     subst (λ r. OnErr r (StopsRollingBack c.args.way c.args.changes.now c.args.settled.now start old after)) (sym p.1) (inl (
-      some_at_stop c.args.way c.args.changes.now good c.loop-change.change-index c.loop-change-test.true c.change-item.result c.change-item.is start old (g.S.Store.files c.loop-change.store) after some ready
+      some_at_stop c.args.way c.args.changes.now good c.loop-change.change-index c.loop-change-test.true c.change-item.result c.change-item.is start old (g.S.Store.files c.loop-change.store) after partly
           (c.loop-change.invariant.back (c.set_back.ensures.later.was_honest honest) good) stops,
       folder_stopped g at.After-set_back honest good stops,
     ))
@@ -138,7 +138,7 @@ put_at text (Err e) now after done failed = ⊎_elim
     failed
 
 -- all are taken back, and the head is put
-module _ (way : Way) (changes : List Change) (settled : List ℕ) (good : IsEntry changes) (old now after : Files) (back : AreBack way changes (tree_of old) (tree_of now)) (folder : undo_folder_of now ≡ undo_folder_of old) where
+module _ (way : Way) (changes : List Change) (settled : List ℕ) (good : IsEntry changes) (old now after : Files) (back : ArePartlyMade way changes (tree_of now) (tree_of old)) (folder : undo_folder_of now ≡ undo_folder_of old) where
   head_set : Sets head_path (Some settled) now after → Sets head_path (Some settled) (undo_folder_of old) (undo_folder_of after)
   head_set sets = subst (λ f. Sets head_path (Some settled) f (undo_folder_of after)) folder (head_sets now after (Some settled) sets)
 
@@ -146,29 +146,28 @@ module _ (way : Way) (changes : List Change) (settled : List ℕ) (good : IsEntr
   rolled_back sets =
       let same : tree_of after ≡ tree_of now = head_keeps_tree now after (Some settled) sets in
       record {
-        tree = subst (λ t. SomeMade way changes t (tree_of old)) (sym same) back.made;
-        ready = subst (λ t. All (λ change. IsReady way change (get t (path_of change))) changes) (sym same) back.ready;
+        partly = subst (λ t. ArePartlyMade way changes t (tree_of old)) (sym same) back;
         sets = head_set sets;
       }
 
-  stops_at_head : (start : Files) → SomeMade way changes start (tree_of old) → All (λ change. IsReady way change (get start (path_of change))) changes
+  stops_at_head : (start : Files) → ArePartlyMade way changes start (tree_of old)
       → (after ≡ now) ⊎ Sets head_path (Some settled) now after → StopsRollingBack way changes settled start old after
-  stops_at_head start some ready (inl same) = inl (
-    subst (λ files. SomeMade way changes start (tree_of files)) (sym same) (made_from_start way changes good start (tree_of old) (tree_of now) some ready (length changes) (subst (λ front. AreBack way front (tree_of old) (tree_of now)) (sym (take-length changes)) back)),
+  stops_at_head start partly (inl same) = inl (
+    subst (λ files. SomeMade way changes start (tree_of files)) (sym same) (made_from_start way changes good start (tree_of old) (tree_of now) partly (length changes) (subst (λ front. ArePartlyMade way front (tree_of now) (tree_of old)) (sym (take-length changes)) back)),
     ap undo_folder_of same ∙ folder,
   )
-  stops_at_head start some ready (inr sets) = inr (
-    head_keeps_tree now after (Some settled) sets ∙ back_at_start way changes good start (tree_of old) (tree_of now) some ready back,
+  stops_at_head start partly (inr sets) = inr (
+    head_keeps_tree now after (Some settled) sets ∙ back_at_start way changes good start (tree_of old) (tree_of now) partly back,
     head_set sets,
   )
 
 -- all changes are back where the head is put
 all_are_back : (g : Over) (c : After-put_head g) → g.S.Store.honest c.put_head.new.store → IsEntry c.args.changes.now
-    → AreBack c.args.way c.args.changes.now (tree_of (g.S.Store.files c.args.store.now)) (tree_of (g.S.Store.files c.loop-change.store)) × (undo_folder_of (g.S.Store.files c.loop-change.store) ≡ undo_folder_of (g.S.Store.files c.args.store.now))
+    → ArePartlyMade c.args.way c.args.changes.now (tree_of (g.S.Store.files c.loop-change.store)) (tree_of (g.S.Store.files c.args.store.now)) × (undo_folder_of (g.S.Store.files c.loop-change.store) ≡ undo_folder_of (g.S.Store.files c.args.store.now))
 all_are_back g c honest good =
     let before = c.put_head.ensures.later.was_honest honest in
     let all = walked c.args.changes.now c.loop-change.change-index (omega (arith, c.loop-change-test.false, c.loop-change.auto.change-index-end)) in (
-      subst (λ front. AreBack c.args.way front (tree_of (g.S.Store.files c.args.store.now)) (tree_of (g.S.Store.files c.loop-change.store))) all (c.loop-change.invariant.back before good),
+      subst (λ front. ArePartlyMade c.args.way front (tree_of (g.S.Store.files c.loop-change.store)) (tree_of (g.S.Store.files c.args.store.now))) all (c.loop-change.invariant.back before good),
       c.loop-change.invariant.walk.folder before good,
     )
 
@@ -178,9 +177,9 @@ returns-clause-done g c honest good =
     on_ok_weaker c.put_head.result (rolled_back c.args.way c.args.changes.now c.args.settled.now good _ _ (g.S.Store.files c.put_head.new.store) back.0 back.1) (c.put_head.ensures.ok honest)
 
 pub returns-clause-stopped : goal.returns-clause-stopped
-returns-clause-stopped g c honest good start some ready =
+returns-clause-stopped g c honest good start partly =
     let back = all_are_back g (goal.at.returns-clause-stopped g c).After-put_head honest good in
-    on_err_weaker c.put_head.result (stops_at_head c.args.way c.args.changes.now c.args.settled.now good _ _ (g.S.Store.files c.put_head.new.store) back.0 back.1 start some ready) (c.put_head.ensures.err honest)
+    on_err_weaker c.put_head.result (stops_at_head c.args.way c.args.changes.now c.args.settled.now good _ _ (g.S.Store.files c.put_head.new.store) back.0 back.1 start partly) (c.put_head.ensures.err honest)
 
 pub returns-clause-cause : goal.returns-clause-cause
 returns-clause-cause g c honest good all free =

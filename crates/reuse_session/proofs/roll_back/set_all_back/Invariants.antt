@@ -1,8 +1,7 @@
 use Rattle.std.proofs.Common.{take}
 use Rattle.reuse_tree.specs.Files.{tree_of}
 use Rattle.reuse_session.specs.Carried.{NotesMoves}
-use Rattle.reuse_session.specs.Entry.{IsEntry}
-use Rattle.reuse_session.proofs.MadeLemmas.{AreBack}
+use Rattle.reuse_session.specs.Entry.{IsEntry, ArePartlyMade}
 use Rattle.reuse_session.proofs.AtChange.{StaysBeside}
 use Rattle.reuse_session.proofs.roll_back.set_all_back.Given as goal
 
@@ -13,5 +12,5 @@ invariant-loop-change g l =
     record {
       notes : NotesMoves g.S.Store l.fn.started l.started l.fn.store l.store;
       walk : StaysBeside store l.fn.store l.store l.changes;
-      back : store.honest l.store → IsEntry l.changes → AreBack l.way (take l.change-index l.changes) (tree_of (store.files l.fn.store)) (tree_of (store.files l.store));
+      back : store.honest l.store → IsEntry l.changes → ArePartlyMade l.way (take l.change-index l.changes) (tree_of (store.files l.store)) (tree_of (store.files l.fn.store));
     }

@@ -4,7 +4,7 @@ use Rattle.reuse_session.specs.Answer.{HasCause}
 use Rattle.reuse_session.specs.JournalFiles.{IsFree}
 use Rattle.reuse_session.specs.Session.{store_of}
 use Rattle.reuse_session.specs.Driven.{store_in}
-use Rattle.reuse_session.specs.Stops.{Point, open_at, Answers, AreLeft}
+use Rattle.reuse_session.specs.Stops.{Point, open_at, AnswersEvent, AreLeft}
 use Rattle.reuse_session.specs.Tree.{undo_folder_of}
 use Rattle.reuse_session.specs.declared.events.Event.{Event}
 use Rattle.reuse_session.specs.declared.reply.Refusal.TheVariants.{Broken}
@@ -16,7 +16,7 @@ returns-in-Reopen-clause-answers g c honest old at =
     let files = g.S.Store.files in
     let left = subst (λ (f : Files). AreLeft f old.state old.next) (sym (ap files c.into_store.ensures)) (left_at files c.args.self old at) in
     let r = c.open.ensures.reopens honest old left in
-    (r.0, subst (λ (event : Event). Answers old.is_open event c.open.result.1 old r.0) (sym c.in-Reopen.is) (answers_reopen old.is_open c.open.result.1 old r.0 r.1), r.2)
+    (r.0, subst (λ (event : Event). AnswersEvent old.is_open event c.open.result.1 old r.0) (sym c.in-Reopen.is) (answers_reopen old.is_open c.open.result.1 old r.0 r.1), r.2)
 
 pub returns-in-Reopen-clause-free : goal.returns-in-Reopen-clause-free
 returns-in-Reopen-clause-free g c honest free = c.open.ensures.free honest (subst (λ (f : Files). IsFree (undo_folder_of f)) (sym (ap g.S.Store.files c.into_store.ensures)) free)
@@ -41,7 +41,7 @@ returns-in-Open g c =
       answers = λ honest old at.
           let stands = at_open store.files c.args.self session old c.in-Open.is at in
           let r = c.go_on.ensures.continues honest old.state stands.1 in
-          (r.0, subst (λ (p : Point). Answers p.is_open c.args.event.now c.go_on.result.1 p r.0) (sym stands.0) (answers_open c.args.event.now c.go_on.result.1 (open_at old.state) r.0 c.in_default.not-Reopen r.1), r.2);
+          (r.0, subst (λ (p : Point). AnswersEvent p.is_open c.args.event.now c.go_on.result.1 p r.0) (sym stands.0) (answers_open c.args.event.now c.go_on.result.1 (open_at old.state) r.0 c.in_default.not-Reopen r.1), r.2);
       clash = λ honest old at free.
           let stands = at_open store.files c.args.self session old c.in-Open.is at in
           c.go_on.ensures.clash honest old.state stands.1 (subst (λ (f : Files). IsFree (undo_folder_of f)) (ap store.files here) free);
@@ -58,7 +58,7 @@ returns-in-Closed g c =
     record {
       answers = λ honest old at.
           let left = at_closed store.files c.args.self c.in-Closed.store old c.in-Closed.is at in
-          (old, subst (λ b. Answers b c.args.event.now (Err Broken) old old) (sym left.0) (answers_closed c.args.event.now (Err Broken) old c.in_default.not-Reopen refl), left);
+          (old, subst (λ b. AnswersEvent b c.args.event.now (Err Broken) old old) (sym left.0) (answers_closed c.args.event.now (Err Broken) old c.in_default.not-Reopen refl), left);
       clash = λ honest old at free. tt;
       free = λ honest free. subst (λ (f : Files). IsFree (undo_folder_of f)) (ap store.files here) free;
       fault = tt;
