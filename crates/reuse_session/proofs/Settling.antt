@@ -1,15 +1,13 @@
 -- What is pending in a journal is rolled back.
 use Rattle.std.proofs.Common.{◌≡◌, ◌⊎◌, inl, inr, ⊎_elim, ℕ, Bool, true, false, not, cond, List, [], Option, Some, None, IsSome, is_some, Result, Ok, Err, IfErr, OnOk, MatchResult, codes, refl, sym, ap, subst, ◌∙◌}
-use Rattle.std.specs.List.{All}
 use Rattle.std.specs.FinMap.{get}
 use Rattle.std.proofs.lemmas.List.Elements.{All-head}
 use Rattle.reuse_tree.specs.Path.{lies_under, journal_folder}
 use Rattle.reuse_tree.specs.Files.{Files, AreFiles, Clashes, tree_of}
-use Rattle.reuse_tree.specs.Change.{path_of}
 use Rattle.reuse_tree.specs.declared.change.Change.{Change}
 use Rattle.reuse_session.specs.Answer.{IsEarly, IsFailure, IsReadRefusal, IsRollBackRefusal}
 use Rattle.reuse_session.specs.Carried.{SetsHead, IsRolledBack, StopsRollingBack}
-use Rattle.reuse_session.specs.Entry.{IsEntry, IsReady, SomeMade, ArePartlyMade, CanBeSetBack, IsFirstWithout}
+use Rattle.reuse_session.specs.Entry.{IsEntry, SomeMade, ArePartlyMade, CanBeSetBack, IsFirstWithout}
 use Rattle.reuse_session.specs.Head.{way_of, IsGoodHead, IsSoundHead}
 use Rattle.reuse_session.specs.History.{Memory, head_listing}
 use Rattle.reuse_session.specs.Journal.{Recorded, Journal, State}

@@ -1,10 +1,8 @@
 -- Standings: a tree, and the journal beside it, without a pending entry. Files in doubt between two of them.
 use Rattle.std.specs.Prelude.{◌≡◌, ◌⊎◌, ◌+◌, List, [], ◌∷◌, Some, None, codes}
-use Rattle.std.specs.List.{All}
 use Rattle.std.specs.FinMap.{get}
 use Rattle.reuse_tree.specs.Path.{journal_folder}
 use Rattle.reuse_tree.specs.Files.{Files, AreFiles, tree_of}
-use Rattle.reuse_tree.specs.Change.{path_of}
 use Rattle.reuse_session.specs.Tree.{undo_folder_of}
 use Rattle.reuse_session.specs.Entry.{LeadsBy, ArePartlyMade}
 use Rattle.reuse_session.specs.Journal.{Recorded, Journal, State}

@@ -4,7 +4,6 @@ use Rattle.std.specs.List.{All}
 use Rattle.std.proofs.lemmas.Result.{err_from_is_err_and, IfErr-weaker, on_ok_weaker}
 use Rattle.reuse_tree.specs.Asked.{OnlyReads}
 use Rattle.reuse_tree.proofs.AskedLemmas.{reads_more}
-use Rattle.reuse_tree.specs.Change.{path_of}
 use Rattle.reuse_tree.specs.Files.{AreFiles, Clashes, Files, tree_of}
 use Rattle.reuse_session.specs.Answer.{IsEarly, IsFailure}
 use Rattle.reuse_session.specs.Carried.{IsRolledBack, StopsRollingBack}
