@@ -57,7 +57,7 @@ use Rattle.reuse_undo.specs.declared.request.Request.TheVariants as requests
 use Rattle.reuse_undo.specs.declared.request.Told.{Told}
 use Rattle.reuse_undo.specs.Peeks.{Peeks}
 use Rattle.reuse_undo.specs.RowLines.{AppendsSome}
-use Rattle.reuse_undo.specs.RunLine.{Looks, Previews, Does, IsStopped, Makes, Calls, as_told, RevertsOn, PreviewsRevert, Meets, TakesBackStep, HasCallClash, KeepsFolder, IsUnopened, IsMade, Carries, StepsBy, StepsBack, StepsBackBy, ForetellsBack, Steps, Tells, IfRefused}
+use Rattle.reuse_undo.specs.RunLine.{Looks, Previews, CallLeadsTo, IsStopped, StepLeaves, CallLeaves, as_told, RevertsOn, PreviewsRevert, Meets, TakesBackStep, HasCallClash, KeepsFolder, IsUnopened, IsMade, RequestLeaves, StepsBy, StepsBack, StepsBackBy, ForetellsBack, FollowsMachine, TellsAnswer, IfRefused}
 use Rattle.reuse_undo.specs.Told.{IsToldText, Finishes}
 use Rattle.reuse_undo.proofs.NumberLemmas.{undone_is_unused}
 use Rattle.reuse_undo.proofs.LookLemmas.{refused, same_refusal, unclashed_read}
@@ -87,8 +87,8 @@ log_tells_none refusal is = absurd is
 
 -- a call of a session that makes a step, by the clauses of that call
 pub calls_by : {S : Type 0} (files : S → Files) (event : Event) (held : State) (new : Session S) (answer : Result Reply Refusal)
-    → (TellsNoFault answer → (left : State) × StandsOn files new left × Does event held answer left) → IfErr answer (λ refusal. IsEarly refusal → StandsOn files new held)
-    → IfErr answer (λ refusal. IsStop refusal → IsStopped event held (files (store_of new))) → Makes event held answer (files (store_of new))
+    → (TellsNoFault answer → (left : State) × StandsOn files new left × CallLeadsTo event held answer left) → IfErr answer (λ refusal. IsEarly refusal → StandsOn files new held)
+    → IfErr answer (λ refusal. IsStop refusal → IsStopped event held (files (store_of new))) → StepLeaves event held answer (files (store_of new))
 calls_by files event held new (Ok reply) exact stands stops = let left = exact tt in (left.0, left.2, left.1.standing)
 calls_by files event held new (Err (StoreFailed fault)) exact stands stops = (stands tt).standing
 calls_by files event held new (Err Memory) exact stands stops = (stands tt).standing
@@ -182,7 +182,7 @@ pub carried : {S : Type 0} (files : S → Files) (before : Files) (request : Req
     → ((held : State) → StandsOn files session held → Meets request held answer after)
     → ((held : State) → StandsOn files session held → IfErr answer (HasCallClash request held (files (store_of session))))
     → IsSameBut head_path (undo_folder_of before) (undo_folder_of (files (store_of session))) → ((held : State) → StandsOn files session held → KeepsFolder request held (files (store_of session)) after)
-    → Carries before request answer after
+    → RequestLeaves before request answer after
 carried files before request session answer after opened settles meets clashes same keeps =
     inr (record {
       made = (opened.0, files (store_of session), opened.2, meets opened.0 opened.1, clashes opened.0 opened.1, same, keeps opened.0 opened.1);

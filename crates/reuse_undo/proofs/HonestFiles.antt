@@ -6,7 +6,7 @@ use Rattle.reuse_tree.specs.Path.{is_path}
 use Rattle.reuse_tree.specs.Store.{Puts}
 use Rattle.reuse_tree.specs.declared.fault.StoreFault.{StoreFault}
 use Rattle.reuse_tree.specs.declared.fault.StoreFault.TheVariants.{Device, Clash, Memory}
-use Rattle.reuse_undo.specs.Honesty.{HasRoom, AnswersPut, has_effect}
+use Rattle.reuse_undo.specs.Honesty.{HasRoom, MayAnswerPut, has_effect}
 
 -- a put keeps files good
 abbrev pub PutKeeps : Type 0
@@ -23,7 +23,7 @@ perhaps_put : PutKeeps → (files : Files) (path bytes : List ℕ) (took : Bool)
 perhaps_put keeps files path bytes true good room = put_has_kept keeps files path bytes good (room refl)
 perhaps_put keeps files path bytes false good room = good
 
-pub after_put : PutKeeps → (files : Files) (path bytes : List ℕ) (answer : Result (Unit {0}) StoreFault) (took : Bool) → AreFiles files → AnswersPut files path answer took
+pub after_put : PutKeeps → (files : Files) (path bytes : List ℕ) (answer : Result (Unit {0}) StoreFault) (took : Bool) → AreFiles files → MayAnswerPut files path answer took
     → AreFiles (if has_effect answer took then insert files path bytes else files)
 after_put keeps files path bytes (Ok done) took good room = put_has_kept keeps files path bytes good room
 after_put keeps files path bytes (Err Clash) took good clashes = good

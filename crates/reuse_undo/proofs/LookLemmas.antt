@@ -57,7 +57,7 @@ use Rattle.reuse_undo.specs.declared.request.Request.TheVariants as requests
 use Rattle.reuse_undo.specs.declared.request.Told.{Told}
 use Rattle.reuse_undo.specs.Peeks.{Peeks}
 use Rattle.reuse_undo.specs.RowLines.{AppendsSome}
-use Rattle.reuse_undo.specs.RunLine.{Looks, Previews, Does, IsStopped, Makes, Calls, as_told, RevertsOn, PreviewsRevert, Meets, TakesBackStep, HasCallClash, IsUnopened, IsMade, Carries, StepsBy, StepsBack, StepsBackBy, ForetellsBack, Steps, Tells, IfRefused}
+use Rattle.reuse_undo.specs.RunLine.{Looks, Previews, CallLeadsTo, IsStopped, StepLeaves, CallLeaves, as_told, RevertsOn, PreviewsRevert, Meets, TakesBackStep, HasCallClash, IsUnopened, IsMade, RequestLeaves, StepsBy, StepsBack, StepsBackBy, ForetellsBack, FollowsMachine, TellsAnswer, IfRefused}
 use Rattle.reuse_undo.specs.Told.{IsToldText, Finishes}
 use Rattle.reuse_undo.proofs.NumberLemmas.{undone_is_unused}
 

@@ -57,7 +57,7 @@ use Rattle.reuse_undo.specs.declared.request.Request.TheVariants as requests
 use Rattle.reuse_undo.specs.declared.request.Told.{Told}
 use Rattle.reuse_undo.specs.Peeks.{Peeks}
 use Rattle.reuse_undo.specs.RowLines.{AppendsSome}
-use Rattle.reuse_undo.specs.RunLine.{Looks, Previews, Does, IsStopped, Makes, Calls, as_told, RevertsOn, PreviewsRevert, Meets, TakesBackStep, HasCallClash, IsUnopened, IsMade, Carries, StepsBy, StepsBack, StepsBackBy, ForetellsBack, Steps, Tells, IfRefused}
+use Rattle.reuse_undo.specs.RunLine.{Looks, Previews, CallLeadsTo, IsStopped, StepLeaves, CallLeaves, as_told, RevertsOn, PreviewsRevert, Meets, TakesBackStep, HasCallClash, IsUnopened, IsMade, RequestLeaves, StepsBy, StepsBack, StepsBackBy, ForetellsBack, FollowsMachine, TellsAnswer, IfRefused}
 use Rattle.reuse_undo.specs.Told.{IsToldText, Finishes}
 use Rattle.reuse_undo.proofs.NumberLemmas.{undone_is_unused}
 use Rattle.reuse_undo.proofs.LookLemmas.{refused}
@@ -120,7 +120,7 @@ no_row refusal rows is = cc
 
 module _ (held : State) (state : Snapshots) (holds : Holds held state) (before after : Files) (standing : IsStanding before held) where
   -- what a call does is what the machine does
-  does_step : (event : Event) (answer : Result Reply Refusal) (left : State) → Does event held answer left → (answer ≡ (step state event).0) × Holds left (step state event).1
+  does_step : (event : Event) (answer : Result Reply Refusal) (left : State) → CallLeadsTo event held answer left → (answer ≡ (step state event).0) × Holds left (step state event).1
   does_step (events.Run command when) answer left does = runs_as_machine held state holds command when answer left standing.good.are_files does
   does_step events.Undo answer left does = undo_follows held state holds left answer does
   does_step events.Redo answer left does = redo_follows held state holds left answer does
@@ -136,18 +136,18 @@ module _ (held : State) (state : Snapshots) (holds : Holds held state) (before a
   stopped_near events.Log stopped = absurd stopped
   stopped_near events.Reopen stopped = absurd stopped
 
-  did : (event : Event) (answer : Result Reply Refusal) → (left : State) × Does event held answer left × IsStanding after left
+  did : (event : Event) (answer : Result Reply Refusal) → (left : State) × CallLeadsTo event held answer left × IsStanding after left
       → (answer ≡ (step state event).0) × HoldState after (step state event).1
   did event answer made = let does = does_step event answer made.0 made.1 in (does.0, (made.0, made.2, does.1))
 
-  made : (event : Event) (answer : Result Reply Refusal) → Makes event held answer after → StepsBy state event answer after
+  made : (event : Event) (answer : Result Reply Refusal) → StepLeaves event held answer after → StepsBy state event answer after
   made event (Ok reply) makes = did event (Ok reply) makes
   made event (Err (StoreFailed fault)) makes = (held, makes, holds)
   made event (Err Memory) makes = (held, makes, holds)
   made event (Err (Interrupted cause)) makes = inr (stopped_near event makes)
   made event (Err refusal) makes = did event (Err refusal) makes
 
-  listed : (answer : Result Reply Refusal) → Calls events.Log held answer after → StepsBy state events.Log answer after
+  listed : (answer : Result Reply Refusal) → CallLeaves events.Log held answer after → StepsBy state events.Log answer after
   listed (Ok reply) calls = did events.Log (Ok reply) calls
   listed (Err Memory) calls = (held, calls, holds)
   listed (Err (StoreFailed fault)) calls = absurd (no_row (StoreFailed fault) (rows_in held.journal) calls.1.0)
@@ -166,7 +166,7 @@ module _ (held : State) (state : Snapshots) (holds : Holds held state) (before a
   previewed call (Err (Interrupted cause)) looks = absurd looks.unstopped
   previewed call (Err refusal) looks = (ap as_reply (previews_as_machine held state holds call (Err refusal) (looks.right tt)), looked (Previews call held) (Err refusal) looks)
 
-  called : (event : Event) (answer : Result Reply Refusal) → Calls event held answer after → StepsBy state event answer after
+  called : (event : Event) (answer : Result Reply Refusal) → CallLeaves event held answer after → StepsBy state event answer after
   called events.Log answer calls = listed answer calls
   called (events.Preview call) answer calls = subst (λ a. StepsBy state (events.Preview call) a after) (sym calls.1) (previewed call calls.0 calls.2)
   called (events.Run command when) answer calls = made (events.Run command when) answer calls
@@ -201,7 +201,7 @@ module _ (held : State) (state : Snapshots) (holds : Holds held state) (before a
   reverted number skip_moved when (Err refusal) reverts = ran_back number skip_moved when (Err refusal) tt reverts
 
   -- a request is answered as the machine does
-  met : (request : Request) (answer : Result Told Refusal) → Meets request held answer after → Steps state request answer after
+  met : (request : Request) (answer : Result Told Refusal) → Meets request held answer after → FollowsMachine state request answer after
   met (requests.Call event) answer meets = (meets.0, meets.1, called event meets.0 meets.2)
   met (requests.Show number) answer meets = (meets.0, meets.1, shown_at held state holds number meets.0 after meets.2, looked (ShowsIn held.journal number) meets.0 meets.2)
   met (requests.Revert number skip_moved when) answer meets = (meets.0, meets.1, reverted number skip_moved when meets.0 meets.2)
@@ -239,32 +239,32 @@ failed_back state number skip_moved when Memory after failure held = held
 failed_back state number skip_moved when (Interrupted cause) after failure held = inl held
 failed_back state number skip_moved when refusal after failure held = absurd failure
 
-failed : (state : Snapshots) (request : Request) (refusal : Refusal) (after : Files) → IsFailure refusal → HoldState after state → Steps state request (Err refusal) after
+failed : (state : Snapshots) (request : Request) (refusal : Refusal) (after : Files) → IsFailure refusal → HoldState after state → FollowsMachine state request (Err refusal) after
 failed state (requests.Call event) refusal after failure held = (Err refusal, refl, failed_event state event refusal after failure held)
 failed state (requests.Show number) refusal after failure held = (Err refusal, refl, tt, held)
 failed state (requests.Revert number skip_moved when) refusal after failure held = (Err refusal, refl, failed_back state number skip_moved when refusal after failure held)
 failed state (requests.PreviewRevert number skip_moved) refusal after failure held = (Err refusal, refl, λ told. absurd (untold_fates refusal failure told), held)
 
-pub carries_step : (state : Snapshots) (before : Files) (request : Request) (answer : Result Told Refusal) (after : Files) → HoldState before state → Carries before request answer after
-    → Steps state request answer after
+pub carries_step : (state : Snapshots) (before : Files) (request : Request) (answer : Result Told Refusal) (after : Files) → HoldState before state → RequestLeaves before request answer after
+    → FollowsMachine state request answer after
 carries_step state before request answer after held carries =
     let first = held.0 in
     ⊎_elim (λ (refused : (refusal : Refusal) × (answer ≡ Err refusal) × IsUnopened before refusal after).
-    subst (λ a. Steps state request a after) (sym refused.1)
+    subst (λ a. FollowsMachine state request a after) (sym refused.1)
     (failed state request refused.0 after (refused.2.settles first first (inl held.1)).0 (still_held state before refused.0 after held refused.2)))
     (λ (made : IsMade before request answer after).
     met first state held.2 before after held.1 request answer
     (⊎_elim (λ (meets : Meets request first answer after). meets) (λ (meets : Meets request first answer after). meets) (made.settles first first (inl held.1)))) carries
 
 -- the same, of an equal answer
-pub carries_as : (before after : Files) (request : Request) (answer same : Result Told Refusal) → Carries before request answer after → answer ≡ same → Carries before request same after
-carries_as before after request answer same carries is = subst (λ (a : Result Told Refusal). Carries before request a after) is carries
+pub carries_as : (before after : Files) (request : Request) (answer same : Result Told Refusal) → RequestLeaves before request answer after → answer ≡ same → RequestLeaves before request same after
+carries_as before after request answer same carries is = subst (λ (a : Result Told Refusal). RequestLeaves before request a after) is carries
 
 -- ---- what is told
 
 -- of an answer that is printed
 pub told_of : (telling : Telling) (IsAnswer : Result Told Refusal → Type 0) (told : Told) (old new : Option (List ℕ)) (result : Result ℕ Fault) → IsAnswer (Ok told)
-    → Finishes telling told old new result → Tells telling IsAnswer old new result
+    → Finishes telling told old new result → TellsAnswer telling IsAnswer old new result
 told_of telling IsAnswer told old new (Ok count) is finished = (told, is, finished.1.1, finished.0, finished.1.0)
 told_of telling IsAnswer told old new (Err (faults.WouldRefuse fates)) is finished = (
   subst (λ t. IsAnswer (Ok t)) finished.1.0 is,

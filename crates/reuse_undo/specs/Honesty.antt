@@ -34,20 +34,20 @@ pub record HasRoom (files : Files) (path : List ℕ) : Type 0 where
   pub is_free : ¬ (Clashes files path)
 
 -- a folder that holds these files may answer a put so
-abbrev pub AnswersPut : Files → List ℕ → Result (Unit {0}) StoreFault → Bool → Type 0
-AnswersPut files path (Ok done) took = HasRoom files path
-AnswersPut files path (Err Clash) took = Clashes files path
-AnswersPut files path (Err Device) took = IsTrue took → HasRoom files path
-AnswersPut files path (Err Memory) took = IsTrue took → HasRoom files path
+abbrev pub MayAnswerPut : Files → List ℕ → Result (Unit {0}) StoreFault → Bool → Type 0
+MayAnswerPut files path (Ok done) took = HasRoom files path
+MayAnswerPut files path (Err Clash) took = Clashes files path
+MayAnswerPut files path (Err Device) took = IsTrue took → HasRoom files path
+MayAnswerPut files path (Err Memory) took = IsTrue took → HasRoom files path
 
 -- a folder that holds these files may answer the call so
-abbrev pub Answers : Files → Call → Type 0
-Answers files (ListCall answer) = MatchResult answer (λ paths. paths ≡ keys files) (λ fault. fault ≢ Clash)
-Answers files (ReadCall path limit answer) = MatchResult answer (λ reading. reading ≡ reading_of (get files path) limit) (λ fault. fault ≢ Clash)
-Answers files (PutCall path bytes answer took) = AnswersPut files path answer took
-Answers files (RemoveCall path answer took) = answer ≢ Err Clash
+abbrev pub MayAnswer : Files → Call → Type 0
+MayAnswer files (ListCall answer) = MatchResult answer (λ paths. paths ≡ keys files) (λ fault. fault ≢ Clash)
+MayAnswer files (ReadCall path limit answer) = MatchResult answer (λ reading. reading ≡ reading_of (get files path) limit) (λ fault. fault ≢ Clash)
+MayAnswer files (PutCall path bytes answer took) = MayAnswerPut files path answer took
+MayAnswer files (RemoveCall path answer took) = answer ≢ Err Clash
 
 -- the files at the start are files, and each call was answered as a folder that holds the files of its moment may
 abbrev pub IsHonest : Files → List Call → Type 0
 IsHonest start [] = AreFiles start
-IsHonest start (call ∷ calls) = Answers (files_of start calls) call × IsHonest start calls
+IsHonest start (call ∷ calls) = MayAnswer (files_of start calls) call × IsHonest start calls

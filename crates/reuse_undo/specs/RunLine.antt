@@ -57,13 +57,13 @@ pub record Looks {A : Type 0} (IsAnswer : Result A Refusal → Type 0) (old : St
   pub unstopped : IfErr answer IsEarly
 
 -- what a call answers and which standing it leaves, where it tells neither a fault of the store nor want of memory
-abbrev pub Does : Event → State → Result Reply Refusal → State → Type 0
-Does (events.Run command when) old answer new = Runs command when old answer new
-Does events.Undo old answer new = Undoes old.journal.done old answer new
-Does events.Redo old answer new = Redoes old.journal.undone old answer new
-Does events.Log old answer new = (answer ≡ Ok (replies.Log (rows_in old.journal))) × (new ≡ old)
-Does (events.Preview call) old answer new = ⊥
-Does events.Reopen old answer new = (answer ≡ Ok replies.Opened) × (new ≡ old)
+abbrev pub CallLeadsTo : Event → State → Result Reply Refusal → State → Type 0
+CallLeadsTo (events.Run command when) old answer new = Runs command when old answer new
+CallLeadsTo events.Undo old answer new = Undoes old.journal.done old answer new
+CallLeadsTo events.Redo old answer new = Redoes old.journal.undone old answer new
+CallLeadsTo events.Log old answer new = (answer ≡ Ok (replies.Log (rows_in old.journal))) × (new ≡ old)
+CallLeadsTo (events.Preview call) old answer new = ⊥
+CallLeadsTo events.Reopen old answer new = (answer ≡ Ok replies.Opened) × (new ≡ old)
 
 -- a call that stopped leaves files in doubt between the standing before it and that after it; a log doesn't stop
 abbrev pub IsStopped : Event → State → Files → Type 0
@@ -73,18 +73,18 @@ IsStopped events.Redo old files = StopsAfter ways.Redo old files
 IsStopped event old files = ⊥
 
 -- What a call that makes a step answers and leaves from a standing. A fault of the store or want of memory leaves the standing.
-abbrev pub Makes : Event → State → Result Reply Refusal → Files → Type 0
-Makes event old (Err (refusals.Fault fault)) files = IsStanding files old
-Makes event old (Err refusals.Memory) files = IsStanding files old
-Makes event old (Err (refusals.Interrupted cause)) files = IsStopped event old files
-Makes event old answer files = (new : State) × Does event old answer new × IsStanding files new
+abbrev pub StepLeaves : Event → State → Result Reply Refusal → Files → Type 0
+StepLeaves event old (Err (refusals.Fault fault)) files = IsStanding files old
+StepLeaves event old (Err refusals.Memory) files = IsStanding files old
+StepLeaves event old (Err (refusals.Interrupted cause)) files = IsStopped event old files
+StepLeaves event old answer files = (new : State) × CallLeadsTo event old answer new × IsStanding files new
 
 -- what a call answers and leaves from a standing; a log answers its rows, or memory ran out
-abbrev pub Calls : Event → State → Result Reply Refusal → Files → Type 0
-Calls (events.Preview call) old answer files = (fates : Result (List Fate) Refusal) × (answer ≡ as_reply fates) × Looks (Previews call old) old fates files
-Calls events.Log old (Err refusals.Memory) files = IsStanding files old
-Calls events.Log old answer files = (new : State) × Does events.Log old answer new × IsStanding files new
-Calls event old answer files = Makes event old answer files
+abbrev pub CallLeaves : Event → State → Result Reply Refusal → Files → Type 0
+CallLeaves (events.Preview call) old answer files = (fates : Result (List Fate) Refusal) × (answer ≡ as_reply fates) × Looks (Previews call old) old fates files
+CallLeaves events.Log old (Err refusals.Memory) files = IsStanding files old
+CallLeaves events.Log old answer files = (new : State) × CallLeadsTo events.Log old answer new × IsStanding files new
+CallLeaves event old answer files = StepLeaves event old answer files
 
 -- ---- the session's answer to a request
 
@@ -110,7 +110,7 @@ PreviewsRevert number skip_moved old answer =
 
 -- what a request is answered and leaves from a standing
 abbrev pub Meets : Request → State → Result Told Refusal → Files → Type 0
-Meets (requests.Call event) old answer files = (reply : Result Reply Refusal) × (answer ≡ as_told tells.Reply reply) × Calls event old reply files
+Meets (requests.Call event) old answer files = (reply : Result Reply Refusal) × (answer ≡ as_told tells.Reply reply) × CallLeaves event old reply files
 Meets (requests.Show number) old answer files = (shown : Result Shown Refusal) × (answer ≡ as_told tells.Shown shown) × Looks (ShowsIn old.journal number) old shown files
 Meets (requests.Revert number skip_moved when) old answer files =
     (reverted : Result Reverted Refusal) × (answer ≡ as_told tells.Reverted reverted) × RevertsOn number skip_moved when old reverted files
@@ -158,8 +158,8 @@ pub record IsMade (before : Files) (request : Request) (answer : Result Told Ref
   pub settles : (first second : State) → InDoubt first second before → Meets request first answer after ⊎ Meets request second answer after
 
 -- a session's answer to the request, or its opening's refusal, and the files then
-abbrev pub Carries : Files → Request → Result Told Refusal → Files → Type 0
-Carries before request answer after = ((refusal : Refusal) × (answer ≡ Err refusal) × IsUnopened before refusal after) ⊎ IsMade before request answer after
+abbrev pub RequestLeaves : Files → Request → Result Told Refusal → Files → Type 0
+RequestLeaves before request answer after = ((refusal : Refusal) × (answer ≡ Err refusal) × IsUnopened before refusal after) ⊎ IsMade before request answer after
 
 -- ---- from a state of the machine
 
@@ -199,12 +199,12 @@ ForetellsBack state number skip_moved answer =
     ⊎ ((changes : List Change) × LedTo number changes state.tree state.past × (answer ≡ run_fates state (Revert changes skip_moved)))
 
 -- the same of a request; what only looks leaves the state, and a step that is shown is one of the machine's
-abbrev pub Steps : Snapshots → Request → Result Told Refusal → Files → Type 0
-Steps state (requests.Call event) answer files = (reply : Result Reply Refusal) × (answer ≡ as_told tells.Reply reply) × StepsBy state event reply files
-Steps state (requests.Show number) answer files = (shown : Result Shown Refusal) × (answer ≡ as_told tells.Shown shown) × IfOk shown (ShowsAt state number) × HoldState files state
-Steps state (requests.Revert number skip_moved when) answer files =
+abbrev pub FollowsMachine : Snapshots → Request → Result Told Refusal → Files → Type 0
+FollowsMachine state (requests.Call event) answer files = (reply : Result Reply Refusal) × (answer ≡ as_told tells.Reply reply) × StepsBy state event reply files
+FollowsMachine state (requests.Show number) answer files = (shown : Result Shown Refusal) × (answer ≡ as_told tells.Shown shown) × IfOk shown (ShowsAt state number) × HoldState files state
+FollowsMachine state (requests.Revert number skip_moved when) answer files =
     (reverted : Result Reverted Refusal) × (answer ≡ as_told tells.Reverted reverted) × StepsBack state number skip_moved when reverted files
-Steps state (requests.PreviewRevert number skip_moved) answer files =
+FollowsMachine state (requests.PreviewRevert number skip_moved) answer files =
     (fates : Result (List Fate) Refusal) × (answer ≡ as_told (λ (f : List Fate). tells.Reply (replies.Preview f)) fates)
     × (TellsNoFault fates → ForetellsBack state number skip_moved fates) × HoldState files state
 
@@ -213,15 +213,15 @@ Steps state (requests.PreviewRevert number skip_moved) answer files =
 -- The answer is one of these. Of it the writer, if it tells its bytes, was given the lines, and the paths that changed are counted, or it failed behind
 -- some front part of them; a refusal is handed on, and nothing is written of it, nor for want of memory. A call that was only looked at is a fault exactly where one of its fates is a refusal. That another
 -- run works on the tree is told before a store is asked, so never here.
-abbrev pub Tells : Telling → (Result Told Refusal → Type 0) → Option (List ℕ) → Option (List ℕ) → Result ℕ Fault → Type 0
-Tells telling IsAnswer old new (Ok count) = (told : Told) × IsAnswer (Ok told) × WouldBeMade told × AppendsSome old new (IsToldText telling told) × (count ≡ told_count told)
-Tells telling IsAnswer old new (Err (faults.Refused refusal)) = IsAnswer (Err refusal) × (new ≡ old)
-Tells telling IsAnswer old new (Err (faults.WouldRefuse fates)) =
+abbrev pub TellsAnswer : Telling → (Result Told Refusal → Type 0) → Option (List ℕ) → Option (List ℕ) → Result ℕ Fault → Type 0
+TellsAnswer telling IsAnswer old new (Ok count) = (told : Told) × IsAnswer (Ok told) × WouldBeMade told × AppendsSome old new (IsToldText telling told) × (count ≡ told_count told)
+TellsAnswer telling IsAnswer old new (Err (faults.Refused refusal)) = IsAnswer (Err refusal) × (new ≡ old)
+TellsAnswer telling IsAnswer old new (Err (faults.WouldRefuse fates)) =
     IsAnswer (Ok (tells.Reply (replies.Preview fates))) × (is_refused fates ≡ true) × AppendsSome old new (IsToldText telling (tells.Reply (replies.Preview fates)))
-Tells telling IsAnswer old new (Err (faults.NoDiff refusal)) = ((told : Told) × IsAnswer (Ok told) × IsForeseen telling told) × (new ≡ old)
-Tells telling IsAnswer old new (Err faults.InUse) = ⊥
-Tells telling IsAnswer old new (Err faults.Write) = (told : Told) × IsAnswer (Ok told) × (text : List ℕ) × IsToldText telling told text × AppendsFront old new text
-Tells telling IsAnswer old new (Err faults.Memory) = ((told : Told) × IsAnswer (Ok told)) × (new ≡ old)
+TellsAnswer telling IsAnswer old new (Err (faults.NoDiff refusal)) = ((told : Told) × IsAnswer (Ok told) × IsForeseen telling told) × (new ≡ old)
+TellsAnswer telling IsAnswer old new (Err faults.InUse) = ⊥
+TellsAnswer telling IsAnswer old new (Err faults.Write) = (told : Told) × IsAnswer (Ok told) × (text : List ℕ) × IsToldText telling told text × AppendsFront old new text
+TellsAnswer telling IsAnswer old new (Err faults.Memory) = ((told : Told) × IsAnswer (Ok told)) × (new ≡ old)
 
 -- a refusal that is told
 abbrev pub IfRefused : {T : Type 0} → Result T Fault → (Refusal → Type 0) → Type 0

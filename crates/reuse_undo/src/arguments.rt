@@ -3,38 +3,14 @@ use crate::help::{
     ABOUT, AFTER, AFTER_ANNOTATE, AFTER_CONVERT, AFTER_DOWNLOAD, AFTER_LOG, AFTER_REDO,
     AFTER_REVERT, AFTER_SHOW, AFTER_UNDO,
 };
+use crate::prefix_name::prefix_names;
 use clap::builder::ValueParser;
 use clap::{Arg, ArgAction, ArgGroup, Command};
+use reuse_header::style_names;
 use std::alloc::{AllocError, Global};
-
-const STYLES: &[&str] = &[
-    "python",
-    "c",
-    "css",
-    "html",
-    "haskell",
-    "tex",
-    "lisp",
-    "semicolon",
-    "ml",
-    "vim",
-];
 
 /// The largest number that a step may be asked for by.
 const MOST_NUMBER: u64 = 4_294_967_295;
-
-const PREFIXES: &[&str] = &[
-    "spdx",
-    "spdx-c",
-    "spdx-symbol",
-    "spdx-string",
-    "spdx-string-c",
-    "spdx-string-symbol",
-    "string",
-    "string-c",
-    "string-symbol",
-    "symbol",
-];
 
 /// The version, and the format of the journal that this version writes.
 const VERSION: &str = "1.1.0 (journal format 2)";
@@ -92,7 +68,7 @@ fn with_flags<'a>(
     Ok(command)
 }
 
-fn named<'a>(alloc: Global, id: &'a str, names: &'a [&'a str], help: &'a str) -> Arg<'a> {
+fn named<'a>(alloc: Global, id: &'a str, names: &'static [&'static str], help: &'a str) -> Arg<'a> {
     Arg::new(alloc, id)
         .long(id)
         .value_name("NAME")
@@ -116,18 +92,24 @@ fn with_texts<'a>(alloc: Global, command: Command<'a>) -> Result<Command<'a>, Al
         "TEXT",
         "A copyright holder; may be repeated",
     );
+    let command = command.arg(copyright.short('c'))?;
     let license = repeated(
         alloc,
         "license",
         "EXPR",
         "An SPDX licence expression; may be repeated",
     );
+    let command = command.arg(license.short('l'))?;
     let contributor = repeated(
         alloc,
         "contributor",
         "TEXT",
         "A contributor; may be repeated",
     );
+    command.arg(contributor)
+}
+
+fn with_years<'a>(alloc: Global, command: Command<'a>) -> Result<Command<'a>, AllocError> {
     let year = repeated(
         alloc,
         "year",
@@ -135,55 +117,75 @@ fn with_texts<'a>(alloc: Global, command: Command<'a>) -> Result<Command<'a>, Al
         "The year of the copyright, by default this one; repeated, the ends of a range",
     );
     command
-        .arg(copyright.short('c'))?
-        .arg(license.short('l'))?
-        .arg(contributor)?
         .arg(year.short('y'))?
         .arg(flag(alloc, "exclude-year", "Write no year"))
+}
+
+fn prefix<'a>(alloc: Global) -> Result<Arg<'a>, AllocError> {
+    named(
+        alloc,
+        "copyright-prefix",
+        prefix_names(),
+        "What a copyright notice begins with, by default spdx",
+    )
+    .visible_alias("copyright-style")
+}
+
+/// At most one form is asked for.
+fn form<'a>(alloc: Global) -> Result<ArgGroup<'a>, AllocError> {
+    ArgGroup::new(alloc, "form")
+        .arg("single-line")?
+        .arg("multi-line")
 }
 
 fn with_form<'a>(alloc: Global, command: Command<'a>) -> Result<Command<'a>, AllocError> {
     let style = named(
         alloc,
         "style",
-        STYLES,
+        style_names(),
         "The comment style of all PATHs, in place of that of their names",
     );
-    let prefix = named(
-        alloc,
-        "copyright-prefix",
-        PREFIXES,
-        "What a copyright notice begins with, by default spdx",
-    )
-    .visible_alias("copyright-style")?;
-    let form = ArgGroup::new(alloc, "form")
-        .arg("single-line")?
-        .arg("multi-line")?;
-    let command = command.arg(style.short('s'))?.arg(prefix)?;
-    with_flags(alloc, command, FORM_FLAGS)?.group(form)
+    let command = command.arg(style.short('s'))?.arg(prefix(alloc)?)?;
+    with_flags(alloc, command, FORM_FLAGS)?.group(form(alloc)?)
 }
 
-fn with_scope<'a>(alloc: Global, command: Command<'a>) -> Result<Command<'a>, AllocError> {
-    let unknown = ArgGroup::new(alloc, "unknown")
-        .arg("fallback-dot-license")?
-        .arg("skip-unrecognised")?;
-    let files_from = Arg::new(alloc, "files-from")
+fn files_from<'a>(alloc: Global) -> Result<Arg<'a>, AllocError> {
+    let file = Arg::new(alloc, "files-from")
         .long("files-from")
         .value_name("FILE")
         .action(ArgAction::Set)
-        .requires_arg("recursive")?
         .help("Of the files beneath folders, those that FILE lists; `-` is standard input");
-    let exclude = repeated(
+    file.requires_arg("recursive")
+}
+
+fn exclude<'a>(alloc: Global) -> Result<Arg<'a>, AllocError> {
+    let glob = repeated(
         alloc,
         "exclude",
         "GLOB",
         "Of the files beneath folders, none that GLOB matches; may be repeated",
-    )
-    .requires_arg("recursive")?;
-    let command = command
-        .arg(flag(alloc, "recursive", "Annotate the files beneath folders").short('r'))?
-        .arg(files_from)?
-        .arg(exclude)?;
+    );
+    glob.requires_arg("recursive")
+}
+
+/// Which of the files beneath folders are annotated.
+fn with_choice<'a>(alloc: Global, command: Command<'a>) -> Result<Command<'a>, AllocError> {
+    let recursive = flag(alloc, "recursive", "Annotate the files beneath folders");
+    command
+        .arg(recursive.short('r'))?
+        .arg(files_from(alloc)?)?
+        .arg(exclude(alloc)?)
+}
+
+/// At most one thing is asked for where a style is unknown.
+fn unknown<'a>(alloc: Global) -> Result<ArgGroup<'a>, AllocError> {
+    ArgGroup::new(alloc, "unknown")
+        .arg("fallback-dot-license")?
+        .arg("skip-unrecognised")
+}
+
+fn with_scope<'a>(alloc: Global, command: Command<'a>) -> Result<Command<'a>, AllocError> {
+    let command = with_choice(alloc, command)?;
     let paths = listed(
         alloc,
         "PATH",
@@ -191,7 +193,7 @@ fn with_scope<'a>(alloc: Global, command: Command<'a>) -> Result<Command<'a>, Al
     );
     with_flags(alloc, command, SCOPE_FLAGS)?
         .arg(paths)?
-        .group(unknown)
+        .group(unknown(alloc)?)
 }
 
 fn annotate<'a>(alloc: Global) -> Result<Command<'a>, AllocError> {
@@ -199,6 +201,7 @@ fn annotate<'a>(alloc: Global) -> Result<Command<'a>, AllocError> {
         .about("Adds copyright and licensing information to files")
         .after_help(AFTER_ANNOTATE);
     let command = with_texts(alloc, command)?;
+    let command = with_years(alloc, command)?;
     let command = with_form(alloc, command)?;
     with_scope(alloc, command)
 }

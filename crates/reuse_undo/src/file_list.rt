@@ -24,16 +24,19 @@ pub fn with_list<R: Runtime>(
     files_from: Option<String>,
 ) -> Result<Line, LineFault> {
     let mut line = line;
-    let Some(file) = files_from else {
-        return Ok(line);
-    };
-    let listed = read_list(rt, alloc, file.as_str())?;
-    if let Action::Do(deed) | Action::Foretell(deed) = &mut line.action {
+    if let Some(file) = files_from {
+        set_listed(&mut line.action, read_list(rt, alloc, file.as_str())?);
+    }
+    Ok(line)
+}
+
+/// Of the files beneath folders an annotation goes through those of the list alone.
+fn set_listed(action: &mut Action, listed: PathList) {
+    if let Action::Do(deed) | Action::Foretell(deed) = action {
         if let Deed::Annotate(Command::Annotate { scope, .. }) = deed {
             scope.listed = Some(listed);
         }
     }
-    Ok(line)
 }
 
 fn read_list<R: Runtime>(rt: &R, alloc: Global, file: &str) -> Result<PathList, LineFault> {

@@ -7,7 +7,7 @@ use crate::fault::Fault;
 use crate::line::{Action, Deed, Line};
 use crate::request::Request;
 use reuse_session::{Command, Event, Fate, Head, Refusal, Scope, Session, Unknown, decode_head};
-use reuse_text::Bytes;
+use reuse_text::{Bytes, LONGEST_FILE};
 use reuse_tree::{PathText, Reading, Store};
 use std::alloc::Global;
 use std::rt::{Files, Runtime};
@@ -18,9 +18,6 @@ const TABLE: &str = "REUSE.toml";
 
 /// What each paragraph of the table begins with.
 const TABLE_PARAGRAPH: &str = "[[annotations]]";
-
-/// The longest file that is read for notes.
-const LONGEST: usize = 16_777_216;
 
 /// What a call is to do.
 #[derive(Clone, Copy, Debug, PartialEq, Eq)]
@@ -166,7 +163,7 @@ fn read<S: Store>(alloc: Global, store: &mut S, path: &str) -> Option<Bytes>
     ensures { OnlyReads S.Store store.old store.new }
 {
     let path = PathText::new(alloc, path).ok()?;
-    match store.read(alloc, &path, LONGEST) {
+    match store.read(alloc, &path, LONGEST_FILE) {
         Ok(Reading::Found(bytes)) => Some(bytes),
         _ => None,
     }

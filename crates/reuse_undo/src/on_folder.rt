@@ -2,7 +2,7 @@
 ghost use Rattle.std.specs.Prelude.{◌≡◌};
 ghost use Rattle.reuse_session.specs.Machine.{Snapshots};
 ghost use Rattle.reuse_session.specs.Stops.{HoldState};
-ghost use Rattle.reuse_undo.specs.RunLine.{Carries, Steps, Tells, IfRefused};
+ghost use Rattle.reuse_undo.specs.RunLine.{RequestLeaves, FollowsMachine, TellsAnswer, IfRefused};
 ghost use Rattle.reuse_undo.specs.Told.{TellsFailure};
 
 use crate::disk::DiskStore;
@@ -29,10 +29,10 @@ pub fn run_on_folder<R: Runtime + Files + AllocGlobal + Clone + Drop, O: Sink>(
 ) -> (DiskStore<R>, Result<usize, Fault>)
     // For whatever files the folder holds, where it answers as an honest one: what is told is the session's answer, and the files are as it left them.
     ensures exact { ⟦<DiskStore<R> as Store>⟧.honest result.0
-        → Tells telling (λ answer. Carries (⟦<DiskStore<R> as Store>⟧.files folder) request.now answer (⟦<DiskStore<R> as Store>⟧.files result.0)) (O.contents out.old) (O.contents out.new) result.1 }
+        → TellsAnswer telling (λ answer. RequestLeaves (⟦<DiskStore<R> as Store>⟧.files folder) request.now answer (⟦<DiskStore<R> as Store>⟧.files result.0)) (O.contents out.old) (O.contents out.new) result.1 }
     // From any state that they hold it is that of the machine that keeps whole copies.
     ensures machine { ⟦<DiskStore<R> as Store>⟧.honest result.0 → (state : Snapshots) → HoldState (⟦<DiskStore<R> as Store>⟧.files folder) state
-        → Tells telling (λ answer. Steps state request.now answer (⟦<DiskStore<R> as Store>⟧.files result.0)) (O.contents out.old) (O.contents out.new) result.1 }
+        → TellsAnswer telling (λ answer. FollowsMachine state request.now answer (⟦<DiskStore<R> as Store>⟧.files result.0)) (O.contents out.old) (O.contents out.new) result.1 }
     // A refusal is told before anything is written, and that the reply couldn't be written exactly where the writer failed.
     ensures quiet { IfRefused result.1 (λ refusal. out.new ≡ out.old) }
     ensures failed { TellsFailure (O.failed out.old) (O.failed out.new) result.1 }

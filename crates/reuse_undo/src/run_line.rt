@@ -9,7 +9,7 @@ ghost use Rattle.reuse_session.specs.Standing.{IsStanding};
 ghost use Rattle.reuse_session.specs.Stops.{HoldState};
 ghost use Rattle.reuse_undo.specs.WriterFaults.{IsOfDiff, IsUndrawn};
 ghost use Rattle.reuse_undo.specs.Requests.{IsLook};
-ghost use Rattle.reuse_undo.specs.RunLine.{HasCallClash, Carries, Steps, Tells, IfRefused, IfNoDiff};
+ghost use Rattle.reuse_undo.specs.RunLine.{HasCallClash, RequestLeaves, FollowsMachine, TellsAnswer, IfRefused, IfNoDiff};
 ghost use Rattle.reuse_undo.specs.Told.{IsDiffOf, IsNoDiff, IsWanted, TellsFailure};
 
 mod calls;
@@ -38,10 +38,10 @@ pub fn run_request<S: Store + Drop, O: Sink>(
 ) -> (S, Result<usize, Fault>)
     // From any files, where the store is honest: what is told is the session's answer, and the files are as it left them.
     ensures exact { S.honest result.0
-        → Tells telling (λ answer. Carries (S.files store) request.now answer (S.files result.0)) (O.contents out.old) (O.contents out.new) result.1 }
+        → TellsAnswer telling (λ answer. RequestLeaves (S.files store) request.now answer (S.files result.0)) (O.contents out.old) (O.contents out.new) result.1 }
     // From any state that the files hold it is that of the machine that keeps whole copies.
     ensures machine { S.honest result.0 → (state : Snapshots) → HoldState (S.files store) state
-        → Tells telling (λ answer. Steps state request.now answer (S.files result.0)) (O.contents out.old) (O.contents out.new) result.1 }
+        → TellsAnswer telling (λ answer. FollowsMachine state request.now answer (S.files result.0)) (O.contents out.old) (O.contents out.new) result.1 }
     // What only asks only reads the store, where nothing is pending.
     ensures looks { S.honest result.0 → IsLook request.now → (held : State) → IsStanding (S.files store) held → OnlyReads S.Store store result.0 }
     // A refusal is told before anything is written, and that the reply couldn't be written exactly where the writer failed.
@@ -70,7 +70,7 @@ fn call<S: Store + Drop>(
     request: &Request,
     telling: Telling,
 ) -> (S, Result<Told, Refusal>, Result<Vec<u8>, Fault>)
-    ensures carries { S.honest result.0 → Carries (S.files store) request.now result.1 (S.files result.0) }
+    ensures carries { S.honest result.0 → RequestLeaves (S.files store) request.now result.1 (S.files result.0) }
     ensures looks { S.honest result.0 → IsLook request.now → (held : State) → IsStanding (S.files store) held → OnlyReads S.Store store result.0 }
     ensures fault { IfErr result.1 (HasCause (S.failures store < S.failures result.0)) }
     ensures clash { S.honest result.0 → (held : State) → IsStanding (S.files store) held → IfErr result.1 (HasCallClash request.now held (S.files store)) }

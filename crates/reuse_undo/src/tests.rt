@@ -14,7 +14,7 @@ use crate::run_line::run_request;
 use crate::status::{exit_status, line_status};
 use crate::words::words_to_command;
 use reuse_session::{LicenceText, LicenceTexts, Moment, Refusal};
-use reuse_text::Bytes;
+use reuse_text::{Bytes, LONGEST_FILE};
 use reuse_tree::{MemoryStore, PathText, Reading, Store};
 use std::alloc::Global;
 use std::io::{self, ErrorKind, Write};
@@ -61,7 +61,7 @@ fn store_of(alloc: Global, path: &str, bytes: &[u8]) -> Result<MemoryStore, Fail
 
 /// Whether the store has just these bytes at the path, where no bytes are no file.
 fn holds(alloc: Global, store: &mut MemoryStore, path: &str, bytes: &[u8]) -> Result<bool, Fail> {
-    match store.read(alloc, &PathText::new(alloc, path)?, 16_777_216)? {
+    match store.read(alloc, &PathText::new(alloc, path)?, LONGEST_FILE)? {
         Reading::Found(found) => Ok(found.as_slice() == bytes),
         _ => Ok(bytes.is_empty()),
     }

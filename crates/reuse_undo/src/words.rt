@@ -91,8 +91,13 @@ fn read_line(alloc: Global, matches: &ArgMatches<'_>, moment: Moment) -> Result<
             telling: read_telling(name, inner),
             moment,
         }),
-        None => Err(LineFault::Usage(String::from_str(alloc, "no subcommand")?)),
+        None => Err(unread(alloc, "no subcommand")?),
     }
+}
+
+/// Words that the command line takes and nothing here reads.
+fn unread(alloc: Global, text: &str) -> Result<LineFault, AllocError> {
+    Ok(LineFault::Usage(format!(in alloc; "error: {text}\n")?))
 }
 
 fn read_action(
@@ -107,15 +112,16 @@ fn read_action(
         "annotate" => Deed::Annotate(read_annotate(alloc, matches, moment)?),
         "convert-dep5" => Deed::ConvertDep5,
         "download" => Deed::Download {
-            folder: String::from_str(alloc, matches.get_str("texts").unwrap_or("."))?,
+            folder: read_texts(alloc, matches)?,
             ids: read_ids(alloc, matches)?,
         },
         "undo" => Deed::Undo,
         "redo" => Deed::Redo,
-        _ => Deed::Revert {
+        "revert" => Deed::Revert {
             number: read_number(matches),
             skip_moved: matches.get_flag("skip-moved"),
         },
+        _ => return Err(unread(alloc, "a subcommand that nothing reads")?),
     };
     Ok(Action::of(deed, matches.get_flag("dry-run")))
 }
@@ -133,6 +139,14 @@ fn read_telling(name: &str, matches: &ArgMatches<'_>) -> Telling {
         Telling::Diff
     } else {
         Telling::Lines
+    }
+}
+
+/// The folder of the licence texts. The command line takes no download without it.
+fn read_texts(alloc: Global, matches: &ArgMatches<'_>) -> Result<String, LineFault> {
+    match matches.get_str("texts") {
+        Some(folder) => Ok(String::from_str(alloc, folder)?),
+        None => Err(unread(alloc, "no folder of texts")?),
     }
 }
 
@@ -158,7 +172,7 @@ fn read_annotate(
         matches.get_strs("year").unwrap_or(&[]),
         matches.get_flag("exclude-year"),
         year_of(moment),
-        read_prefix(matches),
+        read_prefix(alloc, matches)?,
     )?;
     Ok(Command::Annotate {
         places,
@@ -183,10 +197,23 @@ fn read_place(alloc: Global, word: &str) -> Result<Place, LineFault> {
     }
 }
 
-fn read_prefix(matches: &ArgMatches<'_>) -> Prefix {
-    match matches.get_str("copyright-prefix") {
-        Some(name) => prefix_of_name(name).unwrap_or(Prefix::Spdx),
-        None => Prefix::Spdx,
+fn read_prefix(alloc: Global, matches: &ArgMatches<'_>) -> Result<Prefix, LineFault> {
+    let Some(name) = matches.get_str("copyright-prefix") else {
+        return Ok(Prefix::Spdx);
+    };
+    match prefix_of_name(name) {
+        Some(prefix) => Ok(prefix),
+        None => Err(unread(alloc, "a prefix that nothing reads")?),
+    }
+}
+
+fn read_style(alloc: Global, matches: &ArgMatches<'_>) -> Result<Option<Style>, LineFault> {
+    let Some(name) = matches.get_str("style") else {
+        return Ok(None);
+    };
+    match Style::of_name(name) {
+        Some(style) => Ok(Some(style)),
+        None => Err(unread(alloc, "a style that nothing reads")?),
     }
 }
 
@@ -215,7 +242,7 @@ fn read_scope(alloc: Global, matches: &ArgMatches<'_>) -> Result<Scope, LineFaul
     };
     Ok(Scope {
         recursive: matches.get_flag("recursive"),
-        style: matches.get_str("style").and_then(Style::of_name),
+        style: read_style(alloc, matches)?,
         force_dot_license: matches.get_flag("force-dot-license"),
         unknown,
         skip_existing: matches.get_flag("skip-existing"),

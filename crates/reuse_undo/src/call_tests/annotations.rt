@@ -2,6 +2,7 @@
 // The tags below are data: REUSE-IgnoreStart
 use reuse_header::{How, Splice, Style, annotate_file, annotate_neighbour};
 use reuse_notice::{Additions, Prefix};
+use reuse_text::LONGEST_FILE;
 use std::alloc::Global;
 use std::test::Fail;
 
@@ -31,7 +32,7 @@ fn apply(alloc: Global, file: &[u8], splice: &Splice) -> Result<Vec<u8>, Fail> {
 
 // The file that an annotation makes of a small one in Python's style, where it changes it.
 fn annotated(alloc: Global, file: &[u8], added: &Additions) -> Result<Option<Vec<u8>>, Fail> {
-    if file.len() > 16_777_216 {
+    if file.len() > LONGEST_FILE {
         return Err("too long")?;
     }
     match annotate_file(alloc, file, Style::Python, added, &PLAIN)? {

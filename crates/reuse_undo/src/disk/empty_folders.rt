@@ -2,8 +2,21 @@
 use crate::disk::fault::{FolderFault, Obstacle};
 use crate::disk::listing::{MOST_NAMES, push_text};
 use std::alloc::Global;
-use std::fs;
+use std::fs::{self, DirEntry};
 use std::rt::Files;
+
+/// Adds a folder. Anything else is in the way.
+fn push_folder<R: Files>(
+    alloc: Global,
+    entry: &DirEntry<R>,
+    folders: &mut Vec<String>,
+) -> Result<(), FolderFault> {
+    if !entry.file_type()?.is_dir() {
+        return Err(FolderFault::Device(Obstacle::Foreign));
+    }
+    push_text(alloc, folders, entry.path().as_str())?;
+    Ok(())
+}
 
 /// Adds the folders that lie in this one. Where anything else lies in it, that is in the way.
 fn push_folders<R: Files + AllocGlobal + Clone + Drop>(
@@ -13,11 +26,7 @@ fn push_folders<R: Files + AllocGlobal + Clone + Drop>(
     folders: &mut Vec<String>,
 ) -> Result<(), FolderFault> {
     for entry in fs::read_dir(rt, folder)? {
-        let entry = entry?;
-        if !entry.file_type()?.is_dir() {
-            return Err(FolderFault::Device(Obstacle::Foreign));
-        }
-        push_text(alloc, folders, entry.path().as_str())?;
+        push_folder(alloc, &entry?, folders)?;
     }
     Ok(())
 }

@@ -12,7 +12,7 @@ use crate::disk::fault::{FolderFault, Obstacle};
 use crate::disk::kept_out::{NEW, is_kept_out};
 use crate::disk::listing::list_below;
 use crate::disk::new_file::NewFile;
-use crate::disk::place::{FileStatus, FullPath, Place, check_root};
+use crate::disk::place::{FileStatus, Found, FullPath, Place, check_root};
 use reuse_text::Bytes;
 use reuse_tree::{PathText, Reading};
 use std::alloc::Global;
@@ -90,17 +90,17 @@ impl<R: Files + AllocGlobal + Clone + Drop> RootFolder<R> {
         }
         if self.seen.as_str() != full.folder() {
             match full.look_above(&self.rt)? {
-                Place::Folder => {
+                None => {
                     self.seen.clear();
                     self.seen.push_str(full.folder())?;
                 }
-                Place::Nothing => return self.nothing(),
-                above => return Ok(above),
+                Some(Place::Nothing) => return self.nothing(),
+                Some(place) => return Ok(place),
             }
         }
         match full.look(&self.rt)? {
-            Place::Nothing => self.nothing(),
-            place => Ok(place),
+            Found::Nothing => self.nothing(),
+            found => Ok(Place::from(found)),
         }
     }
 

@@ -45,7 +45,20 @@ pub fn kept_bits(metadata: &Metadata) -> u32 {
     metadata.permissions().mode() & KEPT_BITS
 }
 
-/// What stands at a path.
+/// What stands at a path whose folders are all there.
+#[derive(Drop)]
+pub enum Found {
+    /// Nothing.
+    Nothing,
+    /// A regular file.
+    File(FileStatus),
+    /// A folder.
+    Folder,
+    /// A link, a device or a pipe.
+    Other,
+}
+
+/// What a path is, with the parts above it.
 #[derive(Drop)]
 pub enum Place {
     /// Nothing; folders above it may be missing too.
@@ -58,6 +71,17 @@ pub enum Place {
     Folder,
     /// A link, a device or a pipe stands there or above it.
     Other,
+}
+
+impl From<Found> for Place {
+    fn from(found: Found) -> Place {
+        match found {
+            Found::Nothing => Place::Nothing,
+            Found::File(status) => Place::File(status),
+            Found::Folder => Place::Folder,
+            Found::Other => Place::Other,
+        }
+    }
 }
 
 /// A path below a root as the system takes it: the root, a slash and the path.
@@ -122,30 +146,30 @@ impl FullPath {
     }
 
     /// What stands at the path, where what is above it is known to be folders.
-    pub fn look(&self, rt: &impl Files) -> Result<Place, FolderFault> {
+    pub fn look(&self, rt: &impl Files) -> Result<Found, FolderFault> {
         look_at(rt, self.text())
     }
 
-    /// `Folder` where the parts above the path are folders, else what stands at the path.
-    pub fn look_above(&self, rt: &impl Files) -> Result<Place, FolderFault> {
+    /// What the path is by the first part above it that is no folder, if one is none.
+    pub fn look_above(&self, rt: &impl Files) -> Result<Option<Place>, FolderFault> {
         for (end, _) in self.path().match_indices('/') {
             match look_at(rt, self.up_to(end))? {
-                Place::Folder => {}
-                Place::Nothing => return Ok(Place::Nothing),
-                Place::File(_) | Place::BelowFile => return Ok(Place::BelowFile),
-                Place::Other => return Ok(Place::Other),
+                Found::Folder => {}
+                Found::Nothing => return Ok(Some(Place::Nothing)),
+                Found::File(_) => return Ok(Some(Place::BelowFile)),
+                Found::Other => return Ok(Some(Place::Other)),
             }
         }
-        Ok(Place::Folder)
+        Ok(None)
     }
 
     /// Makes the folders above the path that are missing, but not the root.
     pub fn make_folders(&self, rt: &impl Files) -> Result<(), FolderFault> {
         for (end, _) in self.path().match_indices('/') {
             match look_at(rt, self.up_to(end))? {
-                Place::Folder => {}
-                Place::Nothing => fs::create_dir(rt, self.up_to(end))?,
-                Place::File(_) | Place::BelowFile | Place::Other => {
+                Found::Folder => {}
+                Found::Nothing => fs::create_dir(rt, self.up_to(end))?,
+                Found::File(_) | Found::Other => {
                     return Err(FolderFault::Device(Obstacle::Foreign));
                 }
             }
@@ -154,13 +178,13 @@ impl FullPath {
     }
 }
 
-/// What this place is, whatever is above it.
-fn look_at(rt: &impl Files, full: &str) -> Result<Place, FolderFault> {
+/// What stands at this place.
+fn look_at(rt: &impl Files, full: &str) -> Result<Found, FolderFault> {
     match fs::symlink_metadata(rt, full) {
-        Ok(metadata) if metadata.is_file() => Ok(Place::File(FileStatus::of(&metadata))),
-        Ok(metadata) if metadata.is_dir() => Ok(Place::Folder),
-        Ok(_) => Ok(Place::Other),
-        Err(error) if error.kind() == ErrorKind::NotFound => Ok(Place::Nothing),
+        Ok(metadata) if metadata.is_file() => Ok(Found::File(FileStatus::of(&metadata))),
+        Ok(metadata) if metadata.is_dir() => Ok(Found::Folder),
+        Ok(_) => Ok(Found::Other),
+        Err(error) if error.kind() == ErrorKind::NotFound => Ok(Found::Nothing),
         Err(error) => Err(error.into()),
     }
 }

@@ -6,7 +6,7 @@ ghost use Rattle.reuse_session.specs.Journal.{State};
 ghost use Rattle.reuse_session.specs.Session.{store_of, StandsOn};
 ghost use Rattle.reuse_undo.specs.Peeks.{Peeks};
 ghost use Rattle.reuse_undo.specs.Requests.{IsLook};
-ghost use Rattle.reuse_undo.specs.RunLine.{as_told, Calls, Meets, Previews, PreviewsRevert, HasCallClash, KeepsFolder, TakesBackStep};
+ghost use Rattle.reuse_undo.specs.RunLine.{as_told, CallLeaves, Meets, Previews, PreviewsRevert, HasCallClash, KeepsFolder, TakesBackStep};
 
 use crate::request::{Request, Told};
 use reuse_session::{
@@ -83,7 +83,7 @@ fn fates_told(answer: Result<Fates, Refusal>) -> Result<Told, Refusal>
 
 // Makes a call of an event. A session that is asked to be opened is open.
 fn ask_event<S: Store + Drop>(alloc: Global, session: &mut Session<S>, event: &Event) -> Answer
-    ensures calls { S.honest (store_of session.new) → (held : State) → StandsOn S.files session.old held → Calls event.now held result (S.files (store_of session.new)) }
+    ensures calls { S.honest (store_of session.new) → (held : State) → StandsOn S.files session.old held → CallLeaves event.now held result (S.files (store_of session.new)) }
     ensures looks { IsLook (Request.Call event.now) → OnlyReads S.Store (store_of session.old) (store_of session.new) }
     ensures fault { IfErr result (HasCause (S.failures (store_of session.old) < S.failures (store_of session.new))) }
     ensures clash { S.honest (store_of session.new) → (held : State) → StandsOn S.files session.old held
@@ -109,7 +109,7 @@ fn ask_event<S: Store + Drop>(alloc: Global, session: &mut Session<S>, event: &E
 // What a call would do, as a reply.
 fn foretell<S: Store + Drop>(alloc: Global, session: &mut Session<S>, call: &Call) -> Answer
     ensures calls { S.honest (store_of session.new) → (held : State) → StandsOn S.files session.old held
-        → Calls (Event.Preview call.now) held result (S.files (store_of session.new)) }
+        → CallLeaves (Event.Preview call.now) held result (S.files (store_of session.new)) }
     ensures peeks { Peeks S.Store result session.old session.new }
 {
     match preview(alloc, session, call) {

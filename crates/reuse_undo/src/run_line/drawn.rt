@@ -10,12 +10,9 @@ use crate::fault::{Fault, in_memory};
 use crate::request::Request;
 use crate::run_line::calls::revert_command;
 use reuse_session::{Call, Changes, EntryChanges, Event, Refusal, Row, Session};
-use reuse_text::splice;
+use reuse_text::{LONGEST_FILE, splice};
 use reuse_tree::{Change, PathText, Reading, Store};
 use std::alloc::Global;
-
-/// The longest file that a step changes.
-const LONGEST: usize = 16_777_216;
 
 /// What a call would change.
 #[derive(Drop)]
@@ -144,7 +141,7 @@ fn draw_range<S: Store>(
 {
     let length = range.before.unwrap_or(b"").len();
     let new = range.after.unwrap_or(b"");
-    match store.read(alloc, range.path, LONGEST) {
+    match store.read(alloc, range.path, LONGEST_FILE) {
         Ok(Reading::Found(file)) => {
             draw_within(text, alloc, range.path, file.as_slice(), at, length, new)
         }
@@ -165,7 +162,7 @@ fn draw_within<'a>(
 ) -> Result<(), Fault>
     ensures { IfErr result (λ fault. fault ≡ faults.Memory) }
 {
-    if at > file.len() || length > file.len() - at || new.len() > LONGEST {
+    if at > file.len() || length > file.len() - at || new.len() > LONGEST_FILE {
         return Ok(());
     }
     let after = splice(alloc, file, at, length, new)?;

@@ -1,4 +1,4 @@
-// Downloads and conversions over a store in memory, with worked values.
+//! Downloads and conversions over a store in memory, with worked values.
 use crate::session_tests::trees::{has_just, holds, moment, play, plays, runs};
 use reuse_session::{Command, Event, Ids, LicenceText, LicenceTexts, is_id};
 use reuse_text::Bytes;

@@ -1,4 +1,4 @@
-// A journal with an entry from before entries were sealed, and a sealed one.
+//! A journal with an entry from before entries were sealed, and a sealed one.
 use crate::session_tests::stops::{CALLS, Standing, stop, stops_everywhere};
 use crate::session_tests::trees::{
     ANNOTATED, DONE_UNSEALED, ENTRY, FIRST_UNSEALED, HEAD, PLAIN, signing, tree,

@@ -1,4 +1,4 @@
-// Runs, undos, redos and logs over a store in memory, with worked values.
+//! Runs, undos, redos and logs over a store in memory, with worked values.
 // The tags below are data: REUSE-IgnoreStart
 use crate::session_tests::trees::{ANNOTATED, PLAIN, leaves, sign, tree};
 use reuse_session::{CommandName, Event, Moment, Reply, Rows, drive};

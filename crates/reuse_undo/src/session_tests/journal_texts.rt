@@ -1,4 +1,4 @@
-// Texts of the journal, with worked values.
+//! Texts of the journal, with worked values.
 // The tags below are data: REUSE-IgnoreStart
 use crate::session_tests::trees::{FIRST, FIRST_UNSEALED, PLAIN};
 use reuse_session::journal::laws::{written_entries_are_good, written_heads_are_good};

@@ -1,4 +1,4 @@
-// Journals in files: what a session writes, and what it makes of what is there.
+//! Journals in files: what a session writes, and what it makes of what is there.
 // The tags below are data: REUSE-IgnoreStart
 use crate::session_tests::trees::{
     ANNOTATED, DONE_UNSEALED, ENTRY, FIRST, FIRST_UNSEALED, HEAD, PLAIN, copy, dump, events_of,

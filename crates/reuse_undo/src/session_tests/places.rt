@@ -1,8 +1,9 @@
-// Which files an annotation writes, of a list and globs, and of long ones.
+//! Which files an annotation writes, of a list and globs, and of long ones.
 // The tags below are data: REUSE-IgnoreStart
 use crate::session_tests::trees::{has_just, licence, moment, path, plain_scope, runs, tree};
 use reuse_dep5::Glob;
 use reuse_session::{Event, Globs, HeaderFault, PathList, Refusal, Scope, drive};
+use reuse_text::LONGEST_FILE;
 use std::alloc::Global;
 use std::test::Fail;
 
@@ -51,7 +52,7 @@ fn lists_and_globs_choose_beneath_folders(rt: HostRuntime) -> Result<(), Fail> {
 #[test]
 fn a_header_makes_no_file_too_long(rt: HostRuntime) -> Result<(), Fail> {
     let alloc = rt.alloc();
-    let longest = vec![in alloc; b'x'; 16_777_216]?;
+    let longest = vec![in alloc; b'x'; LONGEST_FILE]?;
     let store = tree(alloc, &[("big.py", longest.as_slice())])?;
     let command = licence(alloc, &["big.py"], "MIT", plain_scope(alloc))?;
     let (_, answers) = drive(alloc, store, &[Event::Run(command, moment()?)]);

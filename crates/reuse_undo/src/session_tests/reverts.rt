@@ -1,4 +1,4 @@
-// Steps shown and reverted that need not be the last.
+//! Steps shown and reverted that need not be the last.
 // The tags below are data: REUSE-IgnoreStart
 use crate::session_tests::trees::{
     ANNOTATED, DONE_UNSEALED, ENTRY, FIRST_UNSEALED, HEAD, PLAIN, events_of, has_just, holds,

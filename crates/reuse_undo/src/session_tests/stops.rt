@@ -1,4 +1,4 @@
-// A session that stops at any call of its store: it then opens on the tree and the log from before its last call or from after it.
+//! A session that stops at any call of its store: it then opens on the tree and the log from before its last call or from after it.
 // The tags below are data: REUSE-IgnoreStart
 use crate::session_tests::downloads_and_conversions::{DEP5, TOML};
 use crate::session_tests::trees::{

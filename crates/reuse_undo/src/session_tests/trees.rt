@@ -1,10 +1,11 @@
-// What the tests of sessions share: small trees, commands on them, and answers as lines of text.
+//! What the tests of sessions share: small trees, commands on them, and answers as lines of text.
 // The tags below are data: REUSE-IgnoreStart
 use reuse_header::How;
 use reuse_notice::{Additions, Prefix};
 use reuse_session::{
     Answer, Command, Event, Globs, Moment, Paths, Place, Places, Reply, Scope, Unknown, drive,
 };
+use reuse_text::LONGEST_FILE;
 use reuse_tree::{MemoryStore, PathText, Reading, Store};
 use std::alloc::Global;
 use std::process::Abort;
@@ -31,8 +32,6 @@ pub const FIRST_UNSEALED: &str =
 /// The head of a journal that has that entry alone, as it was written before entries were sealed.
 pub const DONE_UNSEALED: &[u8] =
     b"{\"done\":[1],\"format\":1,\"next\":2,\"pending\":null,\"undone\":[]}";
-
-const LONGEST_FILE: usize = 16_777_216;
 
 pub fn moment() -> Result<Moment, Fail> {
     Ok(Moment::new(1_704_067_200).ok_or("moment")?)

@@ -1,6 +1,6 @@
 use Rattle.std.proofs.Common.{◌<◌, inl, IfErr, refl, sym, subst, arith, ◌∙◌}
 use Rattle.reuse_session.specs.Session.{store_of}
-use Rattle.reuse_undo.specs.RunLine.{Carries, HasCallClash}
+use Rattle.reuse_undo.specs.RunLine.{RequestLeaves, HasCallClash}
 use Rattle.reuse_tree.proofs.AskedLemmas.{reads_more}
 use Rattle.reuse_undo.proofs.LookLemmas.{caused}
 use Rattle.reuse_undo.proofs.CallLemmas.{carried, found_again, unclashed}
@@ -14,7 +14,7 @@ returns-in-Ok-clause-carries g c honest =
     let answer = c.ask-answer.result in
     let is_honest = c.close-store.ensures.reads.was_honest honest in
     let was_honest = c.ask-answer.ensures.was_honest is_honest in
-    subst (λ f. Carries before request answer f) (sym (c.close-store.ensures.reads.files honest))
+    subst (λ f. RequestLeaves before request answer f) (sym (c.close-store.ensures.reads.files honest))
     (carried files before request c.in-Ok.opened answer (files (store_of c.ask-answer.new.session)) (c.in-Ok.ensures.opened was_honest)
     (λ first second doubt. c.in-Ok.ensures.settles first second doubt was_honest) (c.ask-answer.ensures.meets is_honest) (c.ask-answer.ensures.clash is_honest)
     (c.in-Ok.ensures.folder was_honest) (c.ask-answer.ensures.folder is_honest))

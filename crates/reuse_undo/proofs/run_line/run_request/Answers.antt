@@ -1,6 +1,6 @@
 use Rattle.std.proofs.Common.{◌≡◌, Ok, Err, IfErr, refl, sym, subst}
 use Rattle.reuse_undo.specs.Requests.{IsLook}
-use Rattle.reuse_undo.specs.RunLine.{HasCallClash, Carries, Steps}
+use Rattle.reuse_undo.specs.RunLine.{HasCallClash, RequestLeaves, FollowsMachine}
 use Rattle.reuse_undo.proofs.MachineLemmas.{carries_as, carries_step, told_of, no_refusal}
 use Rattle.reuse_undo.proofs.run_line.run_request.Goals as goal
 
@@ -10,7 +10,7 @@ returns-in-Ok-clause-exact g c honest =
     let after = g.S.Store.files c.call-store.result.0 in
     let request = c.args.request.now in
     let carries = carries_as before after request c.call-store.result.1 (Ok c.in-Ok.told) (c.call-store.ensures.carries honest) c.in-Ok.is in
-    told_of c.args.telling (λ answer. Carries before request answer after) c.in-Ok.told (g.O.Sink.contents c.args.out.now) (g.O.Sink.contents c.finish.new.out) c.finish.result carries c.finish.ensures.told
+    told_of c.args.telling (λ answer. RequestLeaves before request answer after) c.in-Ok.told (g.O.Sink.contents c.args.out.now) (g.O.Sink.contents c.finish.new.out) c.finish.result carries c.finish.ensures.told
 
 pub returns-in-Ok-clause-machine : goal.returns-in-Ok-clause-machine
 returns-in-Ok-clause-machine g c honest state held =
@@ -18,7 +18,7 @@ returns-in-Ok-clause-machine g c honest state held =
     let after = g.S.Store.files c.call-store.result.0 in
     let request = c.args.request.now in
     let carries = carries_as before after request c.call-store.result.1 (Ok c.in-Ok.told) (c.call-store.ensures.carries honest) c.in-Ok.is in
-    told_of c.args.telling (λ answer. Steps state request answer after) c.in-Ok.told (g.O.Sink.contents c.args.out.now) (g.O.Sink.contents c.finish.new.out) c.finish.result
+    told_of c.args.telling (λ answer. FollowsMachine state request answer after) c.in-Ok.told (g.O.Sink.contents c.args.out.now) (g.O.Sink.contents c.finish.new.out) c.finish.result
     (carries_step state before request (Ok c.in-Ok.told) after held carries) c.finish.ensures.told
 
 pub returns-in-Ok-clause-looks : goal.returns-in-Ok-clause-looks

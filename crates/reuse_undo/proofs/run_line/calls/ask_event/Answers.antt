@@ -10,7 +10,7 @@ use Rattle.reuse_session.specs.declared.reply.Reply.TheVariants as replies
 use Rattle.reuse_tree.proofs.AskedLemmas.{reads_none}
 use Rattle.reuse_session.proofs.OnlyReading.{early_files}
 use Rattle.reuse_undo.specs.Requests.{IsLook}
-use Rattle.reuse_undo.specs.RunLine.{Calls, HasCallClash, KeepsFolder}
+use Rattle.reuse_undo.specs.RunLine.{CallLeaves, HasCallClash, KeepsFolder}
 use Rattle.reuse_undo.specs.declared.request.Request.TheVariants as requests
 use Rattle.reuse_undo.proofs.LookLemmas.{peek_unclashed}
 use Rattle.reuse_undo.proofs.CallLemmas.{calls_by, stands_on, unclashed, log_tells_none}
@@ -20,7 +20,7 @@ pub returns-in-Run-clause-calls : goal.returns-in-Run-clause-calls
 returns-in-Run-clause-calls g c honest held stands =
     let files = g.S.Store.files in
     let new = c.run.new.self in
-    subst (λ (e : Event). Calls e held c.run.result (files new.store)) (sym c.in-Run.is)
+    subst (λ (e : Event). CallLeaves e held c.run.result (files new.store)) (sym c.in-Run.is)
     (calls_by files (events.Run c.in-Run.command c.in-Run.when) held new c.run.result (c.run.ensures.exact honest held stands) (c.run.ensures.leaves.stands honest held stands) (c.run.ensures.leaves.doubt honest held stands))
 
 pub returns-in-Run-clause-looks : goal.returns-in-Run-clause-looks
@@ -44,7 +44,7 @@ returns-in-Undo-clause-calls g c honest held stands =
     let files = g.S.Store.files in
     let new = c.undo.new.self in
     let kept = stands_on files c.args.session.now new held c.undo.result stands c.undo.ensures.call.refused (early_files g.S.Store (store_of c.args.session.now) (store_of new) c.undo.result c.undo.ensures.leaves.early honest) in
-    subst (λ (e : Event). Calls e held c.undo.result (files new.store)) (sym c.in-Undo.is)
+    subst (λ (e : Event). CallLeaves e held c.undo.result (files new.store)) (sym c.in-Undo.is)
     (calls_by files events.Undo held new c.undo.result (c.undo.ensures.exact honest held stands) kept (c.undo.ensures.leaves.doubt honest held stands))
 
 pub returns-in-Undo-clause-looks : goal.returns-in-Undo-clause-looks
@@ -64,7 +64,7 @@ returns-in-Redo-clause-calls g c honest held stands =
     let files = g.S.Store.files in
     let new = c.redo.new.self in
     let kept = stands_on files c.args.session.now new held c.redo.result stands c.redo.ensures.call.refused (early_files g.S.Store (store_of c.args.session.now) (store_of new) c.redo.result c.redo.ensures.leaves.early honest) in
-    subst (λ (e : Event). Calls e held c.redo.result (files new.store)) (sym c.in-Redo.is)
+    subst (λ (e : Event). CallLeaves e held c.redo.result (files new.store)) (sym c.in-Redo.is)
     (calls_by files events.Redo held new c.redo.result (c.redo.ensures.exact honest held stands) kept (c.redo.ensures.leaves.doubt honest held stands))
 
 pub returns-in-Redo-clause-looks : goal.returns-in-Redo-clause-looks
@@ -81,7 +81,7 @@ returns-in-Redo-clause-folder g c honest held stands =
 
 pub returns-in-Ok-clause-calls : goal.returns-in-Ok-clause-calls
 returns-in-Ok-clause-calls g c honest held stands =
-    subst (λ (e : Event). Calls e held (Ok (replies.Log c.in-Ok.rows)) (g.S.Store.files (store_of c.args.session.now))) (sym c.in-Log.is)
+    subst (λ (e : Event). CallLeaves e held (Ok (replies.Log c.in-Ok.rows)) (g.S.Store.files (store_of c.args.session.now))) (sym c.in-Log.is)
     (held, (ap (λ rows. Ok (replies.Log rows)) (c.in-Ok.ensures.exact held stands), refl), stands.standing)
 
 pub returns-in-Ok-clause-folder : goal.returns-in-Ok-clause-folder
@@ -100,7 +100,7 @@ returns-in-Err-clause-clash g c honest held stands =
 
 pub returns-in-Preview-clause-calls : goal.returns-in-Preview-clause-calls
 returns-in-Preview-clause-calls g c honest held stands =
-    subst (λ (e : Event). Calls e held c.foretell.result (g.S.Store.files (store_of c.foretell.new.session))) (sym c.in-Preview.is) (c.foretell.ensures.calls honest held stands)
+    subst (λ (e : Event). CallLeaves e held c.foretell.result (g.S.Store.files (store_of c.foretell.new.session))) (sym c.in-Preview.is) (c.foretell.ensures.calls honest held stands)
 
 pub returns-in-Preview-clause-clash : goal.returns-in-Preview-clause-clash
 returns-in-Preview-clause-clash g c honest held stands =
@@ -119,7 +119,7 @@ returns-in-Reopen-clause-folder g c honest held stands =
 
 pub returns-in-Reopen-clause-calls : goal.returns-in-Reopen-clause-calls
 returns-in-Reopen-clause-calls g c honest held stands =
-    subst (λ (e : Event). Calls e held (Ok replies.Opened) (g.S.Store.files (store_of c.args.session.now))) (sym c.in-Reopen.is) (held, (refl, refl), stands.standing)
+    subst (λ (e : Event). CallLeaves e held (Ok replies.Opened) (g.S.Store.files (store_of c.args.session.now))) (sym c.in-Reopen.is) (held, (refl, refl), stands.standing)
 
 pub returns-in-Ok-clause-looks : goal.returns-in-Ok-clause-looks
 returns-in-Ok-clause-looks g c look = reads_none g.S.Store (store_of c.args.session.now)
