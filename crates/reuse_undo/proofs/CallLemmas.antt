@@ -18,7 +18,7 @@ use Rattle.reuse_session.specs.Calls.{IsCall, LeavesRun, folder_of}
 use Rattle.reuse_session.specs.Opening.{OpensOn, StopsOpening}
 use Rattle.reuse_session.specs.Previews.{run_fates_on, OnlyLooks, IsPreviewRefusal}
 use Rattle.reuse_session.specs.RevertCalls.{Reverts, TakesBack, LeavesRevert, as_run}
-use Rattle.reuse_session.specs.Session.{store_of, is_broken, memory_of, Holds, StandsOn, IsKept, IsSameBut, IsSameButTwo}
+use Rattle.reuse_session.specs.Session.{store_of, is_broken, memory_of, HoldsSnapshots, StandsOn, IsKept, IsSameBut, IsSameButTwo}
 use Rattle.reuse_session.specs.Showing.{lists, IsUnused, Shows, ShowsIn, ShowsAt, steps_in}
 use Rattle.reuse_session.specs.Session.{StopsAfterRun}
 use Rattle.reuse_session.specs.Tree.{undo_folder_of}

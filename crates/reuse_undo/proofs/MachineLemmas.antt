@@ -18,7 +18,7 @@ use Rattle.reuse_session.specs.Calls.{IsCall, LeavesRun, folder_of}
 use Rattle.reuse_session.specs.Opening.{OpensOn, StopsOpening}
 use Rattle.reuse_session.specs.Previews.{run_fates_on, OnlyLooks, IsPreviewRefusal}
 use Rattle.reuse_session.specs.RevertCalls.{Reverts, TakesBack, LeavesRevert, as_run}
-use Rattle.reuse_session.specs.Session.{store_of, is_broken, memory_of, Holds, StandsOn, IsKept}
+use Rattle.reuse_session.specs.Session.{store_of, is_broken, memory_of, HoldsSnapshots, StandsOn, IsKept}
 use Rattle.reuse_session.specs.Showing.{lists, IsUnused, Shows, ShowsIn, ShowsAt, steps_in}
 use Rattle.reuse_session.specs.Session.{StopsAfterRun}
 use Rattle.reuse_session.specs.Tree.{undo_folder_of}
@@ -89,19 +89,19 @@ steps_told state event (Err (Interrupted cause)) after told did = absurd told
 steps_told state event (Err refusal) after told did = did
 
 -- what a step that is shown is to the machine
-shown_at : (held : State) (state : Snapshots) → Holds held state → (number : ℕ) (shown : Result Shown Refusal) (after : Files) → Looks (ShowsIn held.journal number) held shown after
+shown_at : (held : State) (state : Snapshots) → HoldsSnapshots held state → (number : ℕ) (shown : Result Shown Refusal) (after : Files) → Looks (ShowsIn held.journal number) held shown after
     → IfOk shown (ShowsAt state number)
 shown_at held state holds number (Ok shown) after looks = shows_at held state holds number shown (looks.right tt)
 shown_at held state holds number (Err refusal) after looks = tt
 
 -- what a run would do on a standing is what the machine says
-run_alike : (held : State) (state : Snapshots) → Holds held state → (command : Command) → run_fates_on held command ≡ run_fates state command
+run_alike : (held : State) (state : Snapshots) → HoldsSnapshots held state → (command : Command) → run_fates_on held command ≡ run_fates state command
 run_alike held state holds command =
     sym (ap (λ b. cond b (Err JournalFull) (Ok (fates_of command held.tree))) (is_full_alike held state holds))
     ∙ ap (λ t. cond (is_full (length state.past) state.used) (Err JournalFull) (Ok (fates_of command t))) holds.tree
 
 -- and a dry run of a revert
-foretold_back : (held : State) (state : Snapshots) → Holds held state → (number : ℕ) (skip_moved : Bool) (answer : Result (List Fate) Refusal) → PreviewsRevert number skip_moved held answer
+foretold_back : (held : State) (state : Snapshots) → HoldsSnapshots held state → (number : ℕ) (skip_moved : Bool) (answer : Result (List Fate) Refusal) → PreviewsRevert number skip_moved held answer
     → ForetellsBack state number skip_moved answer
 foretold_back held state holds number skip_moved answer previews =
     ⊎_elim (λ (none : (answer ≡ Err (NoSuchStep number)) × IsUnused number held.journal.done). inl (none.0, unkept number state.tree held.journal.done state.past holds.past none.1))
@@ -109,7 +109,7 @@ foretold_back held state holds number skip_moved answer previews =
     inr (back.0.changes, led_to_tree held state holds back.0 number back.1 back.2, back.3 ∙ run_alike held state holds (Revert back.0.changes skip_moved))) previews
 
 -- a preview answers what the machine says
-previews_as_machine : (held : State) (state : Snapshots) → Holds held state → (call : Call) (fates : Result (List Fate) Refusal) → Previews call held fates → fates ≡ fates_in state call
+previews_as_machine : (held : State) (state : Snapshots) → HoldsSnapshots held state → (call : Call) (fates : Result (List Fate) Refusal) → Previews call held fates → fates ≡ fates_in state call
 previews_as_machine held state holds (calls.Run command) fates previews = previews ∙ run_alike held state holds command
 previews_as_machine held state holds calls.Undo fates previews = undo_foretold held state holds fates previews
 previews_as_machine held state holds calls.Redo fates previews = redo_foretold held state holds fates previews
@@ -118,15 +118,15 @@ previews_as_machine held state holds calls.Redo fates previews = redo_foretold h
 no_row : (refusal : Refusal) (rows : List Row) → Err refusal ≡ Ok (replies.Log rows) → ⊥
 no_row refusal rows is = cc
 
-module _ (held : State) (state : Snapshots) (holds : Holds held state) (before after : Files) (standing : IsStanding before held) where
+module _ (held : State) (state : Snapshots) (holds : HoldsSnapshots held state) (before after : Files) (standing : IsStanding before held) where
   -- what a call does is what the machine does
-  does_step : (event : Event) (answer : Result Reply Refusal) (left : State) → CallLeadsTo event held answer left → (answer ≡ (step state event).0) × Holds left (step state event).1
+  does_step : (event : Event) (answer : Result Reply Refusal) (left : State) → CallLeadsTo event held answer left → (answer ≡ (step state event).0) × HoldsSnapshots left (step state event).1
   does_step (events.Run command when) answer left does = runs_as_machine held state holds command when answer left standing.good.are_files does
   does_step events.Undo answer left does = undo_follows held state holds left answer does
   does_step events.Redo answer left does = redo_follows held state holds left answer does
   does_step (events.Preview call) answer left does = absurd does
-  does_step events.Log answer left does = (does.0 ∙ ap (λ rows. Ok (replies.Log rows)) (log_follows held state holds), subst (λ s. Holds s state) (sym does.1) holds)
-  does_step events.Reopen answer left does = (does.0, subst (λ s. Holds s state) (sym does.1) holds)
+  does_step events.Log answer left does = (does.0 ∙ ap (λ rows. Ok (replies.Log rows)) (log_follows held state holds), subst (λ s. HoldsSnapshots s state) (sym does.1) holds)
+  does_step events.Reopen answer left does = (does.0, subst (λ s. HoldsSnapshots s state) (sym does.1) holds)
 
   stopped_near : (event : Event) → IsStopped event held after → AreLeft after state (Some (step state event).1)
   stopped_near (events.Run command when) stopped = run_left held state holds after before command when standing stopped
