@@ -13,7 +13,7 @@ use reuse_text::{Bytes, LONGEST_FILE, LineKind, splice};
 use std::alloc::{AllocError, Global};
 
 // The bytes that take the place of others, and where the block's text stands in the new file.
-#[derive(Debug, Drop)]
+#[derive(Drop)]
 pub(crate) struct Draft {
     pub(crate) start: usize,
     pub(crate) old_len: usize,

@@ -17,7 +17,7 @@ use reuse_text::{Line, Lines, lines_are_one, mark_len};
 
 // The range of a file that a block's text takes, and the endings round the text: one that ends the last
 // line in front, and empty lines in front and behind.
-#[derive(Clone, Copy, Debug)]
+#[derive(Clone, Copy)]
 pub(crate) struct Place {
     pub(crate) start: usize,
     pub(crate) old_len: usize,

@@ -33,14 +33,12 @@ use Rattle.reuse_session.specs.declared.target.Target.TheVariants.{Inside, Besid
 use Rattle.reuse_session.specs.declared.reply.Refusal.{Refusal}
 use Rattle.reuse_session.specs.declared.reply.Refusal.TheVariants as refusals
 use Rattle.reuse_session.proofs.Annotating.{both_err}
+use Rattle.reuse_session.proofs.Outcomes.{done}
 use Rattle.reuse_session.proofs.Results.{err_or, same_Ok}
 use Rattle.reuse_session.proofs.AnnotationPlaces.{comment_not_skipped, beside_not_skipped}
 use Rattle.reuse_session.proofs.TargetReasons.{Takes, takes}
 
 -- ---- tests
-
-abbrev done : Option Edit → Result (Option Edit) Refusal
-done given = Ok given
 
 -- ---- what an edit leaves
 
@@ -52,7 +50,7 @@ file_then tree (Some edit) path = cond (bytes_eq path edit.path) edit.file (get 
 abbrev pub pair_then : Files → Option Edit → List ℕ → Pair
 pair_then tree given path = record { file = file_then tree given path; neighbour = file_then tree given (neighbour_of path) }
 
-abbrev pair : Option (List ℕ) → Option (List ℕ) → Pair
+abbrev pub pair : Option (List ℕ) → Option (List ℕ) → Pair
 pair file neighbour = record { file = file; neighbour = neighbour }
 
 -- these bytes are made of those at a place: nothing is done where they are the same

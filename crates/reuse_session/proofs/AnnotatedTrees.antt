@@ -1,39 +1,39 @@
 -- Where an annotate isn't refused, each file that is gone through is annotated, and all else stays.
 use Rattle.std.proofs.Common.{◌≡◌, ◌≢◌, ◌⊎◌, inl, inr, ℕ, Bool, true, false, cond, not, ◌&&◌, List, [], ◌∷◌, Less, Option, Some, None, Result, Ok, Err, refl, sym, ap, ap₂, subst, ◌∙◌}
-use Rattle.std.specs.Prelude.{flat_map}
 use Rattle.std.specs.Ordering.{nat_cmp}
-use Rattle.std.specs.Cmp.Lexicographic.{slice_cmp, nat_list_cmp_total}
+use Rattle.std.specs.Cmp.Lexicographic.{slice_cmp}
 use Rattle.std.specs.List.{AllByRecursion}
 use Rattle.std.specs.Str.{bytes_eq}
 use Rattle.std.specs.FinMap.{get}
 use Rattle.std.proofs.lemmas.Bool.{false≢true}
-use Rattle.std.proofs.lemmas.Cmp.{tied_itself}
 use Rattle.std.proofs.lemmas.Map.Keys.{sorted_head, sorted_tail}
 use Rattle.std.proofs.lemmas.Slice.Eq.{bytes_eq-Decides}
 use Rattle.reuse_notice.specs.declared.adding.Additions.{Additions}
-use Rattle.reuse_notice.proofs.SetLemmas.{In, In-from_contains, Contains-from_in, sorted-set_of}
+use Rattle.reuse_notice.proofs.SetLemmas.{In, In-from_contains, Contains-from_in}
 use Rattle.reuse_header.specs.declared.annotation.How.{How}
 use Rattle.reuse_tree.specs.Files.{Files}
 use Rattle.reuse_session.specs.Annotate.{neighbour_of, annotated_at}
-use Rattle.reuse_session.specs.Annotated.{Pair, pair_at, IsAnnotated, Annotates}
-use Rattle.reuse_session.specs.Command.{has_root, paths_among}
+use Rattle.reuse_session.specs.Annotated.{pair_at, IsAnnotated, Annotates}
+use Rattle.reuse_session.specs.Command.{has_root}
 use Rattle.reuse_session.specs.Covered.{is_covered}
 use Rattle.reuse_session.specs.Edit.{Edit}
 use Rattle.reuse_session.specs.Listing.{ArePaths}
 use Rattle.reuse_session.specs.Outcome.{with_file, edited, edits_at, edits_by_names, annotation_edits, outcome_of}
 use Rattle.reuse_session.specs.TreeStyles.{OwnNames, styles_in}
-use Rattle.reuse_session.specs.Worked.{expanded, worked_paths}
+use Rattle.reuse_session.specs.Worked.{worked_paths}
 use Rattle.reuse_session.specs.declared.command.Command.TheVariants.{Annotate}
 use Rattle.reuse_session.specs.declared.command.Place.{Place}
 use Rattle.reuse_session.specs.declared.command.Place.TheVariants as place
 use Rattle.reuse_session.specs.declared.command.Scope.{Scope}
 use Rattle.reuse_session.specs.declared.reply.Refusal.{Refusal}
 use Rattle.reuse_session.specs.declared.reply.Refusal.TheVariants as refusals
-use Rattle.reuse_session.proofs.AnnotatedFiles.{ReplacesBlock, InsertsBlock, ReplacesNeighbour, InsertsNeighbour, file_then, annotated_there}
+use Rattle.reuse_session.proofs.AnnotatedFiles.{ReplacesBlock, InsertsBlock, ReplacesNeighbour, InsertsNeighbour, file_then, annotated_there, pair}
 use Rattle.reuse_session.proofs.Annotating.{first_is, no_edits, if_not}
+use Rattle.reuse_session.proofs.Choosing.{worked_ascend}
 use Rattle.reuse_session.proofs.Fitting.{is_placed, uncovered_neighbour, same_file}
-use Rattle.reuse_session.proofs.Planning.{with_same, with_other}
-use Rattle.reuse_session.proofs.TextsPut.{edits_of_tree, pick}
+use Rattle.reuse_session.proofs.Planning.{with_same, with_other, not_itself}
+use Rattle.reuse_session.proofs.Outcomes.{edits_of_tree}
+use Rattle.reuse_session.proofs.TextsPut.{pick}
 
 abbrev pub IsPlaceOf : List ℕ → List ℕ → Type 0
 IsPlaceOf path place = (place ≡ path) ⊎ (place ≡ neighbour_of path)
@@ -44,9 +44,6 @@ one_file path other q covered too (inl a) (inl b) = sym a ∙ b
 one_file path other q covered too (inl a) (inr b) = absurd (false≢true (sym (uncovered_neighbour other) ∙ ap is_covered (sym b ∙ a) ∙ covered))
 one_file path other q covered too (inr a) (inl b) = absurd (false≢true (sym (uncovered_neighbour path) ∙ ap is_covered (sym a ∙ b) ∙ too))
 one_file path other q covered too (inr a) (inr b) = same_file path other (sym a ∙ b)
-
-not_itself : (x y : List ℕ) → slice_cmp nat_cmp x y ≡ Less → x ≡ y → ⊥
-not_itself x y e same = let s = sym e ∙ ap (slice_cmp nat_cmp x) (sym same) ∙ tied_itself nat_list_cmp_total x in cc
 
 not_above : (path other : List ℕ) (paths : List (List ℕ)) → AllByRecursion (λ p. slice_cmp nat_cmp path p ≡ Less) paths → In other paths → path ≢ other
 not_above path other paths above there = not_itself path other (pick (λ p. slice_cmp nat_cmp path p ≡ Less) paths other there above)
@@ -127,15 +124,12 @@ module _ (replaces : ReplacesBlock) (inserts : InsertsBlock) (replaces_beside : 
         )
   ]
 
-  abbrev pair : Option (List ℕ) → Option (List ℕ) → Pair
-  pair file neighbour = record { file = file; neighbour = neighbour }
-
   annotated_tree : (places : List Place) (edits : List Edit) → styles_in tree ≡ Ok own → edits_at at (worked_paths scope places tree) ≡ Ok edits → Annotates places additions how scope tree (edited tree edits)
   annotated_tree places edits styles h = record {
     own = own;
     styles = styles;
     worked = λ path there.
-        let is = all_done (worked_paths scope places tree) edits h (sorted-set_of (cond scope.recursive (flat_map (expanded scope tree) places) (paths_among places))) path (In-from_contains (worked_paths scope places tree) path there) in
+        let is = all_done (worked_paths scope places tree) edits h (worked_ascend scope places tree) path (In-from_contains (worked_paths scope places tree) path there) in
         subst (IsAnnotated additions how scope own path (pair_at tree path)) (sym (ap₂ pair (is.2 path (inl refl)) (is.2 (neighbour_of path) (inr refl))))
         (annotated_there replaces inserts replaces_beside inserts_beside additions how scope own tree path is.0 is.1);
     others = λ other none. outside (worked_paths scope places tree) edits h other (λ path there.

@@ -1,5 +1,5 @@
 -- What annotate does at the paths of its list, one after the other.
-use Rattle.std.proofs.Common.{◌≡◌, ◌⊎◌, inl, inr, ℕ, zero, suc, ◌+◌, ◌<◌, Bool, true, false, cond, not, ◌||◌, ◌&&◌, nat_lt, List, [], ◌∷◌, ◌++◌, codes, length, Less, Option, Some, None, IsSome, is_some, Result, Ok, Err, take, get_or, refl, sym, ap, subst, ◌∙◌, arith, append_assoc}
+use Rattle.std.proofs.Common.{◌≡◌, ◌⊎◌, inl, inr, ℕ, zero, suc, ◌+◌, ◌<◌, Bool, true, false, cond, not, ◌||◌, ◌&&◌, nat_lt, List, [], ◌∷◌, ◌++◌, codes, length, Less, Option, Some, None, IsSome, Result, Ok, Err, take, get_or, refl, sym, ap, subst, ◌∙◌, arith, append_assoc}
 use Rattle.std.specs.Ordering.{nat_cmp}
 use Rattle.std.specs.Cmp.Lexicographic.{slice_cmp}
 use Rattle.std.specs.List.{AllByRecursion, cons_option}
@@ -10,7 +10,7 @@ use Rattle.std.specs.Option.{option_to_list}
 use Rattle.std.proofs.lemmas.List.{append-nil, take_more}
 use Rattle.std.proofs.lemmas.List.Elements.{filter_map-append}
 use Rattle.std.specs.FinMap.{get, keys}
-use Rattle.std.proofs.lemmas.Bool.{false≢true}
+use Rattle.std.proofs.lemmas.Bool.{false≢true, false_from_ne_true, or_right}
 use Rattle.std.proofs.lemmas.Map.Keys.{sorted_head, sorted_tail}
 use Rattle.std.proofs.lemmas.Slice.Eq.{bytes_eq-Decides}
 use Rattle.reuse_tree.specs.Path.{lies_under, journal_folder}
@@ -30,9 +30,11 @@ use Rattle.reuse_notice.specs.declared.adding.Additions.{Additions}
 use Rattle.reuse_session.specs.declared.command.Scope.{Scope}
 use Rattle.reuse_session.specs.Plan.{IsPlan, IsRefusalOf, CarriesOutEdit, MakesEdit, MakesEach, MakesEdits}
 use Rattle.reuse_session.proofs.ListingLemmas.{under_from_test}
+use Rattle.reuse_session.proofs.Outcomes.{ok_edits, no_edit, some_edit}
 use Rattle.reuse_session.proofs.TreeLemmas.{among_keys}
 use Rattle.reuse_session.proofs.Planning.{paths_at, each_push, AreEdits, same_many, plan_of_edits}
 use Rattle.reuse_session.specs.Entry.{entry_size}
+use Rattle.reuse_session.proofs.Results.{none_from_test}
 
 -- ---- refusals
 
@@ -44,21 +46,8 @@ refusal_passes g h k refusal e = k refusal e
 
 -- ---- one path
 
-err_or : {A : Type 0} (b : Bool) (r : Refusal) (rest : Result A Refusal) (x : A) → cond b (Err r) rest ≡ Ok x → (b ≡ false) × (rest ≡ Ok x)
-err_or true r rest x e = absurd (cc)
-err_or false r rest x e = (refl, e)
-
-abbrev no_edit : Result (Option Edit) Refusal
-no_edit = Ok None
-
-abbrev some_edit : Edit → Result (Option Edit) Refusal
-some_edit e = Ok (Some e)
-
 abbrev refused : Refusal → Result (Option Edit) Refusal
 refused r = Err r
-
-abbrev ok_edits : List Edit → Result (List Edit) Refusal
-ok_edits edits = Ok edits
 
 some_or : (b : Bool) (edit e : Edit) → cond b no_edit (some_edit edit) ≡ some_edit e → edit ≡ e
 some_or true edit e h = absurd (cc)
@@ -67,10 +56,6 @@ some_or false edit e h = cc
 pub both_err : {A : Type 0} (b : Bool) (r s : Refusal) (x : A) → cond b (Err r) (Err s) ≡ Ok x → ⊥
 both_err true r s x e = absurd (cc)
 both_err false r s x e = absurd (cc)
-
-is_true : (b : Bool) → not b ≡ false → b ≡ true
-is_true true e = refl
-is_true false e = absurd (false≢true (sym e))
 
 -- ---- covered paths are of the tree
 
@@ -82,27 +67,19 @@ starts_reuse path h = of_tests (is_in (codes "LICENSES") path) (is_in (codes ".r
     of_tests true true c d h = absurd (false≢true h)
     of_tests false true c d h = absurd (false≢true h)
 
-or_true : (b : Bool) → (b || true) ≡ true
-or_true true = refl
-or_true false = refl
-
 pub and_all : (a b c : Bool) → a ≡ false → b ≡ false → c ≡ false → (not a && not b && not c) ≡ true
 and_all false false false e f g = refl
 and_all true b c e f g = absurd (false≢true (sym e))
 and_all false true c e f g = absurd (false≢true (sym f))
 and_all false false true e f g = absurd (false≢true (sym g))
 
-pub refuted : (b : Bool) → (b ≡ true → ⊥) → b ≡ false
-refuted true h = absurd (h refl)
-refuted false h = refl
-
 pub covered_of_tree : (path : List ℕ) → is_covered path ≡ true → is_of_tree path ≡ true
 covered_of_tree path h =
     let out = starts_reuse path h in
     and_all (bytes_eq path (codes ".reuse")) (bytes_eq path journal_folder) (lies_under path journal_folder)
-    (refuted _ (λ e. false≢true (sym out ∙ ap (is_in (codes ".reuse")) ((bytes_eq-Decides path (codes ".reuse")).0 e))))
-    (refuted _ (λ e. false≢true (sym out ∙ ap (is_in (codes ".reuse")) ((bytes_eq-Decides path journal_folder).0 e))))
-    (refuted _ (λ e. let under = under_from_test path journal_folder e in false≢true (sym out ∙ ap (is_in (codes ".reuse")) under.1 ∙ or_true _)))
+    (false_from_ne_true _ (λ e. false≢true (sym out ∙ ap (is_in (codes ".reuse")) ((bytes_eq-Decides path (codes ".reuse")).0 e))))
+    (false_from_ne_true _ (λ e. false≢true (sym out ∙ ap (is_in (codes ".reuse")) ((bytes_eq-Decides path journal_folder).0 e))))
+    (false_from_ne_true _ (λ e. let under = under_from_test path journal_folder e in false≢true (sym out ∙ ap (is_in (codes ".reuse")) under.1 ∙ or_right _ true refl)))
 
 -- ---- the paths in order
 
@@ -213,13 +190,9 @@ module _ (at : List ℕ → Result (Option Edit) Refusal) (tree : Files) (all : 
 
 -- ---- a path without a file
 
-is_none_of : (file : Option (List ℕ)) → is_some file ≡ false → file ≡ None
-is_none_of None h = refl
-is_none_of (Some bytes) h = absurd (false≢true (sym h))
-
 module _ (tree : Files) (path : List ℕ) (paths : List (List ℕ)) (are : paths ≡ keys tree) where
   pub is_absent : is_among paths path ≡ false → get tree path ≡ None
-  is_absent none = is_none_of (get tree path) (sym (among_keys tree path) ∙ ap (λ ps. is_among ps path) (sym are) ∙ none)
+  is_absent none = none_from_test (get tree path) (sym (among_keys tree path) ∙ ap (λ ps. is_among ps path) (sym are) ∙ none)
 
   pub absent_answer : (how : How) (scope : Scope) (additions : Additions) (own : OwnNames) (b : Bool) → is_among paths path ≡ false → is_folder_of paths path ≡ b → annotated_at how scope additions own tree path ≡ cond b (refused (refusals.IsFolder (place.Path path))) (refused (refusals.NoSuchPath path))
   absent_answer how scope additions own b none folder =

@@ -1,28 +1,27 @@
 -- The fates of an annotation: which files are skipped, and what stays.
 use Rattle.std.proofs.Common.{◌≡◌, ◌⊎◌, inl, inr, ℕ, Bool, true, false, cond, not, ◌&&◌, nat_lt, List, [], ◌∷◌, length, zero, suc, map, Option, Some, None, is_some, Result, Ok, Err, refl, sym, ap, ap₂, subst, ◌∙◌, arith}
-use Rattle.std.specs.Prelude.{flat_map}
 use Rattle.std.specs.List.{Contains}
 use Rattle.std.proofs.lemmas.List.Elements.{Contains-append_cases, Contains-append_left}
 use Rattle.std.specs.FinMap.{get}
 use Rattle.std.proofs.lemmas.Option.{same_Some, none-some}
 use Rattle.std.proofs.lemmas.Bool.{and_parts, and_right}
 use Rattle.reuse_notice.specs.declared.adding.Additions.{Additions}
-use Rattle.reuse_notice.proofs.SetLemmas.{In, In-from_contains, Contains-from_in, sorted-set_of}
+use Rattle.reuse_notice.proofs.SetLemmas.{In, In-from_contains, Contains-from_in}
 use Rattle.reuse_header.specs.declared.annotation.How.{How}
 use Rattle.reuse_header.specs.declared.style.Style.{Style}
 use Rattle.reuse_header.specs.Header.{header_of}
 use Rattle.reuse_tree.specs.Files.{Files}
 use Rattle.reuse_text.specs.declared.TheConstants.{LONGEST_FILE}
 use Rattle.reuse_session.specs.Annotate.{neighbour_of, neighbour_is_tagged, goes_beside, target_of, edit_neighbour, edit_target, annotated_where, annotated_at}
-use Rattle.reuse_session.specs.Annotated.{Pair, pair_at, IsSkipped, IsSkippedAt}
-use Rattle.reuse_session.specs.Command.{has_root, paths_among}
+use Rattle.reuse_session.specs.Annotated.{pair_at, IsSkipped, IsSkippedAt}
+use Rattle.reuse_session.specs.Command.{has_root}
 use Rattle.reuse_session.specs.Covered.{is_covered}
 use Rattle.reuse_session.specs.Edit.{Edit}
 use Rattle.reuse_session.specs.Fates.{has_tagged, is_skipped_at, is_skipped_where, is_skipped, fate_by, fate_at, annotation_fates, limit_fates, fates_of}
 use Rattle.reuse_session.specs.Listing.{is_folder}
 use Rattle.reuse_session.specs.Outcome.{edited, is_too_many, edits_at, edits_by_names, annotation_edits, outcome_of}
 use Rattle.reuse_session.specs.TreeStyles.{OwnNames, styles_in}
-use Rattle.reuse_session.specs.Worked.{expanded, worked_paths}
+use Rattle.reuse_session.specs.Worked.{worked_paths}
 use Rattle.reuse_session.specs.declared.command.Command.TheVariants.{Annotate}
 use Rattle.reuse_session.specs.declared.command.Place.{Place}
 use Rattle.reuse_session.specs.declared.command.Place.TheVariants as place
@@ -33,21 +32,16 @@ use Rattle.reuse_session.specs.declared.reply.Refusal.{Refusal}
 use Rattle.reuse_session.specs.declared.reply.Refusal.TheVariants as refusals
 use Rattle.reuse_session.specs.declared.target.Target.{Target}
 use Rattle.reuse_session.specs.declared.target.Target.TheVariants.{Inside, Beside, Nowhere}
-use Rattle.reuse_session.proofs.Results.{err_or}
-use Rattle.reuse_session.proofs.AnnotatedFiles.{ReplacesBlock, InsertsBlock, ReplacesNeighbour, InsertsNeighbour, file_then}
+use Rattle.reuse_session.proofs.Results.{err_or, same_Ok}
+use Rattle.reuse_session.proofs.AnnotatedFiles.{ReplacesBlock, InsertsBlock, ReplacesNeighbour, InsertsNeighbour, file_then, pair}
 use Rattle.reuse_session.proofs.AnnotatedTrees.{each_done, all_done}
 use Rattle.reuse_session.proofs.Annotating.{both_err, if_not}
 use Rattle.reuse_session.proofs.AnnotationPlaces.{comment_not_skipped, beside_not_skipped}
 use Rattle.reuse_session.proofs.TargetReasons.{Takes, takes}
-use Rattle.reuse_session.proofs.TextsPut.{edits_of_tree}
+use Rattle.reuse_session.proofs.Outcomes.{done, edits_of_tree}
+use Rattle.reuse_session.proofs.Choosing.{worked_ascend}
 
 -- ---- one path
-
-abbrev done : Option Edit → Result (Option Edit) Refusal
-done given = Ok given
-
-is_none : (given : Option Edit) → done None ≡ done given → given ≡ None
-is_none given e = cc
 
 -- where this is done at the path, the test tells whether its file is skipped, and nothing is done where it is
 abbrev Tells : Option Edit → Type 0 → Bool → Type 0
@@ -60,12 +54,12 @@ module _ (how : How) (scope : Scope) (additions : Additions) (own : OwnNames) (t
 
   inside : (style : Style) → Takes scope own tree path bytes (Inside style) → (rest : Result (Option Edit) Refusal) (b : Bool) → (scope.skip_existing && is_some (header_of style bytes)) ≡ b
       → cond b (done None) rest ≡ Ok given → TellsOf b
-  inside style reason rest true e h = let tests = and_parts scope.skip_existing (is_some (header_of style bytes)) e in (inr (tests.0, inl (style, reason, tests.1)), is_none given h)
+  inside style reason rest true e h = let tests = and_parts scope.skip_existing (is_some (header_of style bytes)) e in (inr (tests.0, inl (style, reason, tests.1)), sym (same_Ok None given h))
   inside style reason rest false e h = comment_not_skipped scope own path bytes (pair_at tree path) style reason e
 
   tagged : (there : List ℕ) → get tree (neighbour_of path) ≡ Some there → Takes scope own tree path bytes Beside → (rest : Result (Option Edit) Refusal) (b : Bool) → (scope.skip_existing && neighbour_is_tagged there) ≡ b
       → cond b (done None) rest ≡ Ok given → TellsOf b
-  tagged there is reason rest true e h = let tests = and_parts scope.skip_existing (neighbour_is_tagged there) e in (inr (tests.0, inr (there, is, tests.1)), is_none given h)
+  tagged there is reason rest true e h = let tests = and_parts scope.skip_existing (neighbour_is_tagged there) e in (inr (tests.0, inr (there, is, tests.1)), sym (same_Ok None given h))
   tagged there is reason rest false e h =
       beside_not_skipped scope own path bytes (pair_at tree path) reason (λ other is_other. ap (λ f. scope.skip_existing && has_tagged f) (sym is_other ∙ is) ∙ e)
 
@@ -82,7 +76,7 @@ module _ (how : How) (scope : Scope) (additions : Additions) (own : OwnNames) (t
   by_aim (Ok (Inside style)) reason h = inside style (reason (Inside style) refl) _ (scope.skip_existing && is_some (header_of style bytes)) refl h
   by_aim (Ok Beside) reason h =
       beside (get tree (neighbour_of path)) refl (reason Beside refl) (if_not (nat_lt 4096 (length (neighbour_of path))) (refusals.TooLong path) (edit_neighbour how scope additions tree path (get tree (neighbour_of path))) given h)
-  by_aim (Ok Nowhere) reason h = (inl (reason Nowhere refl), is_none given h)
+  by_aim (Ok Nowhere) reason h = (inl (reason Nowhere refl), sym (same_Ok None given h))
 
 module _ (how : How) (scope : Scope) (additions : Additions) (own : OwnNames) (tree : Files) (path : List ℕ) where
   told_of : (given : Option Edit) → annotated_at how scope additions own tree path ≡ Ok given → (bytes : List ℕ) × (get tree path ≡ Some bytes) × Tells given (IsSkipped scope own path bytes (pair_at tree path)) (is_skipped scope own tree path)
@@ -225,15 +219,12 @@ module _ (places : List Place) (additions : Additions) (how : How) (scope : Scop
         (subst (λ fs. Contains fs (fate.Skipped path)) (sym (fates_are ∙ fates))
         (subst (Contains (map tell (worked_paths scope places tree))) (is_told how scope additions own tree path given.0 given.1 skipped) told))
 
-    abbrev pair : Option (List ℕ) → Option (List ℕ) → Pair
-    pair file neighbour = record { file = file; neighbour = neighbour }
-
     pub left_stays : Contains (fates_of (Annotate places additions how scope) tree) (fate.Unchanged path) ⊎ Contains (fates_of (Annotate places additions how scope) tree) (fate.Skipped path)
         → pair_at after path ≡ pair_at tree path
     left_stays told =
         let edits = edits_are after accepted in
         let left = left_told path told in
-        let is = all_done replaces inserts replaces_beside inserts_beside additions how scope own tree (worked_paths scope places tree) edits.0 edits.1 (sorted-set_of (cond scope.recursive (flat_map (expanded scope tree) places) (paths_among places))) path left.0 in
-        let none : is.0 ≡ None = is_none is.0 (sym left.1 ∙ is.1) in
+        let is = all_done replaces inserts replaces_beside inserts_beside additions how scope own tree (worked_paths scope places tree) edits.0 edits.1 (worked_ascend scope places tree) path left.0 in
+        let none : is.0 ≡ None = sym (same_Ok None is.0 (sym left.1 ∙ is.1)) in
         let stays = λ (q : List ℕ) (same : get (edited tree edits.0) q ≡ file_then tree is.0 q). ap (λ t. get t q) (sym edits.2) ∙ same ∙ ap (λ g. file_then tree g q) none in
         ap₂ pair (stays path (is.2 path (inl refl))) (stays (neighbour_of path) (is.2 (neighbour_of path) (inr refl)))

@@ -1,5 +1,5 @@
 -- The change at which a walk over the changes of an entry stands.
-use Rattle.std.proofs.Common.{◌≡◌, ℕ, ◌+◌, ◌<◌, ◌⊎◌, inl, inr, true, List, ◌∷◌, length, take, drop, get_or, refl, sym, ap, subst, ◌∙◌}
+use Rattle.std.proofs.Common.{◌≡◌, ℕ, ◌+◌, ◌<◌, ◌≤◌, ◌⊎◌, inl, inr, true, List, ◌∷◌, length, take, drop, get_or, arith, refl, sym, ap, subst, ◌∙◌}
 use Rattle.std.specs.List.{All, list_any}
 use Rattle.std.specs.FinMap.{keys}
 use Rattle.std.proofs.Math.Seq.{take-length}
@@ -34,18 +34,22 @@ reads_on {S} {store} {old} {now} {next} beside more = record {
   heeded = λ honest. beside.heeded (more.was_honest honest);
 }
 
--- a walk over the changes of an entry counts no bytes and leaves the folder of the journal
-pub record StaysBeside {S : Type 0} (store : Ghosts S) (old now : S) (changes : List Change) : Type 0 where
+-- a walk over the changes of an entry, so many of them by now, asks for one put or removal for each, counts no bytes and leaves the
+-- folder of the journal
+pub record StaysBeside {S : Type 0} (store : Ghosts S) (old now : S) (changes : List Change) (count : ℕ) : Type 0 where
+  pub moves : store.moves now ≤ store.moves old + count
   pub written : IsEntry changes → store.written now ≡ store.written old
   pub later : IsLater store old now
   pub folder : store.honest now → IsEntry changes → undo_folder_of (store.files now) ≡ undo_folder_of (store.files old)
 
-pub stays_none : {S : Type 0} (store : Ghosts S) (old : S) (changes : List Change) → StaysBeside store old old changes
-stays_none store old changes = record { written = λ good. refl; later = later_none store old; folder = λ honest good. refl }
+pub stays_none : {S : Type 0} (store : Ghosts S) (old : S) (changes : List Change) → StaysBeside store old old changes 0
+stays_none store old changes = record { moves = omega arith; written = λ good. refl; later = later_none store old; folder = λ honest good. refl }
 
-pub stays_on : {S : Type 0} {store : Ghosts S} {old now next : S} {changes : List Change} → StaysBeside store old now changes → IsLater store now next → (IsEntry changes → store.written next ≡ store.written now)
-    → (store.honest next → IsEntry changes → undo_folder_of (store.files next) ≡ undo_folder_of (store.files now)) → StaysBeside store old next changes
-stays_on {S} {store} {old} {now} {next} beside later written folder = record {
+pub stays_on : {S : Type 0} {store : Ghosts S} {old now next : S} {changes : List Change} {count : ℕ} → StaysBeside store old now changes count → IsLater store now next → store.moves next ≤ store.moves now + 1
+    → (IsEntry changes → store.written next ≡ store.written now)
+    → (store.honest next → IsEntry changes → undo_folder_of (store.files next) ≡ undo_folder_of (store.files now)) → StaysBeside store old next changes (count + 1)
+stays_on {S} {store} {old} {now} {next} beside later moves written folder = record {
+  moves = omega (arith, moves, beside.moves);
   written = λ good. written good ∙ beside.written good;
   later = later_more store old now next beside.later later;
   folder = λ honest good. folder honest good ∙ beside.folder (later.was_honest honest) good;

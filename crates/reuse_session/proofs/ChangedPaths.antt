@@ -29,7 +29,7 @@ use Rattle.reuse_session.specs.Edit.{Edit, made, dropped}
 use Rattle.reuse_session.specs.Fates.{is_skipped, fate_by, fate_at, annotation_fates, edit_fates, or_else, revert_fate, path_fates, limit_fates, fates_of}
 use Rattle.reuse_session.specs.Licence.{licence_path, licence_id}
 use Rattle.reuse_session.specs.Listing.{is_among, is_folder}
-use Rattle.reuse_session.specs.Outcome.{with_file, edited, is_too_many, edits_at, edits_by_names, edits_of, tree_after, outcome_of}
+use Rattle.reuse_session.specs.Outcome.{with_file, edited, edits_at, edits_by_names, edits_of, outcome_of}
 use Rattle.reuse_session.specs.TreeStyles.{OwnNames, styles_in}
 use Rattle.reuse_session.specs.Worked.{worked_paths}
 use Rattle.reuse_session.specs.declared.command.Command.{Command}
@@ -52,6 +52,7 @@ use Rattle.std.proofs.lemmas.Option.{none-some, same_Some, cond_some}
 use Rattle.reuse_session.proofs.Annotating.{both_err, if_not, first_is, no_edits, all_edits}
 use Rattle.reuse_session.proofs.Downloading.{IsMade, are_made}
 use Rattle.reuse_session.proofs.FatePlans.{none_refused}
+use Rattle.reuse_session.proofs.Outcomes.{edits_of_tree, some_edit, same_edit, unskipped}
 use Rattle.reuse_session.proofs.Planning.{paths_at, with_same, with_other, edited_other}
 use Rattle.reuse_session.proofs.RevertFitting.{backs, back_on, path_back, edits_are}
 use Rattle.reuse_session.proofs.RevertPlanning.{and_first, splice_differs}
@@ -153,19 +154,6 @@ of_command (Revert changes skip_moved) tree path edits h =
 abbrev Differs : Files → Edit → Type 0
 Differs tree edit = get tree edit.path ≢ edit.file
 
-abbrev some_edit : Edit → Result (Option Edit) Refusal
-some_edit edit = Ok (Some edit)
-
-abbrev no_edit : Result (Option Edit) Refusal
-no_edit = Ok None
-
-same_edit : (one other : Edit) → some_edit one ≡ some_edit other → one ≡ other
-same_edit one other e = cc
-
-unskipped : (b : Bool) (r : Result (Option Edit) Refusal) (edit : Edit) → cond b no_edit r ≡ some_edit edit → (b ≡ false) × (r ≡ some_edit edit)
-unskipped true r edit e = absurd (cc)
-unskipped false r edit e = (refl, e)
-
 -- an edit by an annotation of these bytes is of its place, and gives others
 edit_gives : (path at bytes : List ℕ) (due : Due) (edit : Edit) → edit_by path at bytes due ≡ some_edit edit → (edit.path ≡ at) × (new : List ℕ) × (edit.file ≡ Some new) × (bytes_eq new bytes ≡ false)
 edit_gives path at bytes (Err refusal) edit e = absurd (cc)
@@ -207,9 +195,6 @@ module _ (how : How) (scope : Scope) (additions : Additions) (tree : Files) (pat
       of_file : (file : Option (List ℕ)) → get tree path ≡ file → annotated_where how scope additions own tree path file ≡ some_edit edit → Differs tree edit
       of_file None here h = absurd (both_err (is_folder tree path) (refusals.IsFolder (place.Path path)) (refusals.NoSuchPath path) (Some edit) h)
       of_file (Some bytes) here h = target_differs bytes (target_of scope own tree path bytes) here (if_not (not (is_covered path)) (refusals.NotCovered path) _ (Some edit) h)
-
-abbrev accepted : {A : Type 0} → A → Result A Refusal
-accepted x = Ok x
 
 conversion_differs : (tree : Files) (edits : List Edit) → conversion_edits tree ≡ Ok edits → AllByRecursion (Differs tree) edits
 conversion_differs tree edits h = of_file (get tree dep5_path) refl h
@@ -302,24 +287,16 @@ differs_where tree edits each path = (edited_differs tree edits each path, λ ot
     of_test true t other = refl
     of_test false t other = absurd (other (sym (edited_other tree edits path t)))
 
-few_edits : (tree after : Files) (given : Result (List Edit) Refusal) → tree_after tree given ≡ Ok after → (edits : List Edit) × (given ≡ Ok edits) × (is_too_many edits ≡ false) × (edited tree edits ≡ after)
-few_edits tree after (Err refusal) e = absurd (cc)
-few_edits tree after (Ok edits) e = by_size (is_too_many edits) refl e
-  where
-    by_size : (b : Bool) → is_too_many edits ≡ b → cond b (Err refusals.TooMany) (Ok (edited tree edits)) ≡ Ok after → (es : List Edit) × (accepted edits ≡ Ok es) × (is_too_many es ≡ false) × (edited tree es ≡ after)
-    by_size true t h = absurd (cc)
-    by_size false t h = (edits, refl, t, cc)
-
 of_all : (command : Command) (tree after : Files) (path : List ℕ) → HoldsEntry command → outcome_of command tree ≡ Ok after → (list_any (is_change path) (fates_of command tree) ≡ true) ↔ (get tree path ≢ get after path)
 unfolding fates_of outcome_of
 of_all command tree after path holds h =
-    let few = few_edits tree after (edits_of command tree) h in
-    let limit : limit_fates (edits_of command tree) ≡ [] = ap limit_fates few.1 ∙ ap (λ b. cond b (fate.Refused refusals.TooMany ∷ []) []) few.2 in
+    let few = edits_of_tree tree after (edits_of command tree) h in
+    let limit : limit_fates (edits_of command tree) ≡ [] = ap limit_fates few.1 ∙ ap (λ b. cond b (fate.Refused refusals.TooMany ∷ []) []) few.3 in
     let same : list_any (is_change path) (path_fates command tree ++ limit_fates (edits_of command tree)) ≡ is_among (paths_at few.0) path =
     ap (λ fs. list_any (is_change path) (path_fates command tree ++ fs)) limit ∙ ap (list_any (is_change path)) (append-nil (path_fates command tree)) ∙ of_command command tree path few.0 few.1 in
     let where_differs = differs_where tree few.0 (each_differs command tree few.0 holds few.1) path in (
-      λ e. subst (λ t. get tree path ≢ get t path) few.3 (where_differs.0 (sym same ∙ e)),
-      λ other. same ∙ where_differs.1 (subst (λ t. get tree path ≢ get t path) (sym few.3) other),
+      λ e. subst (λ t. get tree path ≢ get t path) few.2 (where_differs.0 (sym same ∙ e)),
+      λ other. same ∙ where_differs.1 (subst (λ t. get tree path ≢ get t path) (sym few.2) other),
     )
 
 pub changes_where_trees_differ : (command : Command) (tree after : Files) (path : List ℕ) → HoldsEntry command → outcome_of command tree ≡ Ok after → Contains (fates_of command tree) (fate.Changes path) ↔ (get tree path ≢ get after path)

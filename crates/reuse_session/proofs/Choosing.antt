@@ -15,14 +15,14 @@ use Rattle.reuse_dep5.proofs.GlobTests.{match_from_test, test_from_match}
 use Rattle.reuse_dep5.proofs.ReadGlobLemmas.{both_parts, both_true}
 use Rattle.reuse_notice.specs.Sets.{set_of}
 use Rattle.reuse_notice.proofs.ClassLemmas.{In-append, In-left, In-right}
-use Rattle.reuse_notice.proofs.SetLemmas.{In, In-from_contains, Contains-from_in, In-set_of, set_of-has}
+use Rattle.reuse_notice.proofs.SetLemmas.{In, In-from_contains, Contains-from_in, In-set_of, set_of-has, sorted-set_of}
 use Rattle.reuse_tree.specs.Path.{lies_under}
 use Rattle.reuse_tree.specs.Files.{Files}
 use Rattle.reuse_session.specs.Choice.{is_listed, matches_one, is_chosen}
 use Rattle.reuse_session.specs.Chosen.{IsNamed, StandsBeneath, IsListed, MatchesNone, IsAskedFor}
 use Rattle.reuse_session.specs.Command.{has_root, paths_among}
 use Rattle.reuse_session.specs.Covered.{is_covered}
-use Rattle.reuse_session.specs.Listing.{is_folder}
+use Rattle.reuse_session.specs.Listing.{ArePaths, is_folder}
 use Rattle.reuse_session.specs.Worked.{expanded, worked_paths}
 use Rattle.reuse_session.specs.declared.command.Place.{Place}
 use Rattle.reuse_session.specs.declared.command.Place.TheVariants.{Root, Path}
@@ -211,3 +211,15 @@ all_chosen scope path unlisted none =
     ∙ and_true (is_covered path && is_listed scope.listed path)
     ∙ ap (λ listed. is_covered path && is_listed listed path) unlisted
     ∙ and_true (is_covered path)
+
+-- without going through folders
+module _ (scope : Scope) (places : List Place) (tree : Files) where
+  pub given_exactly : (path : List ℕ) → scope.recursive ≡ false → Contains (worked_paths scope places tree) path ↔ Contains (paths_among places) path
+  given_exactly path alone =
+      let worked : worked_paths scope places tree ≡ set_of (paths_among places) = ap (λ b. set_of (cond b (flat_map (expanded scope tree) places) (paths_among places))) alone in (
+        λ h. Contains-from_in (paths_among places) path (In-set_of (paths_among places) path (In-from_contains (set_of (paths_among places)) path (subst (λ ps. Contains ps path) worked h))),
+        λ h. subst (λ ps. Contains ps path) (sym worked) (Contains-from_in (set_of (paths_among places)) path (set_of-has (paths_among places) path (In-from_contains (paths_among places) path h))),
+      )
+
+  pub worked_ascend : ArePaths (worked_paths scope places tree)
+  worked_ascend = sorted-set_of (cond scope.recursive (flat_map (expanded scope tree) places) (paths_among places))

@@ -29,10 +29,9 @@ use Rattle.reuse_session.specs.Plan.{IsRefusalOf, MakesEdits}
 use Rattle.reuse_session.proofs.ReadingLemmas.{absent_is, long_is}
 use Rattle.reuse_session.proofs.Testing.{clashes_keys}
 use Rattle.reuse_session.proofs.TreeLemmas.{among_keys}
+use Rattle.reuse_session.proofs.Outcomes.{ok_edits}
 use Rattle.reuse_session.proofs.Planning.{AreEdits}
-
-abbrev ok_edits : List Edit → Result (List Edit) Refusal
-ok_edits edits = Ok edits
+use Rattle.reuse_session.proofs.Results.{err_or, same_Ok, none_from_test}
 
 -- ---- the two edits
 
@@ -72,18 +71,11 @@ both_are_edits tree bytes text free = record {
 
 -- ---- where a conversion is accepted
 
-err_or : (b : Bool) (r : Refusal) (rest : Result (List Edit) Refusal) (edits : List Edit) → cond b (Err r) rest ≡ ok_edits edits → (b ≡ false) × (rest ≡ ok_edits edits)
-err_or true r rest edits e = absurd (cc)
-err_or false r rest edits e = (refl, e)
-
-same_edits : (given edits : List Edit) → ok_edits given ≡ ok_edits edits → given ≡ edits
-same_edits given edits e = cc
-
 replaced_fits : (tree : Files) (bytes : List ℕ) (given : Result (List ℕ) Dep5Refusal) (edits : List Edit) → replaced_by tree bytes given ≡ ok_edits edits → AreEdits tree edits
 replaced_fits tree bytes (Err refusal) edits h = absurd (cc)
 replaced_fits tree bytes (Ok text) edits h =
     let parts = err_or (is_clash tree toml_path) (refusals.Clash toml_path) (ok_edits (dropped dep5_path bytes ∷ made toml_path text ∷ [])) edits h in
-    subst (AreEdits tree) (same_edits (dropped dep5_path bytes ∷ made toml_path text ∷ []) edits parts.1) (both_are_edits tree bytes text parts.0)
+    subst (AreEdits tree) (same_Ok (dropped dep5_path bytes ∷ made toml_path text ∷ []) edits parts.1) (both_are_edits tree bytes text parts.0)
 
 fits_where : (tree : Files) (file : Option (List ℕ)) (edits : List Edit) → conversion_where tree file ≡ ok_edits edits → AreEdits tree edits
 fits_where tree None edits h = absurd (cc)
@@ -100,10 +92,6 @@ conversion_fits tree edits h = fits_where tree (get tree dep5_path) edits h
 
 refused_by : (b c : Bool) (r : Refusal) (rest : Result (List Edit) Refusal) → b ≡ c → cond b (Err r) rest ≡ cond c (Err r) rest
 refused_by b c r rest e = ap (λ t. cond t (Err r) rest) e
-
-no_file : (file : Option (List ℕ)) → is_some file ≡ false → file ≡ None
-no_file None e = refl
-no_file (Some bytes) e = absurd (false≢true (sym e))
 
 longer : (most n : ℕ) → most < n → nat_lt most n ≡ true
 longer most n h = grind (arith, nat_tests)
@@ -157,6 +145,6 @@ module _ (tree : Files) (paths : List (List ℕ)) (bytes : List ℕ) (are : path
       replaced ∙ refused_by _ false (refusals.Clash toml_path) (ok_edits (dropped dep5_path bytes ∷ made toml_path text ∷ [])) e,
       (
         record { path = refl; removed = refl; written = refl; proper = tt; small = short; turns = record { range = (here, refl); from = ap (option_map sha256) here; to = tt }; sealed = refl },
-        (record { path = refl; removed = refl; written = refl; proper = tt; small = fits; turns = record { range = (no_file (get tree toml_path) (there false absent), refl); from = tt; to = refl }; sealed = refl }, tt),
+        (record { path = refl; removed = refl; written = refl; proper = tt; small = fits; turns = record { range = (none_from_test (get tree toml_path) (there false absent), refl); from = tt; to = refl }; sealed = refl }, tt),
       ),
     )

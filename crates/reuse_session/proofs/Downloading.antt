@@ -1,10 +1,9 @@
 -- A download: the files that it makes, where no id is refused.
-use Rattle.std.proofs.Common.{◌≡◌, inl, inr, ℕ, ◌≤◌, Bool, true, false, cond, ◌||◌, nat_lt, List, [], ◌∷◌, length, map, Option, Some, None, is_some, unwrap_or, Result, Ok, refl, sym, ap, ◌∙◌, subst, arith}
+use Rattle.std.proofs.Common.{◌≡◌, inl, inr, ℕ, ◌≤◌, Bool, true, false, cond, ◌||◌, nat_lt, List, [], ◌∷◌, length, map, Option, Some, None, is_some, unwrap_or, Ok, refl, sym, ap, ◌∙◌, subst}
 use Rattle.std.specs.List.{AllByRecursion}
 use Rattle.std.specs.Option.{option_or}
 use Rattle.std.specs.FinMap.{get, keys}
-use Rattle.std.proofs.lemmas.Bool.{false≢true}
-use Rattle.std.proofs.lemmas.Bool.Decides.{nat_tests}
+use Rattle.std.proofs.lemmas.Bool.{false≢true, le-ltb, ltb-false}
 use Rattle.std.specs.Str.{bytes_eq}
 use Rattle.std.proofs.lemmas.Slice.Eq.{bytes_eq-Decides}
 use Rattle.reuse_notice.specs.Sets.{set_of}
@@ -28,7 +27,9 @@ use Rattle.reuse_session.specs.declared.reply.Refusal.TheVariants as refusals
 use Rattle.reuse_session.proofs.Testing.{clashes_keys}
 use Rattle.reuse_session.proofs.LicenceLemmas.{id_of_path, id_bytes, path_is_good, path_of_tree, paths_apart}
 use Rattle.reuse_session.proofs.TreeLemmas.{among_keys}
+use Rattle.reuse_session.proofs.Outcomes.{edits_unless}
 use Rattle.reuse_session.proofs.Planning.{paths_at, IsFit, AreEdits}
+use Rattle.reuse_session.proofs.Results.{none_from_test}
 
 -- ---- an id that isn't refused
 
@@ -54,13 +55,6 @@ last_passed : (b : Bool) (r : Refusal) → cond b (due r) None ≡ None → b �
 last_passed true r e = absurd (cc)
 last_passed false r e = refl
 
-no_file : (file : Option (List ℕ)) → is_some file ≡ false → file ≡ None
-no_file None e = refl
-no_file (Some bytes) e = absurd (false≢true (sym e))
-
-not_long : (most n : ℕ) → nat_lt most n ≡ false → n ≤ most
-not_long most n h = grind (arith, nat_tests)
-
 module _ (tree : Files) (texts : List LicenceText) (id : List ℕ) where
   made_where : is_id id ≡ true → (found : Option (List ℕ)) → text_for texts id ≡ found → refusal_of_found tree id found ≡ None → IsMade tree texts (licence_path id)
   made_where good None at h = absurd (cc)
@@ -74,8 +68,8 @@ module _ (tree : Files) (texts : List LicenceText) (id : List ℕ) where
         here = refl;
         text = text;
         found = at;
-        short = not_long LONGEST_FILE (length text) first.0;
-        absent = no_file (get tree (licence_path id)) second.0;
+        short = ltb-false LONGEST_FILE (length text) first.0;
+        absent = none_from_test (get tree (licence_path id)) second.0;
         free = last_passed (is_clash tree (licence_path id)) (refusals.Clash (licence_path id)) second.1;
       }
 
@@ -169,18 +163,11 @@ module _ (tree : Files) (texts : List LicenceText) where
 
 -- ---- the whole
 
-abbrev ok_edits : List Edit → Result (List Edit) Refusal
-ok_edits edits = Ok edits
-
-accepted : (refusal : Option Refusal) (given edits : List Edit) → unless_refused refusal given ≡ ok_edits edits → (refusal ≡ None) × (given ≡ edits)
-accepted (Some r) given edits e = absurd (cc)
-accepted None given edits e = (refl, cc)
-
 -- the edits of a download
 pub download_fits : (ids : List (List ℕ)) (texts : List LicenceText) (tree : Files) (edits : List Edit) → download_edits ids texts tree ≡ Ok edits → AreEdits tree edits
 download_fits ids texts tree edits h =
     let given = map (licence_edit texts) (set_of (map licence_path (set_of ids))) in
-    let parts = accepted (ids_refusal tree texts (set_of ids)) (map (licence_edit texts) (set_of (map licence_path (set_of ids)))) edits h in
+    let parts = edits_unless (ids_refusal tree texts (set_of ids)) (map (licence_edit texts) (set_of (map licence_path (set_of ids)))) edits h in
     subst (AreEdits tree) parts.1 (are_edits tree texts (set_of (map licence_path (set_of ids))) (sorted-set_of (map licence_path (set_of ids))) (are_made tree texts (set_of ids) parts.0))
 
 -- the changes at the paths of the ids do what the download's edits say
@@ -200,9 +187,6 @@ refusal_due given edits refusal e = ap (λ g. unless_refused g edits) e
 
 -- ---- one id
 
-not_longer : (most n : ℕ) → n ≤ most → nat_lt most n ≡ false
-not_longer most n h = grind (arith, nat_tests)
-
 second_due : (a b c : Bool) (x y z : Refusal) → a ≡ false → b ≡ true → cond a (due x) (cond b (due y) (cond c (due z) None)) ≡ due y
 second_due false true c x y z e f = refl
 second_due true b c x y z e f = absurd (false≢true (sym e))
@@ -214,7 +198,7 @@ third_due true b c x y z e f g = absurd (false≢true (sym e))
 third_due false true c x y z e f g = absurd (false≢true (sym f))
 third_due false false false x y z e f g = absurd (false≢true g)
 
-none_due : (a b c : Bool) (x y z : Refusal) → a ≡ false → b ≡ false → c ≡ false → cond a (due x) (cond b (due y) (cond c (due z) None)) ≡ None
+pub none_due : (a b c : Bool) (x y z : Refusal) → a ≡ false → b ≡ false → c ≡ false → cond a (due x) (cond b (due y) (cond c (due z) None)) ≡ None
 none_due false false false x y z e f g = refl
 none_due true b c x y z e f g = absurd (false≢true (sym e))
 none_due false true c x y z e f g = absurd (false≢true (sym f))
@@ -232,16 +216,16 @@ module _ (tree : Files) (id path text : List ℕ) (paths : List (List ℕ)) (fou
   pub exists_answer : is_among paths path ≡ true → refusal_of_found tree id found ≡ Some (refusals.Exists path)
   exists_answer e =
       ap (refusal_of_found tree id) is
-      ∙ second_due _ _ _ _ _ _ (not_longer LONGEST_FILE (length text) short) (there true e) ∙ ap (λ p. due (refusals.Exists p)) (sym here)
+      ∙ second_due _ _ _ _ _ _ (le-ltb LONGEST_FILE (length text) short) (there true e) ∙ ap (λ p. due (refusals.Exists p)) (sym here)
 
   pub clash_answer : is_among paths path ≡ false → is_clash_of paths path ≡ true → refusal_of_found tree id found ≡ Some (refusals.Clash path)
   clash_answer e f =
       ap (refusal_of_found tree id) is
-      ∙ third_due _ _ _ _ _ _ (not_longer LONGEST_FILE (length text) short) (there false e) (clashes true f) ∙ ap (λ p. due (refusals.Clash p)) (sym here)
+      ∙ third_due _ _ _ _ _ _ (le-ltb LONGEST_FILE (length text) short) (there false e) (clashes true f) ∙ ap (λ p. due (refusals.Clash p)) (sym here)
 
   pub made_answer : is_among paths path ≡ false → is_clash_of paths path ≡ false → refusal_of_found tree id found ≡ None
   made_answer e f =
-      ap (refusal_of_found tree id) is ∙ none_due _ _ _ (refusals.TooLong (licence_path id)) (refusals.Exists (licence_path id)) (refusals.Clash (licence_path id)) (not_longer LONGEST_FILE (length text) short) (there false e) (clashes false f)
+      ap (refusal_of_found tree id) is ∙ none_due _ _ _ (refusals.TooLong (licence_path id)) (refusals.Exists (licence_path id)) (refusals.Clash (licence_path id)) (le-ltb LONGEST_FILE (length text) short) (there false e) (clashes false f)
 
 -- the first refusal stands
 pub first_refused : (given more : Option Refusal) (r : Refusal) → IsRefused given r → IsRefused (option_or given more) r

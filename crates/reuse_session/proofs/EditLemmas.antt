@@ -22,7 +22,6 @@ use Rattle.reuse_session.specs.AnnotationPlan.{own_of, annotated_by, beside_by, 
 use Rattle.reuse_session.specs.Clash.{is_clash}
 use Rattle.reuse_session.specs.Covered.{is_covered}
 use Rattle.reuse_session.specs.declared.reply.Refusal.TheVariants as refusals
-use Rattle.reuse_session.specs.declared.target.Target.{Target}
 use Rattle.reuse_session.specs.declared.target.Target.TheVariants.{Beside}
 use Rattle.reuse_session.specs.Annotations.{Due, Fits}
 use Rattle.reuse_session.specs.Plan.{CarriesOutEdit, MakesEdit}
@@ -30,6 +29,7 @@ use Rattle.reuse_session.specs.Steps.{short_file}
 use Rattle.reuse_session.specs.declared.annotation.Annotation.{Annotation}
 use Rattle.reuse_session.specs.declared.reply.Refusal.{Refusal}
 use Rattle.reuse_session.proofs.SpliceLemmas.{makes_splice}
+use Rattle.reuse_session.proofs.TargetReasons.{aimed}
 
 -- what is known of each edit is known of an annotation
 pub fits_by : (bytes : List ℕ) (due : Due) → ((edit : header.Edit) → due ≡ Ok edit → (edit.start + edit.old_len ≤ length bytes) × (length (header.edited bytes edit) ≤ LONGEST_FILE)) → Fits bytes due
@@ -122,10 +122,6 @@ making_made tree path at clone (Ok edit) splice here fits answer same = by_test 
 
 -- ---- files that are not skipped
 
-and_false : (a b : Bool) → b ≡ false → (a && b) ≡ false
-and_false true b e = e
-and_false false b e = refl
-
 pub same_some : {X Y Z : Type 0} (f : X → Z) (g : Y → Z) (x : Option X) (y : Option Y) → option_map f x ≡ option_map g y → is_some x ≡ is_some y
 same_some f g None None e = refl
 same_some f g (Some x) (Some y) e = refl
@@ -162,9 +158,6 @@ long_is path file rest refusal e = by_test (nat_lt LONGEST_FILE (length file)) e
 
 abbrev refused : Refusal → Result (Option Edit) Refusal
 refused refusal = Err refusal
-
-abbrev aimed : Target → Result Target Refusal
-aimed target = Ok target
 
 pub some_bytes : (file : Option (List ℕ)) → IsSome file → (bytes : List ℕ) × (file ≡ Some bytes)
 some_bytes (Some bytes) some = (bytes, refl)

@@ -30,6 +30,7 @@ use Rattle.reuse_session.proofs.Planning.{paths_at, with_same, with_other, edite
 use Rattle.reuse_session.specs.Outcome.{with_file}
 use Rattle.std.specs.Ordering.{is_eq}
 use Rattle.std.specs.Cmp.Lexicographic.{nat_list_eq_equiv}
+use Rattle.std.proofs.Math.Seq.{take-append_seam}
 
 -- ---- the edit that a change makes
 
@@ -39,10 +40,6 @@ file_after (Make path new digest) file = Some new
 file_after (Drop path old digest) file = None
 file_after (Splice path at old new rest seal) None = None
 file_after (Splice path at old new rest seal) (Some bytes) = Some (take at bytes ++ new ++ drop (at + length old) bytes)
-
-take_front : (xs ys : List ℕ) → take (length xs) (xs ++ ys) ≡ xs
-take_front [] ys = refl
-take_front (x ∷ xs) ys = ap (λ zs. x ∷ zs) (take_front xs ys)
 
 drop_front : (xs ys : List ℕ) → drop (length xs) (xs ++ ys) ≡ ys
 drop_front [] ys = refl
@@ -54,7 +51,7 @@ some_is x y e = cc
 spliced : (bytes front old new back : List ℕ) (at : ℕ) → bytes ≡ front ++ old ++ back → length front ≡ at → take at bytes ++ new ++ drop (at + length old) bytes ≡ front ++ new ++ back
 spliced bytes front old new back at e n =
     ap₂ (λ x y. x ++ new ++ y)
-    (ap₂ take (sym n) (e ∙ append_assoc front old back) ∙ take_front front (old ++ back))
+    (ap₂ take (sym n) (e ∙ append_assoc front old back) ∙ take-append_seam front (old ++ back))
     (ap₂ drop (ap (λ m. m + length old) (sym n) ∙ sym (length-append front old)) e ∙ drop_front (front ++ old) back)
 
 turned : (c : Change) (before after : Option (List ℕ)) → Turns c before after → file_after c before ≡ after

@@ -159,7 +159,3 @@ or_some (f ∷ fates) others some = refl
 pub or_none : (fates others : List Fate) → length fates ≡ 0 → or_else fates others ≡ others
 or_none [] others none = refl
 or_none (f ∷ fates) others none = absurd (omega arith)
-
-pub none_is : {A : Type 0} (o : Option A) → ((x : A) → o ≡ Some x → ⊥) → o ≡ None
-none_is None not = refl
-none_is (Some x) not = absurd (not x refl)

@@ -1,14 +1,12 @@
 -- The edits of an annotation: each at a file of the tree or its neighbour, of distinct paths, none a folder of another.
 use Rattle.std.proofs.Common.{◌≡◌, ◌⊎◌, inl, inr, ℕ, ◌+◌, ◌-◌, ◌≤◌, Bool, true, false, cond, not, ◌||◌, ◌&&◌, ◌==◌, nat_eq, nat_lt, List, [], ◌∷◌, ◌++◌, codes, length, reverse, take, drop, Less, Option, Some, None, IsSome, is_some, Result, Ok, Err, refl, sym, ap, ap₂, subst, ◌∙◌, arith, length-append, length-drop, drop_at}
 use Rattle.std.specs.Ordering.{nat_cmp}
-use Rattle.std.specs.Cmp.Lexicographic.{slice_cmp, pointwise, nat_list_cmp_total}
+use Rattle.std.specs.Cmp.Lexicographic.{slice_cmp, pointwise}
 use Rattle.std.specs.List.{AllByRecursion, IsDistinct, list_any, ends_with, suffix_len, prefix_len}
 use Rattle.std.specs.Prelude.{flat_map}
 use Rattle.std.specs.Str.{bytes_eq}
 use Rattle.std.specs.FinMap.{get}
-use Rattle.std.proofs.lemmas.Bool.{false≢true, or_parts}
-use Rattle.std.proofs.lemmas.Bool.Decides.{nat_tests}
-use Rattle.std.proofs.lemmas.Cmp.{tied_itself}
+use Rattle.std.proofs.lemmas.Bool.{false≢true, false_from_ne_true, or_parts, or_right, ltb-false}
 use Rattle.std.proofs.lemmas.List.{drop-drop, reverse-append}
 use Rattle.std.proofs.lemmas.List.Sums.{suffix_len-le-length}
 use Rattle.std.proofs.lemmas.Map.Keys.{IsDistinct-cons, IsDistinct-from_sorted, sorted_head, sorted_tail}
@@ -43,15 +41,18 @@ use Rattle.reuse_session.specs.declared.target.Target.{Target}
 use Rattle.reuse_session.specs.declared.target.Target.TheVariants.{Inside, Beside, Nowhere}
 use Rattle.reuse_session.specs.declared.reply.Refusal.{Refusal}
 use Rattle.reuse_session.specs.declared.reply.Refusal.TheVariants as refusals
-use Rattle.reuse_session.proofs.Annotating.{starts_reuse, and_all, refuted, covered_of_tree, first_is, no_edits, all_edits, both_err, if_not}
+use Rattle.reuse_session.proofs.Annotating.{starts_reuse, and_all, covered_of_tree, first_is, no_edits, all_edits, both_err, if_not}
 use Rattle.reuse_session.proofs.Converting.{conversion_fits}
 use Rattle.reuse_session.proofs.Downloading.{download_fits}
 use Rattle.reuse_session.proofs.EditOrder.{AreDistinct, AreFit}
 use Rattle.reuse_session.proofs.ListingLemmas.{under_from_test, test_from_under}
 use Rattle.reuse_session.proofs.NeighbourLemmas.{good_neighbour}
-use Rattle.reuse_session.proofs.Planning.{paths_at, IsFit, AreEdits}
+use Rattle.reuse_session.proofs.Planning.{paths_at, IsFit, AreEdits, not_itself}
 use Rattle.reuse_session.proofs.RevertFitting.{revert_fits}
 use Rattle.reuse_session.proofs.Testing.{clashes_keys}
+use Rattle.reuse_session.proofs.Outcomes.{no_edit, some_edit, same_edit, unskipped}
+use Rattle.std.proofs.Math.Seq.{take-append_seam}
+use Rattle.reuse_session.proofs.Results.{err_or}
 
 -- ---- names of neighbours
 
@@ -92,13 +93,9 @@ heads x y xs ys e = cc
 tails : (x y : ℕ) (xs ys : List ℕ) → x ∷ xs ≡ y ∷ ys → xs ≡ ys
 tails x y xs ys e = cc
 
-or_true : (b : Bool) → (b || true) ≡ true
-or_true true = refl
-or_true false = refl
-
 has_slash : (xs rest : List ℕ) → list_any is_slash (xs ++ 47 ∷ rest) ≡ true
 has_slash [] rest = refl
-has_slash (x ∷ xs) rest = ap (λ b. is_slash x || b) (has_slash xs rest) ∙ or_true (is_slash x)
+has_slash (x ∷ xs) rest = ap (λ b. is_slash x || b) (has_slash xs rest) ∙ or_right (is_slash x) true refl
 
 -- a slash of a neighbour's path is one of its file's
 cut : (path folder rest : List ℕ) → path ++ ending ≡ folder ++ 47 ∷ rest → (r : List ℕ) × (path ≡ folder ++ 47 ∷ r)
@@ -111,28 +108,24 @@ cut (x ∷ path) (y ∷ folder) rest e =
 under_file : (path folder : List ℕ) → lies_under (path ++ ending) folder ≡ true → lies_under path folder ≡ true
 under_file path folder h = let u = under_from_test (path ++ ending) folder h in test_from_under path folder (cut path folder u.0 u.1)
 
-take_front : (xs ys : List ℕ) → take (length xs) (xs ++ ys) ≡ xs
-take_front [] ys = refl
-take_front (x ∷ xs) ys = ap (λ zs. x ∷ zs) (take_front xs ys)
-
 pub same_file : (path other : List ℕ) → path ++ ending ≡ other ++ ending → path ≡ other
 same_file path other e =
     let size = ap length e in
     let long : length path ≡ length other = omega (arith, size, length-append path ending, length-append other ending) in
-    sym (take_front path ending) ∙ ap₂ take long e ∙ take_front other ending
+    sym (take-append_seam path ending) ∙ ap₂ take long e ∙ take-append_seam other ending
 
 in_reuse : (path rest : List ℕ) → is_covered path ≡ true → path ++ ending ≡ codes ".reuse" ++ 47 ∷ rest → ⊥
 in_reuse path rest covered e =
     let c = cut path (codes ".reuse") rest e in
-    false≢true (sym (starts_reuse path covered) ∙ ap (is_in (codes ".reuse")) c.1 ∙ or_true _)
+    false≢true (sym (starts_reuse path covered) ∙ ap (is_in (codes ".reuse")) c.1 ∙ or_right _ true refl)
 
 -- a covered file's neighbour is of the tree
 pub neighbour_of_tree : (path : List ℕ) → is_covered path ≡ true → is_of_tree (path ++ ending) ≡ true
 neighbour_of_tree path covered =
     and_all (bytes_eq (path ++ ending) (codes ".reuse")) (bytes_eq (path ++ ending) journal_folder) (lies_under (path ++ ending) journal_folder)
-    (refuted _ (λ e. let size = ap length ((bytes_eq-Decides (path ++ ending) (codes ".reuse")).0 e) in omega (arith, size, length-append path ending)))
-    (refuted _ (λ e. in_reuse path (codes "undo") covered ((bytes_eq-Decides (path ++ ending) journal_folder).0 e)))
-    (refuted _ (λ e. let u = under_from_test (path ++ ending) journal_folder e in in_reuse path (codes "undo" ++ 47 ∷ u.0) covered u.1))
+    (false_from_ne_true _ (λ e. let size = ap length ((bytes_eq-Decides (path ++ ending) (codes ".reuse")).0 e) in omega (arith, size, length-append path ending)))
+    (false_from_ne_true _ (λ e. in_reuse path (codes "undo") covered ((bytes_eq-Decides (path ++ ending) journal_folder).0 e)))
+    (false_from_ne_true _ (λ e. let u = under_from_test (path ++ ending) journal_folder e in in_reuse path (codes "undo" ++ 47 ∷ u.0) covered u.1))
 
 -- ---- where an edit is
 
@@ -142,37 +135,17 @@ pub record IsPlaced (tree : Files) (path : List ℕ) (edit : Edit) : Type 0 wher
   pub covered : is_covered path ≡ true
   pub placed : (edit.path ≡ path) ⊎ ((edit.path ≡ path ++ ending) × (length edit.path ≤ 4096) × (get tree edit.path ≡ None → is_clash tree edit.path ≡ false))
 
-abbrev no_edit : Result (Option Edit) Refusal
-no_edit = Ok None
-
-abbrev some_edit : Edit → Result (Option Edit) Refusal
-some_edit edit = Ok (Some edit)
-
 none_is_some : (edit : Edit) → no_edit ≡ some_edit edit → ⊥
 none_is_some edit e = cc
 
 err_is_some : (refusal : Refusal) (edit : Edit) → Err refusal ≡ some_edit edit → ⊥
 err_is_some refusal edit e = cc
 
-after_skip : (b : Bool) (r : Result (Option Edit) Refusal) (edit : Edit) → cond b no_edit r ≡ some_edit edit → r ≡ some_edit edit
-after_skip true r edit e = absurd (none_is_some edit e)
-after_skip false r edit e = e
-
-after_err : (b : Bool) (refusal : Refusal) (r : Result (Option Edit) Refusal) (edit : Edit) → cond b (Err refusal) r ≡ some_edit edit → (b ≡ false) × (r ≡ some_edit edit)
-after_err true refusal r edit e = absurd (err_is_some refusal edit e)
-after_err false refusal r edit e = (refl, e)
-
-same_edit : (one other : Edit) → some_edit one ≡ some_edit other → one ≡ other
-same_edit one other e = cc
-
 edit_at : (path at bytes : List ℕ) (due : Due) (edit : Edit) → edit_by path at bytes due ≡ some_edit edit → edit.path ≡ at
 edit_at path at bytes (Err refusal) edit e = absurd (err_is_some _ edit e)
 edit_at path at bytes (Ok one) edit e =
-    let made = after_skip (bytes_eq (header.edited bytes one) bytes) _ edit e in
+    let made = (unskipped (bytes_eq (header.edited bytes one) bytes) _ edit e).1 in
     ap (λ (x : Edit). x.path) (sym (same_edit _ edit made))
-
-not_over : (m n : ℕ) → nat_lt m n ≡ false → n ≤ m
-not_over m n h = grind (arith, nat_tests)
 
 some_is_none : (bytes : List ℕ) → Some bytes ≡ None → ⊥
 some_is_none bytes e = cc
@@ -183,24 +156,24 @@ not_false false e = absurd (false≢true (sym e))
 
 module _ (how : How) (scope : Scope) (additions : Additions) (tree : Files) (path : List ℕ) (edit : Edit) where
   inside_at : (bytes : List ℕ) (style : Style) → edit_inside how scope additions path bytes style ≡ some_edit edit → edit.path ≡ path
-  inside_at bytes style e = edit_at path path bytes (header.annotation_of style how additions bytes) edit (after_skip (scope.skip_existing && is_some (header_of style bytes)) _ edit e)
+  inside_at bytes style e = edit_at path path bytes (header.annotation_of style how additions bytes) edit (unskipped (scope.skip_existing && is_some (header_of style bytes)) _ edit e).1
 
   neighbour_at : (file : Option (List ℕ)) → edit_neighbour how scope additions tree path file ≡ some_edit edit → (edit.path ≡ neighbour_of path) × (file ≡ None → is_clash tree (neighbour_of path) ≡ false)
   neighbour_at None e =
-      let h = after_err (is_clash tree (neighbour_of path)) (refusals.Clash (neighbour_of path)) _ edit e in
+      let h = err_or (is_clash tree (neighbour_of path)) (refusals.Clash (neighbour_of path)) _ (Some edit) e in
       (edit_at path (neighbour_of path) [] (neighbour_annotation_of how additions []) edit h.1, λ none. h.0)
   neighbour_at (Some bytes) e =
-      let h = after_err (nat_lt LONGEST_FILE (length bytes)) (refusals.TooLong path) _ edit e in (
-        edit_at path (neighbour_of path) bytes (neighbour_annotation_of how additions bytes) edit (after_skip (scope.skip_existing && neighbour_is_tagged bytes) _ edit h.1),
+      let h = err_or (nat_lt LONGEST_FILE (length bytes)) (refusals.TooLong path) _ (Some edit) e in (
+        edit_at path (neighbour_of path) bytes (neighbour_annotation_of how additions bytes) edit (unskipped (scope.skip_existing && neighbour_is_tagged bytes) _ edit h.1).1,
         λ none. absurd (some_is_none bytes none),
       )
 
   beside_at : edit_beside how scope additions tree path ≡ some_edit edit → (edit.path ≡ path ++ ending) × (length edit.path ≤ 4096) × (get tree edit.path ≡ None → is_clash tree edit.path ≡ false)
   beside_at e =
-      let h = after_err (nat_lt 4096 (length (neighbour_of path))) (refusals.TooLong path) _ edit e in
+      let h = err_or (nat_lt 4096 (length (neighbour_of path))) (refusals.TooLong path) _ (Some edit) e in
       let n = neighbour_at (get tree (neighbour_of path)) h.1 in (
         n.0,
-        subst (λ p. length p ≤ 4096) (sym n.0) (not_over 4096 (length (neighbour_of path)) h.0),
+        subst (λ p. length p ≤ 4096) (sym n.0) (ltb-false 4096 (length (neighbour_of path)) h.0),
         subst (λ p. get tree p ≡ None → is_clash tree p ≡ false) (sym n.0) n.1,
       )
 
@@ -217,7 +190,7 @@ module _ (how : How) (scope : Scope) (additions : Additions) (tree : Files) (pat
       of_file : (file : Option (List ℕ)) → get tree path ≡ file → annotated_where how scope additions own tree path file ≡ some_edit edit → IsPlaced tree path edit
       of_file None is h = absurd (both_err (is_folder tree path) (refusals.IsFolder (place.Path path)) (refusals.NoSuchPath path) (Some edit) h)
       of_file (Some bytes) is h =
-          let k = after_err (not (is_covered path)) (refusals.NotCovered path) _ edit h in
+          let k = err_or (not (is_covered path)) (refusals.NotCovered path) _ (Some edit) h in
           record { there = ap is_some is; covered = not_false (is_covered path) k.0; placed = target_at bytes (target_of scope own tree path bytes) k.1 }
 
 -- ---- one edit is fit
@@ -261,15 +234,15 @@ or_none true b e f = absurd (false≢true (sym e))
 
 module _ (tree : Files) where
   no_clash : (path other : List ℕ) → is_clash tree path ≡ false → IsSome (get tree other) → (lies_under other path || lies_under path other) ≡ false
-  no_clash path other free some = refuted _ (λ nested. false≢true (sym free ∙ (clashes_keys tree path).1 (record { other = other; is_file = some; nested = nested })))
+  no_clash path other free some = false_from_ne_true _ (λ nested. false≢true (sym free ∙ (clashes_keys tree path).1 (record { other = other; is_file = some; nested = nested })))
 
   -- a neighbour that is made doesn't lie under another
   not_under : (path other of : List ℕ) → is_clash tree path ≡ false → IsSome (get tree of) → other ≡ of ++ ending → lies_under other path ≡ false
   not_under path other of free some is =
-      refuted _ (λ under. false≢true (sym (or_parts (lies_under of path) (lies_under path of) (no_clash path of free some)).0 ∙ under_file of path (subst (λ o. lies_under o path ≡ true) is under)))
+      false_from_ne_true _ (λ under. false≢true (sym (or_parts (lies_under of path) (lies_under path of) (no_clash path of free some)).0 ∙ under_file of path (subst (λ o. lies_under o path ≡ true) is under)))
 
   are_apart : AreFiles tree → (path other : List ℕ) → Stands tree path → Stands tree other → (lies_under other path || lies_under path other) ≡ false
-  are_apart are path other (inl a) (inl b) = refuted _ (λ nested. are.apart path a (record { other = other; is_file = b; nested = nested }))
+  are_apart are path other (inl a) (inl b) = false_from_ne_true _ (λ nested. are.apart path a (record { other = other; is_file = b; nested = nested }))
   are_apart are path other (inl a) (inr b) =
       let n = or_parts (lies_under path other) (lies_under other path) (no_clash other path b.3 a) in or_none (lies_under other path) (lies_under path other) n.1 n.0
   are_apart are path other (inr a) (inl b) = no_clash path other a.3 b
@@ -277,7 +250,7 @@ module _ (tree : Files) where
 
   -- the edits of two paths are of two paths
   differ : (path other : List ℕ) (one two : Edit) → IsPlaced tree path one → IsPlaced tree other two → (path ≡ other → ⊥) → bytes_eq one.path two.path ≡ false
-  differ path other one two h k two_paths = refuted _ (λ same. by_place ((bytes_eq-Decides one.path two.path).0 same) h.placed k.placed)
+  differ path other one two h k two_paths = false_from_ne_true _ (λ same. by_place ((bytes_eq-Decides one.path two.path).0 same) h.placed k.placed)
     where
       by_place : one.path ≡ two.path
           → (one.path ≡ path) ⊎ ((one.path ≡ path ++ ending) × (length one.path ≤ 4096) × (get tree one.path ≡ None → is_clash tree one.path ≡ false))
@@ -286,9 +259,6 @@ module _ (tree : Files) where
       by_place same (inl a) (inr b) = false≢true (sym (uncovered_neighbour other) ∙ ap is_covered (sym b.0 ∙ sym same ∙ a) ∙ h.covered)
       by_place same (inr a) (inl b) = false≢true (sym (uncovered_neighbour path) ∙ ap is_covered (sym a.0 ∙ same ∙ b) ∙ k.covered)
       by_place same (inr a) (inr b) = two_paths (same_file path other (sym a.0 ∙ same ∙ b.0))
-
-not_itself : (x y : List ℕ) → slice_cmp nat_cmp x y ≡ Less → x ≡ y → ⊥
-not_itself x y e same = let s = sym e ∙ ap (slice_cmp nat_cmp x) (sym same) ∙ tied_itself nat_list_cmp_total x in cc
 
 distinct_nil : IsDistinct bytes_eq []
 unfolding IsDistinct

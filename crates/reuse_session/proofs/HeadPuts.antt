@@ -1,7 +1,6 @@
 -- Puts of the journal's head beside the changes of a tree.
-use Rattle.std.proofs.Common.{◌≡◌, ℕ, Bool, true, false, cond, not, ◌||◌, List, Option, Some, None, is_some, refl, sym, ap, subst, ◌∙◌, inl, inr}
+use Rattle.std.proofs.Common.{◌≡◌, ℕ, Bool, true, false, cond, not, List, Option, Some, None, is_some, refl, sym, ap, subst, ◌∙◌}
 use Rattle.std.specs.FinMap.{get}
-use Rattle.std.proofs.lemmas.Bool.{or_cases, or_right, or_left}
 use Rattle.reuse_tree.specs.Path.{lies_under, journal_folder}
 use Rattle.reuse_tree.specs.Files.{Files, Clashes, AreFiles, tree_of}
 use Rattle.reuse_tree.specs.declared.change.Change.{Change}
@@ -12,6 +11,7 @@ use Rattle.reuse_session.proofs.Differ.{touching}
 use Rattle.reuse_session.proofs.TreeLemmas.{tree_file}
 use Rattle.reuse_session.proofs.OfTree.{get-folder, apart_from_journal}
 use Rattle.reuse_session.proofs.JournalLemmas.{head_in_folder, sets_in_folder}
+use Rattle.std.proofs.Math.Bool.{or_comm}
 
 -- the head is put: the folder has it, and the tree stays
 pub head_sets : (files after : Files) (file : Option (List ℕ)) → Sets head_path file files after → Sets head_path file (undo_folder_of files) (undo_folder_of after)
@@ -47,11 +47,8 @@ module _ (changes : List Change) (good : IsEntry changes) (old now : Files) (oth
   pub head_clashed : Clashes now head_path → Clashes old head_path
   head_clashed clash = record { other = clash.other; is_file = ap is_some (sym (of_folder (lies_under clash.other journal_folder) refl)) ∙ clash.is_file; nested = clash.nested }
     where
-      swapped : (a b : Bool) → (a || b) ≡ true → (b || a) ≡ true
-      swapped a b e = elim (or_cases a b e) [ inl here ↦ or_right b a here | inr there ↦ or_left b a there ]
-
       of_change : (b : Bool) → touches changes clash.other ≡ b → get (tree_of now) clash.other ≡ get (tree_of old) clash.other
-      of_change true e = absurd (apart_from_journal clash.other head_path (touched_of_tree clash.other e) head_in_folder (swapped (lies_under clash.other head_path) (lies_under head_path clash.other) clash.nested))
+      of_change true e = absurd (apart_from_journal clash.other head_path (touched_of_tree clash.other e) head_in_folder (or_comm (lies_under head_path clash.other) (lies_under clash.other head_path) ∙ clash.nested))
       of_change false e = others clash.other e
 
       of_folder : (b : Bool) → lies_under clash.other journal_folder ≡ b → get now clash.other ≡ get old clash.other

@@ -18,7 +18,7 @@ use Rattle.reuse_session.specs.History.{Memory, head_listing, remember_run}
 use Rattle.reuse_session.specs.Journal.{State}
 use Rattle.reuse_session.specs.JournalFiles.{head_path, entry_path, entry_in, EntrySays, IsFree}
 use Rattle.reuse_session.specs.Machine.{is_full}
-use Rattle.reuse_session.specs.Outcome.{edits_of, recorded_size}
+use Rattle.reuse_session.specs.Outcome.{edits_of, edit_count, recorded_size}
 use Rattle.reuse_session.specs.Session.{store_of, memory_of, listed_as, listed_count, head_room, HasEntryText, HasHeadText, IsPlanned, IsRecordOf, IsRun, IsSameBut, IsSameButTwo, IsStepOf, Remembers, Runs, StandsOn}
 use Rattle.reuse_session.specs.Standing.{InDoubt}
 use Rattle.reuse_session.specs.Tree.{undo_folder_of}
@@ -39,7 +39,7 @@ use Rattle.reuse_session.proofs.JournalLemmas.{free_stays, free_beside, tree_bes
 use Rattle.reuse_tree.specs.Asked.{OnlyReads}
 use Rattle.reuse_session.proofs.OnlyReading.{early_is_no_stop}
 use Rattle.reuse_session.proofs.RunFollowing.{runs_step}
-use Rattle.reuse_session.proofs.Running.{full_alike, size_recorded}
+use Rattle.reuse_session.proofs.Running.{full_alike, count_recorded, size_recorded}
 use Rattle.reuse_session.proofs.KnownCommands.{recorded_known}
 use Rattle.reuse_session.proofs.StepAnswers.{still_stands, stands_beside, kept_put, fault_clash, clash_of, head_clash_before}
 use Rattle.reuse_session.proofs.Stepping.{step_of, second_of, run_step, is_run, remembers_run, sound_between, sound_second}
@@ -65,6 +65,7 @@ pub record EntryPut {S : Type 0} (store : Ghosts S) (old : Session S) (command :
   pub is_entry : entry ≡ record { changes = changes; command = name_of command; when = when }
   pub was_honest : store.honest put → store.honest (store_of old)
   pub beside : store.honest put → IsSameBut (entry_path (number + 1)) (files_of store old) (store.files put)
+  pub asks : store.moves put ≤ store.moves (store_of old) + 1
   pub at_most : IsEntry entry.changes → store.written put ≤ store.written (store_of old) + entry_size entry.changes
 
 -- it is put and says what the step does, which the head is to list
@@ -128,6 +129,8 @@ module _ {S : Type 0} {store : Ghosts S} {old : Session S} {command : Command} {
       folder = λ honest. folder_put (files_of store old) (store.files put) ((memory_of old).used + 1) (others honest);
       texts = λ honest paths e. absurd (cc);
       written = λ honest held stands. omega (arith, at_most_recorded honest held stands);
+      moves = λ honest. omega (arith, p.asks);
+      begins = λ early. p.asks;
       clash = λ honest. fault_clash (Clashes (files_of store old) (next_path old)) (Clashes (files_of store old) head_path) refusal (put_early refusal is)
           (λ e. subst (λ n. Clashes (files_of store old) (entry_path (n + 1))) p.is_number (clash honest e));
       free = λ honest. free_beside (files_of store old) (store.files put) ((memory_of old).used + 1) (others honest);
@@ -183,6 +186,7 @@ module _ {S : Type 0} {store : Ghosts S} {old : Session S} {command : Command} {
           (stepped : store.honest (store_of new) → IsEntry made → IsSameBut head_path (undo_folder_of (store.files put)) (folder_of store new))
           (written : IsSoundHead (head_listing (memory_of old) (Some (record { entry = number + 1; way = ways.Do }))) → IsSoundHead (head_listing moved None) → IsEntry made
           → store.written (store_of new) ≤ store.written put + head_room (listed_count (memory_of old)) + head_room (listed_count moved))
+          (asks : store.moves (store_of new) ≤ store.moves put + length made + 2)
         where
           folder_left : store.honest (store_of new) → IsSameButTwo (next_path old) head_path (folder_of store old) (folder_of store new)
           folder_left honest =
@@ -202,6 +206,11 @@ module _ {S : Type 0} {store : Ghosts S} {old : Session S} {command : Command} {
               let second = sound_second (memory_of old) (store.files put) held at.second at.stands.standing at.stands.remembers at.is in
               let many : listed_count moved ≡ length (memory_of old).done + 1 = ap listed_count l.is_moved ∙ omega (arith, length-append (memory_of old).done (listed ∷ [])) in
               omega (arith, written between second (made_good (was_put honest)), many, at_most_recorded (was_put honest) held stands)
+
+          moves_left : store.honest (store_of new) → store.moves (store_of new) ≤ store.moves (store_of old) + edit_count (edits_of command (tree_of (files_of store old))) + 3
+          moves_left honest =
+              let tree = tree_of (files_of store old) in
+              omega (arith, asks, p.asks, ap length same, count_recorded tree (edits_of command tree) changes (here (was_put honest)).recorded)
 
           pub record_leaves : store.written put ≡ store.written (store_of old) + length (entry_text entry) → (store.honest put → HasEntryText (number + 1) entry (store.files put)) → (store.honest (store_of new) → IsEntry made → HasHeadText (memory_of new) (files_of store new))
               → LeavesRun store command when (Ok (Changed (paths_of changes))) old new
@@ -223,6 +232,8 @@ module _ {S : Type 0} {store : Ghosts S} {old : Session S} {command : Command} {
               ),
             );
             written = written_left;
+            moves = moves_left;
+            begins = tt;
             clash = λ honest. tt;
             free = free_left;
           }
@@ -248,6 +259,8 @@ module _ {S : Type 0} {store : Ghosts S} {old : Session S} {command : Command} {
             folder = folder_left;
             texts = λ honest paths e. absurd (cc);
             written = written_left;
+            moves = moves_left;
+            begins = λ early. subst (λ s. store.moves (store_of s) ≤ store.moves (store_of old) + 1) (sym (refused early)) p.asks;
             clash = λ honest.
                 let files = files_of store old in
                 let can = (can_go made l.is_made (was_put honest)).each in
@@ -274,6 +287,9 @@ after_reading store old new read reads was_honest command when result leaves = r
       (leaves.texts honest paths e);
   written = λ honest held stands. subst (λ n. store.written (store_of new) ≤ n + recorded_size (edits_of command held.tree) + head_room (listed_count (memory_of old)) + head_room (length (memory_of old).done + 1)) reads.written
       (leaves.written honest held (still honest held stands));
+  moves = λ honest. subst (λ f. store.moves (store_of new) ≤ store.moves (store_of old) + edit_count (edits_of command (tree_of f)) + 3) (same honest)
+      (subst (λ n. store.moves (store_of new) ≤ n + edit_count (edits_of command (tree_of (store.files read))) + 3) reads.moves (leaves.moves honest));
+  begins = subst (λ n. IfErr result (λ refusal. IsEarly refusal → store.moves (store_of new) ≤ n + 1)) reads.moves leaves.begins;
   clash = λ honest. subst (λ f. IfErr result (HasClash (Clashes f (next_path old)) (Clashes f head_path))) (same honest) (leaves.clash honest);
   free = λ honest. subst (λ f. IsFree (undo_folder_of f) → IsFree (folder_of store new)) (same honest) (leaves.free honest);
 }

@@ -17,3 +17,7 @@ none_from_test (Some x) e = absurd (false≢true (sym e))
 
 pub none_is_some : {A : Type 0} (o : Option A) → o ≡ None → IsSome o → ⊥
 none_is_some o none some = false≢true (sym (ap is_some none) ∙ some)
+
+pub none_unless_some : {A : Type 0} (o : Option A) → ((x : A) → o ≡ Some x → ⊥) → o ≡ None
+none_unless_some None never = refl
+none_unless_some (Some x) never = absurd (never x refl)

@@ -7,7 +7,7 @@ use Rattle.std.specs.List.{AllByRecursion, cons_option}
 use Rattle.std.specs.List.Sorted.{IsStrictlySortedBy}
 use Rattle.std.specs.Str.{bytes_eq}
 use Rattle.std.specs.FinMap.{get}
-use Rattle.std.proofs.lemmas.Bool.{false≢true}
+use Rattle.std.proofs.lemmas.Bool.{false≢true, or_right}
 use Rattle.std.proofs.lemmas.List.Elements.{recursion_from_All}
 use Rattle.std.proofs.lemmas.Option.{none-some, same_Some, cond_some}
 use Rattle.reuse_text.specs.Text.{spliced}
@@ -99,17 +99,13 @@ module _ (tree : Files) where
       by_back (Some edit) is rest =
           (subst (λ p. AllByRecursion (λ q. slice_cmp nat_cmp p q ≡ Less) (paths_at (backs cs))) (sym (path_back c edit is)) (still_each (λ q. slice_cmp nat_cmp (path_of c) q ≡ Less) cs h.0), rest)
 
-  or_true : (b : Bool) → (b || true) ≡ true
-  or_true true = refl
-  or_true false = refl
-
   pub still_among : (changes : List Change) (q : List ℕ) → is_among (paths_at (backs changes)) q ≡ true → touches changes q ≡ true
   still_among [] q h = h
   still_among (c ∷ cs) q h = by_back (taken_back_on tree c) refl h (still_among cs q)
     where
       by_back : (o : Option Edit) → taken_back_on tree c ≡ o → is_among (paths_at (cons_option o (backs cs))) q ≡ true → (is_among (paths_at (backs cs)) q ≡ true → touches cs q ≡ true)
           → (bytes_eq q (path_of c) || touches cs q) ≡ true
-      by_back None is among rest = ap (λ b. bytes_eq q (path_of c) || b) (rest among) ∙ or_true (bytes_eq q (path_of c))
+      by_back None is among rest = ap (λ b. bytes_eq q (path_of c) || b) (rest among) ∙ or_right (bytes_eq q (path_of c)) true refl
       by_back (Some edit) is among rest = by_test (bytes_eq q (path_of c)) (ap (λ p. bytes_eq q p || is_among (paths_at (backs cs)) q) (sym (path_back c edit is)) ∙ among)
         where
           by_test : (b : Bool) → (b || is_among (paths_at (backs cs)) q) ≡ true → (b || touches cs q) ≡ true

@@ -1,5 +1,5 @@
 -- What a revert gives where files are as a step left them, and below a range that is put back.
-use Rattle.std.proofs.Common.{◌≡◌, ◌≢◌, ℕ, ◌+◌, ◌-◌, ◌≤◌, Bool, true, false, cond, not, ◌&&◌, ◌||◌, nat_eq, nat_le, nat_lt, List, [], ◌∷◌, ◌++◌, length, take, drop, sum_by, get_or, Option, Some, None, is_some, Ok, Err, refl, sym, ap, ap₂, subst, ◌∙◌, arith, length-append, append_assoc, le-leb}
+use Rattle.std.proofs.Common.{◌≡◌, ◌≢◌, ℕ, ◌+◌, ◌-◌, ◌≤◌, Bool, true, false, cond, not, ◌&&◌, ◌||◌, nat_eq, nat_le, List, [], ◌∷◌, ◌++◌, length, take, drop, sum_by, get_or, Option, Some, None, is_some, Ok, Err, refl, sym, ap, ap₂, subst, ◌∙◌, arith, length-append, append_assoc, le-leb}
 use Rattle.sha2.specs.Sha256.{sha256}
 use Rattle.std.specs.Option.{option_map}
 use Rattle.std.specs.FinMap.{empty, get}
@@ -8,7 +8,7 @@ use Rattle.std.specs.List.{AllByRecursion, cons_option, starts_with}
 use Rattle.std.specs.Str.{bytes_eq}
 use Rattle.std.proofs.Math.Seq.{drop-append_seam, take-append_seam}
 use Rattle.std.proofs.lemmas.Bool.{false≢true, and_from}
-use Rattle.std.proofs.lemmas.Bool.Decides.{Decides-eqb, nat_tests}
+use Rattle.std.proofs.lemmas.Bool.Decides.{Decides-eqb}
 use Rattle.std.proofs.lemmas.List.{drop-drop, length-drop, append-nil, nil_from_length}
 use Rattle.std.proofs.lemmas.List.Elements.{recursion_from_All}
 use Rattle.std.proofs.lemmas.List.Sums.{sum_by-cons}
@@ -36,6 +36,7 @@ use Rattle.reuse_session.proofs.RevertFitting.{backs, still_ascend, still_among}
 use Rattle.reuse_session.proofs.RevertPlanning.{and_first, and_second, within, spliced_len, where_free}
 use Rattle.reuse_session.proofs.Testing.{clashes_keys}
 use Rattle.reuse_session.proofs.Walk.{can_lead, leads_back}
+use Rattle.reuse_session.proofs.Outcomes.{few_held}
 
 -- ---- the old bytes come back, whatever follows them
 
@@ -230,14 +231,11 @@ module _ (before after : Files) where
       ap (λ o. sum_by edit_size (cons_option o (backs after cs))) all.0.1 ∙ sum_by-cons edit_size all.0.0.edit (backs after cs)
       ∙ ap₂ (λ m n. m + n) (same_size c sealed.0 all.0.0) (same_sizes cs sealed.1 all.1) ∙ sym (sum_by-cons change_size c cs)
 
-  not_over : (m n : ℕ) → m ≤ 100_000 → 256 + n ≤ 268_435_456 → (nat_lt 100_000 m || nat_lt 268_435_456 (256 + n)) ≡ false
-  not_over m n h k = grind (arith, nat_tests)
-
   few : (changes : List Change) → IsEntry changes → AreAllSealed true changes → AllByRecursion IsBack changes → is_too_many (backs after changes) ≡ false
   few changes entry sealed all =
       let count = same_count changes all in
       let size = same_sizes changes (recursion_from_All (λ (c : Change). is_sealed c ≡ true) changes sealed) all in
-      not_over (length (backs after changes)) (sum_by edit_size (backs after changes)) (omega (arith, count, entry.few)) (omega (arith, size, entry.light))
+      few_held (backs after changes) (omega (arith, count, entry.few), omega (arith, size, entry.light))
 
   -- ---- the tree
 

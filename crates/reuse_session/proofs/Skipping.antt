@@ -19,20 +19,13 @@ use Rattle.reuse_session.specs.declared.reply.Refusal.{Refusal}
 use Rattle.reuse_session.specs.declared.reply.Refusal.TheVariants as refusals
 use Rattle.reuse_session.proofs.Annotating.{both_err, if_not}
 use Rattle.reuse_session.proofs.TargetLemmas.{long_bytes}
-
-abbrev aimed : Target → Result Target Refusal
-aimed target = Ok target
-
-abbrev no_edit : Result (Option Edit) Refusal
-no_edit = Ok None
+use Rattle.std.proofs.lemmas.Bool.{and_right}
+use Rattle.reuse_session.proofs.Outcomes.{no_edit}
+use Rattle.reuse_session.proofs.TargetReasons.{aimed}
 
 passes : (b : Bool) (r : Refusal) (rest : Result (Option Edit) Refusal) → cond (not b) (Err r) rest ≡ no_edit → b ≡ true
 passes true r rest e = refl
 passes false r rest e = absurd (cc)
-
-and_false : (a b : Bool) → b ≡ false → (a && b) ≡ false
-and_false true b e = e
-and_false false b e = refl
 
 module _ (asked : Annotation) (tree : Files) (path : List ℕ) where
   -- what is known of a file where nothing is done
@@ -66,7 +59,7 @@ module _ (asked : Annotation) (tree : Files) (path : List ℕ) where
   -- no file that is left has a neighbour that is too long
   pub unread_beside : (file : Option (List ℕ)) → get tree (neighbour_of path) ≡ file → beside_by asked tree path ≡ no_edit
       → ((bytes : List ℕ) → reading_of file LONGEST_FILE ≡ Found bytes → ⊥) → (asked.scope.now.skip_existing && has_tagged file) ≡ false
-  unread_beside None is none unread = and_false asked.scope.now.skip_existing false refl
+  unread_beside None is none unread = and_right asked.scope.now.skip_existing false refl
   unread_beside (Some bytes) is none unread = by_test (nat_le (length bytes) LONGEST_FILE) refl unread
     where
       long : (n : ℕ) → nat_le n LONGEST_FILE ≡ false → nat_lt LONGEST_FILE n ≡ true

@@ -14,7 +14,7 @@ use Rattle.reuse_session.specs.History.{Memory, row_listing}
 use Rattle.reuse_session.specs.Journal.{Recorded, Journal, State, rows_in}
 use Rattle.reuse_session.specs.JournalFiles.{entry_path, entry_in, number_of, EntrySays, IsKeptIn, KeepsJournal}
 use Rattle.reuse_session.specs.Machine.{Kept, Snapshots, row_of}
-use Rattle.reuse_session.specs.Session.{store_of, memory_of, listed_as, Remembers, StandsOn, HoldsSnapshots, LeadUpTo, LeadOn}
+use Rattle.reuse_session.specs.Session.{store_of, memory_of, listed_as, Remembers, StandsOn, HoldsSnapshots, Connects, LeadUpTo, LeadOn}
 use Rattle.reuse_session.specs.Showing.{entry_of, row_among, row_in, lists, steps_in, IsUnused, Shows, ShowsAt, LedTo, LedOn}
 use Rattle.reuse_session.specs.Tree.{undo_folder_of}
 use Rattle.reuse_session.specs.declared.history.ListedEntry.{ListedEntry}
@@ -214,15 +214,17 @@ read_is_no_absence refusal is number e = subst IsReadRefusal e is
 
 -- ---- the machine
 
+-- a step that connects two trees has the number and leads from the one to the other
+connected : (number : ℕ) (step found : Recorded) (kept : Kept) (before after : Files) → kept.label ≡ found.label → Connects found before after → found ≡ step → number_of step ≡ number
+    → (kept.label.number ≡ number) × IsEntry step.changes × LeadsAll step.changes before after
+connected number step found kept before after label connects same e =
+    subst (λ (x : Recorded). (kept.label.number ≡ number) × IsEntry x.changes × LeadsAll x.changes before after) same (ap (λ l. l.number) label ∙ ap number_of same ∙ e, connects.good, connects.leads)
+
 led_to : (number : ℕ) (step : Recorded) (tree : Files) (steps : List Recorded) (past : List Kept) → LeadUpTo tree steps past → Contains steps step → number_of step ≡ number → LedTo number step.changes tree past
 led_to number step tree [] past up h e = absurd (omega (arith, h.1))
 led_to number step tree (s ∷ steps) [] up h e = absurd up
 led_to number step tree (s ∷ steps) (kept ∷ past) up h e = elim (first_or_later s steps step h) [
-  | inl same ↦ inl (
-    ap (λ l. l.number) up.0 ∙ ap number_of same ∙ e,
-    subst (λ (x : Recorded). IsEntry x.changes) same up.1.good,
-    subst (λ (x : Recorded). LeadsAll x.changes kept.tree tree) same up.1.leads,
-  )
+  | inl same ↦ inl (connected number step s kept kept.tree tree up.0 up.1 same e)
   | inr behind ↦ inr (led_to number step kept.tree steps past up.2 behind e)
 ]
 
@@ -230,11 +232,7 @@ led_on : (number : ℕ) (step : Recorded) (tree : Files) (steps : List Recorded)
 led_on number step tree [] future on h e = absurd (omega (arith, h.1))
 led_on number step tree (s ∷ steps) [] on h e = absurd on
 led_on number step tree (s ∷ steps) (kept ∷ future) on h e = elim (first_or_later s steps step h) [
-  | inl same ↦ inl (
-    ap (λ l. l.number) on.0 ∙ ap number_of same ∙ e,
-    subst (λ (x : Recorded). IsEntry x.changes) same on.1.good,
-    subst (λ (x : Recorded). LeadsAll x.changes tree kept.tree) same on.1.leads,
-  )
+  | inl same ↦ inl (connected number step s kept tree kept.tree on.0 on.1 same e)
   | inr behind ↦ inr (led_on number step kept.tree steps future on.2 behind e)
 ]
 

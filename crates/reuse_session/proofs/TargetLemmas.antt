@@ -1,7 +1,7 @@
 -- Where the licensing information of a file goes, by the tests of the code.
 use Rattle.std.proofs.Common.{◌≡◌, ℕ, zero, suc, [], ◌∷◌, ◌==◌, ◌≤◌, ◌<◌, Bool, true, false, cond, not, ◌||◌, ◌&&◌, nat_lt, List, length, Some, None, is_some, Result, Ok, Err, refl, sym, ap, ◌∙◌, arith}
 use Rattle.std.specs.FinMap.{get, keys}
-use Rattle.std.proofs.lemmas.Bool.{false≢true}
+use Rattle.std.proofs.lemmas.Bool.{false≢true, false_from_ne_true, le-ltb}
 use Rattle.std.proofs.lemmas.Bool.Decides.{nat_tests}
 use Rattle.std.proofs.lemmas.Str.{IsUtf8-from_is_utf8, is_utf8-from_IsUtf8}
 use Rattle.std.specs.Prelude.{Contains, ◌↔◌, IsTrue}
@@ -21,9 +21,6 @@ use Rattle.reuse_session.specs.Listing.{is_among}
 use Rattle.reuse_session.specs.Annotate.{neighbour_of, goes_beside, goes_beside_unread, target_by_style, target_by_bytes}
 use Rattle.reuse_session.proofs.TreeLemmas.{among_keys}
 
-not_over : (n : ℕ) → n ≤ LONGEST_FILE → nat_lt LONGEST_FILE n ≡ false
-not_over n h = grind (arith, nat_tests)
-
 over : (n : ℕ) → LONGEST_FILE < n → nat_lt LONGEST_FILE n ≡ true
 over n h = grind (arith, nat_tests)
 
@@ -35,7 +32,7 @@ refused r = Err r
 
 pub by_bytes : (scope : Scope) (own : OwnNames) (path bytes : List ℕ) (b : Bool) → length bytes ≤ LONGEST_FILE → is_text bytes ≡ b → target_by_bytes scope own path bytes ≡ cond (not b) (target Beside) (target_by_style scope own path scope.style)
 by_bytes scope own path bytes b h e =
-    ap (λ t. cond t (refused (TooLong path)) (cond (not (is_text bytes)) (target Beside) (target_by_style scope own path scope.style))) (not_over (length bytes) h)
+    ap (λ t. cond t (refused (TooLong path)) (cond (not (is_text bytes)) (target Beside) (target_by_style scope own path scope.style))) (le-ltb LONGEST_FILE (length bytes) h)
     ∙ ap (λ t. cond (not t) (target Beside) (target_by_style scope own path scope.style)) e
 
 pub long_bytes : (scope : Scope) (own : OwnNames) (path bytes : List ℕ) → LONGEST_FILE < length bytes → target_by_bytes scope own path bytes ≡ Err (TooLong path)
@@ -53,10 +50,6 @@ unread_by tree path scope own r absent e = ap (λ f. is_some f || goes_beside_un
 -- where it is there, it is the place
 pub beside_there : (tree : Files) (path bytes : List ℕ) (scope : Scope) (own : OwnNames) → get tree (neighbour_of path) ≡ Some bytes → goes_beside scope own tree path ≡ true
 beside_there tree path bytes scope own here = ap (λ f. is_some f || goes_beside_unread scope own path) here
-
-refuted : (b : Bool) → (b ≡ true → ⊥) → b ≡ false
-refuted true h = absurd (h refl)
-refuted false h = refl
 
 -- ---- UTF-8 without NUL
 
@@ -97,7 +90,7 @@ text_is bytes h =
 
 text_made : (bytes : List ℕ) → IsText bytes → is_text bytes ≡ true
 text_made bytes h =
-    and_made (is_utf8 bytes) (list_any (λ b. b == 0) bytes) (is_utf8-from_IsUtf8 bytes h.utf8) (refuted _ (λ e. h.no_nul (any_contains bytes e)))
+    and_made (is_utf8 bytes) (list_any (λ b. b == 0) bytes) (is_utf8-from_IsUtf8 bytes h.utf8) (false_from_ne_true _ (λ e. h.no_nul (any_contains bytes e)))
 
 same_tests : (r t : Bool) → (r ≡ true → t ≡ true) → (t ≡ true → r ≡ true) → r ≡ t
 same_tests true true f g = refl

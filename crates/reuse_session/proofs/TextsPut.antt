@@ -1,5 +1,5 @@
 -- Where a download isn't refused, each text stands at its path.
-use Rattle.std.proofs.Common.{◌≡◌, ◌≢◌, inl, inr, ℕ, Bool, true, false, cond, ◌||◌, List, [], ◌∷◌, map, Option, Some, None, is_some, unwrap_or, Result, Ok, Err, refl, sym, ap, subst, ◌∙◌}
+use Rattle.std.proofs.Common.{◌≡◌, ◌≢◌, inl, inr, ℕ, Bool, true, false, ◌||◌, List, [], ◌∷◌, map, Option, Some, None, is_some, unwrap_or, Ok, refl, sym, ap, subst, ◌∙◌}
 use Rattle.std.specs.List.{AllByRecursion, Contains}
 use Rattle.std.specs.Str.{bytes_eq}
 use Rattle.std.specs.FinMap.{get}
@@ -12,38 +12,14 @@ use Rattle.reuse_session.specs.Downloads.{text_for, ids_refusal, licence_edit, u
 use Rattle.reuse_session.specs.Edit.{Edit}
 use Rattle.reuse_session.specs.Licence.{licence_path, licence_id}
 use Rattle.reuse_session.specs.Listing.{is_among}
-use Rattle.reuse_session.specs.Outcome.{edited, is_too_many, tree_after, outcome_of}
+use Rattle.reuse_session.specs.Outcome.{edited, outcome_of}
 use Rattle.reuse_session.specs.TextsPut.{PutsTexts}
 use Rattle.reuse_session.specs.declared.command.Command.TheVariants.{Download}
 use Rattle.reuse_session.specs.declared.licence.LicenceText.{LicenceText}
-use Rattle.reuse_session.specs.declared.reply.Refusal.{Refusal}
-use Rattle.reuse_session.specs.declared.reply.Refusal.TheVariants.{TooMany}
 use Rattle.reuse_session.proofs.Downloading.{IsMade, are_made, download_fits}
 use Rattle.reuse_session.proofs.LicenceLemmas.{id_of_path}
+use Rattle.reuse_session.proofs.Outcomes.{edits_of_tree, edits_unless}
 use Rattle.reuse_session.proofs.Planning.{paths_at, EachHas, edited_has, edited_other}
-
--- ---- the tree after a command, and the edits that made it
-
-abbrev accepted : {A : Type 0} → A → Result A Refusal
-accepted x = Ok x
-
-ok_is : {A : Type 0} (x y : A) → accepted x ≡ accepted y → x ≡ y
-ok_is x y e = cc
-
-not_ok : {A : Type 0} (x : A) (refusal : Refusal) → Err refusal ≡ accepted x → ⊥
-not_ok x refusal e = absurd (cc)
-
-few_edits : (b : Bool) (made after : Files) → cond b (Err TooMany) (accepted made) ≡ accepted after → made ≡ after
-few_edits true made after e = absurd (not_ok after TooMany e)
-few_edits false made after e = ok_is made after e
-
-pub edits_of_tree : (tree after : Files) (given : Result (List Edit) Refusal) → tree_after tree given ≡ Ok after → (edits : List Edit) × (given ≡ Ok edits) × (edited tree edits ≡ after)
-edits_of_tree tree after (Err refusal) e = absurd (not_ok after refusal e)
-edits_of_tree tree after (Ok edits) e = (edits, refl, few_edits (is_too_many edits) (edited tree edits) after e)
-
-edits_unless : (refusal : Option Refusal) (edits given : List Edit) → unless_refused refusal edits ≡ Ok given → (refusal ≡ None) × (edits ≡ given)
-edits_unless (Some refusal) edits given e = absurd (not_ok given refusal e)
-edits_unless None edits given e = (refl, ok_is edits given e)
 
 -- ---- the paths of ids
 
@@ -102,7 +78,7 @@ module _ (ids : List (List ℕ)) (texts : List LicenceText) (tree : Files) (none
   abbrev edits : List Edit
   edits = map (licence_edit texts) (paths_for ids)
 
-  made_at_id : (id : List ℕ) → Contains ids id → IsMade tree texts (licence_path id)
+  pub made_at_id : (id : List ℕ) → Contains ids id → IsMade tree texts (licence_path id)
   made_at_id id h = pick (IsMade tree texts) (paths_for ids) (licence_path id) (path_for ids id h) (are_made tree texts (set_of ids) none)
 
   found_for : (id : List ℕ) → Contains ids id → (text : List ℕ) × (text_for texts id ≡ Some text)

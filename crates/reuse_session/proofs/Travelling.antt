@@ -1,5 +1,5 @@
 -- What an undo or a redo answers and leaves, from the step of the next entry this way.
-use Rattle.std.proofs.Common.{◌≡◌, ◌+◌, ◌*◌, ◌<◌, ◌≤◌, ℕ, List, [], ◌∷◌, ◌++◌, None, Some, Option, Ok, Err, inl, refl, sym, ap, subst, ◌∙◌, arith}
+use Rattle.std.proofs.Common.{◌≡◌, ◌+◌, ◌*◌, ◌<◌, ◌≤◌, ℕ, List, [], ◌∷◌, ◌++◌, length, None, Some, Ok, Err, inl, refl, sym, ap, subst, ◌∙◌, arith}
 use Rattle.std.specs.FinMap.{get}
 use Rattle.std.specs.List.{All}
 use Rattle.reuse_tree.specs.Files.{Files, Clashes, tree_of}
@@ -10,7 +10,7 @@ use Rattle.reuse_session.specs.Calls.{files_of, folder_of, LeavesTravel}
 use Rattle.reuse_session.specs.Entry.{paths_of, IsEntry, LeadsBy, CanBeMade, IsFirstStuck}
 use Rattle.reuse_session.specs.Head.{listed_way, way_of, IsSoundHead}
 use Rattle.reuse_session.specs.History.{Memory, head_listing, entries_ahead, remember_moved}
-use Rattle.reuse_session.specs.Journal.{Recorded, Journal, State, Travels, ahead, moved_on, end_of, reply_of}
+use Rattle.reuse_session.specs.Journal.{Recorded, Journal, State, Travels, ahead, next_count, moved_on, end_of, reply_of}
 use Rattle.reuse_session.specs.JournalFiles.{head_path, IsFree, entry_path, entry_in, number_of, EntrySays, IsKeptIn, KeepsJournal}
 use Rattle.reuse_session.specs.Session.{store_of, memory_of, listed_count, head_room, IsSameBut, HasHeadText, IsStepOf, Remembers, StandsOn}
 use Rattle.reuse_session.specs.Standing.{IsStep, InDoubt, Moves}
@@ -54,11 +54,6 @@ kept_ahead Do folder journal keeps = keeps.undone
 kept_ahead Undo folder journal keeps = keeps.done
 
 -- ---- the step of the next entry
-
--- an answer that is not some is none
-pub is_none : {A : Type 0} (o : Option A) → ((x : A) → o ≡ Some x → ⊥) → o ≡ None
-is_none None never = refl
-is_none (Some x) never = absurd (never x refl)
 
 pub record Next (way : Way) (folder : Files) (entry : ListedEntry) (moved : Memory) (held : State) : Type 0 where
   pub step : Recorded
@@ -117,6 +112,7 @@ pub record Prepared {S : Type 0} (files : S → Files) (way : Way) (session : Se
   pub goes : IsStep (listed_way way) is.step held second
   pub travels : (given : Reply) → given ≡ reply_of way (paths_of made) → Travels way (ahead way held.journal) held (Ok given) second
   pub many : listed_count moved ≡ listed_count (memory_of session)
+  pub next : next_count (ahead way held.journal) ≡ length made
 
 pub prepared : {way : Way} {S : Type 0} (files : S → Files) (session : Session S) {entry : ListedEntry} {moved : Memory} {held : State} (made : List Change) (pending : Pending) → StandsOn files session held
     → (next : Next way (undo_folder_of (files (store_of session))) entry moved held) → next.step.changes ≡ made → IsEntry made → All (CanBeMade way (tree_of (files (store_of session)))) made
@@ -148,6 +144,7 @@ prepared {way} files session {entry} {moved} {held} made pending stands next sam
       travels = λ given given_is. subst (λ steps. Travels way steps held (Ok given) second) (sym next.list)
           (given_is ∙ ap (λ cs. reply_of way (paths_of cs)) (sym same), subst (All (CanBeMade way held.tree)) (sym same) all, subst (λ cs. LeadsBy way cs held.tree reach.0) (sym same) reach.1, refl);
       many = as_many way next.step next.steps held.journal (memory_of session) moved next.list stands.remembers next.remembers;
+      next = ap next_count next.list ∙ ap length same;
     }
 
 -- so it is once the entry is read and its changes are tested
@@ -179,6 +176,7 @@ module _ {S : Type 0} (store : Ghosts S) (way : Way) (old : Session S) (read : S
     folder = λ honest. folder_stays (files_of store old) (store.files read) head_path (reads.files honest);
     texts = λ honest. tt;
     written = λ honest held stands. omega (arith, reads.written);
+    moves = λ honest held stands. omega (arith, reads.moves);
     clash = clash;
     free = λ honest free. subst (λ f. IsFree (undo_folder_of f)) (sym (reads.files honest)) free;
   }
@@ -191,6 +189,7 @@ module _ {S : Type 0} (store : Ghosts S) (way : Way) (old new : Session S) (read
     (folder : store.honest (store_of new) → IsEntry made → IsSameBut head_path (undo_folder_of (store.files read)) (folder_of store new))
     (written : IsSoundHead (head_listing (memory_of old) (Some pending)) → IsSoundHead (head_listing moved None) → IsEntry made
     → store.written (store_of new) ≤ store.written read + head_room (listed_count (memory_of old)) + head_room (listed_count moved))
+    (asks : store.moves (store_of new) ≤ store.moves read + length made + 2)
   where
     same : store.honest (store_of new) → store.files read ≡ files_of store old
     same honest = reads.files (was_honest honest)
@@ -209,6 +208,9 @@ module _ {S : Type 0} (store : Ghosts S) (way : Way) (old new : Session S) (read
         let second = sound_second (memory_of old) files held at.second at.stands.standing at.stands.remembers at.is in
         omega (arith, written between second good, at.many, reads.written)
 
+    moves_left : store.honest (store_of new) → (held : State) → StandsOn store.files old held → store.moves (store_of new) ≤ store.moves (store_of old) + next_count (ahead way held.journal) + 2
+    moves_left honest held stands = omega (arith, asks, (ready (was_honest honest) held stands).next, reads.moves)
+
     pub step_leaves : (reply : Reply) → (store.honest (store_of new) → IsEntry made → HasHeadText (memory_of new) (files_of store new)) → LeavesTravel store way (Ok reply) old new
     step_leaves reply text = record {
       early = tt;
@@ -217,6 +219,7 @@ module _ {S : Type 0} (store : Ghosts S) (way : Way) (old new : Session S) (read
       folder = folder_left;
       texts = λ honest. text honest good;
       written = written_left;
+      moves = moves_left;
       clash = λ honest. tt;
       free = free_left;
     }
@@ -236,6 +239,7 @@ module _ {S : Type 0} (store : Ghosts S) (way : Way) (old new : Session S) (read
       folder = folder_left;
       texts = λ honest. tt;
       written = written_left;
+      moves = moves_left;
       clash = λ honest. subst (λ f. HasClash ⊥ (Clashes f head_path) refusal) (same honest) (clash honest);
       free = free_left;
     }

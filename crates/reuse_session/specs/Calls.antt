@@ -6,9 +6,9 @@ use Rattle.reuse_tree.specs.declared.store.Store.{Ghosts}
 use Rattle.reuse_session.specs.Answer.{IsEarly, IsStop, HasCause, HasClash}
 use Rattle.reuse_session.specs.EntryText.{entry_text}
 use Rattle.reuse_session.specs.Head.{listed_way}
-use Rattle.reuse_session.specs.Journal.{State}
+use Rattle.reuse_session.specs.Journal.{State, ahead, next_count}
 use Rattle.reuse_session.specs.JournalFiles.{head_path, entry_path, IsFree}
-use Rattle.reuse_session.specs.Outcome.{edits_of, recorded_size}
+use Rattle.reuse_session.specs.Outcome.{edits_of, edit_count, recorded_size}
 use Rattle.reuse_session.specs.Session.{store_of, is_broken, memory_of, listed_count, head_room, IsKept, IsSameBut, IsSameButTwo, HasHeadText, HasEntryText, IsRecordOf, StandsOn, StopsAfter, StopsAfterRun}
 use Rattle.reuse_session.specs.Tree.{undo_folder_of}
 use Rattle.reuse_session.specs.declared.command.Command.{Command}
@@ -54,6 +54,9 @@ pub record LeavesTravel {S : Type 0} (store : Ghosts S) (way : Way) (result : Re
   -- they take at most two heads
   pub written : store.honest (store_of new) → (held : State) → StandsOn store.files old held
       → store.written (store_of new) ≤ store.written (store_of old) + 2 * head_room (listed_count (memory_of old))
+  -- and at most one put or removal is asked for beside them for each change of the step
+  pub moves : store.honest (store_of new) → (held : State) → StandsOn store.files old held
+      → store.moves (store_of new) ≤ store.moves (store_of old) + next_count (ahead way held.journal) + 2
   -- a clash is told only where the head's path clashes, and as a stop, since nothing is put before the head; and nothing stops since
   -- a file has moved; where no path of a file of the journal is a folder, none becomes one
   pub clash : store.honest (store_of new) → IfErr result (HasClash ⊥ (Clashes (files_of store old) head_path))
@@ -85,6 +88,10 @@ pub record LeavesRun {S : Type 0} (store : Ghosts S) (command : Command) (when :
   pub written : store.honest (store_of new) → (held : State) → StandsOn store.files old held
       → store.written (store_of new) ≤ store.written (store_of old) + recorded_size (edits_of command held.tree)
       + head_room (listed_count (memory_of old)) + head_room (length (memory_of old).done + 1)
+  -- and at most one put or removal is asked for beside these three for each file that the command changes; before the step is pending
+  -- at most the entry's
+  pub moves : store.honest (store_of new) → store.moves (store_of new) ≤ store.moves (store_of old) + edit_count (edits_of command (tree_of (files_of store old))) + 3
+  pub begins : IfErr result (λ refusal. IsEarly refusal → store.moves (store_of new) ≤ store.moves (store_of old) + 1)
   -- a clash is told only where the path that is put clashes: the next entry's before the step is pending, and the head's from then
   -- on; and nothing stops since a file has moved; where no path of a file of the journal is a folder, none becomes one
   pub clash : store.honest (store_of new) → IfErr result (HasClash (Clashes (files_of store old) (next_path old)) (Clashes (files_of store old) head_path))

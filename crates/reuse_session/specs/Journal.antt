@@ -42,6 +42,11 @@ abbrev pub ahead : Way → Journal → List Recorded
 ahead way.Undo journal = journal.done
 ahead way.Do journal = journal.undone
 
+-- how many changes the first of them has
+abbrev pub next_count : List Recorded → ℕ
+next_count [] = 0
+next_count (step ∷ steps) = length step.changes
+
 -- the journal after the first of them, which is the first behind then
 abbrev pub moved_on : Way → Recorded → List Recorded → Journal → Journal
 moved_on way.Undo step steps old = record { done = steps; undone = step ∷ old.undone; used = old.used }

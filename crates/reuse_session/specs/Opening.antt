@@ -1,9 +1,10 @@
 -- What opening a session finds.
-use Rattle.std.specs.Prelude.{◌≡◌, ◌⊎◌, ◌↔◌, ℕ, ◌<◌, List, [], ◌∷◌, ◌++◌, length, Option, Some, None, IsSome, Result, Ok, Err, IsOk, codes, nat_lt, if◌then◌else◌}
+use Rattle.std.specs.Prelude.{◌≡◌, ◌⊎◌, ◌↔◌, ℕ, ◌+◌, ◌<◌, ◌≤◌, List, [], ◌∷◌, ◌++◌, length, Option, Some, None, IsSome, Result, Ok, Err, IsOk, codes, nat_lt, if◌then◌else◌}
 use Rattle.std.specs.List.{All, Contains}
 use Rattle.std.specs.FinMap.{get}
 use Rattle.reuse_tree.specs.Path.{journal_folder}
 use Rattle.reuse_tree.specs.Files.{Files, tree_of}
+use Rattle.reuse_tree.specs.declared.store.Store.{Ghosts}
 use Rattle.reuse_session.specs.Entry.{CanBeSetBack, IsFirstWithout}
 use Rattle.reuse_session.specs.Head.{listed, way_of}
 use Rattle.reuse_session.specs.History.{Memory}
@@ -104,6 +105,22 @@ abbrev pub StopsOpening : Files → Files → Type 0
 StopsOpening before after =
     (held : State) × (way : PendingWay) × (step : Recorded)
     × IsUnderWay way step held before × (IsStanding after held ⊎ IsUnderWay way step held after)
+
+-- the head tells a step as pending, which is that of this entry
+pub record IsPendingIn (folder : Files) (entry : Entry) : Type 0 where
+  pub head : Head
+  pub pending : Pending
+  pub says : HeadSays (get folder head_path) head
+  pub tells : head.pending ≡ Some pending
+  pub is : EntrySays (get folder (entry_path pending.entry)) entry
+
+-- no put and no removal is asked for; or at most one for each change of such an entry, and one for the head
+abbrev pub MovesFor : {S : Type 0} → Ghosts S → (Entry → Type 0) → S → S → Type 0
+MovesFor store IsIt old new = (store.moves new ≡ store.moves old) ⊎ ((entry : Entry) × IsIt entry × (store.moves new ≤ store.moves old + length entry.changes + 1))
+
+-- what opening asks for
+abbrev pub MovesToOpen : {S : Type 0} → Ghosts S → S → S → Type 0
+MovesToOpen store old new = MovesFor store (IsPendingIn (undo_folder_of (store.files old))) old new
 
 -- ---- for private clauses
 

@@ -39,7 +39,7 @@ impl ListedEntry {
 
 /// The entries of a session in the head's order: those done, the oldest first, and those undone, the next to be redone
 /// last.
-#[derive(Debug, Drop)]
+#[derive(Drop)]
 pub struct History {
     done: Vec<ListedEntry>,
     undone: Vec<ListedEntry>,

@@ -185,6 +185,7 @@ pub fn put_entry<S: Store>(
     ensures clash { S.honest store.new → result ≡ Err (Refusal.Fault faults.Clash) → Clashes (S.files store.old) (entry_path number) }
     ensures device { result ≡ Err (Refusal.Fault faults.Device) → S.failures store.old < S.failures store.new }
     ensures written { IsEntry entry.now.changes → S.written store.new ≤ S.written store.old + entry_size entry.now.changes }
+    ensures moves { S.moves store.new ≤ S.moves store.old + 1 }
     ensures later { IsLater S.Store store.old store.new }
 {
     let path = entry_path(alloc, number)?;

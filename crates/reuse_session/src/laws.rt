@@ -12,10 +12,11 @@ ghost use Rattle.reuse_tree.specs.Files.{Files, AreFiles, Clashes};
 ghost use Rattle.reuse_tree.specs.Change.{inverse_of};
 ghost use Rattle.reuse_tree.specs.declared.change.Change.{Change};
 ghost use Rattle.reuse_text.specs.declared.TheConstants.{LONGEST_FILE};
+ghost use Rattle.reuse_session.specs.Accepted.{CanAnnotate, CanConvert, CanDownload};
 ghost use Rattle.reuse_session.specs.Annotated.{Annotates, IsSkippedAt, StaysOrIsText, pair_at};
 ghost use Rattle.reuse_session.specs.Choice.{is_chosen};
 ghost use Rattle.reuse_session.specs.Chosen.{IsNamed, StandsBeneath, IsAskedFor};
-ghost use Rattle.reuse_session.specs.Command.{HoldsEntry};
+ghost use Rattle.reuse_session.specs.Command.{HoldsEntry, paths_among};
 ghost use Rattle.reuse_session.specs.Covered.{is_covered};
 ghost use Rattle.reuse_session.specs.Edit.{Edit};
 ghost use Rattle.reuse_session.specs.Entry.{CanBeMade, IsEntry, IsFirstStuck, LeadsAll, LeadsBy, AreAllSealed};
@@ -72,8 +73,9 @@ pub fn entries_lead_in_turn()
 {}
 
 /// A download that isn't refused puts the text of each id at `LICENSES/ID.txt`, where no file was, and changes no other path. A run that
-/// isn't refused leaves that.
+/// isn't refused leaves that. It isn't refused exactly where each id's text can be put, and one entry holds them all.
 pub fn downloads_put_each_text()
+    ensures accepted { (ids : List (List ℕ)) (texts : List LicenceText) (tree : Files) → ((after : Files) × (outcome_of (Download ids texts) tree ≡ Ok after)) ↔ CanDownload ids texts tree }
     ensures made { (ids : List (List ℕ)) (texts : List LicenceText) (tree after : Files) → outcome_of (Download ids texts) tree ≡ Ok after → PutsTexts ids texts tree after }
     ensures left { (ids : List (List ℕ)) (texts : List LicenceText) (when : ℕ) (old new : State) (reply : Reply) → Runs (Download ids texts) when old (Ok reply) new
         → PutsTexts ids texts old.tree new.tree }
@@ -83,8 +85,12 @@ pub fn downloads_put_each_text()
 /// header rules make of its own bytes in its style; or accompanied: its neighbour holds what they make of the neighbour's own bytes, or
 /// of none; or skipped, where that is asked for. Every byte outside the old header block stays, and so does every other path. These words
 /// leave one tree. A run that isn't refused leaves it: `Runs` is what `Session::run` promises. No file goes, and each that changes is text
-/// then, where the additions are plain and UTF-8, as `Additions::new` makes them.
+/// then, where the additions are plain and UTF-8, as `Additions::new` makes them. It isn't refused exactly where the tree's own styles are
+/// good, the root is given only where folders are gone through, each path that is gone through can be annotated by itself, and one entry
+/// holds them all.
 pub fn annotations_change_chosen_places_alone()
+    ensures accepted { (places : List Place) (additions : Additions) (how : How) (scope : Scope) (tree : Files) → ((after : Files) × (outcome_of (Annotate places additions how scope) tree ≡ Ok after))
+        ↔ CanAnnotate places additions how scope tree }
     ensures made { (places : List Place) (additions : Additions) (how : How) (scope : Scope) (tree after : Files) → outcome_of (Annotate places additions how scope) tree ≡ Ok after
         → Annotates places additions how scope tree after }
     ensures one { (places : List Place) (additions : Additions) (how : How) (scope : Scope) (before after other : Files) → Annotates places additions how scope before after
@@ -99,8 +105,10 @@ pub fn annotations_change_chosen_places_alone()
 }
 
 /// Where a conversion isn't refused, `.reuse/dep5` was there and is gone, `REUSE.toml` wasn't and holds the text that the dep5 is
-/// converted to, and every other path holds what it held. A run that isn't refused leaves that.
+/// converted to, and every other path holds what it held. A run that isn't refused leaves that. It isn't refused exactly where the dep5 is
+/// there and can be converted, and the `REUSE.toml` can be put.
 pub fn conversions_put_a_table()
+    ensures accepted { (tree : Files) → ((after : Files) × (outcome_of ConvertDep5 tree ≡ Ok after)) ↔ CanConvert tree }
     ensures made { (tree after : Files) → outcome_of ConvertDep5 tree ≡ Ok after → PutsTable tree after }
     ensures left { (when : ℕ) (old new : State) (reply : Reply) → Runs ConvertDep5 when old (Ok reply) new → PutsTable old.tree new.tree }
 {}
@@ -130,9 +138,13 @@ pub fn seals_tell_of_whole_files()
 
 /// Where folders are gone through, a path is worked exactly where it is given and no folder, or is a file beneath a folder that is given, and
 /// is covered, listed, where there is a list, and matched by no glob that is excluded. Without a list and globs all covered files are chosen.
+/// Where folders aren't gone through, a path is worked exactly where it is given. The paths are worked in byte order, and none twice.
 pub fn worked_paths_are_asked_for()
     ensures asked { (scope : Scope) (places : List Place) (tree : Files) (path : List ℕ) → scope.recursive ≡ true
         → Contains (worked_paths scope places tree) path ↔ (IsNamed places tree path ⊎ (StandsBeneath places tree path × IsAskedFor scope path)) }
+    ensures given { (scope : Scope) (places : List Place) (tree : Files) (path : List ℕ) → scope.recursive ≡ false
+        → Contains (worked_paths scope places tree) path ↔ Contains (paths_among places) path }
+    ensures ascend { (scope : Scope) (places : List Place) (tree : Files) → IsStrictlySortedBy (slice_cmp nat_cmp) (worked_paths scope places tree) }
     ensures all { (scope : Scope) (path : List ℕ) → scope.listed ≡ None → scope.excluded ≡ [] → is_chosen scope path ≡ is_covered path }
 {}
 

@@ -7,8 +7,8 @@ ghost use Rattle.reuse_session.specs.Answer.{HasCause, IsEarly, IsNoClash, IsFai
 ghost use Rattle.reuse_session.specs.Head.{listed, IsSoundHead};
 ghost use Rattle.reuse_session.specs.declared.journal.head.Head.{Head};
 ghost use Rattle.reuse_session.specs.Journal.{Recorded, Journal, State};
-ghost use Rattle.reuse_session.specs.JournalFiles.{head_path, number_of, HeadSays};
-ghost use Rattle.reuse_session.specs.Opening.{least, listed_entry, named, IsReadable, IsListedIn, IsFoundAt, IsLeastFound, NoFileAbove, IsFirstUnreadable, IsFirstBad, IsRead, IsSettled, IsStuckAt, OpensOn, StopsOpening};
+ghost use Rattle.reuse_session.specs.JournalFiles.{head_path, entry_path, number_of, HeadSays, EntrySays};
+ghost use Rattle.reuse_session.specs.Opening.{least, listed_entry, named, IsReadable, IsListedIn, IsFoundAt, IsLeastFound, NoFileAbove, IsFirstUnreadable, IsFirstBad, IsRead, IsSettled, IsStuckAt, MovesToOpen, MovesFor, OpensOn, StopsOpening};
 ghost use Rattle.reuse_session.specs.Session.{head_room, listed_count, HasHeadText, IsSameBut, Remembers};
 ghost use Rattle.reuse_session.specs.Standing.{IsStanding, IsUnderWay, InDoubt};
 ghost use Rattle.reuse_session.specs.Tree.{undo_folder_of};
@@ -41,6 +41,7 @@ pub fn open_journal<S: Store>(alloc: Global, store: &mut S) -> Result<History, R
     // At most one head is put.
     ensures written { S.honest store.new → (head : Head) → HeadSays (map.get (undo_folder_of (S.files store.old)) head_path) head
         → S.written store.new ≤ S.written store.old + head_room (length (listed head)) }
+    ensures moves { S.honest store.new → MovesToOpen S.Store store.old store.new }
     // Nothing is moved before a refusal, nor where nothing is pending; and of the journal's folder nothing but the head changes.
     ensures early { IfErr result (λ refusal. IsEarly refusal → OnlyReads S.Store store.old store.new) }
     ensures late { (cause : Cause) → result ≡ Err (Refusal.Interrupted cause) → cause ≢ causes.Moved → S.moves store.old < S.moves store.new }
@@ -105,6 +106,7 @@ fn settle<S: Store>(
         → (path : List ℕ) → result ≢ Err (Refusal.BadJournal path) }
     ensures written { S.honest store.new → (journal : Journal) → IsRead (S.files store.old) (Some pending) history.now journal
         → S.written store.new ≤ S.written store.old + head_room (listed_count history.now) }
+    ensures moves { S.honest store.new → MovesFor S.Store (EntrySays (map.get (undo_folder_of (S.files store.old)) (entry_path pending.entry))) store.old store.new }
     ensures refusal { IfErr result IsOpenRefusal }
     ensures clash { S.honest store.new → (journal : Journal) → IsRead (S.files store.old) (Some pending) history.now journal → IfErr result IsNoClash }
     ensures fault { IfErr result (HasCause (S.failures store.old < S.failures store.new)) }

@@ -1,7 +1,7 @@
 //! What a run of a command would do, path by path.
 ghost use Rattle.std.specs.Prelude.{◌≡◌, ◌++◌, ◌∷◌, [], Result, Ok, Err, Option, Some, None, List, IfOk, IfErr, OnOk, not, ◌&&◌, if◌then◌else◌};
 ghost use Rattle.reuse_session.specs.Reading.{keys, tree_of, Files, OnlyReads, ReadsAlone, RefusedAsRead};
-ghost use Rattle.reuse_session.specs.AnnotationPlan.{worked_by, AddsPath, PlansPaths, PlansPlaces};
+ghost use Rattle.reuse_session.specs.AnnotationPlan.{AddsPath, PlansPaths, PlansPlaces};
 ghost use Rattle.reuse_session.specs.Command.{has_root};
 ghost use Rattle.reuse_session.specs.Edit.{Edit};
 ghost use Rattle.reuse_session.specs.FatePlan.{MakesUnlessRefused, Plans};
@@ -138,7 +138,9 @@ fn plan_places<S: Store>(
     if gives_root(places, asked.scope) {
         return refused(alloc, Refusal::IsFolder(Place::Root));
     }
-    plan_listed(alloc, store, places, asked)
+    let paths = tree_paths(alloc, store)?;
+    let worked = worked_paths(alloc, &paths, places, asked.scope)?;
+    plan_paths(alloc, store, &paths, &worked, asked)
 }
 
 // Whether the root is given where folders aren't gone through.
@@ -146,21 +148,6 @@ fn gives_root(places: &[Place], scope: &Scope) -> bool
     ensures { result ≡ (not scope.now.recursive && has_root places.now) }
 {
     !scope.recursive && has_root(places)
-}
-
-// What is found at the paths that are gone through.
-fn plan_listed<S: Store>(
-    alloc: Global,
-    store: &mut S,
-    places: &[Place],
-    asked: &Annotation<'_>,
-) -> Result<Planned, Refusal>
-    ensures planned { S.honest store.new → IfOk result (PlansPaths asked.now (tree_of (S.files store.old)) (worked_by asked.now (tree_of (S.files store.old)) places.now)) }
-    ensures asks { ReadsAlone S.Store IsLookRefusal store.old store.new result }
-{
-    let paths = tree_paths(alloc, store)?;
-    let worked = worked_paths(alloc, &paths, places, asked.scope)?;
-    plan_paths(alloc, store, &paths, &worked, asked)
 }
 
 // What is found at the worked paths. `paths` are those of the tree.

@@ -28,7 +28,7 @@ use reuse_tree::{Change, PathError, PathText, Reading};
 use std::alloc::Global;
 
 /// What is known of a file's change once the file was read.
-#[derive(Debug, Drop)]
+#[derive(Drop)]
 pub(crate) enum Step {
     /// The change, if there is one.
     Done(Option<Change>),

@@ -16,7 +16,7 @@ use reuse_tree::{Change, PathText, Reading, Store};
 use std::alloc::Global;
 
 /// What is known without a listing of the tree.
-#[derive(Debug, Drop)]
+#[derive(Drop)]
 pub(crate) enum Unlisted<T> {
     /// This, whatever else is in the tree.
     Known(T),

@@ -54,6 +54,7 @@ pub fn roll_back<S: Store>(
     ensures late { (cause : Cause) → result ≡ Err (refusals.Interrupted cause) → cause ≢ Cause.Moved → S.moves store.old < S.moves store.new }
     ensures fault { IfErr result (HasCause (S.failures store.old < S.failures store.new)) }
     ensures written { IsEntry changes.now → S.written store.new ≤ S.written store.old + length settled.now }
+    ensures moves { S.moves store.new ≤ S.moves store.old + length changes.now + 1 }
     ensures later { IsLater S.Store store.old store.new }
 {
     test_each(alloc, store, changes, way, Aim::SetBack)?;
@@ -95,6 +96,7 @@ fn set_back<S: Store>(
     ensures notes { NotesMoves S.Store started.old started.new store.old store.new }
     ensures device { IsErrOf result Cause.Device → S.failures store.old < S.failures store.new }
     ensures written { is_of_tree (path_of change.now) ≡ true → S.written store.new ≡ S.written store.old }
+    ensures moves { S.moves store.new ≤ S.moves store.old + 1 }
     ensures later { IsLater S.Store store.old store.new }
 {
     match store.read(alloc, change.path(), LONGEST_FILE)? {
@@ -126,6 +128,7 @@ fn set_back_from<S: Store>(
     ensures notes { NotesMoves S.Store started.old started.new store.old store.new }
     ensures device { IsErrOf result Cause.Device → S.failures store.old < S.failures store.new }
     ensures written { is_of_tree (path_of change.now) ≡ true → S.written store.new ≡ S.written store.old }
+    ensures moves { S.moves store.new ≤ S.moves store.old + 1 }
     ensures later { IsLater S.Store store.old store.new }
 {
     if is_ready(change, way, file) {
@@ -159,6 +162,7 @@ fn set_all_back<S: Store>(
     ensures notes { NotesMoves S.Store started.old started.new store.old store.new }
     ensures device { IsErrOf result Cause.Device → S.failures store.old < S.failures store.new }
     ensures written { IsEntry changes.now → S.written store.new ≤ S.written store.old + length settled.now }
+    ensures moves { S.moves store.new ≤ S.moves store.old + length changes.now + 1 }
     ensures later { IsLater S.Store store.old store.new }
 {
     for change in changes {

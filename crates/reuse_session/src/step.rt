@@ -38,6 +38,7 @@ pub fn carry_out<S: Store>(
     ensures device { IsErrOf result Cause.Device → S.failures store.old < S.failures store.new }
     ensures begun { IsEntry changes.now → S.written store.old + length pending.now ≤ S.written store.new }
     ensures written { IsEntry changes.now → S.written store.new ≤ S.written store.old + length pending.now + length settled.now }
+    ensures moves { S.moves store.new ≤ S.moves store.old + length changes.now + 2 }
     ensures later { IsLater S.Store store.old store.new }
 {
     put_head(alloc, store, head, pending)?;

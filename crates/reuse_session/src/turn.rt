@@ -141,6 +141,7 @@ fn turn_from<S: Store>(
         → result ≡ Err Cause.Clash → (makes way change.now ≡ true) × Clashes (S.files store.old) (path_of change.now) }
     ensures device { IsErrOf result Cause.Device → S.failures store.old < S.failures store.new }
     ensures written { is_of_tree (path_of change.now) ≡ true → S.written store.new ≡ S.written store.old }
+    ensures moves { S.moves store.new ≤ S.moves store.old + 1 }
     ensures later { IsLater S.Store store.old store.new }
 {
     let after = turned(change, way, file)?;
@@ -159,6 +160,7 @@ pub fn turn<S: Store>(alloc: Global, store: &mut S, change: &Change, way: Way) -
     ensures clash { S.honest store.new → result ≡ Err Cause.Clash → (makes way change.now ≡ true) × Clashes (S.files store.old) (path_of change.now) }
     ensures device { IsErrOf result Cause.Device → S.failures store.old < S.failures store.new }
     ensures written { is_of_tree (path_of change.now) ≡ true → S.written store.new ≡ S.written store.old }
+    ensures moves { S.moves store.new ≤ S.moves store.old + 1 }
     ensures later { IsLater S.Store store.old store.new }
 {
     match store.read(alloc, change.path(), LONGEST_FILE)? {

@@ -1,12 +1,22 @@
-use Rattle.std.proofs.Common.{length, Some, sym, subst, ◌∙◌}
-use Rattle.reuse_session.specs.Machine.{step}
+use Rattle.std.proofs.Common.{length, Some, Result, sym, subst}
+use Rattle.reuse_tree.specs.declared.store.Store.{Ghosts}
 use Rattle.reuse_tree.specs.Files.{Files}
+use Rattle.reuse_session.specs.Answer.{TellsNoFault}
+use Rattle.reuse_session.specs.Calls.{files_of, IsCall, LeavesTravel}
+use Rattle.reuse_session.specs.Driven.{IsAsked}
+use Rattle.reuse_session.specs.Head.{listed_way}
 use Rattle.reuse_session.specs.JournalFiles.{IsFree}
-use Rattle.reuse_session.specs.Session.{Follows, StandsAt, StopsAfter, StopsAfterRun}
+use Rattle.reuse_session.specs.Machine.{Snapshots, step}
+use Rattle.reuse_session.specs.Session.{store_of, Follows, StandsAt, StopsAfter, StopsAfterRun}
 use Rattle.reuse_session.specs.Tree.{undo_folder_of}
 use Rattle.reuse_session.specs.Stops.{AreLeft}
+use Rattle.reuse_session.specs.declared.entry.Way.{Way}
+use Rattle.reuse_session.specs.declared.entry.Way.TheVariants as way
 use Rattle.reuse_session.specs.declared.events.Event.{Event}
-use Rattle.reuse_session.specs.declared.journal.head.PendingWay.TheVariants as pending
+use Rattle.reuse_session.specs.declared.events.Event.TheVariants as asked
+use Rattle.reuse_session.specs.declared.reply.Refusal.{Refusal}
+use Rattle.reuse_session.specs.declared.reply.Reply.{Reply}
+use Rattle.reuse_session.specs.declared.session.Session.{Session}
 use Rattle.reuse_session.proofs.Driving.{run_left, undo_left, redo_left, stays_at, on_same_state, IsNoLog, IsNoPreview}
 use Rattle.reuse_session.proofs.Previewing.{looks_still, looks_cause, looks_no_clash, looks_no_stop, always}
 use Rattle.reuse_session.proofs.OnlyReading.{at_stop, early_files}
@@ -15,76 +25,73 @@ use Rattle.reuse_session.proofs.events.ask.Goals as goal
 
 pub returns-in-Run : goal.returns-in-Run
 returns-in-Run g c =
-    let files = g.S.Store.files in
     let new = c.run.new.self in
     let old = c.args.session.now in
-    record {
-      follows = λ honest state stands told. subst (λ (e : Event). Follows files c.run.result new (step state e)) (sym c.in-Run.is) (c.run.ensures.machine honest state stands told);
-      stands = λ honest state stands. on_same_state files old new state c.run.result stands (c.run.ensures.leaves.stands honest stands.held stands.stands);
-      stops = λ honest state stands cause is. subst (λ (e : Event). AreLeft (files new.store) state (Some (step state e).1)) (sym c.in-Run.is)
-          (run_left stands.held state stands.holds (files new.store) (files old.store) c.in-Run.command c.in-Run.when stands.stands.standing (at_stop (StopsAfterRun c.in-Run.command c.in-Run.when stands.held (files new.store)) is (c.run.ensures.leaves.doubt honest stands.held stands.stands)));
-      log = λ is. absurd (subst IsNoLog (sym c.in-Run.is ∙ is) tt);
-      preview = λ call is. absurd (subst IsNoPreview (sym c.in-Run.is ∙ is) tt);
-      clash = λ honest state stands free. run_no_clash (files old.store) stands.held stands.stands.standing free c.run.result (length old.history.done) old.history.used (λ full. c.run.ensures.full.1 (stands.stands.whole, full)) (c.run.ensures.leaves.clash honest);
-      free = c.run.ensures.leaves.free;
+    let leaves = c.run.ensures.leaves in
+    subst (λ (e : Event). IsAsked g.S.Store e c.run.result old new) (sym c.in-Run.is) (record {
+      follows = c.run.ensures.machine;
+      stands = λ honest state stands. on_same_state g.S.Store.files old new state c.run.result stands (leaves.stands honest stands.held stands.stands);
+      stops = λ honest state stands cause is.
+          run_left stands.held state stands.holds (files_of g.S.Store new) (files_of g.S.Store old) c.in-Run.command c.in-Run.when stands.stands.standing (at_stop (StopsAfterRun c.in-Run.command c.in-Run.when stands.held (files_of g.S.Store new)) is (leaves.doubt honest stands.held stands.stands));
+      log = λ is. absurd (subst IsNoLog is tt);
+      preview = λ call is. absurd (subst IsNoPreview is tt);
+      clash = λ honest state stands free. run_no_clash (files_of g.S.Store old) stands.held stands.stands.standing free c.run.result (length old.history.done) old.history.used (λ full. c.run.ensures.full.1 (stands.stands.whole, full)) (leaves.clash honest);
+      free = leaves.free;
       fault = c.run.ensures.call.fault;
       failures = c.run.ensures.call.later.failures;
       was_honest = c.run.ensures.call.later.was_honest;
-    }
+    })
+
+-- an undo and a redo, by what each leaves where it stops
+travelled : {S : Type 0} (store : Ghosts S) (way : Way) (event : Event) (answer : Result Reply Refusal) (old new : Session S) → IsNoLog event → IsNoPreview event
+    → (store.honest (store_of new) → (state : Snapshots) → StandsAt store.files old state → TellsNoFault answer → Follows store.files answer new (step state event)) → IsCall store answer old new → LeavesTravel store way answer old new
+    → ((state : Snapshots) (stands : StandsAt store.files old state) → StopsAfter (listed_way way) stands.held (files_of store new) → AreLeft (files_of store new) state (Some (step state event).1))
+    → IsAsked store event answer old new
+travelled store way event answer old new no_log no_preview machine call leaves left = record {
+  follows = machine;
+  stands = λ honest state stands. stays_at store.files old new state answer stands call.refused (early_files store (store_of old) (store_of new) answer leaves.early honest);
+  stops = λ honest state stands cause is. left state stands (at_stop (StopsAfter (listed_way way) stands.held (files_of store new)) is (leaves.doubt honest stands.held stands.stands));
+  log = λ is. absurd (subst IsNoLog is no_log);
+  preview = λ call is. absurd (subst IsNoPreview is no_preview);
+  clash = λ honest state stands free. back_no_clash (files_of store old) stands.held stands.stands.standing free answer (leaves.clash honest);
+  free = leaves.free;
+  fault = call.fault;
+  failures = call.later.failures;
+  was_honest = call.later.was_honest;
+}
 
 pub returns-in-Undo : goal.returns-in-Undo
 returns-in-Undo g c =
-    let files = g.S.Store.files in
     let new = c.undo.new.self in
     let old = c.args.session.now in
-    record {
-      follows = λ honest state stands told. subst (λ (e : Event). Follows files c.undo.result new (step state e)) (sym c.in-Undo.is) (c.undo.ensures.machine honest state stands told);
-      stands = λ honest state stands. stays_at files old new state c.undo.result stands c.undo.ensures.call.refused (early_files g.S.Store old.store new.store c.undo.result c.undo.ensures.leaves.early honest);
-      stops = λ honest state stands cause is. subst (λ (e : Event). AreLeft (files new.store) state (Some (step state e).1)) (sym c.in-Undo.is)
-          (undo_left stands.held state stands.holds (files new.store) (at_stop (StopsAfter pending.Undo stands.held (files new.store)) is (c.undo.ensures.leaves.doubt honest stands.held stands.stands)));
-      log = λ is. absurd (subst IsNoLog (sym c.in-Undo.is ∙ is) tt);
-      preview = λ call is. absurd (subst IsNoPreview (sym c.in-Undo.is ∙ is) tt);
-      clash = λ honest state stands free. back_no_clash (files old.store) stands.held stands.stands.standing free c.undo.result (c.undo.ensures.leaves.clash honest);
-      free = c.undo.ensures.leaves.free;
-      fault = c.undo.ensures.call.fault;
-      failures = c.undo.ensures.call.later.failures;
-      was_honest = c.undo.ensures.call.later.was_honest;
-    }
+    let undo = c.undo.ensures in
+    subst (λ (e : Event). IsAsked g.S.Store e c.undo.result old new) (sym c.in-Undo.is)
+    (travelled g.S.Store way.Undo asked.Undo c.undo.result old new tt tt undo.machine undo.call undo.leaves (λ state stands. undo_left stands.held state stands.holds (files_of g.S.Store new)))
 
 pub returns-in-Redo : goal.returns-in-Redo
 returns-in-Redo g c =
-    let files = g.S.Store.files in
     let new = c.redo.new.self in
     let old = c.args.session.now in
-    record {
-      follows = λ honest state stands told. subst (λ (e : Event). Follows files c.redo.result new (step state e)) (sym c.in-Redo.is) (c.redo.ensures.machine honest state stands told);
-      stands = λ honest state stands. stays_at files old new state c.redo.result stands c.redo.ensures.call.refused (early_files g.S.Store old.store new.store c.redo.result c.redo.ensures.leaves.early honest);
-      stops = λ honest state stands cause is. subst (λ (e : Event). AreLeft (files new.store) state (Some (step state e).1)) (sym c.in-Redo.is)
-          (redo_left stands.held state stands.holds (files new.store) (at_stop (StopsAfter pending.Redo stands.held (files new.store)) is (c.redo.ensures.leaves.doubt honest stands.held stands.stands)));
-      log = λ is. absurd (subst IsNoLog (sym c.in-Redo.is ∙ is) tt);
-      preview = λ call is. absurd (subst IsNoPreview (sym c.in-Redo.is ∙ is) tt);
-      clash = λ honest state stands free. back_no_clash (files old.store) stands.held stands.stands.standing free c.redo.result (c.redo.ensures.leaves.clash honest);
-      free = c.redo.ensures.leaves.free;
-      fault = c.redo.ensures.call.fault;
-      failures = c.redo.ensures.call.later.failures;
-      was_honest = c.redo.ensures.call.later.was_honest;
-    }
+    let redo = c.redo.ensures in
+    subst (λ (e : Event). IsAsked g.S.Store e c.redo.result old new) (sym c.in-Redo.is)
+    (travelled g.S.Store way.Do asked.Redo c.redo.result old new tt tt redo.machine redo.call redo.leaves (λ state stands. redo_left stands.held state stands.holds (files_of g.S.Store new)))
 
 pub returns-in-Preview : goal.returns-in-Preview
 returns-in-Preview g c =
-    let files = g.S.Store.files in
     let new = c.previewed.new.session in
     let old = c.args.session.now in
     let looks = c.previewed.ensures.looks in
-    record {
-      follows = λ honest state stands told. subst (λ (e : Event). Follows files c.previewed.result new (step state e)) (sym c.in-Preview.is) (c.previewed.ensures.machine honest state stands told, looks_still g.S.Store c.previewed.result old new state looks honest stands);
-      stands = λ honest state stands. always c.previewed.result (StandsAt files new state) (looks_still g.S.Store c.previewed.result old new state looks honest stands);
-      stops = λ honest state stands cause is. absurd (looks_no_stop c.previewed.result cause c.previewed.ensures.refusal is);
-      log = λ is. absurd (subst IsNoLog (sym c.in-Preview.is ∙ is) tt);
-      preview = λ call is. c.previewed.ensures.refusal;
-      clash = λ honest state stands free. looks_no_clash g.S.Store old.store new.store c.previewed.result looks.fails honest c.previewed.ensures.refusal;
+    let refusal = c.previewed.ensures.refusal in
+    let still = looks_still g.S.Store c.previewed.result old new in
+    subst (λ (e : Event). IsAsked g.S.Store e c.previewed.result old new) (sym c.in-Preview.is) (record {
+      follows = λ honest state stands told. (c.previewed.ensures.machine honest state stands told, still state looks honest stands);
+      stands = λ honest state stands. always c.previewed.result (StandsAt g.S.Store.files new state) (still state looks honest stands);
+      stops = λ honest state stands cause is. absurd (looks_no_stop c.previewed.result cause refusal is);
+      log = λ is. absurd (subst IsNoLog is tt);
+      preview = λ call is. refusal;
+      clash = λ honest state stands free. looks_no_clash g.S.Store old.store new.store c.previewed.result looks.fails honest refusal;
       free = λ honest free. subst (λ (f : Files). IsFree (undo_folder_of f)) (sym (looks.reads.files honest)) free;
-      fault = looks_cause g.S.Store old.store new.store c.previewed.result looks.fails c.previewed.ensures.refusal;
+      fault = looks_cause g.S.Store old.store new.store c.previewed.result looks.fails refusal;
       failures = looks.reads.failures;
       was_honest = looks.reads.was_honest;
-    }
+    })

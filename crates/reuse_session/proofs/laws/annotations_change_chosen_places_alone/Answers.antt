@@ -1,4 +1,5 @@
 use Rattle.reuse_session.specs.declared.command.Command.TheVariants.{Annotate}
+use Rattle.reuse_session.proofs.AcceptedTrees.{annotation_accepted}
 use Rattle.reuse_session.proofs.AnnotatedTexts.{stays_or_text}
 use Rattle.reuse_session.proofs.AnnotatedTrees.{annotates}
 use Rattle.reuse_session.proofs.LeftByRuns.{left_by_run}
@@ -9,6 +10,7 @@ pub returns : goal.returns
 returns c =
     let kept = c.annotating_keeps_other_bytes.ensures in
     record {
+      accepted = λ places additions how scope tree. annotation_accepted places additions how scope tree kept.replaced kept.inserted kept.neighbour_replaced kept.neighbour_inserted;
       made = λ places additions how scope tree after h. annotates kept.replaced kept.inserted kept.neighbour_replaced kept.neighbour_inserted places additions how scope tree after h;
       one = λ places additions how scope before after other this that. one_tree places additions how scope before after other this that;
       left = λ places additions how scope when old new reply runs.

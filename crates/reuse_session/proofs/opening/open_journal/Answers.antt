@@ -1,12 +1,13 @@
-use Rattle.std.proofs.Common.{◌≡◌, ◌≤◌, ◌+◌, length, arith, ◌⊎◌, inl, inr, Some, Err, sym, ap, subst, ◌∙◌}
+use Rattle.std.proofs.Common.{◌≡◌, ◌≤◌, ◌+◌, length, arith, ◌⊎◌, inl, inr, ⊎_elim, Some, Err, refl, sym, ap, subst, ◌∙◌}
 use Rattle.std.proofs.lemmas.Result.{err_from_is_err_and}
-use Rattle.reuse_session.specs.Opening.{IsRead, IsSettled, StopsOpening}
+use Rattle.reuse_session.specs.Opening.{IsRead, IsSettled, MovesToOpen, StopsOpening}
 use Rattle.reuse_session.specs.Session.{head_room, IsSameBut, Remembers}
-use Rattle.reuse_session.specs.JournalFiles.{head_path, HeadSays}
+use Rattle.reuse_session.specs.JournalFiles.{head_of, head_path, entry_path, HeadSays, EntrySays}
 use Rattle.reuse_session.specs.declared.reply.Refusal.TheVariants.{Interrupted}
 use Rattle.std.specs.FinMap as map
 use Rattle.reuse_session.specs.Head.{listed}
 use Rattle.reuse_session.specs.declared.journal.head.Head.{Head}
+use Rattle.reuse_session.specs.declared.journal.entry.Entry.{Entry}
 use Rattle.reuse_session.specs.Journal.{Journal, State}
 use Rattle.reuse_session.specs.Standing.{IsStanding, InDoubt}
 use Rattle.reuse_session.specs.Tree.{undo_folder_of}
@@ -84,6 +85,25 @@ module _ (g : Over) (c : After-settle g) (honest : g.S.Store.honest c.settle.new
       let count = as_many_listed (undo_folder_of (g.S.Store.files c.args.store.now)) read_before.0 (Some c.in-Some.pending) c.in_ok-pending.history head read.keeps read.remembers says in
       omega (arith, c.settle.ensures.written honest read_before.0 read_after, count, c.read_journal.ensures.reads.written)
 
+  moves_to_open : MovesToOpen g.S.Store c.args.store.now c.settle.new.store
+  moves_to_open =
+      let kept = read_before.1.keeps in
+      ⊎_elim
+      (λ (none : g.S.Store.moves c.settle.new.store ≡ g.S.Store.moves c.read_journal.new.store). inl (none ∙ c.read_journal.ensures.reads.moves))
+      (λ (some : (entry : Entry) × EntrySays (map.get (undo_folder_of (g.S.Store.files c.read_journal.new.store)) (entry_path c.in-Some.pending.entry)) entry × (g.S.Store.moves c.settle.new.store ≤ g.S.Store.moves c.read_journal.new.store + length entry.changes + 1)).
+      inr (
+        some.0,
+        record {
+          head = head_of read_before.0 (Some c.in-Some.pending);
+          pending = c.in-Some.pending;
+          says = kept.head;
+          tells = refl;
+          is = subst (λ f. EntrySays (map.get (undo_folder_of f) (entry_path c.in-Some.pending.entry)) some.0) same_files some.1;
+        },
+        omega (arith, some.2, c.read_journal.ensures.reads.moves),
+      ))
+      (c.settle.ensures.moves honest)
+
 pub returns-in_err-settle-in-Some-clause-settles : goal.returns-in_err-settle-in-Some-clause-settles
 returns-in_err-settle-in-Some-clause-settles g c honest first second doubt =
     let s = (goal.at.returns-in_err-settle-in-Some-clause-settles g c).After-settle in
@@ -140,3 +160,9 @@ returns-in_err-settle-in-Some-clause-written g c = head_written g (goal.at.retur
 
 pub returns-in_ok-settle-in-Some-clause-written : goal.returns-in_ok-settle-in-Some-clause-written
 returns-in_ok-settle-in-Some-clause-written g c = head_written g (goal.at.returns-in_ok-settle-in-Some-clause-written g c).After-settle
+
+pub returns-in_err-settle-in-Some-clause-moves : goal.returns-in_err-settle-in-Some-clause-moves
+returns-in_err-settle-in-Some-clause-moves g c = moves_to_open g (goal.at.returns-in_err-settle-in-Some-clause-moves g c).After-settle
+
+pub returns-in_ok-settle-in-Some-clause-moves : goal.returns-in_ok-settle-in-Some-clause-moves
+returns-in_ok-settle-in-Some-clause-moves g c = moves_to_open g (goal.at.returns-in_ok-settle-in-Some-clause-moves g c).After-settle

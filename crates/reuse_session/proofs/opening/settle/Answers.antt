@@ -1,4 +1,4 @@
-use Rattle.std.proofs.Common.{◌≡◌, ◌⊎◌, MatchResult, List, refl, arith, length, Some, None, Err, IfErr, OnOk, sym, ap, subst, ◌∙◌}
+use Rattle.std.proofs.Common.{◌≡◌, ◌⊎◌, inr, MatchResult, List, refl, arith, length, Some, None, Err, IfErr, OnOk, sym, ap, subst, ◌∙◌}
 use Rattle.std.specs.FinMap.{get}
 use Rattle.std.specs.List.{All}
 use Rattle.std.proofs.lemmas.Result.{err_from_is_err_and, IfErr-weaker, on_ok_weaker}
@@ -136,6 +136,10 @@ returns-clause-interrupted g c honest journal read cause e =
     let left = stands_or_stays g at honest journal read step was.0 refl was.1 in
     let stays = subst (λ r. MatchResult r (λ _. IsStanding new was.0) (λ refusal. IsFailure refusal × (IsStanding new was.0 ⊎ IsUnderWay c.args.pending.way step was.0 new))) e left in
     (was.0, c.args.pending.way, step, was.1, stays.1)
+
+pub returns-clause-moves : goal.returns-clause-moves
+returns-clause-moves g c honest =
+    inr (c.in_ok-entry.entry, c.in_ok-entry.ensures.ok (c.roll_back.ensures.later.was_honest honest), omega (arith, c.roll_back.ensures.moves, ap length c.as_slice.ensures, c.read_entry.ensures.reads.moves))
 
 pub returns-clause-folder : goal.returns-clause-folder
 returns-clause-folder g c honest journal read =

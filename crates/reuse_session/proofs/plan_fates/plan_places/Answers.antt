@@ -1,6 +1,7 @@
 use Rattle.std.proofs.Common.{Bool, List, Result, ◌∷◌, [], cond, Ok, Err, IfOk, map, ap, sym, subst, ◌∙◌}
+use Rattle.std.specs.FinMap.{keys}
 use Rattle.reuse_tree.specs.Files.{Files, tree_of}
-use Rattle.reuse_session.specs.AnnotationPlan.{own_of, told_by, edits_by, worked_by, edits_of_places}
+use Rattle.reuse_session.specs.AnnotationPlan.{own_of, told_by, edits_by, worked_by, edits_of_places, PlansPaths}
 use Rattle.reuse_session.specs.FatePlan.{Plans}
 use Rattle.reuse_session.specs.Fates.{annotation_fates}
 use Rattle.reuse_session.specs.Edit.{Edit}
@@ -37,5 +38,10 @@ returns-clause-planned g c honest =
     let asked = c.args.asked.now in
     let places = c.args.places.now in
     let tree = tree_of (g.S.Store.files c.args.store.now) in
-    subst (λ b. IfOk c.plan_listed.result (Plans tree (told_where asked tree places b) (edits_where asked tree places b)))
-    (sym (sym c.gives_root.ensures ∙ c.if-gives_root.false)) (c.plan_listed.ensures.planned honest)
+    let read = c.plan_paths.ensures.asks.reads.was_honest honest in
+    let listed = c.in_ok-paths.ensures.paths read in
+    let same = ap tree_of (c.in_ok-paths.ensures.reads.files read) in
+    let worked = c.deref-3.ensures.value ∙ c.in_ok-worked.ensures tree (c.deref.ensures.value ∙ listed) in
+    let planned = c.plan_paths.ensures.planned honest (c.deref-2.ensures.value ∙ listed ∙ ap keys (sym same)) in
+    subst (λ b. IfOk c.plan_paths.result (Plans tree (told_where asked tree places b) (edits_where asked tree places b))) (sym (sym c.gives_root.ensures ∙ c.if-gives_root.false))
+    (subst (λ t. IfOk c.plan_paths.result (PlansPaths asked t (worked_by asked tree places))) same (subst (λ ps. IfOk c.plan_paths.result (PlansPaths asked (tree_of (g.S.Store.files c.tree_paths.new.store)) ps)) worked planned))

@@ -1,20 +1,16 @@
-use Rattle.std.proofs.Common.{◌≡◌, ◌≤◌, ◌∙◌, ℕ, Bool, true, false, Err, nat_lt, List, ◌++◌, codes, length, refl, sym, ap, arith}
-use Rattle.std.proofs.lemmas.Bool.{false≢true}
-use Rattle.std.proofs.lemmas.Bool.Decides.{nat_tests}
+use Rattle.std.proofs.Common.{◌≡◌, ◌∙◌, ℕ, Bool, true, false, Err, nat_lt, List, ◌++◌, codes, length, refl, sym, ap}
+use Rattle.std.proofs.lemmas.Bool.{false≢true, ltb-false}
 use Rattle.reuse_tree.specs.Path.{is_path}
 use Rattle.reuse_session.specs.Annotate.{neighbour_of}
 use Rattle.reuse_session.proofs.NeighbourLemmas.{good_neighbour}
 use Rattle.reuse_session.proofs.plan_place.neighbour_path.Goals as goal
-
-not_over : (m n : ℕ) → nat_lt m n ≡ false → n ≤ m
-not_over m n h = grind (arith, nat_tests)
 
 too_long : (path : List ℕ) → is_path path ≡ true → is_path (neighbour_of path) ≡ false → nat_lt 4096 (length (neighbour_of path)) ≡ true
 too_long path good bad = of_test (nat_lt 4096 (length (neighbour_of path))) refl
   where
     of_test : (b : Bool) → nat_lt 4096 (length (neighbour_of path)) ≡ b → b ≡ true
     of_test true e = refl
-    of_test false e = absurd (false≢true (sym bad ∙ good_neighbour path good (not_over 4096 (length (neighbour_of path)) e)))
+    of_test false e = absurd (false≢true (sym bad ∙ good_neighbour path good (ltb-false 4096 (length (neighbour_of path)) e)))
 
 pub returns-in-Err-BadPath-clause-long : goal.returns-in-Err-BadPath-clause-long
 returns-in-Err-BadPath-clause-long c =

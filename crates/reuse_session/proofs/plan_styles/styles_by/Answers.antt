@@ -1,5 +1,4 @@
-use Rattle.std.proofs.Common.{◌≡◌, ◌∙◌, ◌≤◌, ℕ, false, cond, nat_lt, List, length, Some, None, Result, Err, IfErr, sym, ap, subst, arith}
-use Rattle.std.proofs.lemmas.Bool.Decides.{nat_tests}
+use Rattle.std.proofs.Common.{◌≡◌, ◌∙◌, ◌≤◌, ℕ, cond, List, length, Some, None, Result, Err, IfErr, sym, ap, subst}
 use Rattle.reuse_header.specs.StyleFile.{styles_of, IsRefused}
 use Rattle.reuse_header.specs.declared.style_refusal.StylesRefusal.{StylesRefusal}
 use Rattle.reuse_header.specs.declared.style_refusal.StylesRefusal.TheVariants as styles
@@ -11,19 +10,17 @@ use Rattle.reuse_session.specs.declared.reply.Refusal.TheVariants as refusals
 use Rattle.reuse_session.proofs.ReadingLemmas.{absent_is, found_is}
 use Rattle.reuse_session.proofs.plan_styles.styles_by.Goals as goal
 use Rattle.reuse_session.proofs.plan_styles.styles_by.Goals.{in-Absent, in-Found}
+use Rattle.std.proofs.lemmas.Bool.{le-ltb}
 
 refused_is : (due : Result OwnNames StylesRefusal) (refusal : StylesRefusal) → IsRefused due refusal → IsRefusalOf (styles_read due) (styles_refusal refusal)
 refused_is due (styles.Memory e) is = tt
 refused_is due refusal is = ap styles_read is
 
-not_over : (n : ℕ) → n ≤ LONGEST_FILE → nat_lt LONGEST_FILE n ≡ false
-not_over n h = grind (arith, nat_tests)
-
 abbrev refused : Refusal → Result OwnNames Refusal
 refused refusal = Err refusal
 
 of_bytes : (bytes : List ℕ) → length bytes ≤ LONGEST_FILE → styles_where (Some bytes) ≡ styles_read (styles_of (Some bytes))
-of_bytes bytes short = ap (λ b. cond b (refused (refusals.TooLong styles_path)) (styles_read (styles_of (Some bytes)))) (not_over (length bytes) short)
+of_bytes bytes short = ap (λ b. cond b (refused (refusals.TooLong styles_path)) (styles_read (styles_of (Some bytes)))) (le-ltb LONGEST_FILE (length bytes) short)
 
 pub returns-clause-refusal : goal.returns-clause-refusal
 returns-clause-refusal c file here is =

@@ -52,7 +52,7 @@ loop-change-preserved g c =
     let set_back = λ (honest : g.S.Store.honest c.set_back.new.store) (good : IsEntry c.args.changes.now). c.in_ok-set_back.ensures.ok honest (of good).proper (of good).small in
     record {
       notes = notes_more g.S.Store c.args.started.now c.loop-change.started c.set_back.new.started _ _ _ kept.notes kept.walk.later c.set_back.ensures.notes c.set_back.ensures.later;
-      walk = stays_on kept.walk c.set_back.ensures.later (λ good. c.set_back.ensures.written (of good).of_tree) (λ honest good. folder_stays_back c.args.way change now after (of good).of_tree (set_back honest good));
+      walk = stays_on kept.walk c.set_back.ensures.later c.set_back.ensures.moves (λ good. c.set_back.ensures.written (of good).of_tree) (λ honest good. folder_stays_back c.args.way change now after (of good).of_tree (set_back honest good));
       back = λ honest good. back_more c.args.way c.args.changes.now good c.loop-change.change-index c.loop-change-test.true change c.change-item.is _ (tree_of now) (kept.back (was_honest honest) good) (tree_of after)
           (set_back_of_tree c.args.way change now after (of good).of_tree (set_back honest good));
     }

@@ -11,6 +11,6 @@ invariant-loop-change g l =
     let store = g.S.Store in
     record {
       notes : NotesMoves g.S.Store l.fn.started l.started l.fn.store l.store;
-      walk : StaysBeside store l.fn.store l.store l.changes;
+      walk : StaysBeside store l.fn.store l.store l.changes l.change-index;
       back : store.honest l.store → IsEntry l.changes → ArePartlyMade l.way (take l.change-index l.changes) (tree_of (store.files l.store)) (tree_of (store.files l.fn.store));
     }

@@ -6,18 +6,18 @@ use Rattle.reuse_session.specs.Showing.{row_in}
 use Rattle.reuse_session.proofs.OnlyReading.{is_refused}
 use Rattle.reuse_session.proofs.StepAnswers.{read_told}
 use Rattle.reuse_session.proofs.StepsByNumber.{none_listed, some_listed, unused_both, row_says, shows, shows_at, read_is_no_absence}
-use Rattle.reuse_session.proofs.Travelling.{is_none}
+use Rattle.reuse_session.proofs.Results.{none_unless_some}
 use Rattle.reuse_session.proofs.session.Session.show.Goals as goal
 
 -- no step has the number
 pub returns-in_default-clause-absent : goal.returns-in_default-clause-absent
 returns-in_default-clause-absent g c =
-    let none : row_in (memory_of c.args.self.now) c.args.number ≡ None = sym c.row.ensures ∙ is_none c.row.result c.in_default.not-Some in
+    let none : row_in (memory_of c.args.self.now) c.args.number ≡ None = sym c.row.ensures ∙ none_unless_some c.row.result c.in_default.not-Some in
     (λ e. (c.if-self.false, none_listed (memory_of c.args.self.now) c.args.number none), λ h. refl)
 
 pub returns-in_default-clause-exact : goal.returns-in_default-clause-exact
 returns-in_default-clause-exact g c honest held stands told =
-    let none : row_in (memory_of c.args.self.now) c.args.number ≡ None = sym c.row.ensures ∙ is_none c.row.result c.in_default.not-Some in
+    let none : row_in (memory_of c.args.self.now) c.args.number ≡ None = sym c.row.ensures ∙ none_unless_some c.row.result c.in_default.not-Some in
     let both = unused_both (memory_of c.args.self.now) held.journal c.args.number stands.remembers none in
     (refl, both.0, both.1)
 

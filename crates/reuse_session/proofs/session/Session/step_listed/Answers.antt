@@ -88,7 +88,7 @@ returns-in_err-step-clause-leaves g c =
     let was_honest = c.step.ensures.call.later.was_honest in
     subst (λ r. LeavesTravel g.S.Store c.args.way r c.args.self.now c.step.new.self) (sym (is_refused c.from_residual-in_err-step.result c.from_residual-in_err-step.ensures.1))
     (stop_leaves g.S.Store c.args.way c.args.self.now c.step.new.self c.prepare.new.store (only_read g tested) was_honest c.as_slice-changes.result.now (pending_of g tested) c.in_ok-moved.moved
-    (good g tested) (prepared_step g tested) c.step.ensures.folder c.step.ensures.written
+    (good g tested) (prepared_step g tested) c.step.ensures.folder c.step.ensures.written c.step.ensures.asks
     c.in_err-step.field-0.0 c.in_err-step.ensures.refused c.in_err-step.ensures.moves c.in_err-step.ensures.late
     (λ honest. c.in_err-step.ensures.clash honest (good g tested) (can_be_made g tested (was_honest honest))))
 
@@ -101,5 +101,5 @@ pub returns-clause-leaves : goal.returns-clause-leaves
 returns-clause-leaves g c =
     let tested = (goal.at.returns-clause-leaves g c).After-of_listed in
     step_leaves g.S.Store c.args.way c.args.self.now c.step.new.self c.prepare.new.store (only_read g tested) c.step.ensures.call.later.was_honest c.as_slice-changes.result.now (pending_of g tested) c.in_ok-moved.moved
-    (good g tested) (prepared_step g tested) c.step.ensures.folder c.step.ensures.written
+    (good g tested) (prepared_step g tested) c.step.ensures.folder c.step.ensures.written c.step.ensures.asks
     c.reply_of.result c.in_ok-step.ensures.texts

@@ -19,6 +19,7 @@ entry_put g c = record {
   is_entry = λ i. record { changes = c.new.ensures i; command = c.name-command.ensures i; when = c.args.when };
   was_honest = c.put_entry.ensures.later.was_honest;
   beside = c.put_entry.ensures.others;
+  asks = c.put_entry.ensures.moves;
   at_most = c.put_entry.ensures.written;
 }
 
@@ -58,7 +59,7 @@ pub returns-in_err-step-clause-leaves : goal.returns-in_err-step-clause-leaves
 returns-in_err-step-clause-leaves g c =
     let at = goal.at.returns-in_err-step-clause-leaves g c in
     subst (λ r. LeavesRun g.S.Store c.args.command.now c.args.when r c.args.self.now c.step.new.self) (sym (is_refused c.from_residual-in_err-step.result c.from_residual-in_err-step.ensures.1))
-    (halt_leaves (entry_put g at.After-put_entry) (entry_listed g at.After-step) c.step.new.self c.step.ensures.call.later.was_honest c.step.ensures.folder c.step.ensures.written
+    (halt_leaves (entry_put g at.After-put_entry) (entry_listed g at.After-step) c.step.new.self c.step.ensures.call.later.was_honest c.step.ensures.folder c.step.ensures.written c.step.ensures.asks
     c.in_err-step.field-0.0 c.in_ok-put_entry.ensures.counted c.in_err-step.ensures.refused c.in_err-step.ensures.moves c.in_err-step.ensures.late c.in_err-step.ensures.clash)
 
 pub returns-clause-exact : goal.returns-clause-exact
@@ -74,5 +75,5 @@ pub returns-clause-leaves : goal.returns-clause-leaves
 returns-clause-leaves g c =
     let at = goal.at.returns-clause-leaves g c in
     subst (λ ps. LeavesRun g.S.Store c.args.command.now c.args.when (Ok (Changed ps)) c.args.self.now c.step.new.self) (sym (c.in_ok-paths.ensures ∙ ap paths_of c.deref.ensures.value))
-    (record_leaves (entry_put g at.After-put_entry) (entry_listed g at.After-step) c.step.new.self c.step.ensures.call.later.was_honest c.step.ensures.folder c.step.ensures.written
+    (record_leaves (entry_put g at.After-put_entry) (entry_listed g at.After-step) c.step.new.self c.step.ensures.call.later.was_honest c.step.ensures.folder c.step.ensures.written c.step.ensures.asks
     c.in_ok-put_entry.ensures.counted c.in_ok-put_entry.ensures.text c.in_ok-step.ensures.texts)

@@ -1,7 +1,8 @@
 use Rattle.std.proofs.Common.{Err, sym, subst}
 use Rattle.reuse_session.specs.Journal.{State, Travels, ahead}
 use Rattle.reuse_session.specs.Session.{StandsOn}
-use Rattle.reuse_session.proofs.Travelling.{is_none, none_next}
+use Rattle.reuse_session.proofs.Results.{none_unless_some}
+use Rattle.reuse_session.proofs.Travelling.{none_next}
 use Rattle.reuse_session.proofs.session.Session.travel.Goals as goal
 
 pub returns-in_default-clause-exact : goal.returns-in_default-clause-exact
@@ -10,4 +11,4 @@ returns-in_default-clause-exact g c honest held stands told =
     let session = c.args.self.now in
     let way = c.args.way in
     subst (λ r. (left : State) × StandsOn files session left × Travels way (ahead way held.journal) held (Err r) left) (sym c.end_of.ensures)
-    (none_next way files session held stands (c.next.ensures.none (is_none c.next.result c.in_default.not-Some)))
+    (none_next way files session held stands (c.next.ensures.none (none_unless_some c.next.result c.in_default.not-Some)))

@@ -1,0 +1,98 @@
+-- Where a command isn't refused, in other words.
+use Rattle.std.specs.Prelude.{◌≡◌, ◌⊎◌, ℕ, ◌≤◌, true, List, [], length, Some, None, Ok, IsOk, IsSome, unwrap_or}
+use Rattle.std.specs.List.{Contains}
+use Rattle.std.specs.FinMap.{get}
+use Rattle.reuse_text.specs.declared.TheConstants.{LONGEST_FILE}
+use Rattle.reuse_notice.specs.declared.adding.Additions.{Additions}
+use Rattle.reuse_header.specs.Annotation.{annotated}
+use Rattle.reuse_header.specs.Neighbour.{neighbour_annotated}
+use Rattle.reuse_header.specs.declared.annotation.How.{How}
+use Rattle.reuse_header.specs.declared.style.Style.{Style}
+use Rattle.reuse_header.specs.declared.style.Kind.TheVariants as kind
+use Rattle.reuse_dep5.specs.Conversion.{converted}
+use Rattle.reuse_tree.specs.Files.{Files, Clashes}
+use Rattle.reuse_session.specs.Annotate.{neighbour_of}
+use Rattle.reuse_session.specs.Annotated.{Pair, pair_at, HasKind, IsSkipped, TakesComment, TakesNeighbour}
+use Rattle.reuse_session.specs.Command.{has_root}
+use Rattle.reuse_session.specs.Conversion.{dep5_path, toml_path}
+use Rattle.reuse_session.specs.Covered.{is_covered}
+use Rattle.reuse_session.specs.Downloads.{text_for}
+use Rattle.reuse_session.specs.Licence.{is_id, licence_path}
+use Rattle.reuse_session.specs.Outcome.{edit_count, edits_of, recorded_size}
+use Rattle.reuse_session.specs.TreeStyles.{OwnNames, styles_in}
+use Rattle.reuse_session.specs.Worked.{worked_paths}
+use Rattle.reuse_session.specs.declared.command.Command.{Command}
+use Rattle.reuse_session.specs.declared.command.Command.TheVariants.{Annotate, ConvertDep5, Download}
+use Rattle.reuse_session.specs.declared.command.Place.{Place}
+use Rattle.reuse_session.specs.declared.command.Scope.{Scope}
+use Rattle.reuse_session.specs.declared.licence.LicenceText.{LicenceText}
+
+-- one entry holds what the command changes: at most 100,000 files, and 256 MiB by what they count for
+abbrev pub FitsEntry : Command → Files → Type 0
+FitsEntry command tree = (edit_count (edits_of command tree) ≤ 100_000) × (recorded_size (edits_of command tree) ≤ 268_435_456)
+
+-- ---- downloads
+
+-- the id is one, a text that isn't too long is found for it, and its path has no file and doesn't clash
+pub record CanBeDownloaded (texts : List LicenceText) (tree : Files) (id : List ℕ) : Type 0 where
+  pub good : is_id id ≡ true
+  pub text : List ℕ
+  pub found : text_for texts id ≡ Some text
+  pub short : length text ≤ LONGEST_FILE
+  pub absent : get tree (licence_path id) ≡ None
+  pub free : ¬ (Clashes tree (licence_path id))
+
+-- each text can be downloaded, and one entry holds them all
+pub record CanDownload (ids : List (List ℕ)) (texts : List LicenceText) (tree : Files) : Type 0 where
+  pub each : (id : List ℕ) → Contains ids id → CanBeDownloaded texts tree id
+  pub fits : FitsEntry (Download ids texts) tree
+
+-- ---- conversions
+
+-- there is a `.reuse/dep5` that isn't too long and is converted, `REUSE.toml` isn't there and doesn't clash, and one entry holds both
+pub record CanConvert (tree : Files) : Type 0 where
+  pub dep5 : List ℕ
+  pub there : get tree dep5_path ≡ Some dep5
+  pub short : length dep5 ≤ LONGEST_FILE
+  pub good : IsOk (converted dep5)
+  pub absent : get tree toml_path ≡ None
+  pub free : ¬ (Clashes tree toml_path)
+  pub fits : FitsEntry ConvertDep5 tree
+
+-- ---- annotations
+
+-- the file needn't be read: a neighbour is there or asked for, or the file's name takes no comment
+abbrev pub IsUnread : Scope → OwnNames → List ℕ → Pair → Type 0
+IsUnread scope own path pair = IsSome pair.neighbour ⊎ (scope.force_dot_license ≡ true) ⊎ HasKind scope own path kind.Uncommentable
+
+-- the neighbour's path isn't too long, nor is the neighbour; where it isn't there its path doesn't clash
+pub record HasRoomBeside (tree : Files) (path : List ℕ) : Type 0 where
+  pub short_path : length (neighbour_of path) ≤ 4096
+  pub short : (beside : List ℕ) → get tree (neighbour_of path) ≡ Some beside → length beside ≤ LONGEST_FILE
+  pub free : get tree (neighbour_of path) ≡ None → ¬ (Clashes tree (neighbour_of path))
+
+-- the file is skipped, or the header rules accept its bytes in its style, or those of its neighbour
+abbrev pub RulesAccept : Additions → How → Scope → OwnNames → List ℕ → List ℕ → Pair → Type 0
+RulesAccept additions how scope own path bytes pair =
+    IsSkipped scope own path bytes pair
+    ⊎ ((style : Style) × TakesComment scope own path bytes pair style × IsOk (annotated style how additions bytes))
+    ⊎ (TakesNeighbour scope own path bytes pair × IsOk (neighbour_annotated how additions (unwrap_or pair.neighbour [])))
+
+-- the path has a covered file, which isn't too long where it is read, room beside it where its neighbour takes the information, and what
+-- the rules accept
+pub record CanBeAnnotated (additions : Additions) (how : How) (scope : Scope) (own : OwnNames) (tree : Files) (path : List ℕ) : Type 0 where
+  pub bytes : List ℕ
+  pub there : get tree path ≡ Some bytes
+  pub covered : is_covered path ≡ true
+  pub short : ¬ (IsUnread scope own path (pair_at tree path)) → length bytes ≤ LONGEST_FILE
+  pub room : TakesNeighbour scope own path bytes (pair_at tree path) → HasRoomBeside tree path
+  pub accepted : RulesAccept additions how scope own path bytes (pair_at tree path)
+
+-- the tree's own styles are good, the root is given only where folders are gone through, each path that is gone through can be annotated,
+-- and one entry holds them all
+pub record CanAnnotate (places : List Place) (additions : Additions) (how : How) (scope : Scope) (tree : Files) : Type 0 where
+  pub own : OwnNames
+  pub styles : styles_in tree ≡ Ok own
+  pub root : has_root places ≡ true → scope.recursive ≡ true
+  pub each : (path : List ℕ) → Contains (worked_paths scope places tree) path → CanBeAnnotated additions how scope own tree path
+  pub fits : FitsEntry (Annotate places additions how scope) tree
