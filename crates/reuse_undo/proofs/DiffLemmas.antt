@@ -14,7 +14,7 @@ use Rattle.reuse_undo.specs.declared.fault.Fault.{Fault}
 use Rattle.reuse_undo.specs.declared.fault.Fault.TheVariants as faults
 use Rattle.reuse_undo.specs.declared.line.Telling.{Telling}
 use Rattle.reuse_undo.specs.declared.request.Told.{Told}
-use Rattle.reuse_undo.specs.Told.{IsBehind, IsDiffOf, IsForeseen, IsNoDiff, IsWanted, WouldBeMade}
+use Rattle.reuse_undo.specs.Told.{IsBehind, IsDiffOf, IsDrawn, IsForeseen, IsNoDiff, IsWanted}
 use Rattle.reuse_undo.specs.RunLine.{IfNoDiff}
 use Rattle.reuse_undo.specs.WriterFaults.{IsOfDiff, IsUndrawn}
 
@@ -36,13 +36,13 @@ diff_for store old new telling (Err refusal) diff b is none fault = tt
 diff_for store old new telling (Ok told) diff true is none fault = wanted store old new telling told diff (is refl) fault
 diff_for store old new telling (Ok told) diff false is none fault = unwanted telling told diff (none refl)
 
-foreseen_made : (telling : Telling) (told : Told) → IsForeseen telling told → WouldBeMade told
-foreseen_made telling told is = subst WouldBeMade (sym is.2) is.3
+foreseen_drawn : (telling : Telling) (told : Told) → IsForeseen telling told → IsDrawn told
+foreseen_drawn telling told is = subst IsDrawn (sym is.2) is.3
 
 -- and behind the lines
 pub behind : {A : Type 0} (telling : Telling) (told : Told) (diff : Result (Vec ℕ A) Fault) → IsDiffOf telling told diff → IsBehind telling told diff
 behind telling told (Ok diff) (inl none) = inl none
-behind telling told (Ok diff) (inr is) = inr (foreseen_made telling told is)
+behind telling told (Ok diff) (inr is) = inr (foreseen_drawn telling told is)
 behind telling told (Err (faults.NoDiff refusal)) is = is
 behind telling told (Err faults.Memory) is = is
 behind telling told (Err other) is = is

@@ -8,7 +8,7 @@ use Rattle.reuse_undo.specs.declared.line.Telling.TheVariants.{Diff}
 use Rattle.reuse_undo.specs.declared.request.Told.{Told}
 use Rattle.reuse_undo.specs.Lines.{change_lines, IsShownText}
 use Rattle.reuse_undo.specs.RowLines.{AreJoined, AppendsSome, IsRowLine}
-use Rattle.reuse_undo.specs.Told.{IsLinesText, IsToldText, WouldBeMade}
+use Rattle.reuse_undo.specs.Told.{IsDrawn, IsLinesText, IsToldText}
 
 AreJoined-push : {A : Type 0} (IsText : A → List ℕ → Type 0) (xs : List A) (x : A) (text line : List ℕ) → AreJoined IsText xs text → IsText x line
     → AreJoined IsText (xs ++ x ∷ []) (text ++ line)
@@ -41,6 +41,6 @@ AppendsSome-shown shown old mid new row rest =
     (row.0 ++ change_lines shown.changes, ((row.0, row.1.0, refl), Appends-trans old mid new row.0 (change_lines shown.changes) row.1.1 rest))
 
 -- the lines of an answer, and a diff behind them
-pub AppendsSome-diff : (told : Told) (diff : List ℕ) (old mid new : Option (List ℕ)) → (diff ≡ []) ⊎ WouldBeMade told → AppendsSome old mid (IsLinesText told) → Appends mid new diff
+pub AppendsSome-diff : (told : Told) (diff : List ℕ) (old mid new : Option (List ℕ)) → (diff ≡ []) ⊎ IsDrawn told → AppendsSome old mid (IsLinesText told) → Appends mid new diff
     → AppendsSome old new (IsToldText Diff told)
 AppendsSome-diff told diff old mid new may lines rest = (lines.0 ++ diff, ((lines.0, diff, lines.1.0, may, refl), Appends-trans old mid new lines.0 diff lines.1.1 rest))

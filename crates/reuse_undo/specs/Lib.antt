@@ -1,3 +1,4 @@
+pub mod CarriedOut
 pub mod Dates
 pub mod FileLists
 pub mod FolderFault

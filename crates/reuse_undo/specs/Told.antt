@@ -37,12 +37,17 @@ abbrev pub WouldBeMade : Told → Type 0
 WouldBeMade (Reply (Preview fates)) = is_refused fates ≡ false
 WouldBeMade told = Unit {0}
 
--- what an answer is printed as: in lines; in lines with some diff behind them, none where a call that was looked at would be refused; or rows and steps as
--- objects, and all else in lines
+-- an answer that can have a diff behind it: a call that was only looked at and would be made, or a step that is shown
+abbrev pub IsDrawn : Told → Type 0
+IsDrawn (Reply (Preview fates)) = is_refused fates ≡ false
+IsDrawn (Shown shown) = Unit {0}
+IsDrawn told = ⊥
+
+-- what an answer is printed as: in lines; in lines with some diff behind them, where there can be one; or rows and steps as objects, and all else in lines
 abbrev pub IsToldText : Telling → Told → List ℕ → Type 0
 IsToldText Json (Reply (Log rows)) text = AreRowObjects rows text
 IsToldText Json (Shown shown) text = IsShownObject shown text
-IsToldText Diff told text = (lines : List ℕ) × (diff : List ℕ) × IsLinesText told lines × ((diff ≡ []) ⊎ WouldBeMade told) × (text ≡ lines ++ diff)
+IsToldText Diff told text = (lines : List ℕ) × (diff : List ℕ) × IsLinesText told lines × ((diff ≡ []) ⊎ IsDrawn told) × (text ≡ lines ++ diff)
 IsToldText telling told text = IsLinesText told text
 
 -- how many paths an answer tells that changed
@@ -73,9 +78,9 @@ IsDiffOf telling told (Ok diff) = (diff.items ≡ []) ⊎ IsForeseen telling tol
 IsDiffOf telling told (Err (NoDiff refusal)) = IsForeseen telling told
 IsDiffOf telling told (Err fault) = fault ≡ Memory
 
--- what stands behind an answer's lines: none behind a call that was looked at and would be refused; or it can't be had
+-- what stands behind an answer's lines: some, where there can be a diff, and else none; or it can't be had
 abbrev pub IsBehind : {A : Type 0} → Telling → Told → Result (Vec ℕ A) Fault → Type 0
-IsBehind telling told (Ok diff) = (diff.items ≡ []) ⊎ WouldBeMade told
+IsBehind telling told (Ok diff) = (diff.items ≡ []) ⊎ IsDrawn told
 IsBehind telling told (Err (NoDiff refusal)) = IsForeseen telling told
 IsBehind telling told (Err fault) = fault ≡ Memory
 

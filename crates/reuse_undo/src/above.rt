@@ -1,35 +1,33 @@
 //! Whether a folder above the root is the root of a tree too.
-use std::alloc::Global;
+use std::alloc::{AllocError, Global};
 use std::fs;
-use std::rt::Runtime;
+use std::rt::Files;
 
 /// Whether the folder has a journal.
-fn has_journal<R: Runtime>(rt: &R, alloc: Global, folder: &str) -> bool {
-    match format!(in alloc; "{folder}/.reuse/undo") {
-        Ok(path) => fs::symlink_metadata(rt, path.as_str()).is_ok_and(|found| found.is_dir()),
-        Err(_) => false,
+fn has_journal(rt: &impl Files, alloc: Global, folder: &str) -> Result<bool, AllocError> {
+    let mut path = String::from_str(alloc, folder)?;
+    path.push_str("/.reuse/undo")?;
+    match fs::symlink_metadata(rt, path.as_str()) {
+        Ok(found) => Ok(found.is_dir()),
+        Err(_) => Ok(false),
     }
 }
 
 /// The nearest folder above this absolute path that has a journal.
-fn nearest<R: Runtime>(rt: &R, alloc: Global, path: &str) -> Option<String> {
+fn nearest(rt: &impl Files, alloc: Global, path: &str) -> Result<Option<String>, AllocError> {
     for (end, _) in path.rmatch_indices('/') {
-        if has_journal(rt, alloc, path.get(..end).unwrap_or("")) {
-            let folder = path.get(..end.max(1)).unwrap_or("/");
-            return String::from_str(alloc, folder).ok();
+        let folder = path.get(..end.max(1)).unwrap_or("/");
+        if has_journal(rt, alloc, folder)? {
+            return Ok(Some(String::from_str(alloc, folder)?));
         }
     }
-    None
+    Ok(None)
 }
 
-/// The nearest folder above the root that has a journal, as an absolute path.
-pub fn journal_above<R: Runtime + AllocGlobal>(
-    rt: &R,
-    alloc: Global,
-    root: &str,
-) -> Option<String> {
+/// The nearest folder above the root that has a journal, as an absolute path; none for want of memory too.
+pub fn journal_above<R: Files + AllocGlobal>(rt: &R, alloc: Global, root: &str) -> Option<String> {
     match fs::canonicalize(rt, root) {
-        Ok(path) => nearest(rt, alloc, path.as_str()),
+        Ok(path) => nearest(rt, alloc, path.as_str()).unwrap_or(None),
         Err(_) => None,
     }
 }

@@ -21,6 +21,7 @@ use folder::RootFolder;
 use reuse_tree::laws::files_stay_good;
 use reuse_tree::{CallRecord, Parts, PathText, Reading, Store, StoreFault};
 use std::alloc::Global;
+use std::fs::File;
 use std::rt::Files;
 
 /// The files of a folder. It is honest as long as each call was answered as a folder answers that
@@ -28,14 +29,14 @@ use std::rt::Files;
 /// the counts of failures, of bytes written and of puts and removals, and that each answer is noted as it was given. That a
 /// method makes the call that it notes, and what the folder holds then, is tested.
 #[derive(Drop)]
-pub struct DiskStore<R: Files + AllocGlobal + Clone + Drop> {
+pub struct DiskStore<R: Files<File = File> + AllocGlobal + Clone + Drop> {
     folder: RootFolder<R>,
     failure: LastFailure,
     calls: CallRecord,
     ghost are_files: { IsHonest calls.start calls.calls → AreFiles (files_of calls.start calls.calls) },
 }
 
-impl<R: Files + AllocGlobal + Clone + Drop> DiskStore<R> {
+impl<R: Files<File = File> + AllocGlobal + Clone + Drop> DiskStore<R> {
     /// The folder at this path. Nothing is asked of the system yet, so what the folder holds is unknown:
     /// for any files the contract gives a store that holds these, and the answers then fit or don't.
     pub fn at(rt: R, root: String) -> DiskStore<R>
@@ -59,7 +60,7 @@ impl<R: Files + AllocGlobal + Clone + Drop> DiskStore<R> {
     }
 }
 
-impl<R: Files + AllocGlobal + Clone + Drop> Store for DiskStore<R> {
+impl<R: Files<File = File> + AllocGlobal + Clone + Drop> Store for DiskStore<R> {
     ghost files = { λ store. files_of store.calls.start store.calls.calls };
 
     ghost failures = { λ store. failures_of store.calls.calls };
@@ -99,9 +100,7 @@ impl<R: Files + AllocGlobal + Clone + Drop> Store for DiskStore<R> {
         parts: Parts,
     ) -> Result<(), StoreFault> {
         files_stay_good();
-        let answer = self
-            .folder
-            .put(alloc, path, &[parts.front, parts.middle, parts.back]);
+        let answer = self.folder.put(alloc, path, parts);
         self.failure.note(alloc, Asked::Write, path.text(), &answer);
         let answer = answer.map_err(StoreFault::from);
         self.calls.note_put_parts(path, parts, &answer);

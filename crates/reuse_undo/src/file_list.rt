@@ -11,13 +11,13 @@ use reuse_tree::PathText;
 use std::alloc::{AllocError, Global};
 use std::fs;
 use std::io::{self, ErrorKind, Read};
-use std::rt::{Files, Runtime};
+use std::rt::Files;
 
 /// The most bytes that a list may have.
 const LONGEST_LIST: u64 = 268_435_456;
 
 /// The line with the list of files that it names. One that can't be read is a fault.
-pub fn with_list<R: Runtime>(
+pub fn with_list<R: Files + Input>(
     rt: &R,
     alloc: Global,
     line: Line,
@@ -39,7 +39,7 @@ fn set_listed(action: &mut Action, listed: PathList) {
     }
 }
 
-fn read_list<R: Runtime>(rt: &R, alloc: Global, file: &str) -> Result<PathList, LineFault> {
+fn read_list<R: Files + Input>(rt: &R, alloc: Global, file: &str) -> Result<PathList, LineFault> {
     match read_bytes(rt, alloc, file) {
         Ok(bytes) if bytes.len() as u64 <= LONGEST_LIST => Ok(paths_of_list(alloc, &bytes)?),
         Err(error) if error.kind() == ErrorKind::OutOfMemory => Err(LineFault::Memory),
@@ -48,7 +48,7 @@ fn read_list<R: Runtime>(rt: &R, alloc: Global, file: &str) -> Result<PathList, 
 }
 
 /// The bytes of a file, or of standard input for `-`, as far as one past the longest list.
-fn read_bytes<R: Runtime>(rt: &R, alloc: Global, file: &str) -> io::Result<Vec<u8>> {
+fn read_bytes<R: Files + Input>(rt: &R, alloc: Global, file: &str) -> io::Result<Vec<u8>> {
     let mut bytes = Vec::new(alloc);
     if file == "-" {
         rt.reader().take(LONGEST_LIST + 1).read_to_end(&mut bytes)?;

@@ -10,7 +10,8 @@ use reuse_session::{Command, Event, Fate, Head, Refusal, Scope, Session, Unknown
 use reuse_text::{Bytes, LONGEST_FILE};
 use reuse_tree::{PathText, Reading, Store};
 use std::alloc::Global;
-use std::rt::{Files, Runtime};
+use std::fs::File;
+use std::rt::Files;
 
 const HEAD: &str = ".reuse/undo/head.json";
 
@@ -20,7 +21,7 @@ const TABLE: &str = "REUSE.toml";
 const TABLE_PARAGRAPH: &str = "[[annotations]]";
 
 /// What a call is to do.
-#[derive(Clone, Copy, Debug, PartialEq, Eq)]
+#[derive(Clone, Copy, PartialEq, Eq)]
 pub enum Task {
     /// To make a step.
     Step,
@@ -71,7 +72,7 @@ pub struct Findings {
 
 impl Findings {
     /// What is found before the call. Want of memory or a fault leaves a finding out.
-    pub fn before<R: Runtime + AllocGlobal, S: Store>(
+    pub fn before<R: Files + AllocGlobal, S: Store>(
         rt: &R,
         alloc: Global,
         line: &Line,
@@ -96,7 +97,7 @@ impl Findings {
     }
 
     /// Adds what is found after the call.
-    pub fn look_after<R: Files + AllocGlobal + Clone + Drop>(
+    pub fn look_after<R: Files<File = File> + AllocGlobal + Clone + Drop>(
         &mut self,
         alloc: Global,
         mut folder: DiskStore<R>,

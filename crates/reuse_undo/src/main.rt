@@ -18,6 +18,7 @@ mod lock;
 mod notes;
 mod objects;
 mod on_folder;
+mod options;
 mod output;
 mod place_word;
 mod prefix_name;
@@ -51,21 +52,21 @@ use std::alloc::{AllocError, Global};
 use std::fs::File;
 use std::io::{ErrorKind, IsTerminal};
 use std::process::ExitCode;
-use std::rt::{Files, Runtime};
+use std::rt::{Clock, Env, Files, Runtime};
 use std::time::{SystemTime, UNIX_EPOCH};
 use std::{env, io};
 use texts::find_texts;
 use words::{Said, words_to_command};
 
 /// The moment now, or none where it is out of range.
-fn moment_now(rt: &impl Runtime) -> Option<Moment> {
+fn moment_now(rt: &impl Clock) -> Option<Moment> {
     let now = SystemTime::now(rt).ok()?;
     let since = now.duration_since(UNIX_EPOCH).ok()?;
     Moment::new(since.as_secs())
 }
 
 /// The words that the program was called with.
-fn read_words<R: Runtime + AllocGlobal>(rt: &R, alloc: Global) -> Result<Vec<String>, LineFault> {
+fn read_words<R: Env + AllocGlobal>(rt: &R, alloc: Global) -> Result<Vec<String>, LineFault> {
     match env::args(rt) {
         Ok(words) => Ok(words.collect(alloc)?),
         Err(error) if error.kind() == ErrorKind::InvalidData => {
@@ -77,7 +78,7 @@ fn read_words<R: Runtime + AllocGlobal>(rt: &R, alloc: Global) -> Result<Vec<Str
 }
 
 /// The texts that the line needs.
-fn texts_for<R: Runtime>(rt: &R, alloc: Global, line: &Line) -> Result<LicenceTexts, AllocError> {
+fn texts_for(rt: &impl Files, alloc: Global, line: &Line) -> Result<LicenceTexts, AllocError> {
     match line.action.deed() {
         Some(Deed::Download { folder, ids }) => find_texts(rt, alloc, folder.as_str(), ids),
         _ => Ok(LicenceTexts::new(Vec::new(alloc))),
@@ -93,7 +94,7 @@ struct Extras {
 
 /// What a call works with. Until this is let go no other run works on the folder.
 #[derive(Drop)]
-struct Tools<R: Runtime + Files + AllocGlobal> {
+struct Tools<R: Files<File = File> + AllocGlobal + Clock + Eprint + Clone + Drop> {
     _lock: RootLock,
     folder: DiskStore<R>,
     texts: LicenceTexts,
@@ -101,7 +102,7 @@ struct Tools<R: Runtime + Files + AllocGlobal> {
 }
 
 /// What the line needs: the folder that it names, locked, and the texts.
-fn tools_for<R: Runtime + Files<File = File> + AllocGlobal>(
+fn tools_for<R: Files<File = File> + AllocGlobal + Clock + Eprint + Clone + Drop>(
     rt: &R,
     alloc: Global,
     line: &Line,
@@ -121,7 +122,7 @@ fn tools_for<R: Runtime + Files<File = File> + AllocGlobal>(
 }
 
 /// Carries a line out on the folder that it names, and prints its answer; how many paths that tells, and, where notes are asked for, what they tell.
-fn carry_out<R: Runtime + Files<File = File> + AllocGlobal>(
+fn carry_out<R: Files<File = File> + AllocGlobal + Clock + Print + Eprint + Clone + Drop>(
     rt: &R,
     alloc: Global,
     line: Line,
@@ -133,7 +134,7 @@ fn carry_out<R: Runtime + Files<File = File> + AllocGlobal>(
     }
 }
 
-fn work_with<R: Runtime + Files<File = File> + AllocGlobal>(
+fn work_with<R: Files<File = File> + AllocGlobal + Clock + Print + Eprint + Clone + Drop>(
     rt: &R,
     alloc: Global,
     tools: Tools<R>,
@@ -155,7 +156,7 @@ fn work_with<R: Runtime + Files<File = File> + AllocGlobal>(
 }
 
 /// Carries out what is asked for, and prints the answer.
-fn answer<R: Runtime + Files + AllocGlobal>(
+fn answer<R: Files<File = File> + AllocGlobal + Clock + Print + Eprint + Clone + Drop>(
     folder: DiskStore<R>,
     progress: &Progress<R>,
     alloc: Global,
@@ -168,7 +169,7 @@ fn answer<R: Runtime + Files + AllocGlobal>(
     answered
 }
 
-fn found_before<R: Runtime + Files + AllocGlobal>(
+fn found_before<R: Files<File = File> + AllocGlobal + Clone + Drop>(
     rt: &R,
     alloc: Global,
     line: &Line,
@@ -182,7 +183,7 @@ fn found_before<R: Runtime + Files + AllocGlobal>(
     }
 }
 
-fn found_after<R: Runtime + Files + AllocGlobal>(
+fn found_after<R: Files<File = File> + AllocGlobal + Clone + Drop>(
     alloc: Global,
     findings: Option<Findings>,
     folder: DiskStore<R>,
@@ -217,7 +218,7 @@ fn tell_fault(rt: &impl Eprint, fault: &Fault) {
 }
 
 /// Carries a line out, and tells its fault and notes; the status.
-fn run_noted<R: Runtime + Files<File = File> + AllocGlobal>(
+fn run_noted<R: Files<File = File> + AllocGlobal + Clock + Print + Eprint + Clone + Drop>(
     rt: &R,
     alloc: Global,
     line: Line,

@@ -4,7 +4,7 @@ use crate::watched::Watcher;
 use std::alloc::Global;
 use std::cell::Cell;
 use std::io::{self, Write};
-use std::rt::Runtime;
+use std::rt::Clock;
 use std::time::{Duration, Instant};
 
 /// Work that takes less time, in thousandths of a second, is not told.
@@ -16,7 +16,7 @@ const STEP: u64 = 100;
 /// How many files were read and written so far, and how many there are where the call lists the tree. One line on standard error tells
 /// it, which is written over by the next, and cleared before anything else is told.
 #[derive(Drop)]
-pub struct Progress<R: Runtime> {
+pub struct Progress<R: Clock + Eprint + Drop> {
     rt: R,
     /// When the work began, where its progress is to be told.
     start: Option<Instant>,
@@ -28,7 +28,7 @@ pub struct Progress<R: Runtime> {
     told: Cell<Option<Duration>>,
 }
 
-impl<R: Runtime> Progress<R> {
+impl<R: Clock + Eprint + Drop> Progress<R> {
     /// Work that begins now.
     pub fn new(rt: R, is_told: bool) -> Progress<R> {
         let start = if is_told {
@@ -83,17 +83,17 @@ impl<R: Runtime> Progress<R> {
 
 /// Standard output, where the line of progress is cleared first.
 #[derive(Drop)]
-pub struct ClearedOutput<'a, R: Runtime> {
+pub struct ClearedOutput<'a, R: Clock + Eprint + Drop> {
     progress: &'a Progress<R>,
 }
 
-impl<'a, R: Runtime> ClearedOutput<'a, R> {
+impl<'a, R: Clock + Eprint + Drop> ClearedOutput<'a, R> {
     pub fn new(progress: &'a Progress<R>) -> ClearedOutput<'a, R> {
         ClearedOutput { progress }
     }
 }
 
-impl<R: Runtime> Write for ClearedOutput<'_, R> {
+impl<R: Clock + Print + Eprint + Drop> Write for ClearedOutput<'_, R> {
     fn write(&mut self, buf: &[u8]) -> io::Result<usize> {
         self.progress.clear();
         io::writer(&self.progress.rt).write(buf)
@@ -109,7 +109,7 @@ impl<R: Runtime> Write for ClearedOutput<'_, R> {
     }
 }
 
-impl<R: Runtime> Watcher for Progress<R> {
+impl<R: Clock + Eprint + Drop> Watcher for Progress<R> {
     fn before(&self, _: Global, asked: Asked) {
         match asked {
             Asked::List => {}

@@ -6,7 +6,7 @@ use crate::line::{Action, Deed, Line};
 use reuse_session::{Call, Command, Event, LicenceTexts, Moment, Reply, Reverted, Shown};
 
 /// What a line asks a session for.
-#[derive(Debug, Drop)]
+#[derive(Drop)]
 pub enum Request {
     /// This call.
     Call(Event),
@@ -26,7 +26,7 @@ pub enum Request {
 }
 
 /// What a session answers.
-#[derive(Debug, Drop)]
+#[derive(Drop)]
 pub enum Told {
     Reply(Reply),
     Shown(Shown),

@@ -3,14 +3,13 @@ ghost use Rattle.std.specs.Prelude.{◌≡◌, ◌≤◌, ◌<◌, IfOk, IfErr, 
 ghost use Rattle.reuse_tree.specs.Asked.{OnlyReads};
 ghost use Rattle.reuse_session.specs.Answer.{HasCause};
 ghost use Rattle.reuse_session.specs.Journal.{State};
-ghost use Rattle.reuse_session.specs.Machine.{Snapshots};
 ghost use Rattle.reuse_session.specs.Session.{store_of};
 ghost use Rattle.reuse_session.specs.Standing.{IsStanding};
-ghost use Rattle.reuse_session.specs.Stops.{HoldState};
 ghost use Rattle.reuse_undo.specs.WriterFaults.{IsOfDiff, IsUndrawn};
 ghost use Rattle.reuse_undo.specs.Requests.{IsLook};
-ghost use Rattle.reuse_undo.specs.RunLine.{HasCallClash, RequestLeaves, FollowsMachine, TellsAnswer, IfRefused, IfNoDiff};
-ghost use Rattle.reuse_undo.specs.Told.{IsDiffOf, IsNoDiff, IsWanted, TellsFailure};
+ghost use Rattle.reuse_undo.specs.CarriedOut.{CarriesOut};
+ghost use Rattle.reuse_undo.specs.RunLine.{HasCallClash, RequestLeaves, IfNoDiff};
+ghost use Rattle.reuse_undo.specs.Told.{IsDiffOf, IsNoDiff, IsWanted};
 
 mod calls;
 mod drawn;
@@ -36,24 +35,7 @@ pub fn run_request<S: Store + Drop, O: Sink>(
     store: S,
     out: &mut O,
 ) -> (S, Result<usize, Fault>)
-    // From any files, where the store is honest: what is told is the session's answer, and the files are as it left them.
-    ensures exact { S.honest result.0
-        → TellsAnswer telling (λ answer. RequestLeaves (S.files store) request.now answer (S.files result.0)) (O.contents out.old) (O.contents out.new) result.1 }
-    // From any state that the files hold it is that of the machine that keeps whole copies.
-    ensures machine { S.honest result.0 → (state : Snapshots) → HoldState (S.files store) state
-        → TellsAnswer telling (λ answer. FollowsMachine state request.now answer (S.files result.0)) (O.contents out.old) (O.contents out.new) result.1 }
-    // What only asks only reads the store, where nothing is pending.
-    ensures looks { S.honest result.0 → IsLook request.now → (held : State) → IsStanding (S.files store) held → OnlyReads S.Store store result.0 }
-    // A refusal is told before anything is written, and that the reply couldn't be written exactly where the writer failed.
-    ensures quiet { IfRefused result.1 (λ refusal. out.new ≡ out.old) }
-    ensures failed { TellsFailure (O.failed out.old) (O.failed out.new) result.1 }
-    // A fault has its cause; where nothing is pending, a clash is told only where the path that the call puts clashes.
-    ensures fault { IfRefused result.1 (HasCause (S.failures store < S.failures result.0)) }
-    ensures clash { S.honest result.0 → (held : State) → IsStanding (S.files store) held → IfRefused result.1 (HasCallClash request.now held (S.files store)) }
-    // That a diff can't be made has its cause too, and is told before anything is written.
-    ensures undrawn { IfNoDiff result.1 (λ refusal. IsUndrawn S.Store store result.0 refusal × (out.new ≡ out.old)) }
-    ensures failures { S.failures store ≤ S.failures result.0 }
-    ensures was_honest { S.honest result.0 → S.honest store }
+    ensures { CarriesOut S.Store O.contents O.failed request.now telling store result.0 out.old out.new result.1 }
 {
     let (store, answer, diff) = call(alloc, store, request, telling);
     match answer {

@@ -14,7 +14,7 @@ use reuse_text::Bytes;
 use std::alloc::{AllocError, Global};
 
 /// What the words of a command line say.
-#[derive(Debug, Drop)]
+#[derive(Drop)]
 pub struct Said {
     /// Whether notes are asked for.
     pub verbose: bool,

@@ -8,7 +8,7 @@ const AROUND: usize = 3;
 const MOST_PAIRS: usize = 1_000_000;
 
 /// What becomes of a line.
-#[derive(Clone, Copy, Debug, PartialEq, Eq)]
+#[derive(Clone, Copy, PartialEq, Eq)]
 pub enum Sign {
     Kept,
     Removed,
@@ -16,14 +16,14 @@ pub enum Sign {
 }
 
 /// A line with its end, and what becomes of it.
-#[derive(Clone, Copy, Debug)]
+#[derive(Clone, Copy)]
 pub struct Piece<'a> {
     pub sign: Sign,
     pub line: &'a [u8],
 }
 
 /// The part of two files in which they differ, with the lines around it.
-#[derive(Debug, Drop)]
+#[derive(Drop)]
 pub struct Hunk<'a> {
     /// How many lines stand above it.
     pub lines_above: usize,

@@ -4,7 +4,7 @@ use std::alloc::Global;
 use std::fmt;
 
 /// What a call asked for.
-#[derive(Clone, Copy, Debug)]
+#[derive(Clone, Copy)]
 pub enum Asked {
     List,
     Read,
@@ -13,7 +13,7 @@ pub enum Asked {
 }
 
 /// A call that failed: what it asked for, at which path, and why it failed.
-#[derive(Debug, Drop)]
+#[derive(Drop)]
 pub struct Failure {
     asked: Asked,
     /// Empty for the root.

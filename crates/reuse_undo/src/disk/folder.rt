@@ -14,9 +14,9 @@ use crate::disk::listing::list_below;
 use crate::disk::new_file::NewFile;
 use crate::disk::place::{FileStatus, Found, FullPath, Place, check_root};
 use reuse_text::Bytes;
-use reuse_tree::{PathText, Reading};
+use reuse_tree::{Parts, PathText, Reading};
 use std::alloc::Global;
-use std::fs::{self, OpenFile};
+use std::fs::{self, File};
 use std::io::{self, ErrorKind, Read};
 use std::rt::Files;
 
@@ -26,7 +26,7 @@ const MOST_LOOKS: u32 = 2;
 /// The folder that a tree of files lies in. Nothing outside of it is read or written: no link below it
 /// is followed.
 #[derive(Drop)]
-pub struct RootFolder<R: Files + AllocGlobal + Clone + Drop> {
+pub struct RootFolder<R: Files<File = File> + AllocGlobal + Clone + Drop> {
     rt: R,
     root: String,
     /// A folder that was looked at, with all that is above it, since the last listing: a file beside the
@@ -40,7 +40,7 @@ pub struct RootFolder<R: Files + AllocGlobal + Clone + Drop> {
     listed: String,
 }
 
-impl<R: Files + AllocGlobal + Clone + Drop> RootFolder<R> {
+impl<R: Files<File = File> + AllocGlobal + Clone + Drop> RootFolder<R> {
     /// The folder at this path.
     pub fn new(rt: R, root: String) -> RootFolder<R> {
         let seen = String::new(rt.alloc());
@@ -151,12 +151,7 @@ impl<R: Files + AllocGlobal + Clone + Drop> RootFolder<R> {
     }
 
     /// Makes the parts joined the file at the path, as a whole or not at all, and folders as needed.
-    pub fn put(
-        &mut self,
-        alloc: Global,
-        path: &PathText,
-        parts: &[&[u8]],
-    ) -> Result<(), FolderFault>
+    pub fn put(&mut self, alloc: Global, path: &PathText, parts: Parts) -> Result<(), FolderFault>
         ensures path { IsTrue (is_path path.now) }
         ensures kept_out { IsTrue (is_kept_out path.now) → IsErr result }
     {
@@ -181,7 +176,7 @@ impl<R: Files + AllocGlobal + Clone + Drop> RootFolder<R> {
         alloc: Global,
         full: &FullPath,
         mode: Option<u32>,
-        parts: &[&[u8]],
+        parts: Parts,
     ) -> Result<(), FolderFault> {
         let mut new_file = match self.new_file.take() {
             Some(new_file) => new_file,

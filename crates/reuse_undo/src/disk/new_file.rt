@@ -2,14 +2,12 @@
 use crate::disk::fault::FolderFault;
 use crate::disk::kept_out::NEW_BESIDE;
 use crate::disk::place::{FullPath, kept_bits};
+use reuse_tree::Parts;
 use std::alloc::Global;
-use std::fs::{self, OpenFile, OpenOptions, Permissions};
-use std::io::{self, BufWriter, ErrorKind, Write};
+use std::fs::{self, File, OpenOptions, Permissions};
+use std::io::{self, ErrorKind, IoSlice, Write};
 use std::os::unix::fs::{OpenOptionsExt, PermissionsExt};
 use std::rt::Files;
-
-/// Parts that are shorter than this together go out by one call of the system. A copy of more takes as long as another call.
-const MOST_JOINED: usize = 16_384;
 
 /// The place where each file is written before it is given its name.
 #[derive(Drop)]
@@ -30,7 +28,7 @@ impl NewFile {
     }
 
     /// An empty file. One that a stopped run has left there is removed first; a link there is not followed.
-    fn create<R: Files>(&self, rt: &R, mode: Option<u32>) -> io::Result<R::File> {
+    fn create<R: Files<File = File>>(&self, rt: &R, mode: Option<u32>) -> io::Result<File> {
         let mut options = OpenOptions::new();
         options.write(true).create_new(true);
         if let Some(mode) = mode {
@@ -47,7 +45,7 @@ impl NewFile {
 
     /// Gives these bits to a file that was created with them here. It lacks those that the user's mask
     /// takes away; a mode that was granted once is granted again.
-    fn set_mode(&mut self, file: &impl OpenFile, mode: u32) -> io::Result<()> {
+    fn set_mode(&mut self, file: &File, mode: u32) -> io::Result<()> {
         if self.granted == Some(mode) {
             return Ok(());
         }
@@ -58,34 +56,27 @@ impl NewFile {
         file.set_permissions(Permissions::from_mode(mode))
     }
 
-    fn write_and_rename<R: Files>(
-        &mut self,
-        rt: &R,
-        alloc: Global,
-        name: &str,
-        mode: Option<u32>,
-        parts: &[&[u8]],
-    ) -> io::Result<()> {
-        let mut file = BufWriter::with_capacity(alloc, MOST_JOINED, self.create(rt, mode)?)?;
-        for part in parts {
-            file.write_all(part)?;
+    /// Writes the parts to a file that was created with these bits.
+    fn fill(&mut self, file: &File, mode: Option<u32>, parts: Parts) -> io::Result<()> {
+        write_parts(file, parts)?;
+        match mode {
+            Some(mode) => self.set_mode(file, mode),
+            None => Ok(()),
         }
-        file.flush()?;
-        if let Some(mode) = mode {
-            self.set_mode(file.get_ref(), mode)?;
-        }
-        fs::rename(rt, self.full.text(), name)
     }
 
-    fn write_here(
+    fn write_here<R: Files<File = File>>(
         &mut self,
-        rt: &impl Files,
-        alloc: Global,
+        rt: &R,
         name: &str,
         mode: Option<u32>,
-        parts: &[&[u8]],
+        parts: Parts,
     ) -> io::Result<()> {
-        let written = self.write_and_rename(rt, alloc, name, mode, parts);
+        let file = self.create(rt, mode)?;
+        let written = match self.fill(&file, mode, parts) {
+            Ok(()) => fs::rename(rt, self.full.text(), name),
+            Err(error) => Err(error),
+        };
         if written.is_err() {
             // What is left of the new file is of no use, and a fault of its removal tells no more.
             let _ = fs::remove_file(rt, self.full.text());
@@ -95,24 +86,49 @@ impl NewFile {
 
     /// Writes the parts, one after the other, and renames the file to `name`, with these permission bits or those of a new file. Where
     /// that leads to another device, as below a mount, the new file is written beside the one that it is to be.
-    pub fn write(
+    pub fn write<R: Files<File = File>>(
         &mut self,
-        rt: &impl Files,
+        rt: &R,
         alloc: Global,
         name: &FullPath,
         mode: Option<u32>,
-        parts: &[&[u8]],
+        parts: Parts,
     ) -> io::Result<()> {
-        match self.write_here(rt, alloc, name.text(), mode, parts) {
+        match self.write_here(rt, name.text(), mode, parts) {
             Err(error) if error.kind() == ErrorKind::CrossesDevices => {
                 let full = name.beside(alloc, NEW_BESIDE)?;
                 let mut beside = NewFile {
                     full,
                     granted: None,
                 };
-                beside.write_here(rt, alloc, name.text(), mode, parts)
+                beside.write_here(rt, name.text(), mode, parts)
             }
             written => written,
         }
     }
+}
+
+/// Writes the parts, one after the other: by one call of the system, where that takes them all, and what it leaves part by part.
+fn write_parts(mut file: &File, parts: Parts) -> io::Result<()> {
+    let Parts {
+        front,
+        middle,
+        back,
+    } = parts;
+    let slices = [
+        IoSlice::new(front),
+        IoSlice::new(middle),
+        IoSlice::new(back),
+    ];
+    let mut passed = match file.write_vectored(&slices) {
+        Ok(count) => count,
+        Err(error) if error.kind() == ErrorKind::Interrupted => 0,
+        Err(error) => return Err(error),
+    };
+    for part in [front, middle, back] {
+        let count = passed.min(part.len());
+        file.write_all(&part[count..])?;
+        passed -= count;
+    }
+    Ok(())
 }

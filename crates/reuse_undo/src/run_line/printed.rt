@@ -2,7 +2,7 @@
 ghost use Rattle.std.specs.Prelude.{◌≡◌, ◌⊎◌, [], Err, IfOk, IfErr, OnOk};
 ghost use Rattle.reuse_undo.specs.RowLines.{AppendsSome};
 ghost use Rattle.reuse_undo.specs.RunLine.{IfNoDiff};
-ghost use Rattle.reuse_undo.specs.Told.{Accepts, Finishes, is_refusal, is_refused, IsBehind, IsDiffOf, IsLinesText, IsToldText, TellsFailure, WouldBeMade};
+ghost use Rattle.reuse_undo.specs.Told.{Accepts, Finishes, is_refusal, is_refused, IsBehind, IsDiffOf, IsDrawn, IsLinesText, IsToldText, TellsFailure};
 ghost use Rattle.reuse_undo.specs.declared.fault.Fault.TheVariants as faults;
 
 use crate::diff::print_record;
@@ -39,7 +39,7 @@ pub fn finish<O: Sink>(
 
 // What is told of an answer. No part of it is written before it is whole.
 fn text_of(alloc: Global, told: &Told, telling: Telling, diff: &[u8]) -> Result<Vec<u8>, Fault>
-    ensures text { (diff.now ≡ []) ⊎ WouldBeMade told.now → IfOk result (λ text. IsToldText telling told.now text.items) }
+    ensures text { (diff.now ≡ []) ⊎ IsDrawn told.now → IfOk result (λ text. IsToldText telling told.now text.items) }
     ensures fault { IfErr result (λ fault. fault ≡ faults.Memory) }
 {
     let mut text = Vec::new(alloc);
@@ -82,7 +82,7 @@ fn print_told<W: Write>(
     telling: Telling,
     diff: &[u8],
 ) -> io::Result<()>
-    ensures { (diff.now ≡ []) ⊎ WouldBeMade told.now → OnOk result (AppendsSome (W.contents out.old) (W.contents out.new) (IsToldText telling told.now)) }
+    ensures { (diff.now ≡ []) ⊎ IsDrawn told.now → OnOk result (AppendsSome (W.contents out.old) (W.contents out.new) (IsToldText telling told.now)) }
 {
     match telling {
         Telling::Lines => print_lines(out, told),

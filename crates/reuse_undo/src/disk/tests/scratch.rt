@@ -2,6 +2,7 @@
 use crate::disk::DiskStore;
 use reuse_tree::{PathText, Reading, Store, StoreFault};
 use std::alloc::Global;
+use std::fs::File;
 use std::os::unix::fs::{PermissionsExt, symlink};
 use std::rt::Files;
 use std::test::Fail;
@@ -163,7 +164,10 @@ impl Scratch {
 }
 
 /// A store over the folder at this path.
-pub fn store_over<R: Files + AllocGlobal + Clone + Drop>(rt: R, root: String) -> DiskStore<R> {
+pub fn store_over<R: Files<File = File> + AllocGlobal + Clone + Drop>(
+    rt: R,
+    root: String,
+) -> DiskStore<R> {
     DiskStore::at(rt, root)
 }
 
