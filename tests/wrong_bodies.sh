@@ -1,13 +1,19 @@
 #!/usr/bin/env bash
-# Tries the wrong bodies of the program, tests/wrong_bodies/*.edit, as `rt must-fail` does: each must be refused. They don't stand in the crate's
-# must-fail/, since the gate proves a crate once more from nothing for its edits, and this is the largest. It works in a copy of the repository.
-# usage: tests/wrong_bodies.sh
+# Tries the wrong bodies of tests/wrong_bodies/CRATE/*.edit, as `rt must-fail` does: each must be refused. They don't stand in the crate's must-fail/:
+# for the edits of a crate the gate proves it once more from nothing, and reuse_undo is the largest; and each further edit of reuse_session costs the
+# gate over a minute, so there each public call and each kind of wrong body has one, and what tells more of the same calls is here. It works in a copy
+# of the repository.
+# usage: tests/wrong_bodies.sh [CRATE..]      (by default both)
 set -euo pipefail
 top=$(cd "$(dirname "$0")/.." && pwd)
 room=$(mktemp -d)
 trap 'rm -rf "$room"' EXIT
 tar -C "$top" --exclude=./.git -cf - . | tar -C "$room" -xf -
-mkdir -p "$room/crates/reuse_undo/must-fail"
-cp "$top"/tests/wrong_bodies/*.edit "$room/crates/reuse_undo/must-fail/"
+crates=("$@")
+[ $# -gt 0 ] || crates=(reuse_session reuse_undo)
+for crate in "${crates[@]}"; do
+    rm -rf "$room/crates/$crate/must-fail"
+    cp -r "$top/tests/wrong_bodies/$crate" "$room/crates/$crate/must-fail"
+done
 cd "$room"
-rt must-fail reuse_undo
+rt must-fail "${crates[@]}"
