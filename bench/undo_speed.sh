@@ -1,9 +1,10 @@
 #!/usr/bin/env bash
 # Measures annotate, undo and redo on a tmpfs, on three trees: 20,000 Python files of some 3 kB, as many of some 16 kB, and 100,000 of some bytes. Beside
 # them in the same run: `cp -r` of the same tree; the floor, a C program that reads each file once, writes it aside with a header, and renames it; and
-# the goal, half again of the floor and the time in which the kit's SHA-256 hashes each file twice, as the seals of a step ask for (without seals, for
-# a journal of version 1.0, half again of the floor alone). Then histories: a log of 500 MB in 61 entries, and of 1,000 entries; one file of the 100,000;
-# and help. Prints the least of three: seconds, those of the processor, the ratio to `cp -r` and to the goal, and the peak memory.
+# the goal, half again of the floor and the time in which the kit's SHA-256 hashes each file of the tree twice, right after it was read, as the seals of a
+# step ask for (without seals, for a journal of version 1.0, half again of the floor alone). Then histories: a log of 500 MB in 61 entries, and of 1,000
+# entries; one file of the 100,000; and help. Prints the least of nine rounds on the first tree and of five on the others, each with all that is compared:
+# seconds, those of the processor, the ratio to `cp -r` and to the goal, and the peak memory.
 # usage: bench/undo_speed.sh PROGRAM [FILES]      (20,000 files by default in the first two trees)
 set -euo pipefail
 . "$(dirname "$0")/../tests/common.sh"
@@ -21,22 +22,26 @@ mkdir "$build"
 hash_speed=$program
 program=$undo
 
-# Runs a command, and notes its times and its peak memory if it was never faster.
+# Notes the times and the peak memory of a command if it was never faster: seconds, user, system, kB.
 declare -A best
-measure() {
-  local name=$1 took
-  shift
-  /usr/bin/time -o "$room/time" -f '%e %U %S %M' "$@" > "$room/out" || { echo "refused: $*" >&2; exit 1; }
-  took=$(cat "$room/time")
-  if [[ -z ${best[$name]:-} ]] || awk -v one="${took%% *}" -v other="${best[$name]%% *}" 'BEGIN { exit !(one < other) }'; then best[$name]=$took; fi
+note() {
+  if [[ -z ${best[$1]:-} ]] || awk -v one="${2%% *}" -v other="${best[$1]%% *}" 'BEGIN { exit !(one < other) }'; then best[$1]=$2; fi
 }
 
-# The seconds in which each file of a tree is hashed twice: that many texts of their mean length
+# Runs a command, and notes what it took.
+measure() {
+  local name=$1 start took
+  shift
+  start=${EPOCHREALTIME/./}
+  /usr/bin/time -o "$room/time" -f '%U %S %M' "$@" > "$room/out" || { echo "refused: $*" >&2; exit 1; }
+  took=$((${EPOCHREALTIME/./} - start))
+  note "$name" "$((took / 1000000)).$(printf %06d $((took % 1000000))) $(cat "$room/time")"
+}
+
+# Notes the seconds in which each file of a tree is hashed twice.
 hashing() {
-  local count bytes
-  count=$(find "$1" -type f | wc -l)
-  bytes=$(du -sb --apparent-size "$1" | cut -f1)
-  "$hash_speed" $((bytes / count)) $((2 * count)) | cut -d' ' -f1
+  find "$1" -type f > "$room/list"
+  note hashing "$("$hash_speed" "$room/list" | cut -d' ' -f1) 0 0 0"
 }
 
 # report GOAL NAME..: prints what was noted of these commands, beside `cp -r` and the goal in seconds.
@@ -56,6 +61,7 @@ report() {
 
 # Copies a tree, annotates the copy, and takes it back and forth.
 work_on() {
+  hashing "$1"
   rm -rf "$room/tree"
   measure "cp -r" cp -r "$1" "$room/tree"
   measure floor "$room/floor" "$room/tree" "$header"
@@ -70,13 +76,13 @@ work_on() {
   measure "undo without seals" "$program" --root "$room/tree" undo
 }
 
-# Works on a tree three times, and prints the times.
+# Works on a tree so many times, and prints the times.
 times_on() {
-  local hash floor
+  local hash floor k
   best=()
   echo "$2, $(du -sm --apparent-size "$1" | cut -f1) MB (load $(cut -d' ' -f1 /proc/loadavg)):"
-  for _ in 1 2 3; do work_on "$1"; done
-  hash=$(hashing "$1")
+  for ((k = 0; k < $3; k++)); do work_on "$1"; done
+  hash=${best[hashing]%% *}
   floor=${best[floor]%% *}
   report 0 "cp -r" floor
   echo "  hashing each file twice: $hash s"
@@ -105,18 +111,18 @@ milliseconds() {
 }
 
 make_tree "$room/plain" "$files"
-times_on "$room/plain" "$files files"
+times_on "$room/plain" "$files files" 9
 rm -rf "$room/plain"
 
 make_tree "$room/plain" "$files" 88
-times_on "$room/plain" "$files files"
+times_on "$room/plain" "$files files" 5
 rm -rf "$room/plain"
 
 for folder in {1..100}; do
   mkdir -p "$room/wide/folder$folder"
   (cd "$room/wide/folder$folder" && seq 1000 | split -l 1 -a 3 --additional-suffix=.py)
 done
-times_on "$room/wide" "100,000 files"
+times_on "$room/wide" "100,000 files" 5
 rm -rf "$room/tree"
 holders=0
 annotate_one() { "$program" --root "$room/wide" annotate -c "Holder $((++holders))" -l MIT -y 2024 folder50/xaab.py; }
