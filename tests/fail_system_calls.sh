@@ -7,7 +7,7 @@
 set -euo pipefail
 . "$(dirname "$0")/common.sh"
 wants strace strace
-calls=(openat read write writev close fchmod statx newfstatat getdents64 rename renameat renameat2 unlink unlinkat mkdir mkdirat)
+calls=(openat read write close fchmod statx newfstatat getdents64 rename renameat renameat2 unlink unlinkat mkdir mkdirat)
 
 # Runs the program on the tree with this fault of this system call at its Nth time.
 run_with() {

@@ -180,7 +180,7 @@ impl<R: Files<File = File> + AllocGlobal + Clone + Drop> RootFolder<R> {
     ) -> Result<(), FolderFault> {
         let mut new_file = match self.new_file.take() {
             Some(new_file) => new_file,
-            None => NewFile::at(&self.rt, self.full(alloc, NEW)?)?,
+            None => NewFile::at(&self.rt, alloc, self.full(alloc, NEW)?)?,
         };
         new_file.write(&self.rt, alloc, full, mode, parts)?;
         self.new_file = Some(new_file);

@@ -5,9 +5,13 @@ use crate::disk::place::{FullPath, kept_bits};
 use reuse_tree::Parts;
 use std::alloc::Global;
 use std::fs::{self, File, OpenOptions, Permissions};
-use std::io::{self, ErrorKind, IoSlice, Write};
+use std::io::{self, ErrorKind, Write};
 use std::os::unix::fs::{OpenOptionsExt, PermissionsExt};
 use std::rt::Files;
+
+/// Parts that are no longer than this together are joined, and go out by one call of the system. A copy of more takes longer than
+/// another call. (The library's vectored write would need no copy, but it links calls on sockets, for which the program has no handle.)
+const MOST_JOINED: usize = 32_768;
 
 /// The place where each file is written before it is given its name.
 #[derive(Drop)]
@@ -15,16 +19,23 @@ pub struct NewFile {
     full: FullPath,
     /// A mode that a file was created with here, and that it was seen to have.
     granted: Option<u32>,
+    /// The parts of the last short file, joined: its memory serves the next one.
+    joined: Vec<u8>,
 }
 
 impl NewFile {
     /// The new file at this path; the folders above it are made as needed.
-    pub fn at(rt: &impl Files, full: FullPath) -> Result<NewFile, FolderFault> {
+    pub fn at(rt: &impl Files, alloc: Global, full: FullPath) -> Result<NewFile, FolderFault> {
         full.make_folders(rt)?;
-        Ok(NewFile {
+        Ok(NewFile::of(alloc, full))
+    }
+
+    fn of(alloc: Global, full: FullPath) -> NewFile {
+        NewFile {
             full,
             granted: None,
-        })
+            joined: Vec::new(alloc),
+        }
     }
 
     /// An empty file. One that a stopped run has left there is removed first; a link there is not followed.
@@ -56,9 +67,29 @@ impl NewFile {
         file.set_permissions(Permissions::from_mode(mode))
     }
 
+    /// Writes the parts, one after the other: those of a short file by one call of the system.
+    fn write_parts(&mut self, mut file: &File, parts: Parts) -> io::Result<()> {
+        let Parts {
+            front,
+            middle,
+            back,
+        } = parts;
+        let length = front.len().saturating_add(middle.len());
+        if length.saturating_add(back.len()) > MOST_JOINED {
+            file.write_all(front)?;
+            file.write_all(middle)?;
+            return file.write_all(back);
+        }
+        self.joined.clear();
+        self.joined.extend_from_slice(front)?;
+        self.joined.extend_from_slice(middle)?;
+        self.joined.extend_from_slice(back)?;
+        file.write_all(&self.joined)
+    }
+
     /// Writes the parts to a file that was created with these bits.
     fn fill(&mut self, file: &File, mode: Option<u32>, parts: Parts) -> io::Result<()> {
-        write_parts(file, parts)?;
+        self.write_parts(file, parts)?;
         match mode {
             Some(mode) => self.set_mode(file, mode),
             None => Ok(()),
@@ -97,38 +128,10 @@ impl NewFile {
         match self.write_here(rt, name.text(), mode, parts) {
             Err(error) if error.kind() == ErrorKind::CrossesDevices => {
                 let full = name.beside(alloc, NEW_BESIDE)?;
-                let mut beside = NewFile {
-                    full,
-                    granted: None,
-                };
+                let mut beside = NewFile::of(alloc, full);
                 beside.write_here(rt, name.text(), mode, parts)
             }
             written => written,
         }
     }
-}
-
-/// Writes the parts, one after the other: by one call of the system, where that takes them all, and what it leaves part by part.
-fn write_parts(mut file: &File, parts: Parts) -> io::Result<()> {
-    let Parts {
-        front,
-        middle,
-        back,
-    } = parts;
-    let slices = [
-        IoSlice::new(front),
-        IoSlice::new(middle),
-        IoSlice::new(back),
-    ];
-    let mut passed = match file.write_vectored(&slices) {
-        Ok(count) => count,
-        Err(error) if error.kind() == ErrorKind::Interrupted => 0,
-        Err(error) => return Err(error),
-    };
-    for part in [front, middle, back] {
-        let count = passed.min(part.len());
-        file.write_all(&part[count..])?;
-        passed -= count;
-    }
-    Ok(())
 }
