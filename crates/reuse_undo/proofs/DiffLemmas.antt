@@ -5,11 +5,10 @@ use Rattle.reuse_tree.specs.Asked.{OnlyReads, FailsAsRead}
 use Rattle.reuse_tree.specs.declared.fault.StoreFault.{StoreFault}
 use Rattle.reuse_tree.specs.declared.fault.StoreFault.TheVariants as stores
 use Rattle.reuse_tree.specs.declared.store.Store.{Ghosts}
-use Rattle.reuse_session.specs.Answer.{IsBrokenOrMemory, RefusedAsRead}
+use Rattle.reuse_session.specs.Answer.{RefusedAsRead}
 use Rattle.reuse_session.specs.Cause.{refusal_of}
 use Rattle.reuse_session.specs.Previews.{IsLookRefusal}
 use Rattle.reuse_session.specs.declared.reply.Refusal.{Refusal}
-use Rattle.reuse_session.specs.declared.reply.Refusal.TheVariants.{Broken, Memory}
 use Rattle.reuse_undo.specs.declared.fault.Fault.{Fault}
 use Rattle.reuse_undo.specs.declared.fault.Fault.TheVariants as faults
 use Rattle.reuse_undo.specs.declared.line.Telling.{Telling}
@@ -83,12 +82,6 @@ refused_later store old mid new answer few fails =
 pub handed_on : {T A : Type 0} (P : Refusal → Type 0) (answer : Result A Refusal) (refusal : Refusal) (result : Result T Refusal) → answer ≡ Err refusal → IsErrAnd result (λ told. told ≡ refusal)
     → IfErr answer P → IfErr result P
 handed_on P answer refusal result was is holds = handed P refusal result is (subst (λ a. IfErr a P) was holds)
-
--- a log too
-pub undrawn_log : {S : Type 0} (store : Ghosts S) (old new : S) (refusal : Refusal) → IsBrokenOrMemory refusal → (store.honest new → IsLookRefusal refusal) → IsUndrawn store old new refusal
-undrawn_log store old new Broken is kind = record { device = λ e. absurd (cc); clash = λ honest e. (cc); memory = λ e. (cc); kind = kind }
-undrawn_log store old new Memory is kind = record { device = λ e. absurd (cc); clash = λ honest e. (cc); memory = λ e. (cc); kind = kind }
-undrawn_log store old new refusal is kind = absurd is
 
 -- and a file that is read
 pub undrawn_read : {S A : Type 0} (store : Ghosts S) (old new : S) (fault : StoreFault) → FailsAsRead {A = A} store old new (Err fault) → IsUndrawn store old new (refusal_of fault)

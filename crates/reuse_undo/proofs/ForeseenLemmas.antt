@@ -8,7 +8,7 @@ use Rattle.std.proofs.lemmas.List.Elements.{All-append, All-contains, All-map}
 use Rattle.reuse_tree.specs.Asked.{OnlyReads}
 use Rattle.reuse_tree.specs.Files.{Files}
 use Rattle.reuse_tree.specs.declared.store.Store.{Ghosts}
-use Rattle.reuse_session.specs.Answer.{IsEarly, IsBrokenOrMemory, IsOfPlan, TellsNoFault}
+use Rattle.reuse_session.specs.Answer.{IsEarly, IsOfPlan, TellsNoFault}
 use Rattle.reuse_session.specs.Fates.{fates_of, first_refusal}
 use Rattle.reuse_session.specs.Journal.{Journal, Recorded, State, rows_in}
 use Rattle.reuse_session.specs.JournalFiles.{entry_in, entry_path, number_of}
@@ -168,21 +168,7 @@ show_kind journal number row (Ok shown) is_in numbered exact early = tt
 show_kind journal number row (Err refusal) is_in numbered exact early =
     only_looks Shown refusal early (λ told. let none = exact told in row_is_used journal number row none.1 none.2 is_in numbered)
 
-pub log_kind : (A : Type 0) (broken : Bool) (refusal : Refusal) → broken ≡ false → (refused A refusal ≡ Err Broken → broken ≡ true) → IsBrokenOrMemory refusal → IsLookRefusal refusal
-log_kind A broken Broken whole is kind = absurd (false≢true (sym whole ∙ is refl))
-log_kind A broken Memory whole is kind = tt
-log_kind A broken refusal whole is kind = absurd kind
-
 -- ---- a step that is taken back
-
-pub back_kind : (number : ℕ) (skip_moved : Bool) (held : State) (answer : Result Command Refusal) (fates : List Fate) → PreviewsRevert number skip_moved held (Ok fates)
-    → (TellsNoFault answer → TakesBackStep number skip_moved held answer) → IfErr answer IsEarly → IfErr answer IsLookRefusal
-back_kind number skip_moved held (Ok command) fates is right early = tt
-back_kind number skip_moved held (Err refusal) fates is right early = only_looks Command refusal early (λ told. unlike (right told).1 is)
-  where
-    unlike : IsUnused number held.journal.done → PreviewsRevert number skip_moved held (Ok fates) → ⊥
-    unlike none (inl is) = absurd (cc)
-    unlike none (inr is) = All-contains (λ (step : Recorded). number_of step ≢ number) held.journal.done is.0 none is.1 is.2
 
 -- the steps done have one changes list for each number
 pub back_alike : {S : Type 0} (files : S → Files) (session : Session S) (held : State) → StandsOn files session held → (number : ℕ) (skip_moved : Bool) (command : Command) (fates : List Fate)
