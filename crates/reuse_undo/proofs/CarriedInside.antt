@@ -41,6 +41,7 @@ undrawn_inside outer inner before after old new b a refusal is =
       device = λ e. let rose = is.device e in omega (arith, rose, b.failures, a.failures);
       clash = λ honest. is.clash (a.gives honest);
       memory = is.memory;
+      kind = λ honest. is.kind (a.gives honest);
     }
 
 no_diff_as : {T : Type 0} (P Q : Refusal → Type 0) (Same : Type 0) (result : Result T Fault) → ((refusal : Refusal) → P refusal → Q refusal) → IfNoDiff result (λ refusal. P refusal × Same)

@@ -1,15 +1,14 @@
 -- The diff that stands behind an answer's lines.
-use Rattle.std.proofs.Common.{◌≡◌, ◌≢◌, ◌<◌, ◌≤◌, ◌⊎◌, inl, inr, ℕ, Bool, true, false, List, [], Option, Result, Ok, Err, IfOk, IfErr, refl, sym, ap, subst, arith}
+use Rattle.std.proofs.Common.{◌≡◌, ◌≤◌, inl, inr, ℕ, Bool, true, false, Result, Ok, Err, IfOk, IfErr, IsErrAnd, refl, sym, ap, subst, arith}
 use Rattle.std.specs.declared.vec.Vec.{Vec}
-use Rattle.std.specs.Io.KnownBytes.{Appends}
 use Rattle.reuse_tree.specs.Asked.{OnlyReads, FailsAsRead}
 use Rattle.reuse_tree.specs.declared.fault.StoreFault.{StoreFault}
 use Rattle.reuse_tree.specs.declared.fault.StoreFault.TheVariants as stores
 use Rattle.reuse_tree.specs.declared.store.Store.{Ghosts}
-use Rattle.reuse_session.specs.Answer.{IsBrokenOrMemory, RefusedAsRead}
+use Rattle.reuse_session.specs.Answer.{RefusedAsRead}
 use Rattle.reuse_session.specs.Cause.{refusal_of}
+use Rattle.reuse_session.specs.Previews.{IsLookRefusal}
 use Rattle.reuse_session.specs.declared.reply.Refusal.{Refusal}
-use Rattle.reuse_session.specs.declared.reply.Refusal.TheVariants.{Broken, Memory, Fault as StoreFailed}
 use Rattle.reuse_undo.specs.declared.fault.Fault.{Fault}
 use Rattle.reuse_undo.specs.declared.fault.Fault.TheVariants as faults
 use Rattle.reuse_undo.specs.declared.line.Telling.{Telling}
@@ -53,39 +52,51 @@ behind telling told (Err other) is = is
 abbrev refused : (A : Type 0) → Refusal → Result A Refusal
 refused A refusal = Err refusal
 
-undrawn_refusal : {S A : Type 0} (store : Ghosts S) (old new : S) (refusal : Refusal) → RefusedAsRead {A = A} store old new (Err refusal) → IsUndrawn store old new refusal
-undrawn_refusal {S} {A} store old new refusal fails =
+undrawn_refusal : {S A : Type 0} (store : Ghosts S) (old new : S) (refusal : Refusal) → RefusedAsRead {A = A} store old new (Err refusal) → (store.honest new → IsLookRefusal refusal)
+    → IsUndrawn store old new refusal
+undrawn_refusal {S} {A} store old new refusal fails kind =
     record {
       device = λ is. fails.device (ap (refused A) is);
       clash = λ honest is. fails.clash honest (ap (refused A) is);
       memory = λ is. fails.memory (ap (refused A) is);
+      kind = kind;
     }
 
--- what looks is refused so
-pub undrawn_look : {S A : Type 0} (store : Ghosts S) (old new : S) (answer : Result A Refusal) → RefusedAsRead store old new answer → IfErr answer (IsUndrawn store old new)
-undrawn_look store old new (Ok value) fails = tt
-undrawn_look store old new (Err refusal) fails = undrawn_refusal store old new refusal fails
+-- what holds of a fault holds of it as it is handed on
+pub handed : {T E : Type 0} (P : E → Type 0) (fault : E) (result : Result T E) → IsErrAnd result (λ told. told ≡ fault) → P fault → IfErr result P
+handed P fault (Ok value) is holds = absurd is
+handed P fault (Err told) is holds = subst P (sym is) holds
 
--- a log too
-pub undrawn_log : {S : Type 0} (store : Ghosts S) (old new : S) (refusal : Refusal) → IsBrokenOrMemory refusal → IsUndrawn store old new refusal
-undrawn_log store old new Broken is = record { device = λ e. absurd (cc); clash = λ honest e. (cc); memory = λ e. (cc) }
-undrawn_log store old new Memory is = record { device = λ e. absurd (cc); clash = λ honest e. (cc); memory = λ e. (cc) }
-undrawn_log store old new refusal is = absurd is
+-- what looks is refused so
+pub undrawn_look : {S A : Type 0} (store : Ghosts S) (old new : S) (answer : Result A Refusal) → RefusedAsRead store old new answer → (store.honest new → IfErr answer IsLookRefusal)
+    → IfErr answer (IsUndrawn store old new)
+undrawn_look store old new (Ok value) fails kind = tt
+undrawn_look store old new (Err refusal) fails kind = undrawn_refusal store old new refusal fails kind
+
+pub refused_later : {S A : Type 0} (store : Ghosts S) (old mid new : S) (answer : Result A Refusal) → store.failures old ≤ store.failures mid → RefusedAsRead store mid new answer
+    → RefusedAsRead store old new answer
+refused_later store old mid new answer few fails =
+    record { device = λ is. let rose = fails.device is in omega (arith, few, rose); clash = fails.clash; memory = fails.memory }
+
+-- and so is what hands the refusal on
+pub handed_on : {T A : Type 0} (P : Refusal → Type 0) (answer : Result A Refusal) (refusal : Refusal) (result : Result T Refusal) → answer ≡ Err refusal → IsErrAnd result (λ told. told ≡ refusal)
+    → IfErr answer P → IfErr result P
+handed_on P answer refusal result was is holds = handed P refusal result is (subst (λ a. IfErr a P) was holds)
 
 -- and a file that is read
 pub undrawn_read : {S A : Type 0} (store : Ghosts S) (old new : S) (fault : StoreFault) → FailsAsRead {A = A} store old new (Err fault) → IsUndrawn store old new (refusal_of fault)
-undrawn_read store old new stores.Device fails = record { device = λ e. fails.device refl; clash = λ honest e. (cc); memory = λ e. (cc) }
-undrawn_read store old new stores.Clash fails = record { device = λ e. absurd (cc); clash = λ honest e. fails.clash honest refl; memory = λ e. (cc) }
-undrawn_read store old new stores.Memory fails = record { device = λ e. absurd (cc); clash = λ honest e. (cc); memory = λ e. (cc) }
+undrawn_read store old new stores.Device fails = record { device = λ e. fails.device refl; clash = λ honest e. (cc); memory = λ e. (cc); kind = λ honest. tt }
+undrawn_read store old new stores.Clash fails = record { device = λ e. absurd (cc); clash = λ honest e. fails.clash honest refl; memory = λ e. (cc); kind = λ honest. tt }
+undrawn_read store old new stores.Memory fails = record { device = λ e. absurd (cc); clash = λ honest e. (cc); memory = λ e. (cc); kind = λ honest. tt }
 
 -- what was asked before, and what is read behind, takes no cause away
 pub undrawn_after : {S : Type 0} (store : Ghosts S) (old mid new : S) (refusal : Refusal) → store.failures old ≤ store.failures mid → IsUndrawn store mid new refusal → IsUndrawn store old new refusal
 undrawn_after store old mid new refusal few is =
-    record { device = λ e. let rose = is.device e in omega (arith, few, rose); clash = is.clash; memory = is.memory }
+    record { device = λ e. let rose = is.device e in omega (arith, few, rose); clash = is.clash; memory = is.memory; kind = is.kind }
 
 pub undrawn_before : {S : Type 0} (store : Ghosts S) (old mid new : S) (refusal : Refusal) → IsUndrawn store old mid refusal → OnlyReads store mid new → IsUndrawn store old new refusal
 undrawn_before store old mid new refusal is reads =
-    record { device = λ e. let rose = is.device e in omega (arith, rose, reads.failures); clash = λ honest. is.clash (reads.was_honest honest); memory = is.memory }
+    record { device = λ e. let rose = is.device e in omega (arith, rose, reads.failures); clash = λ honest. is.clash (reads.was_honest honest); memory = is.memory; kind = λ honest. is.kind (reads.was_honest honest) }
 
 -- the same of a fault
 pub of_diff_after : {S : Type 0} (store : Ghosts S) (old mid new : S) (fault : Fault) → store.failures old ≤ store.failures mid → IsOfDiff store mid new fault → IsOfDiff store old new fault

@@ -1,8 +1,9 @@
 -- What a line asks a session for, and what comes of it.
-use Rattle.std.specs.Prelude.{◌≡◌, ◌⊎◌, ◌+◌, Bool, List, Option, Some, ℕ, Result, Ok, Err, IfOk, IfErr, true}
+use Rattle.std.specs.Prelude.{◌≡◌, ◌⊎◌, ◌+◌, Bool, List, Option, Some, ℕ, Result, Ok, Err, IfOk, IfErr, true, false}
 use Rattle.std.specs.List.{All, Contains}
 use Rattle.reuse_tree.specs.Files.{Files, Clashes}
 use Rattle.reuse_tree.specs.declared.change.Change.{Change}
+use Rattle.reuse_tree.specs.declared.store.Store.{Ghosts}
 use Rattle.reuse_session.specs.Answer.{IsEarly, IsFailure, HasClash, IsNoClash, IsOpenRefusal, TellsNoFault}
 use Rattle.reuse_session.specs.Journal.{State, Recorded, Undoes, Redoes, rows_in}
 use Rattle.reuse_session.specs.JournalFiles.{head_path, entry_path, number_of}
@@ -10,7 +11,7 @@ use Rattle.reuse_session.specs.Machine.{Kept, Snapshots, step, run_fates, as_rep
 use Rattle.reuse_session.specs.Opening.{IsFirstBad, IsStuckAt, OpensOn, StopsOpening}
 use Rattle.reuse_session.specs.Previews.{run_fates_on, Foresees}
 use Rattle.reuse_session.specs.RevertCalls.{Reverts, as_run}
-use Rattle.reuse_session.specs.Session.{Runs, StopsAfterRun, StopsAfter, IsSameBut, IsSameButTwo}
+use Rattle.reuse_session.specs.Session.{store_of, Runs, StandsOn, StopsAfterRun, StopsAfter, IsSameBut, IsSameButTwo}
 use Rattle.reuse_session.specs.Showing.{IsUnused, ShowsIn, ShowsAt, LedTo}
 use Rattle.reuse_session.specs.Standing.{IsStanding, InDoubt}
 use Rattle.reuse_session.specs.Stops.{HoldState, AreLeft}
@@ -31,6 +32,7 @@ use Rattle.reuse_session.specs.declared.reply.Reverted.{Reverted}
 use Rattle.reuse_session.specs.declared.reply.Shown.{Shown}
 use Rattle.reuse_session.specs.declared.reply.Refusal.{Refusal}
 use Rattle.reuse_session.specs.declared.reply.Refusal.TheVariants as refusals
+use Rattle.reuse_session.specs.declared.session.Session.{Session}
 use Rattle.reuse_undo.specs.declared.fault.Fault.{Fault}
 use Rattle.reuse_undo.specs.declared.fault.Fault.TheVariants as faults
 use Rattle.reuse_undo.specs.declared.line.Telling.{Telling}
@@ -39,6 +41,7 @@ use Rattle.reuse_undo.specs.declared.request.Request.TheVariants as requests
 use Rattle.reuse_undo.specs.declared.request.Told.{Told}
 use Rattle.reuse_undo.specs.declared.request.Told.TheVariants as tells
 use Rattle.reuse_undo.specs.Outputs.{AppendsFront}
+use Rattle.reuse_undo.specs.Requests.{IsLook}
 use Rattle.reuse_undo.specs.RowLines.{AppendsSome}
 use Rattle.reuse_undo.specs.Told.{IsToldText, told_count, is_refused, IsForeseen, WouldBeMade}
 
@@ -239,3 +242,13 @@ IfNoDiff result Claim = Unit {0}
 abbrev pub TakesBackStep : ℕ → Bool → State → Result Command Refusal → Type 0
 TakesBackStep number skip_moved old (Ok command) = (step : Recorded) × Contains old.journal.done step × (number_of step ≡ number) × (command ≡ Revert step.changes skip_moved)
 TakesBackStep number skip_moved old (Err refusal) = (refusal ≡ refusals.NoSuchStep number) × IsUnused number old.journal.done
+
+-- a dry run tells fates from a standing, none of them a refusal
+abbrev pub IsAccepted : Request → State → Type 0
+IsAccepted (requests.Call (events.Preview call)) old = (fates : List Fate) × Previews call old (Ok fates) × (is_refused fates ≡ false)
+IsAccepted (requests.PreviewRevert number skip_moved) old = (fates : List Fate) × PreviewsRevert number skip_moved old (Ok fates) × (is_refused fates ≡ false)
+IsAccepted request old = Unit {0}
+
+-- where the request only asks and the store is honest, the session stands where a dry run is accepted
+abbrev pub StandsAccepted : {S : Type 0} → Ghosts S → Request → Session S → Type 0
+StandsAccepted store request session = IsLook request → store.honest (store_of session) → (held : State) × StandsOn store.files session held × IsAccepted request held

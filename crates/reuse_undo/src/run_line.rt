@@ -1,5 +1,5 @@
 //! Carries out on a store what a line asks for.
-ghost use Rattle.std.specs.Prelude.{◌≡◌, ◌≤◌, ◌<◌, IfOk, IfErr, IsTrue, false};
+ghost use Rattle.std.specs.Prelude.{◌≡◌, ◌≤◌, ◌<◌, IfOk, IfErr, IsTrue, true, false};
 ghost use Rattle.reuse_tree.specs.Asked.{OnlyReads};
 ghost use Rattle.reuse_session.specs.Answer.{HasCause};
 ghost use Rattle.reuse_session.specs.Journal.{State};
@@ -8,7 +8,7 @@ ghost use Rattle.reuse_session.specs.Standing.{IsStanding};
 ghost use Rattle.reuse_undo.specs.WriterFaults.{IsOfDiff, IsUndrawn};
 ghost use Rattle.reuse_undo.specs.Requests.{IsLook};
 ghost use Rattle.reuse_undo.specs.CarriedOut.{CarriesOut};
-ghost use Rattle.reuse_undo.specs.RunLine.{HasCallClash, RequestLeaves, IfNoDiff};
+ghost use Rattle.reuse_undo.specs.RunLine.{HasCallClash, RequestLeaves, IfNoDiff, StandsAccepted};
 ghost use Rattle.reuse_undo.specs.Told.{IsDiffOf, IsNoDiff, IsWanted};
 
 mod calls;
@@ -89,6 +89,7 @@ fn close<S: Store + Drop>(
     request: &Request,
     wants_diff: bool,
 ) -> (S, Result<Vec<u8>, Fault>)
+    requires { wants_diff ≡ true → StandsAccepted S.Store request.now session }
     ensures reads { OnlyReads S.Store (store_of session) result.0 }
     ensures none { wants_diff ≡ false → IsNoDiff result.1 }
     ensures diff { IfErr result.1 (IsOfDiff S.Store (store_of session) result.0) }
@@ -105,6 +106,7 @@ fn look<S: Store + Drop>(
     session: Session<S>,
     request: &Request,
 ) -> (S, Result<Vec<u8>, Fault>)
+    requires { StandsAccepted S.Store request.now session }
     ensures reads { OnlyReads S.Store (store_of session) result.0 }
     ensures diff { IfErr result.1 (IsOfDiff S.Store (store_of session) result.0) }
 {

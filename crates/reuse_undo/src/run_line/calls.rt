@@ -3,7 +3,7 @@ ghost use Rattle.std.specs.Prelude.{◌≡◌, ◌≤◌, ◌<◌, IfErr, true, 
 ghost use Rattle.reuse_tree.specs.Asked.{OnlyReads};
 ghost use Rattle.reuse_session.specs.Answer.{HasCause, TellsNoFault};
 ghost use Rattle.reuse_session.specs.Journal.{State};
-ghost use Rattle.reuse_session.specs.Session.{store_of, StandsOn};
+ghost use Rattle.reuse_session.specs.Session.{store_of, IsKept, StandsOn};
 ghost use Rattle.reuse_undo.specs.Peeks.{Peeks};
 ghost use Rattle.reuse_undo.specs.Requests.{IsLook};
 ghost use Rattle.reuse_undo.specs.RunLine.{as_told, CallLeaves, Meets, Previews, PreviewsRevert, HasCallClash, KeepsFolder, TakesBackStep};
@@ -23,6 +23,7 @@ pub fn ask<S: Store + Drop>(
 ) -> Result<Told, Refusal>
     ensures meets { S.honest (store_of session.new) → (held : State) → StandsOn S.files session.old held → Meets request.now held result (S.files (store_of session.new)) }
     ensures looks { IsLook request.now → OnlyReads S.Store (store_of session.old) (store_of session.new) }
+    ensures kept { IsLook request.now → IsKept session.old session.new }
     ensures fault { IfErr result (HasCause (S.failures (store_of session.old) < S.failures (store_of session.new))) }
     ensures clash { S.honest (store_of session.new) → (held : State) → StandsOn S.files session.old held
         → IfErr result (HasCallClash request.now held (S.files (store_of session.old))) }
@@ -85,6 +86,7 @@ fn fates_told(answer: Result<Fates, Refusal>) -> Result<Told, Refusal>
 fn ask_event<S: Store + Drop>(alloc: Global, session: &mut Session<S>, event: &Event) -> Answer
     ensures calls { S.honest (store_of session.new) → (held : State) → StandsOn S.files session.old held → CallLeaves event.now held result (S.files (store_of session.new)) }
     ensures looks { IsLook (Request.Call event.now) → OnlyReads S.Store (store_of session.old) (store_of session.new) }
+    ensures kept { IsLook (Request.Call event.now) → IsKept session.old session.new }
     ensures fault { IfErr result (HasCause (S.failures (store_of session.old) < S.failures (store_of session.new))) }
     ensures clash { S.honest (store_of session.new) → (held : State) → StandsOn S.files session.old held
         → IfErr result (HasCallClash (Request.Call event.now) held (S.files (store_of session.old))) }

@@ -1,8 +1,12 @@
 //! The diff of what a call would change.
-ghost use Rattle.std.specs.Prelude.{◌≡◌, IfErr};
+ghost use Rattle.std.specs.Prelude.{◌≡◌, IfErr, IfSome};
+ghost use Rattle.std.specs.List.{Contains};
 ghost use Rattle.reuse_tree.specs.Asked.{OnlyReads};
-ghost use Rattle.reuse_session.specs.Session.{store_of};
+ghost use Rattle.reuse_session.specs.Journal.{State};
+ghost use Rattle.reuse_session.specs.Session.{store_of, StandsOn};
+ghost use Rattle.reuse_undo.specs.RunLine.{StandsAccepted};
 ghost use Rattle.reuse_undo.specs.WriterFaults.{IsOfDiff, IsUndrawn};
+ghost use Rattle.reuse_session.specs.declared.reply.Row.{Row};
 ghost use Rattle.reuse_undo.specs.declared.fault.Fault.TheVariants as faults;
 
 use crate::diff::{Turn, print_diff};
@@ -27,12 +31,13 @@ pub enum Foreseen {
     Undo(EntryChanges),
 }
 
-/// What a previewed call would change.
+/// What a previewed call would change. On an honest store it would go through.
 pub fn foresee<S: Store + Drop>(
     alloc: Global,
     session: &mut Session<S>,
     request: &Request,
 ) -> Result<Foreseen, Refusal>
+    requires { StandsAccepted S.Store request.now session.now }
     ensures reads { OnlyReads S.Store (store_of session.old) (store_of session.new) }
     ensures fault { IfErr result (IsUndrawn S.Store (store_of session.old) (store_of session.new)) }
 {
@@ -56,6 +61,7 @@ fn foresee_step<S: Store + Drop>(
     session: &mut Session<S>,
     back: bool,
 ) -> Result<Foreseen, Refusal>
+    requires { S.honest (store_of session.now) → (held : State) × StandsOn S.files session.now held }
     ensures reads { OnlyReads S.Store (store_of session.old) (store_of session.new) }
     ensures fault { IfErr result (IsUndrawn S.Store (store_of session.old) (store_of session.new)) }
 {
@@ -72,7 +78,9 @@ fn foresee_step<S: Store + Drop>(
 }
 
 // The number of the last step done, or of the first one undone.
-fn next_step(rows: &[Row], back: bool) -> Option<u32> {
+fn next_step(rows: &[Row], back: bool) -> Option<u32>
+    ensures { IfSome result (λ number. (row : Row) × Contains rows.now row × (row.number ≡ number)) }
+{
     let row = if back {
         rows.iter().rev().find(|row| row.done)
     } else {

@@ -4,6 +4,7 @@ use Rattle.reuse_undo.specs.RunLine.{RequestLeaves, HasCallClash}
 use Rattle.reuse_tree.proofs.AskedLemmas.{reads_more}
 use Rattle.reuse_undo.proofs.LookLemmas.{caused}
 use Rattle.reuse_undo.proofs.CallLemmas.{carried, found_again, unclashed}
+use Rattle.reuse_undo.proofs.ForeseenLemmas.{stands_accepted}
 use Rattle.reuse_undo.proofs.run_line.call.Goals as goal
 
 pub returns-in-Ok-clause-carries : goal.returns-in-Ok-clause-carries
@@ -73,3 +74,9 @@ returns-in-Err-clause-looks g c honest look held standing = c.in-Err.ensures.qui
 
 pub returns-in-Err-clause-clash : goal.returns-in-Err-clause-clash
 returns-in-Err-clause-clash g c honest held standing = unclashed c.args.request.now held (g.S.Store.files c.args.store) c.in-Err.refusal (c.in-Err.ensures.clash honest)
+
+pub close-store-requires : goal.close-store-requires
+close-store-requires g c wants =
+    let ask = c.ask-answer in
+    stands_accepted g.S.Store c.args.request.now c.args.telling ask.result c.in-Ok.opened ask.new.session (λ honest. let found = c.in-Ok.ensures.opened honest in (found.0, found.1)) ask.ensures.meets
+    ask.ensures.looks ask.ensures.kept (c.wants_diff.ensures wants)

@@ -25,6 +25,9 @@ returns-in-Call-clause-meets g c honest held stands =
 pub returns-in-Call-clause-looks : goal.returns-in-Call-clause-looks
 returns-in-Call-clause-looks g c look = c.ask_event.ensures.looks (subst (λ (r : Request). IsLook r) c.in-Call.is look)
 
+pub returns-in-Call-clause-kept : goal.returns-in-Call-clause-kept
+returns-in-Call-clause-kept g c look = c.ask_event.ensures.kept (subst (λ (r : Request). IsLook r) c.in-Call.is look)
+
 pub returns-in-Call-clause-fault : goal.returns-in-Call-clause-fault
 returns-in-Call-clause-fault g c =
     err_told tells.Reply c.ask_event.result c.reply_told.result (HasCause (g.S.Store.failures (store_of c.args.session.now) < g.S.Store.failures (store_of c.ask_event.new.session))) c.reply_told.ensures
@@ -54,6 +57,9 @@ returns-in-Show-clause-meets g c honest held stands =
 
 pub returns-in-Show-clause-looks : goal.returns-in-Show-clause-looks
 returns-in-Show-clause-looks g c look = c.show.ensures.reads
+
+pub returns-in-Show-clause-kept : goal.returns-in-Show-clause-kept
+returns-in-Show-clause-kept g c look = c.show.ensures.kept
 
 pub returns-in-Show-clause-fault : goal.returns-in-Show-clause-fault
 returns-in-Show-clause-fault g c =
@@ -85,6 +91,9 @@ returns-in-Revert-clause-meets g c honest held stands =
 
 pub returns-in-Revert-clause-looks : goal.returns-in-Revert-clause-looks
 returns-in-Revert-clause-looks g c look = absurd (subst (λ (r : Request). IsLook r) c.in-Revert.is look)
+
+pub returns-in-Revert-clause-kept : goal.returns-in-Revert-clause-kept
+returns-in-Revert-clause-kept g c look = absurd (subst (λ (r : Request). IsLook r) c.in-Revert.is look)
 
 pub returns-in-Revert-clause-fault : goal.returns-in-Revert-clause-fault
 returns-in-Revert-clause-fault g c =
@@ -121,6 +130,9 @@ returns-in-PreviewRevert-clause-meets g c honest held stands =
 
 pub returns-in-PreviewRevert-clause-looks : goal.returns-in-PreviewRevert-clause-looks
 returns-in-PreviewRevert-clause-looks g c look = c.preview_revert.ensures.peeks.reads
+
+pub returns-in-PreviewRevert-clause-kept : goal.returns-in-PreviewRevert-clause-kept
+returns-in-PreviewRevert-clause-kept g c look = c.preview_revert.ensures.peeks.kept
 
 pub returns-in-PreviewRevert-clause-fault : goal.returns-in-PreviewRevert-clause-fault
 returns-in-PreviewRevert-clause-fault g c =

@@ -26,6 +26,9 @@ returns-in-Run-clause-calls g c honest held stands =
 pub returns-in-Run-clause-looks : goal.returns-in-Run-clause-looks
 returns-in-Run-clause-looks g c look = absurd (subst (λ (e : Event). IsLook (requests.Call e)) c.in-Run.is look)
 
+pub returns-in-Run-clause-kept : goal.returns-in-Run-clause-kept
+returns-in-Run-clause-kept g c look = absurd (subst (λ (e : Event). IsLook (requests.Call e)) c.in-Run.is look)
+
 pub returns-in-Run-clause-clash : goal.returns-in-Run-clause-clash
 returns-in-Run-clause-clash g c honest held stands =
     let files = g.S.Store.files (store_of c.args.session.now) in
@@ -50,6 +53,9 @@ returns-in-Undo-clause-calls g c honest held stands =
 pub returns-in-Undo-clause-looks : goal.returns-in-Undo-clause-looks
 returns-in-Undo-clause-looks g c look = absurd (subst (λ (e : Event). IsLook (requests.Call e)) c.in-Undo.is look)
 
+pub returns-in-Undo-clause-kept : goal.returns-in-Undo-clause-kept
+returns-in-Undo-clause-kept g c look = absurd (subst (λ (e : Event). IsLook (requests.Call e)) c.in-Undo.is look)
+
 pub returns-in-Undo-clause-clash : goal.returns-in-Undo-clause-clash
 returns-in-Undo-clause-clash g c honest held stands =
     subst (λ (e : Event). IfErr c.undo.result (HasCallClash (requests.Call e) held (g.S.Store.files (store_of c.args.session.now)))) (sym c.in-Undo.is) (c.undo.ensures.leaves.clash honest)
@@ -69,6 +75,9 @@ returns-in-Redo-clause-calls g c honest held stands =
 
 pub returns-in-Redo-clause-looks : goal.returns-in-Redo-clause-looks
 returns-in-Redo-clause-looks g c look = absurd (subst (λ (e : Event). IsLook (requests.Call e)) c.in-Redo.is look)
+
+pub returns-in-Redo-clause-kept : goal.returns-in-Redo-clause-kept
+returns-in-Redo-clause-kept g c look = absurd (subst (λ (e : Event). IsLook (requests.Call e)) c.in-Redo.is look)
 
 pub returns-in-Redo-clause-clash : goal.returns-in-Redo-clause-clash
 returns-in-Redo-clause-clash g c honest held stands =
@@ -132,3 +141,6 @@ returns-in-Reopen-clause-looks g c look = reads_none g.S.Store (store_of c.args.
 
 pub returns-in-Preview-clause-looks : goal.returns-in-Preview-clause-looks
 returns-in-Preview-clause-looks g c look = c.foretell.ensures.peeks.reads
+
+pub returns-in-Preview-clause-kept : goal.returns-in-Preview-clause-kept
+returns-in-Preview-clause-kept g c look = c.foretell.ensures.peeks.kept
