@@ -19,9 +19,9 @@ use Rattle.reuse_tree.specs.declared.change.Change.{Change}
 use Rattle.reuse_session.specs.declared.reply.Refusal.{Refusal}
 use Rattle.reuse_session.specs.declared.reply.Refusal.TheVariants as refusals
 use Rattle.reuse_session.specs.declared.command.Place.TheVariants as place
-use Rattle.reuse_session.specs.Tree.{is_of_tree}
+use Rattle.reuse_tree.specs.Tree.{is_of_tree}
 use Rattle.reuse_session.specs.Covered.{is_in, is_covered}
-use Rattle.reuse_session.specs.Listing.{ArePaths, is_among, is_folder_of}
+use Rattle.reuse_tree.specs.Listing.{ArePaths, is_among, is_folder_of}
 use Rattle.reuse_session.specs.Outcome.{Edit, with_edit, or_first, edits_at, edited, tree_after}
 use Rattle.reuse_session.specs.Annotate.{annotated_where, annotated_at}
 use Rattle.reuse_header.specs.declared.annotation.How.{How}
@@ -29,11 +29,11 @@ use Rattle.reuse_session.specs.TreeStyles.{OwnNames}
 use Rattle.reuse_notice.specs.declared.adding.Additions.{Additions}
 use Rattle.reuse_session.specs.declared.command.Scope.{Scope}
 use Rattle.reuse_session.specs.Plan.{IsPlan, IsRefusalOf, CarriesOutEdit, MakesEdit, MakesEach, MakesEdits}
-use Rattle.reuse_session.proofs.ListingLemmas.{under_from_test}
+use Rattle.reuse_tree.proofs.ListingLemmas.{under_from_test}
 use Rattle.reuse_session.proofs.Outcomes.{ok_edits, no_edit, some_edit}
 use Rattle.reuse_session.proofs.TreeLemmas.{among_keys}
 use Rattle.reuse_session.proofs.Planning.{paths_at, each_push, AreEdits, same_many, plan_of_edits}
-use Rattle.reuse_session.specs.Entry.{entry_size}
+use Rattle.reuse_tree.specs.Entry.{entry_size}
 use Rattle.reuse_session.proofs.Results.{none_from_test}
 
 -- ---- refusals

@@ -18,7 +18,7 @@ use Rattle.reuse_session.specs.Command.{has_root}
 use Rattle.reuse_session.specs.Covered.{is_covered}
 use Rattle.reuse_session.specs.Edit.{Edit}
 use Rattle.reuse_session.specs.Fates.{has_tagged, is_skipped_at, is_skipped_where, is_skipped, fate_by, fate_at, annotation_fates, limit_fates, fates_of}
-use Rattle.reuse_session.specs.Listing.{is_folder}
+use Rattle.reuse_tree.specs.Listing.{is_folder}
 use Rattle.reuse_session.specs.Outcome.{edited, is_too_many, edits_at, edits_by_names, annotation_edits, outcome_of}
 use Rattle.reuse_session.specs.TreeStyles.{OwnNames, styles_in}
 use Rattle.reuse_session.specs.Worked.{worked_paths}

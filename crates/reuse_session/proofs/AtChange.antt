@@ -12,9 +12,9 @@ use Rattle.reuse_tree.specs.Change.{path_of, IsProper}
 use Rattle.reuse_tree.specs.declared.store.Store.{Ghosts}
 use Rattle.reuse_tree.proofs.AskedLemmas.{later_none, later_more, reads_more}
 use Rattle.reuse_tree.specs.declared.change.Change.{Change}
-use Rattle.reuse_session.specs.Entry.{makes, IsEntry, IsFirstWithout, IsSmall, LeadsBy, LeadsByOneChange}
-use Rattle.reuse_session.specs.Tree.{is_of_tree, undo_folder_of}
-use Rattle.reuse_session.specs.declared.entry.Way.{Way}
+use Rattle.reuse_tree.specs.Entry.{makes, IsEntry, IsFirstWithout, IsSmall, LeadsBy, LeadsByOneChange}
+use Rattle.reuse_tree.specs.Tree.{is_of_tree, undo_folder_of}
+use Rattle.reuse_tree.specs.declared.way.Way.{Way}
 use Rattle.reuse_session.proofs.OfTree.{folder_stays, step_of_tree}
 use Rattle.reuse_session.proofs.Testing.{parted}
 use Rattle.reuse_session.proofs.Walk.{leads_more}

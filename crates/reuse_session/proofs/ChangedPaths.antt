@@ -28,7 +28,7 @@ use Rattle.reuse_session.specs.Downloads.{text_for, ids_refusal, licence_edit, u
 use Rattle.reuse_session.specs.Edit.{Edit, made, dropped}
 use Rattle.reuse_session.specs.Fates.{is_skipped, fate_by, fate_at, annotation_fates, edit_fates, or_else, revert_fate, path_fates, limit_fates, fates_of}
 use Rattle.reuse_session.specs.Licence.{licence_path, licence_id}
-use Rattle.reuse_session.specs.Listing.{is_among, is_folder}
+use Rattle.reuse_tree.specs.Listing.{is_among, is_folder}
 use Rattle.reuse_session.specs.Outcome.{with_file, edited, edits_at, edits_by_names, edits_of, outcome_of}
 use Rattle.reuse_session.specs.TreeStyles.{OwnNames, styles_in}
 use Rattle.reuse_session.specs.Worked.{worked_paths}

@@ -22,7 +22,7 @@ use Rattle.reuse_session.specs.Choice.{is_listed, matches_one, is_chosen}
 use Rattle.reuse_session.specs.Chosen.{IsNamed, StandsBeneath, IsListed, MatchesNone, IsAskedFor}
 use Rattle.reuse_session.specs.Command.{has_root, paths_among}
 use Rattle.reuse_session.specs.Covered.{is_covered}
-use Rattle.reuse_session.specs.Listing.{ArePaths, is_folder}
+use Rattle.reuse_tree.specs.Listing.{ArePaths, is_folder}
 use Rattle.reuse_session.specs.Worked.{expanded, worked_paths}
 use Rattle.reuse_session.specs.declared.command.Place.{Place}
 use Rattle.reuse_session.specs.declared.command.Place.TheVariants.{Root, Path}

@@ -8,8 +8,8 @@ use Rattle.std.proofs.lemmas.Slice.Eq.{bytes_eq-Decides}
 use Rattle.std.proofs.Math.Seq.{take-append_seam}
 use Rattle.reuse_tree.specs.Path.{lies_under}
 use Rattle.reuse_session.specs.Clash.{is_clash_of}
-use Rattle.reuse_session.specs.Listing.{is_among, is_folder_of}
-use Rattle.reuse_session.proofs.ListingLemmas.{under_from_test, test_from_under}
+use Rattle.reuse_tree.specs.Listing.{is_among, is_folder_of}
+use Rattle.reuse_tree.proofs.ListingLemmas.{under_from_test, test_from_under}
 
 -- ---- the parts above a path
 

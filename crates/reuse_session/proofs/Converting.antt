@@ -21,7 +21,7 @@ use Rattle.reuse_text.specs.declared.TheConstants.{LONGEST_FILE}
 use Rattle.reuse_session.specs.Clash.{is_clash, is_clash_of}
 use Rattle.reuse_session.specs.Edit.{Edit, made, dropped}
 use Rattle.reuse_session.specs.Conversion.{dep5_path, toml_path, replaced_by, conversion_where, conversion_edits}
-use Rattle.reuse_session.specs.Listing.{ArePaths, is_among}
+use Rattle.reuse_tree.specs.Listing.{ArePaths, is_among}
 use Rattle.reuse_session.specs.declared.reply.Refusal.{Refusal}
 use Rattle.reuse_session.specs.declared.reply.Refusal.TheVariants as refusals
 use Rattle.reuse_session.specs.Refused.{dep5_refusal}

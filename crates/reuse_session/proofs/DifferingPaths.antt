@@ -8,8 +8,8 @@ use Rattle.std.proofs.lemmas.Bool.{false≢true}
 use Rattle.std.proofs.lemmas.Map.Views.{Contains-from_any, list_any-from_Contains}
 use Rattle.std.proofs.lemmas.Slice.Eq.{bytes_eq-Decides}
 use Rattle.reuse_tree.specs.Files.{Files}
-use Rattle.reuse_session.specs.Listing.{ArePaths, is_among}
-use Rattle.reuse_session.specs.Tree.{same_file, changed_paths}
+use Rattle.reuse_tree.specs.Listing.{ArePaths, is_among}
+use Rattle.reuse_tree.specs.Tree.{same_file, changed_paths}
 use Rattle.reuse_session.proofs.Differ.{has_file}
 use Rattle.reuse_session.proofs.TreeLemmas.{keys_ascend, among_keys}
 

@@ -10,12 +10,12 @@ use Rattle.reuse_notice.specs.Sets.{set_of}
 use Rattle.reuse_notice.proofs.SetLemmas.{In, In-set_of, sorted-set_of}
 use Rattle.reuse_tree.specs.Path.{is_path, lies_under}
 use Rattle.reuse_text.specs.declared.TheConstants.{LONGEST_FILE}
-use Rattle.reuse_session.specs.Tree.{is_of_tree}
+use Rattle.reuse_tree.specs.Tree.{is_of_tree}
 use Rattle.reuse_tree.specs.Files.{Files}
 use Rattle.reuse_tree.specs.declared.change.Change.{Change}
 use Rattle.reuse_session.specs.Clash.{is_clash, is_clash_of}
 use Rattle.reuse_session.specs.Edit.{Edit}
-use Rattle.reuse_session.specs.Listing.{ArePaths, is_among}
+use Rattle.reuse_tree.specs.Listing.{ArePaths, is_among}
 use Rattle.reuse_session.specs.Licence.{is_id, licence_path, licence_id}
 use Rattle.reuse_session.specs.Downloads.{text_for, refusal_of_found, id_refusal, ids_refusal, licence_edit, unless_refused, download_of, download_edits}
 use Rattle.reuse_session.specs.DownloadPlan.{made_at}

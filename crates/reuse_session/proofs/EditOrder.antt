@@ -20,10 +20,10 @@ use Rattle.reuse_tree.specs.declared.change.Change.{Change}
 use Rattle.reuse_tree.specs.declared.change.Change.TheVariants.{Make, Drop, Splice}
 use Rattle.reuse_tree.specs.Change.{path_of, Turns}
 use Rattle.reuse_tree.proofs.FileMaps.{same_files}
-use Rattle.reuse_session.specs.Entry.{removed_by, written_by, entry_size}
+use Rattle.reuse_tree.specs.Entry.{removed_by, written_by, entry_size}
 use Rattle.reuse_session.specs.declared.reply.Refusal.{Refusal}
 use Rattle.reuse_session.specs.declared.reply.Refusal.TheVariants.{TooMany}
-use Rattle.reuse_session.specs.Listing.{ArePaths, is_among}
+use Rattle.reuse_tree.specs.Listing.{ArePaths, is_among}
 use Rattle.reuse_session.specs.Outcome.{Edit, edited, edit_size, is_too_many, tree_after}
 use Rattle.reuse_session.specs.Plan.{IsPlan, is_before, CarriesOutEdit, MakesEach, MakesEdits}
 use Rattle.reuse_session.proofs.Planning.{paths_at, with_same, with_other, edited_other, EachHas, IsFit, AreEdits, same_many, plan_of_edits}

@@ -12,7 +12,7 @@ use Rattle.reuse_tree.specs.declared.change.Change.{Change}
 use Rattle.reuse_notice.specs.Sets.{set_of}
 use Rattle.reuse_session.specs.Downloads.{id_refusal, ids_refusal, licence_edit, unless_refused, download_edits}
 use Rattle.reuse_session.specs.Edit.{Edit}
-use Rattle.reuse_session.specs.Entry.{entry_size}
+use Rattle.reuse_tree.specs.Entry.{entry_size}
 use Rattle.reuse_session.specs.FatePlan.{MakesUnlessRefused, Plans, AddsChange, Adds}
 use Rattle.reuse_session.specs.Previews.{IsTold}
 use Rattle.reuse_session.specs.Fates.{edit_fates, id_refusals, or_else, limit_fates, first_refusal}

@@ -11,9 +11,9 @@ use Rattle.reuse_session.specs.JournalFiles.{entry_path, number_of, entry_in}
 use Rattle.reuse_session.specs.Opening.{IsReadable, IsFirstBad, IsRead, IsSettled, OpensOn}
 use Rattle.reuse_session.specs.Session.{Remembers}
 use Rattle.reuse_session.specs.Standing.{IsStanding, IsStep, IsUnderWay, InDoubt}
-use Rattle.reuse_session.specs.Tree.{undo_folder_of}
-use Rattle.reuse_session.specs.declared.journal.head.Pending.{Pending}
-use Rattle.reuse_session.specs.declared.journal.head.PendingWay.{PendingWay}
+use Rattle.reuse_tree.specs.Tree.{undo_folder_of}
+use Rattle.reuse_tree.specs.declared.journal.head.Pending.{Pending}
+use Rattle.reuse_tree.specs.declared.journal.head.PendingWay.{PendingWay}
 use Rattle.reuse_session.specs.declared.reply.Refusal.{Refusal}
 use Rattle.reuse_session.proofs.JournalLemmas.{entry_good}
 use Rattle.reuse_session.proofs.OpeningLemmas.{same_journal, none_bad}

@@ -28,9 +28,9 @@ use Rattle.reuse_session.specs.Annotations.{Due}
 use Rattle.reuse_session.specs.Clash.{is_clash}
 use Rattle.reuse_session.specs.Command.{has_root, paths_among, HoldsEntry}
 use Rattle.reuse_session.specs.Covered.{last_part, is_in, is_outside, has_stem, is_covered}
-use Rattle.reuse_session.specs.Listing.{ArePaths, is_among, is_folder}
+use Rattle.reuse_tree.specs.Listing.{ArePaths, is_among, is_folder}
 use Rattle.reuse_session.specs.Outcome.{edits_at, edits_by_names, edits_of}
-use Rattle.reuse_session.specs.Tree.{is_of_tree}
+use Rattle.reuse_tree.specs.Tree.{is_of_tree}
 use Rattle.reuse_session.specs.TreeStyles.{OwnNames, styles_in}
 use Rattle.reuse_session.specs.Worked.{expanded, worked_paths}
 use Rattle.reuse_session.specs.declared.command.Command.{Command}
@@ -45,7 +45,7 @@ use Rattle.reuse_session.proofs.Annotating.{starts_reuse, and_all, covered_of_tr
 use Rattle.reuse_session.proofs.Converting.{conversion_fits}
 use Rattle.reuse_session.proofs.Downloading.{download_fits}
 use Rattle.reuse_session.proofs.EditOrder.{AreDistinct, AreFit}
-use Rattle.reuse_session.proofs.ListingLemmas.{under_from_test, test_from_under}
+use Rattle.reuse_tree.proofs.ListingLemmas.{under_from_test, test_from_under}
 use Rattle.reuse_session.proofs.NeighbourLemmas.{good_neighbour}
 use Rattle.reuse_session.proofs.Planning.{paths_at, IsFit, AreEdits, not_itself}
 use Rattle.reuse_session.proofs.RevertFitting.{revert_fits}

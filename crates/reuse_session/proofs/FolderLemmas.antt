@@ -3,12 +3,12 @@ use Rattle.std.proofs.Common.{◌≡◌, ℕ, ◌<◌, List, length, arith, cond
 use Rattle.std.specs.FinMap.{get}
 use Rattle.reuse_tree.specs.Files.{Files}
 use Rattle.reuse_tree.specs.Path.{lies_under, journal_folder}
-use Rattle.reuse_session.specs.Head.{head_text}
+use Rattle.reuse_tree.specs.Head.{head_text}
 use Rattle.reuse_session.specs.JournalFiles.{head_path, entry_path}
 use Rattle.reuse_session.specs.Session.{HasEntryText, IsSameBut, IsSameButTwo}
-use Rattle.reuse_session.specs.Tree.{undo_folder_of}
-use Rattle.reuse_session.specs.declared.journal.entry.Entry.{Entry}
-use Rattle.reuse_session.specs.declared.journal.head.Head.{Head}
+use Rattle.reuse_tree.specs.Tree.{undo_folder_of}
+use Rattle.reuse_tree.specs.declared.journal.entry.Entry.{Entry}
+use Rattle.reuse_tree.specs.declared.journal.head.Head.{Head}
 use Rattle.reuse_session.proofs.JournalLemmas.{entry_in_folder, entry_path_is_not_head}
 use Rattle.reuse_session.proofs.JournalReading.{file_in_folder}
 use Rattle.reuse_session.proofs.OfTree.{get-folder}

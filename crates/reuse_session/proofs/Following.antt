@@ -4,9 +4,9 @@ use Rattle.std.proofs.lemmas.List.{map-append, reverse-append, length-map, nil_f
 use Rattle.reuse_tree.specs.Files.{Files, AreFiles}
 use Rattle.reuse_tree.specs.declared.change.Change.{Change}
 use Rattle.reuse_tree.specs.Change.{path_of}
-use Rattle.reuse_session.specs.declared.entry.Way.TheVariants as way
+use Rattle.reuse_tree.specs.declared.way.Way.TheVariants as way
 use Rattle.reuse_session.specs.declared.command.Command.{Command}
-use Rattle.reuse_session.specs.declared.command.CommandName.{CommandName}
+use Rattle.reuse_tree.specs.declared.command_name.CommandName.{CommandName}
 use Rattle.reuse_session.specs.declared.reply.Reply.{Reply}
 use Rattle.reuse_session.specs.declared.reply.Reply.TheVariants.{Changed, NothingChanged, Undone, Redone}
 use Rattle.reuse_session.specs.declared.reply.Refusal.{Refusal}
@@ -14,8 +14,8 @@ use Rattle.reuse_session.specs.declared.reply.Refusal.TheVariants.{JournalFull, 
 use Rattle.reuse_session.specs.Answer.{TellsNoFault, IsTestRefusal}
 use Rattle.reuse_session.specs.Command.{name_of}
 use Rattle.reuse_session.specs.Outcome.{outcome_of}
-use Rattle.reuse_session.specs.Entry.{paths_of, IsEntry, LeadsBy, LeadsAll}
-use Rattle.reuse_session.specs.Tree.{changed_paths}
+use Rattle.reuse_tree.specs.Entry.{paths_of, IsEntry, LeadsBy, LeadsAll}
+use Rattle.reuse_tree.specs.Tree.{changed_paths}
 use Rattle.reuse_session.specs.Machine.{Label, Kept, Snapshots, Step, taken, ran, ran_by, is_full, undone, redone, row_of, rows_before, rows_behind, rows_of}
 use Rattle.reuse_session.specs.Journal.{Recorded, State, Undoes, Redoes, rows_in}
 use Rattle.reuse_session.specs.Session.{LeadUpTo, LeadOn, HoldsSnapshots}

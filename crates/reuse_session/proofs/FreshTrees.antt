@@ -10,7 +10,7 @@ use Rattle.reuse_session.specs.Journal.{Journal}
 use Rattle.reuse_session.specs.JournalFiles.{head_path, IsFree, IsKeptIn, HeadSays, head_of}
 use Rattle.reuse_session.specs.Standing.{IsStanding}
 use Rattle.reuse_session.specs.Stops.{HoldState}
-use Rattle.reuse_session.specs.Tree.{undo_folder_of}
+use Rattle.reuse_tree.specs.Tree.{undo_folder_of}
 use Rattle.reuse_session.proofs.Results.{none_is_some}
 use Rattle.reuse_session.proofs.TreeLemmas.{tree_file}
 use Rattle.reuse_session.proofs.OfTree.{get-folder}

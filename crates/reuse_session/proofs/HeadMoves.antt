@@ -7,15 +7,15 @@ use Rattle.std.proofs.lemmas.List.Kept.{AllPairs-cons}
 use Rattle.std.proofs.lemmas.Option.{slice_get-get_or}
 use Rattle.std.proofs.lemmas.Bool.{false≢true}
 use Rattle.std.proofs.lemmas.Bool.Decides.{nat_tests}
-use Rattle.reuse_session.specs.Head.{IsSoundHead, FitsWay, PendingFits, listed, last_of}
-use Rattle.reuse_session.specs.declared.journal.head.Head.{Head}
+use Rattle.reuse_tree.specs.Head.{IsSoundHead, FitsWay, PendingFits, listed, last_of}
+use Rattle.reuse_tree.specs.declared.journal.head.Head.{Head}
 use Rattle.reuse_session.specs.Journal.{Recorded, Journal}
 use Rattle.reuse_session.specs.JournalFiles.{number_of, head_of}
 use Rattle.reuse_session.specs.Machine.{is_full}
 use Rattle.reuse_session.specs.Standing.{Moves}
-use Rattle.reuse_session.specs.declared.journal.head.Pending.{Pending}
-use Rattle.reuse_session.specs.declared.journal.head.PendingWay.{PendingWay}
-use Rattle.reuse_session.specs.declared.journal.head.PendingWay.TheVariants.{Do, Undo, Redo}
+use Rattle.reuse_tree.specs.declared.journal.head.Pending.{Pending}
+use Rattle.reuse_tree.specs.declared.journal.head.PendingWay.{PendingWay}
+use Rattle.reuse_tree.specs.declared.journal.head.PendingWay.TheVariants.{Do, Undo, Redo}
 
 -- ---- what holds of each number that is listed
 

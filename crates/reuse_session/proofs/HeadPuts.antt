@@ -4,9 +4,9 @@ use Rattle.std.specs.FinMap.{get}
 use Rattle.reuse_tree.specs.Path.{lies_under, journal_folder}
 use Rattle.reuse_tree.specs.Files.{Files, Clashes, AreFiles, tree_of}
 use Rattle.reuse_tree.specs.declared.change.Change.{Change}
-use Rattle.reuse_session.specs.Entry.{touches, IsEntry}
+use Rattle.reuse_tree.specs.Entry.{touches, IsEntry}
 use Rattle.reuse_session.specs.JournalFiles.{head_path}
-use Rattle.reuse_session.specs.Tree.{is_of_tree, undo_folder_of, Sets}
+use Rattle.reuse_tree.specs.Tree.{is_of_tree, undo_folder_of, Sets}
 use Rattle.reuse_session.proofs.Differ.{touching}
 use Rattle.reuse_session.proofs.TreeLemmas.{tree_file}
 use Rattle.reuse_session.proofs.OfTree.{get-folder, apart_from_journal}

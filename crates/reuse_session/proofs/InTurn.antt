@@ -17,9 +17,9 @@ use Rattle.reuse_tree.specs.Change.{path_of, inverse_of, Turns, Leads}
 use Rattle.reuse_tree.specs.declared.change.Change.{Change}
 use Rattle.reuse_tree.proofs.FileMaps.{same_files, same_or_other}
 use Rattle.reuse_tree.proofs.Turning.{turns_back, inverse_twice, path_of-inverse}
-use Rattle.reuse_session.specs.declared.entry.Way.{Way}
-use Rattle.reuse_session.specs.declared.entry.Way.TheVariants.{Undo}
-use Rattle.reuse_session.specs.Entry.{touches, paths_of, IsEntry, TurnsBy, LeadsBy, LeadsAll}
+use Rattle.reuse_tree.specs.declared.way.Way.{Way}
+use Rattle.reuse_tree.specs.declared.way.Way.TheVariants.{Undo}
+use Rattle.reuse_tree.specs.Entry.{touches, paths_of, IsEntry, TurnsBy, LeadsBy, LeadsAll}
 use Rattle.reuse_session.specs.InTurn.{LeadsInTurn}
 use Rattle.reuse_session.specs.Outcome.{with_file}
 use Rattle.reuse_session.proofs.Planning.{with_same, with_other}

@@ -8,21 +8,21 @@ use Rattle.std.specs.FinMap.{get}
 use Rattle.reuse_tree.specs.Path.{lies_under, journal_folder}
 use Rattle.reuse_tree.specs.Files.{Files, Clashes, tree_of}
 use Rattle.reuse_tree.proofs.FileMaps.{same_files, same_or_other}
-use Rattle.reuse_session.specs.Entry.{IsEntry}
-use Rattle.reuse_session.specs.Head.{IsGoodHead, IsSoundHead}
+use Rattle.reuse_tree.specs.Entry.{IsEntry}
+use Rattle.reuse_tree.specs.Head.{IsGoodHead, IsSoundHead}
 use Rattle.reuse_session.specs.Journal.{Recorded, Journal}
 use Rattle.reuse_session.specs.JournalFiles.{digit, six_digits, head_path, entry_path, IsJournalPath, IsFree, HeadSays, EntrySays, entry_in, number_of, IsKeptIn, empty_head, head_of, KeepsJournal}
 use Rattle.reuse_session.specs.Session.{IsSameBut}
 use Rattle.reuse_session.specs.Standing.{IsTree, Moves}
-use Rattle.reuse_session.specs.Tree.{undo_folder_of, Sets}
-use Rattle.reuse_session.specs.declared.journal.entry.Entry.{Entry}
-use Rattle.reuse_session.specs.declared.journal.head.Pending.{Pending}
-use Rattle.reuse_session.specs.declared.journal.head.PendingWay.{PendingWay}
-use Rattle.reuse_session.specs.declared.journal.head.PendingWay.TheVariants.{Do, Undo, Redo}
-use Rattle.reuse_session.specs.declared.journal.head.Head.{Head}
+use Rattle.reuse_tree.specs.Tree.{undo_folder_of, Sets}
+use Rattle.reuse_tree.specs.declared.journal.entry.Entry.{Entry}
+use Rattle.reuse_tree.specs.declared.journal.head.Pending.{Pending}
+use Rattle.reuse_tree.specs.declared.journal.head.PendingWay.{PendingWay}
+use Rattle.reuse_tree.specs.declared.journal.head.PendingWay.TheVariants.{Do, Undo, Redo}
+use Rattle.reuse_tree.specs.declared.journal.head.Head.{Head}
 use Rattle.reuse_session.proofs.TreeLemmas.{tree_file}
-use Rattle.reuse_session.proofs.ListingLemmas.{under_from_test, test_from_under}
-use Rattle.reuse_session.proofs.EntryParts.{one_entry}
+use Rattle.reuse_tree.proofs.ListingLemmas.{under_from_test, test_from_under}
+use Rattle.reuse_tree.proofs.EntryParts.{one_entry}
 use Rattle.reuse_session.proofs.HeadMoves.{each_listed}
 use Rattle.reuse_session.proofs.OfTree.{fronts, slash_inside, above_journal, get-folder}
 

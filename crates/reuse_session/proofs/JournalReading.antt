@@ -5,11 +5,11 @@ use Rattle.reuse_tree.specs.Files.{Files}
 use Rattle.reuse_tree.specs.Path.{lies_under, journal_folder}
 use Rattle.reuse_tree.specs.Store.{counted, Puts, PutFails}
 use Rattle.reuse_tree.specs.declared.fault.StoreFault.{StoreFault}
-use Rattle.reuse_session.specs.EntryText.{IsGoodEntry}
+use Rattle.reuse_tree.specs.EntryText.{IsGoodEntry}
 use Rattle.reuse_session.specs.JournalFiles.{head_path, entry_path, EntrySays}
 use Rattle.reuse_session.specs.Session.{IsSameBut}
-use Rattle.reuse_session.specs.Tree.{undo_folder_of}
-use Rattle.reuse_session.specs.declared.journal.entry.Entry.{Entry}
+use Rattle.reuse_tree.specs.Tree.{undo_folder_of}
+use Rattle.reuse_tree.specs.declared.journal.entry.Entry.{Entry}
 use Rattle.reuse_session.proofs.OfTree.{get-folder}
 use Rattle.reuse_session.proofs.Turning.{put_sets, put_doubt}
 

@@ -5,11 +5,11 @@ use Rattle.reuse_tree.specs.Files.{Files}
 use Rattle.reuse_tree.specs.Change.{is_sealed}
 use Rattle.reuse_tree.specs.declared.change.Change.{Change}
 use Rattle.reuse_session.specs.Edit.{Edit}
-use Rattle.reuse_session.specs.Entry.{AreAllSealed, IsEntry}
-use Rattle.reuse_session.specs.EntryText.{is_any_sealed}
-use Rattle.reuse_session.specs.Format.{knows}
+use Rattle.reuse_tree.specs.Entry.{AreAllSealed, IsEntry}
+use Rattle.reuse_tree.specs.EntryText.{is_any_sealed}
+use Rattle.reuse_tree.specs.Format.{knows}
 use Rattle.reuse_session.specs.Plan.{Records}
-use Rattle.reuse_session.specs.declared.command.CommandName.{CommandName}
+use Rattle.reuse_tree.specs.declared.command_name.CommandName.{CommandName}
 use Rattle.reuse_session.specs.declared.reply.Refusal.{Refusal}
 use Rattle.reuse_session.proofs.Planning.{sealed_each}
 

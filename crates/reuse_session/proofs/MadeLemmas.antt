@@ -11,11 +11,11 @@ use Rattle.reuse_tree.specs.declared.change.Change.{Change}
 use Rattle.reuse_tree.specs.Change.{path_of, IsProper}
 use Rattle.reuse_tree.proofs.FileMaps.{same_files, get-put_same, get-put_other, get-removed_same, get-removed_other}
 use Rattle.reuse_tree.proofs.Turning.{not_both}
-use Rattle.reuse_session.specs.declared.entry.Way.{Way}
-use Rattle.reuse_session.specs.declared.entry.Way.TheVariants.{Do, Undo}
+use Rattle.reuse_tree.specs.declared.way.Way.{Way}
+use Rattle.reuse_tree.specs.declared.way.Way.TheVariants.{Do, Undo}
 use Rattle.reuse_session.specs.Carried.{IsSetBack}
-use Rattle.reuse_session.specs.Entry.{touches, IsEntry, TurnsBy, LeadsByOneChange, LeadsBy, SomeMade, ArePartlyMade, IsReady, CanBeMade, CanBeSetBack, opposite, makes}
-use Rattle.reuse_session.specs.Tree.{is_of_tree, undo_folder_of}
+use Rattle.reuse_tree.specs.Entry.{touches, IsEntry, TurnsBy, LeadsByOneChange, LeadsBy, SomeMade, ArePartlyMade, IsReady, CanBeMade, CanBeSetBack, opposite, makes}
+use Rattle.reuse_tree.specs.Tree.{is_of_tree, undo_folder_of}
 use Rattle.reuse_session.proofs.Differ.{touching}
 use Rattle.reuse_session.proofs.OfTree.{tree_at, step_of_tree, folder_stays}
 use Rattle.reuse_session.proofs.Walk.{front_touches, not_touched, touched, of_no_change, turns_once_by, untouched_more, leads_none, leads_more, ready_now, made_is_file}

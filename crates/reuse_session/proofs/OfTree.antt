@@ -10,11 +10,11 @@ use Rattle.reuse_tree.specs.Files.{Files, Clashes, tree_of}
 use Rattle.reuse_tree.specs.Change.{path_of}
 use Rattle.reuse_tree.specs.declared.change.Change.{Change}
 use Rattle.reuse_tree.proofs.FileMaps.{same_files, same_or_other}
-use Rattle.reuse_session.specs.declared.entry.Way.{Way}
-use Rattle.reuse_session.specs.Tree.{is_of_tree, undo_folder_of}
-use Rattle.reuse_session.specs.Entry.{TurnsBy, LeadsByOneChange}
+use Rattle.reuse_tree.specs.declared.way.Way.{Way}
+use Rattle.reuse_tree.specs.Tree.{is_of_tree, undo_folder_of}
+use Rattle.reuse_tree.specs.Entry.{TurnsBy, LeadsByOneChange}
 use Rattle.reuse_session.proofs.TreeLemmas.{tree_file, some_in_store}
-use Rattle.reuse_session.proofs.ListingLemmas.{under_from_test, test_from_under}
+use Rattle.reuse_tree.proofs.ListingLemmas.{under_from_test, test_from_under}
 
 -- ---- a path and a folder
 

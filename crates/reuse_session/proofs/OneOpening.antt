@@ -9,15 +9,15 @@ use Rattle.reuse_tree.specs.Change.{path_of}
 use Rattle.reuse_tree.specs.Files.{Files, tree_of}
 use Rattle.reuse_tree.specs.declared.change.Change.{Change}
 use Rattle.reuse_session.specs.Answer.{TellsNoFault, IsOpenRefusal}
-use Rattle.reuse_session.specs.Entry.{CanBeSetBack, IsFirstWithout}
-use Rattle.reuse_session.specs.Head.{way_of}
+use Rattle.reuse_tree.specs.Entry.{CanBeSetBack, IsFirstWithout}
+use Rattle.reuse_tree.specs.Head.{way_of}
 use Rattle.reuse_session.specs.Journal.{Recorded, Journal, State}
 use Rattle.reuse_session.specs.JournalFiles.{head_path, entry_path, entry_in, number_of, EntrySays, IsKeptIn, KeepsJournal}
 use Rattle.reuse_session.specs.Opening.{named, IsReadable, IsLeastUnreadable, IsFirstUnreadable, IsFirstBadIn, IsFirstBad, IsStuckAt, CanOpenOn, OpensAs, OpensOn}
 use Rattle.reuse_session.specs.Standing.{IsUnderWay}
-use Rattle.reuse_session.specs.Tree.{undo_folder_of}
-use Rattle.reuse_session.specs.declared.journal.head.Pending.{Pending}
-use Rattle.reuse_session.specs.declared.journal.head.PendingWay.{PendingWay}
+use Rattle.reuse_tree.specs.Tree.{undo_folder_of}
+use Rattle.reuse_tree.specs.declared.journal.head.Pending.{Pending}
+use Rattle.reuse_tree.specs.declared.journal.head.PendingWay.{PendingWay}
 use Rattle.reuse_session.specs.declared.reply.Refusal.{Refusal}
 use Rattle.reuse_session.specs.declared.reply.Refusal.TheVariants.{BadJournal, Moved, Memory, Interrupted, Fault}
 use Rattle.reuse_session.proofs.FilesInDoubt.{standing_bad, under_way_bad}

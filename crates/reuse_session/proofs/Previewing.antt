@@ -8,15 +8,15 @@ use Rattle.reuse_tree.specs.declared.change.Change.{Change}
 use Rattle.reuse_tree.specs.declared.fault.StoreFault.TheVariants as faults
 use Rattle.reuse_tree.specs.declared.store.Store.{Ghosts}
 use Rattle.reuse_session.specs.Answer.{IsEarly, IsNoClash, HasCause, RefusedAsRead, TellsNoFault}
-use Rattle.reuse_session.specs.Entry.{paths_of, CanBeMade}
+use Rattle.reuse_tree.specs.Entry.{paths_of, CanBeMade}
 use Rattle.reuse_session.specs.Fates.{fates_of, IsFateOf, AreFatesOf}
 use Rattle.reuse_session.specs.Journal.{Recorded, State}
 use Rattle.reuse_session.specs.Machine.{Kept, Snapshots, is_full, run_fates, undo_fates, redo_fates}
 use Rattle.reuse_session.specs.Previews.{Foresees, OnlyLooks, IsLookRefusal, IsPreviewRefusal, run_fates_on}
 use Rattle.reuse_session.specs.Session.{store_of, LeadUpTo, LeadOn, HoldsSnapshots, StandsAt}
 use Rattle.reuse_session.specs.declared.command.Command.{Command}
-use Rattle.reuse_session.specs.declared.entry.Way.{Way}
-use Rattle.reuse_session.specs.declared.entry.Way.TheVariants as way
+use Rattle.reuse_tree.specs.declared.way.Way.{Way}
+use Rattle.reuse_tree.specs.declared.way.Way.TheVariants as way
 use Rattle.reuse_session.specs.declared.fate.Fate.{Fate}
 use Rattle.reuse_session.specs.declared.fate.Fate.TheVariants as fate
 use Rattle.reuse_session.specs.declared.reply.Cause.{Cause}

@@ -10,10 +10,10 @@ use Rattle.reuse_tree.specs.declared.store.Store.{Ghosts}
 use Rattle.reuse_session.specs.Answer.{IsEarly, IsStop, IsPutRefusal, HasClash}
 use Rattle.reuse_session.specs.Calls.{files_of, folder_of, next_path, LeavesRun}
 use Rattle.reuse_session.specs.Command.{name_of}
-use Rattle.reuse_session.specs.Entry.{paths_of, entry_size, IsEntry, LeadsAll, CanBeMade, CanGo}
-use Rattle.reuse_session.specs.EntryText.{entry_text, is_any_sealed}
-use Rattle.reuse_session.specs.Format.{knows}
-use Rattle.reuse_session.specs.Head.{IsSoundHead}
+use Rattle.reuse_tree.specs.Entry.{paths_of, entry_size, IsEntry, LeadsAll, CanBeMade, CanGo}
+use Rattle.reuse_tree.specs.EntryText.{entry_text, is_any_sealed}
+use Rattle.reuse_tree.specs.Format.{knows}
+use Rattle.reuse_tree.specs.Head.{IsSoundHead}
 use Rattle.reuse_session.specs.History.{Memory, head_listing, remember_run}
 use Rattle.reuse_session.specs.Journal.{State}
 use Rattle.reuse_session.specs.JournalFiles.{head_path, entry_path, entry_in, EntrySays, IsFree}
@@ -21,13 +21,13 @@ use Rattle.reuse_session.specs.Machine.{is_full}
 use Rattle.reuse_session.specs.Outcome.{edits_of, edit_count, recorded_size}
 use Rattle.reuse_session.specs.Session.{store_of, memory_of, listed_as, listed_count, head_room, HasEntryText, HasHeadText, IsPlanned, IsRecordOf, IsRun, IsSameBut, IsSameButTwo, IsStepOf, Remembers, Runs, StandsOn}
 use Rattle.reuse_session.specs.Standing.{InDoubt}
-use Rattle.reuse_session.specs.Tree.{undo_folder_of}
+use Rattle.reuse_tree.specs.Tree.{undo_folder_of}
 use Rattle.reuse_session.specs.declared.command.Command.{Command}
-use Rattle.reuse_session.specs.declared.entry.Way.TheVariants as way
+use Rattle.reuse_tree.specs.declared.way.Way.TheVariants as way
 use Rattle.reuse_session.specs.declared.history.ListedEntry.{ListedEntry}
-use Rattle.reuse_session.specs.declared.journal.entry.Entry.{Entry}
-use Rattle.reuse_session.specs.declared.journal.head.Pending.{Pending}
-use Rattle.reuse_session.specs.declared.journal.head.PendingWay.TheVariants as ways
+use Rattle.reuse_tree.specs.declared.journal.entry.Entry.{Entry}
+use Rattle.reuse_tree.specs.declared.journal.head.Pending.{Pending}
+use Rattle.reuse_tree.specs.declared.journal.head.PendingWay.TheVariants as ways
 use Rattle.reuse_session.specs.declared.reply.Reply.{Reply}
 use Rattle.reuse_session.specs.declared.reply.Reply.TheVariants.{Changed}
 use Rattle.reuse_session.specs.declared.reply.Refusal.{Refusal}

@@ -11,18 +11,18 @@ use Rattle.reuse_tree.specs.declared.store.Store.{Ghosts}
 use Rattle.reuse_tree.proofs.AskedLemmas.{later_more, later_reads}
 use Rattle.reuse_session.specs.Answer.{IsEarly, IsReadRefusal, IsRunAnswer, RefusedAsRead, TellsNoFault}
 use Rattle.reuse_session.specs.Calls.{folder_of, IsCall, LeavesRun}
-use Rattle.reuse_session.specs.Entry.{paths_of}
+use Rattle.reuse_tree.specs.Entry.{paths_of}
 use Rattle.reuse_session.specs.Journal.{Recorded, State}
 use Rattle.reuse_session.specs.JournalFiles.{entry_path, entry_in, number_of, EntrySays}
-use Rattle.reuse_session.specs.Listing.{ArePaths}
+use Rattle.reuse_tree.specs.Listing.{ArePaths}
 use Rattle.reuse_session.specs.Machine.{Snapshots}
 use Rattle.reuse_session.specs.RevertCalls.{changed_or_none, as_run, left_of, LeavesRevert, Reverts, RevertFollows, TakesBack}
 use Rattle.reuse_session.specs.Session.{store_of, memory_of, StandsOn, StandsAt, Runs}
 use Rattle.reuse_session.specs.Showing.{lists, IsUnused}
-use Rattle.reuse_session.specs.Tree.{undo_folder_of}
+use Rattle.reuse_tree.specs.Tree.{undo_folder_of}
 use Rattle.reuse_session.specs.declared.command.Command.{Command}
 use Rattle.reuse_session.specs.declared.command.Command.TheVariants.{Revert}
-use Rattle.reuse_session.specs.declared.journal.entry.Entry.{Entry}
+use Rattle.reuse_tree.specs.declared.journal.entry.Entry.{Entry}
 use Rattle.reuse_session.specs.declared.reply.Refusal.{Refusal}
 use Rattle.reuse_session.specs.declared.reply.Refusal.TheVariants.{Fault, Interrupted, NoSuchStep}
 use Rattle.reuse_session.specs.declared.reply.Reply.{Reply}

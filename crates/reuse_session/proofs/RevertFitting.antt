@@ -18,12 +18,12 @@ use Rattle.reuse_tree.specs.declared.change.Change.{Change}
 use Rattle.reuse_tree.specs.declared.change.Change.TheVariants.{Make, Drop, Splice}
 use Rattle.reuse_session.specs.Clash.{is_clash}
 use Rattle.reuse_session.specs.Edit.{Edit, made, dropped}
-use Rattle.reuse_session.specs.Entry.{makes, paths_of, touches, IsEntry}
-use Rattle.reuse_session.specs.EntryText.{HavePaths}
-use Rattle.reuse_session.specs.Listing.{ArePaths, is_among}
+use Rattle.reuse_tree.specs.Entry.{makes, paths_of, touches, IsEntry}
+use Rattle.reuse_tree.specs.EntryText.{HavePaths}
+use Rattle.reuse_tree.specs.Listing.{ArePaths, is_among}
 use Rattle.reuse_session.specs.Reverting.{stands_as_written, is_short, put_back, taken_back, taken_back_on, stuck_on, unless_stuck, revert_edits}
-use Rattle.reuse_session.specs.Tree.{is_of_tree}
-use Rattle.reuse_session.specs.declared.entry.Way.TheVariants.{Undo}
+use Rattle.reuse_tree.specs.Tree.{is_of_tree}
+use Rattle.reuse_tree.specs.declared.way.Way.TheVariants.{Undo}
 use Rattle.reuse_session.proofs.Planning.{paths_at, IsFit, AreEdits}
 use Rattle.reuse_session.proofs.Testing.{clashes_keys}
 

@@ -24,12 +24,12 @@ use Rattle.reuse_tree.proofs.FileMaps.{same_files}
 use Rattle.reuse_text.specs.declared.TheConstants.{LONGEST_FILE}
 use Rattle.reuse_session.specs.Clash.{is_clash}
 use Rattle.reuse_session.specs.Edit.{Edit, made, dropped}
-use Rattle.reuse_session.specs.Entry.{makes, removed_by, written_by, touches, fixed_size, change_size, AreAllSealed, IsEntry, IsSmall, LeadsAll}
-use Rattle.reuse_session.specs.Listing.{is_among}
+use Rattle.reuse_tree.specs.Entry.{makes, removed_by, written_by, touches, fixed_size, change_size, AreAllSealed, IsEntry, IsSmall, LeadsAll}
+use Rattle.reuse_tree.specs.Listing.{is_among}
 use Rattle.reuse_session.specs.Outcome.{edited, edit_size, is_too_many, tree_after, outcome_of}
 use Rattle.reuse_session.specs.Reverting.{stands_at, has_digest, is_as_left, stands_as_written, is_short, put_back, taken_back, taken_back_on, stuck_on, unless_stuck, revert_edits}
 use Rattle.reuse_session.specs.declared.command.Command.TheVariants.{Revert}
-use Rattle.reuse_session.specs.declared.entry.Way.TheVariants.{Undo}
+use Rattle.reuse_tree.specs.declared.way.Way.TheVariants.{Undo}
 use Rattle.reuse_session.specs.declared.reply.Refusal.TheVariants.{TooMany}
 use Rattle.reuse_session.proofs.Planning.{paths_at, EachHas, edited_other, edited_has}
 use Rattle.reuse_session.proofs.RevertFitting.{backs, still_ascend, still_among}

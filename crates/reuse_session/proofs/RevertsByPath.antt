@@ -11,12 +11,12 @@ use Rattle.reuse_tree.specs.Change.{path_of, Turns}
 use Rattle.reuse_tree.specs.declared.change.Change.{Change}
 use Rattle.reuse_session.specs.Clash.{is_clash}
 use Rattle.reuse_session.specs.Edit.{Edit}
-use Rattle.reuse_session.specs.Entry.{makes, touches, IsEntry, IsSmall, LeadsAll}
-use Rattle.reuse_session.specs.Listing.{is_among}
+use Rattle.reuse_tree.specs.Entry.{makes, touches, IsEntry, IsSmall, LeadsAll}
+use Rattle.reuse_tree.specs.Listing.{is_among}
 use Rattle.reuse_session.specs.Outcome.{edited, outcome_of}
 use Rattle.reuse_session.specs.Reverting.{taken_back, taken_back_on, stuck_on, unless_stuck, revert_edits}
 use Rattle.reuse_session.specs.declared.command.Command.TheVariants.{Revert}
-use Rattle.reuse_session.specs.declared.entry.Way.TheVariants.{Undo}
+use Rattle.reuse_tree.specs.declared.way.Way.TheVariants.{Undo}
 use Rattle.reuse_session.proofs.Planning.{paths_at, EachHas, edited_other, edited_has}
 use Rattle.reuse_session.proofs.RevertFitting.{backs, back_on, edits_are, still_ascend, still_among}
 use Rattle.reuse_session.proofs.RevertLaws.{takes_to, not_both}

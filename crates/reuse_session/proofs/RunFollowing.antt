@@ -6,14 +6,14 @@ use Rattle.reuse_tree.specs.Files.{Files, AreFiles}
 use Rattle.reuse_tree.specs.declared.change.Change.{Change}
 use Rattle.reuse_session.specs.Answer.{TellsNoFault, IsOfPlan}
 use Rattle.reuse_session.specs.Command.{name_of}
-use Rattle.reuse_session.specs.Entry.{paths_of, IsEntry, LeadsAll}
+use Rattle.reuse_tree.specs.Entry.{paths_of, IsEntry, LeadsAll}
 use Rattle.reuse_session.specs.Journal.{Journal, State}
 use Rattle.reuse_session.specs.Machine.{Snapshots, Step, is_full, ran_by}
 use Rattle.reuse_session.specs.Outcome.{outcome_of}
 use Rattle.reuse_session.specs.Plan.{IsRefusalOf}
 use Rattle.reuse_session.specs.Session.{HoldsSnapshots, StandsOn, StandsAt, Follows, IsRun, Runs}
 use Rattle.reuse_session.specs.declared.command.Command.{Command}
-use Rattle.reuse_session.specs.declared.entry.Way.TheVariants as way
+use Rattle.reuse_tree.specs.declared.way.Way.TheVariants as way
 use Rattle.reuse_session.specs.declared.reply.Reply.{Reply}
 use Rattle.reuse_session.specs.declared.reply.Reply.TheVariants.{Changed, NothingChanged}
 use Rattle.reuse_session.specs.declared.reply.Refusal.{Refusal}

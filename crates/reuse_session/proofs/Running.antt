@@ -3,7 +3,7 @@ use Rattle.std.proofs.Common.{◌≡◌, ◌+◌, List, length, Result, sym, ap,
 use Rattle.std.proofs.lemmas.List.Sorted.{length_permutation, sum_by-IsPermutation}
 use Rattle.reuse_tree.specs.Files.{Files}
 use Rattle.reuse_tree.specs.declared.change.Change.{Change}
-use Rattle.reuse_session.specs.Entry.{change_size, entry_size}
+use Rattle.reuse_tree.specs.Entry.{change_size, entry_size}
 use Rattle.reuse_session.specs.Journal.{State}
 use Rattle.reuse_session.specs.Machine.{is_full}
 use Rattle.reuse_session.specs.Outcome.{Edit, edit_count, recorded_size}

@@ -10,13 +10,13 @@ use Rattle.reuse_tree.specs.Files.{Files}
 use Rattle.reuse_tree.specs.Change.{path_of, is_sealed}
 use Rattle.reuse_tree.specs.declared.change.Change.{Change}
 use Rattle.reuse_tree.proofs.Sealed.{same_after, same_before}
-use Rattle.reuse_session.specs.Entry.{IsReady, CanBeMade, AreAllSealed}
+use Rattle.reuse_tree.specs.Entry.{IsReady, CanBeMade, AreAllSealed}
 use Rattle.reuse_session.specs.Journal.{State}
 use Rattle.reuse_session.specs.Seals.{IsReadyByRange, tree_for, IsAsLeft, IsUntouched, IsToldApart}
 use Rattle.reuse_session.specs.Session.{IsRun}
 use Rattle.reuse_session.specs.declared.command.Command.{Command}
-use Rattle.reuse_session.specs.declared.entry.Way.{Way}
-use Rattle.reuse_session.specs.declared.entry.Way.TheVariants.{Do, Undo}
+use Rattle.reuse_tree.specs.declared.way.Way.{Way}
+use Rattle.reuse_tree.specs.declared.way.Way.TheVariants.{Do, Undo}
 use Rattle.reuse_session.proofs.Planning.{sealed_each}
 
 -- a file that is ready is so by range and length

@@ -7,19 +7,19 @@ use Rattle.reuse_tree.specs.Files.{Files, AreFiles, Clashes, tree_of}
 use Rattle.reuse_tree.specs.declared.change.Change.{Change}
 use Rattle.reuse_session.specs.Answer.{IsEarly, IsFailure, IsReadRefusal, IsRollBackRefusal}
 use Rattle.reuse_session.specs.Carried.{SetsHead, IsRolledBack, StopsRollingBack}
-use Rattle.reuse_session.specs.Entry.{IsEntry, SomeMade, ArePartlyMade, CanBeSetBack, IsFirstWithout}
-use Rattle.reuse_session.specs.Head.{way_of, IsGoodHead, IsSoundHead}
+use Rattle.reuse_tree.specs.Entry.{IsEntry, SomeMade, ArePartlyMade, CanBeSetBack, IsFirstWithout}
+use Rattle.reuse_tree.specs.Head.{way_of, IsGoodHead, IsSoundHead}
 use Rattle.reuse_session.specs.History.{Memory, head_listing}
 use Rattle.reuse_session.specs.Journal.{Recorded, Journal, State}
 use Rattle.reuse_session.specs.JournalFiles.{head_path, entry_path, head_of, number_of, entry_in, HeadSays, EntrySays, IsKeptIn, KeepsJournal}
 use Rattle.reuse_session.specs.Opening.{IsReadable, IsRead, IsSettled, IsStuckAt}
 use Rattle.reuse_session.specs.Session.{Remembers}
 use Rattle.reuse_session.specs.Standing.{IsTree, IsStanding, IsUnderWay}
-use Rattle.reuse_session.specs.Tree.{is_of_tree, undo_folder_of}
-use Rattle.reuse_session.specs.declared.entry.Way.{Way}
-use Rattle.reuse_session.specs.declared.journal.entry.Entry.{Entry}
-use Rattle.reuse_session.specs.declared.journal.head.Pending.{Pending}
-use Rattle.reuse_session.specs.declared.journal.head.PendingWay.{PendingWay}
+use Rattle.reuse_tree.specs.Tree.{is_of_tree, undo_folder_of}
+use Rattle.reuse_tree.specs.declared.way.Way.{Way}
+use Rattle.reuse_tree.specs.declared.journal.entry.Entry.{Entry}
+use Rattle.reuse_tree.specs.declared.journal.head.Pending.{Pending}
+use Rattle.reuse_tree.specs.declared.journal.head.PendingWay.{PendingWay}
 use Rattle.reuse_session.specs.declared.reply.Cause.{Cause}
 use Rattle.reuse_session.specs.declared.reply.Refusal.{Refusal}
 use Rattle.reuse_session.specs.declared.reply.Refusal.TheVariants as refusals

@@ -3,14 +3,14 @@ use Rattle.std.proofs.Common.{◌≡◌, ◌⊎◌, inl, inr, ⊎_elim, ℕ, ◌
 use Rattle.reuse_tree.specs.Path.{journal_folder}
 use Rattle.reuse_tree.specs.Files.{Files, AreFiles, tree_of}
 use Rattle.reuse_session.specs.Carried.{IsCarriedOut, IsStopped}
-use Rattle.reuse_session.specs.Entry.{IsEntry, LeadsBy, SomeMade}
-use Rattle.reuse_session.specs.Head.{way_of, IsGoodHead}
+use Rattle.reuse_tree.specs.Entry.{IsEntry, LeadsBy, SomeMade}
+use Rattle.reuse_tree.specs.Head.{way_of, IsGoodHead}
 use Rattle.reuse_session.specs.Journal.{Recorded, State}
 use Rattle.reuse_session.specs.JournalFiles.{entry_path, head_of, number_of, IsKeptIn}
 use Rattle.reuse_session.specs.Session.{IsSameBut}
 use Rattle.reuse_session.specs.Standing.{IsTree, IsStanding, IsStep, InDoubt}
-use Rattle.reuse_session.specs.Tree.{undo_folder_of}
-use Rattle.reuse_session.specs.declared.journal.head.PendingWay.{PendingWay}
+use Rattle.reuse_tree.specs.Tree.{undo_folder_of}
+use Rattle.reuse_tree.specs.declared.journal.head.PendingWay.{PendingWay}
 use Rattle.reuse_tree.specs.declared.change.Change.{Change}
 use Rattle.reuse_session.proofs.TreeLemmas.{tree_are_files}
 use Rattle.reuse_session.proofs.Walk.{leads_once, none_outside}

@@ -7,18 +7,18 @@ use Rattle.reuse_tree.specs.Path.{lies_under}
 use Rattle.reuse_tree.specs.Files.{Files, Clashes, tree_of}
 use Rattle.reuse_tree.specs.declared.fault.StoreFault.TheVariants as faults
 use Rattle.reuse_session.specs.Answer.{IsEarly, TellsNoFault, IsReadRefusal, IsPutRefusal, IsFailure, HasClash, IsNoClash}
-use Rattle.reuse_session.specs.Head.{IsSoundHead}
+use Rattle.reuse_tree.specs.Head.{IsSoundHead}
 use Rattle.reuse_session.specs.History.{Memory}
 use Rattle.reuse_session.specs.Journal.{Recorded, Journal, State, ahead, moved_on}
 use Rattle.reuse_session.specs.Machine.{is_full}
 use Rattle.reuse_session.specs.JournalFiles.{head_path, entry_path, head_of, number_of, EntrySays, IsFree, IsJournalPath}
-use Rattle.reuse_session.specs.declared.journal.entry.Entry.{Entry}
+use Rattle.reuse_tree.specs.declared.journal.entry.Entry.{Entry}
 use Rattle.reuse_session.specs.Session.{store_of, memory_of, listed_as, listed_count, IsSameBut, Remembers, StandsOn}
 use Rattle.reuse_session.specs.Standing.{IsTree, IsStanding}
-use Rattle.reuse_session.specs.Tree.{undo_folder_of}
+use Rattle.reuse_tree.specs.Tree.{undo_folder_of}
 use Rattle.reuse_session.specs.declared.session.Session.{Session}
-use Rattle.reuse_session.specs.declared.entry.Way.{Way}
-use Rattle.reuse_session.specs.declared.entry.Way.TheVariants.{Do, Undo}
+use Rattle.reuse_tree.specs.declared.way.Way.{Way}
+use Rattle.reuse_tree.specs.declared.way.Way.TheVariants.{Do, Undo}
 use Rattle.reuse_session.specs.declared.reply.Cause.TheVariants as causes
 use Rattle.reuse_session.specs.declared.reply.Reply.{Reply}
 use Rattle.reuse_session.specs.declared.reply.Refusal.{Refusal}

@@ -6,11 +6,11 @@ use Rattle.std.proofs.lemmas.Option.{none-some, same_Some}
 use Rattle.reuse_tree.specs.Files.{Files}
 use Rattle.reuse_tree.specs.Change.{path_of}
 use Rattle.reuse_tree.specs.declared.change.Change.{Change}
-use Rattle.reuse_session.specs.Entry.{paths_of, CanBeMade, IsFirstWithout, IsFirstStuck}
+use Rattle.reuse_tree.specs.Entry.{paths_of, CanBeMade, IsFirstWithout, IsFirstStuck}
 use Rattle.reuse_session.specs.Fates.{first_refusal, IsFateOf, AreFatesOf}
 use Rattle.reuse_session.specs.Journal.{Recorded, State, Travels}
 use Rattle.reuse_session.specs.Previews.{Foresees}
-use Rattle.reuse_session.specs.declared.entry.Way.{Way}
+use Rattle.reuse_tree.specs.declared.way.Way.{Way}
 use Rattle.reuse_session.specs.declared.fate.Fate.{Fate}
 use Rattle.reuse_session.specs.declared.fate.Fate.TheVariants as fate
 use Rattle.reuse_session.specs.declared.reply.Refusal.{Refusal}

@@ -5,8 +5,8 @@ use Rattle.std.proofs.Math.Seq.{get_or-append_seam}
 use Rattle.reuse_tree.specs.Files.{Files}
 use Rattle.reuse_tree.specs.declared.change.Change.{Change}
 use Rattle.reuse_session.specs.Command.{name_of}
-use Rattle.reuse_session.specs.Entry.{IsEntry, LeadsBy}
-use Rattle.reuse_session.specs.Head.{way_of, IsGoodHead, IsSoundHead}
+use Rattle.reuse_tree.specs.Entry.{IsEntry, LeadsBy}
+use Rattle.reuse_tree.specs.Head.{way_of, IsGoodHead, IsSoundHead}
 use Rattle.reuse_session.specs.History.{Memory, head_listing, remember_run, remember_moved}
 use Rattle.reuse_session.specs.Journal.{Recorded, Journal, State, moved_on}
 use Rattle.reuse_session.specs.JournalFiles.{head_of, number_of}
@@ -15,13 +15,13 @@ use Rattle.reuse_session.specs.Outcome.{edits_of, outcome_of}
 use Rattle.reuse_session.specs.Plan.{IsPlan, Records}
 use Rattle.reuse_session.specs.Session.{listed_as, IsRun, IsStepOf, Remembers}
 use Rattle.reuse_session.specs.Standing.{IsStanding, IsStep}
-use Rattle.reuse_session.specs.Tree.{undo_folder_of}
+use Rattle.reuse_tree.specs.Tree.{undo_folder_of}
 use Rattle.reuse_session.specs.declared.command.Command.{Command}
-use Rattle.reuse_session.specs.declared.entry.Way.{Way}
-use Rattle.reuse_session.specs.declared.entry.Way.TheVariants as go
+use Rattle.reuse_tree.specs.declared.way.Way.{Way}
+use Rattle.reuse_tree.specs.declared.way.Way.TheVariants as go
 use Rattle.reuse_session.specs.declared.history.ListedEntry.{ListedEntry}
-use Rattle.reuse_session.specs.declared.journal.head.Pending.{Pending}
-use Rattle.reuse_session.specs.declared.journal.head.PendingWay.TheVariants.{Do}
+use Rattle.reuse_tree.specs.declared.journal.head.Pending.{Pending}
+use Rattle.reuse_tree.specs.declared.journal.head.PendingWay.TheVariants.{Do}
 use Rattle.reuse_session.specs.Answer.{HasClash}
 use Rattle.reuse_session.specs.declared.reply.Cause.{Cause}
 use Rattle.reuse_session.specs.declared.reply.Cause.TheVariants as causes

@@ -9,16 +9,16 @@ use Rattle.std.proofs.lemmas.List.Elements.{Contains-append_left, Contains-appen
 use Rattle.std.proofs.lemmas.List.Folds.{list_any_at, Any-from_list_any}
 use Rattle.reuse_tree.specs.Files.{Files}
 use Rattle.reuse_session.specs.Answer.{IsReadRefusal}
-use Rattle.reuse_session.specs.Entry.{IsEntry, LeadsAll}
+use Rattle.reuse_tree.specs.Entry.{IsEntry, LeadsAll}
 use Rattle.reuse_session.specs.History.{Memory, row_listing}
 use Rattle.reuse_session.specs.Journal.{Recorded, Journal, State, rows_in}
 use Rattle.reuse_session.specs.JournalFiles.{entry_path, entry_in, number_of, EntrySays, IsKeptIn, KeepsJournal}
 use Rattle.reuse_session.specs.Machine.{Kept, Snapshots, row_of}
 use Rattle.reuse_session.specs.Session.{store_of, memory_of, listed_as, Remembers, StandsOn, HoldsSnapshots, Connects, LeadUpTo, LeadOn}
 use Rattle.reuse_session.specs.Showing.{entry_of, row_among, row_in, lists, steps_in, IsUnused, Shows, ShowsAt, LedTo, LedOn}
-use Rattle.reuse_session.specs.Tree.{undo_folder_of}
+use Rattle.reuse_tree.specs.Tree.{undo_folder_of}
 use Rattle.reuse_session.specs.declared.history.ListedEntry.{ListedEntry}
-use Rattle.reuse_session.specs.declared.journal.entry.Entry.{Entry}
+use Rattle.reuse_tree.specs.declared.journal.entry.Entry.{Entry}
 use Rattle.reuse_session.specs.declared.reply.Refusal.{Refusal}
 use Rattle.reuse_session.specs.declared.reply.Refusal.TheVariants.{NoSuchStep}
 use Rattle.reuse_session.specs.declared.reply.Row.{Row}

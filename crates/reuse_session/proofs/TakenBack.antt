@@ -9,19 +9,19 @@ use Rattle.reuse_tree.specs.declared.change.Change.{Change}
 use Rattle.reuse_tree.specs.declared.change.Change.TheVariants as change
 use Rattle.reuse_tree.specs.Change.{path_of, IsProper}
 use Rattle.reuse_tree.proofs.GoodFiles.{put_keeps, remove_keeps}
-use Rattle.reuse_session.specs.declared.entry.Way.{Way}
-use Rattle.reuse_session.specs.declared.entry.Way.TheVariants.{Do, Undo}
-use Rattle.reuse_session.specs.Entry.{IsEntry, ArePartlyMade, IsReady, TurnsBy, CanBeMade, CanBeSetBack, opposite, makes}
-use Rattle.reuse_session.specs.EntryText.{HavePaths}
-use Rattle.reuse_session.specs.Head.{way_of}
+use Rattle.reuse_tree.specs.declared.way.Way.{Way}
+use Rattle.reuse_tree.specs.declared.way.Way.TheVariants.{Do, Undo}
+use Rattle.reuse_tree.specs.Entry.{IsEntry, ArePartlyMade, IsReady, TurnsBy, CanBeMade, CanBeSetBack, opposite, makes}
+use Rattle.reuse_tree.specs.EntryText.{HavePaths}
+use Rattle.reuse_tree.specs.Head.{way_of}
 use Rattle.reuse_session.specs.History.{Memory}
 use Rattle.reuse_session.specs.Journal.{Journal, State}
 use Rattle.reuse_session.specs.JournalFiles.{entry_path, EntrySays}
 use Rattle.reuse_session.specs.Opening.{IsRead}
 use Rattle.reuse_session.specs.Standing.{IsTree, IsUnderWay}
-use Rattle.reuse_session.specs.Tree.{is_of_tree, undo_folder_of}
-use Rattle.reuse_session.specs.declared.journal.entry.Entry.{Entry}
-use Rattle.reuse_session.specs.declared.journal.head.Pending.{Pending}
+use Rattle.reuse_tree.specs.Tree.{is_of_tree, undo_folder_of}
+use Rattle.reuse_tree.specs.declared.journal.entry.Entry.{Entry}
+use Rattle.reuse_tree.specs.declared.journal.head.Pending.{Pending}
 use Rattle.reuse_session.proofs.TreeLemmas.{tree_are_files}
 use Rattle.reuse_session.proofs.JournalLemmas.{entry_good}
 use Rattle.reuse_session.proofs.MadeLemmas.{at_place, back_none, back_more, ready_once, step_with, still_free, stood, with_file}

@@ -12,9 +12,9 @@ use Rattle.reuse_tree.specs.Files.{Files, Clashes, tree_of}
 use Rattle.reuse_tree.specs.declared.change.Change.{Change}
 use Rattle.reuse_tree.specs.Change.{path_of}
 use Rattle.reuse_tree.proofs.FileMaps.{tied, ties}
-use Rattle.reuse_session.specs.declared.entry.Way.{Way}
-use Rattle.reuse_session.specs.Tree.{is_of_tree}
-use Rattle.reuse_session.specs.Entry.{IsReady, CanBeMade, makes}
+use Rattle.reuse_tree.specs.declared.way.Way.{Way}
+use Rattle.reuse_tree.specs.Tree.{is_of_tree}
+use Rattle.reuse_tree.specs.Entry.{IsReady, CanBeMade, makes}
 use Rattle.reuse_session.proofs.OfTree.{tree_at, clash_in_tree, clash_in_files}
 
 -- the test over the paths of files says whether a path clashes with them

@@ -11,7 +11,7 @@ use Rattle.reuse_tree.specs.Files.{Files}
 use Rattle.reuse_session.specs.Downloads.{text_for, ids_refusal, licence_edit, unless_refused, download_edits}
 use Rattle.reuse_session.specs.Edit.{Edit}
 use Rattle.reuse_session.specs.Licence.{licence_path, licence_id}
-use Rattle.reuse_session.specs.Listing.{is_among}
+use Rattle.reuse_tree.specs.Listing.{is_among}
 use Rattle.reuse_session.specs.Outcome.{edited, outcome_of}
 use Rattle.reuse_session.specs.TextsPut.{PutsTexts}
 use Rattle.reuse_session.specs.declared.command.Command.TheVariants.{Download}

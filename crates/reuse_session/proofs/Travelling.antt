@@ -7,20 +7,20 @@ use Rattle.reuse_tree.specs.declared.change.Change.{Change}
 use Rattle.reuse_tree.specs.declared.store.Store.{Ghosts}
 use Rattle.reuse_session.specs.Answer.{IsEarly, IsStop, HasClash}
 use Rattle.reuse_session.specs.Calls.{files_of, folder_of, LeavesTravel}
-use Rattle.reuse_session.specs.Entry.{paths_of, IsEntry, LeadsBy, CanBeMade, IsFirstStuck}
-use Rattle.reuse_session.specs.Head.{listed_way, way_of, IsSoundHead}
+use Rattle.reuse_tree.specs.Entry.{paths_of, IsEntry, LeadsBy, CanBeMade, IsFirstStuck}
+use Rattle.reuse_tree.specs.Head.{listed_way, way_of, IsSoundHead}
 use Rattle.reuse_session.specs.History.{Memory, head_listing, entries_ahead, remember_moved}
 use Rattle.reuse_session.specs.Journal.{Recorded, Journal, State, Travels, ahead, next_count, moved_on, end_of, reply_of}
 use Rattle.reuse_session.specs.JournalFiles.{head_path, IsFree, entry_path, entry_in, number_of, EntrySays, IsKeptIn, KeepsJournal}
 use Rattle.reuse_session.specs.Session.{store_of, memory_of, listed_count, head_room, IsSameBut, HasHeadText, IsStepOf, Remembers, StandsOn}
 use Rattle.reuse_session.specs.Standing.{IsStep, InDoubt, Moves}
-use Rattle.reuse_session.specs.Tree.{undo_folder_of}
-use Rattle.reuse_session.specs.declared.entry.Way.{Way}
-use Rattle.reuse_session.specs.declared.entry.Way.TheVariants.{Do, Undo}
+use Rattle.reuse_tree.specs.Tree.{undo_folder_of}
+use Rattle.reuse_tree.specs.declared.way.Way.{Way}
+use Rattle.reuse_tree.specs.declared.way.Way.TheVariants.{Do, Undo}
 use Rattle.reuse_session.specs.declared.history.ListedEntry.{ListedEntry}
-use Rattle.reuse_session.specs.declared.journal.entry.Entry.{Entry}
-use Rattle.reuse_session.specs.declared.journal.head.Pending.{Pending}
-use Rattle.reuse_session.specs.declared.journal.head.PendingWay.TheVariants as ways
+use Rattle.reuse_tree.specs.declared.journal.entry.Entry.{Entry}
+use Rattle.reuse_tree.specs.declared.journal.head.Pending.{Pending}
+use Rattle.reuse_tree.specs.declared.journal.head.PendingWay.TheVariants as ways
 use Rattle.reuse_session.specs.declared.reply.Reply.{Reply}
 use Rattle.reuse_session.specs.declared.reply.Refusal.{Refusal}
 use Rattle.reuse_session.specs.declared.reply.Refusal.TheVariants.{Moved}

@@ -16,7 +16,7 @@ use Rattle.reuse_tree.specs.Files.{Files, AreFiles, tree_of}
 use Rattle.reuse_tree.specs.Store.{reading_of}
 use Rattle.reuse_tree.specs.declared.store.Reading.{Reading}
 use Rattle.reuse_tree.proofs.FileMaps.{tied}
-use Rattle.reuse_session.specs.Listing.{ArePaths, is_among}
+use Rattle.reuse_tree.specs.Listing.{ArePaths, is_among}
 use Rattle.reuse_session.proofs.Differ.{only_keys}
 
 both : (a b : Bool) → T (a && b) → T a × T b

@@ -9,10 +9,10 @@ use Rattle.reuse_tree.specs.Store.{counted, Puts, PutFails, RemoveFails}
 use Rattle.reuse_tree.specs.declared.fault.StoreFault.{StoreFault}
 use Rattle.reuse_tree.specs.declared.fault.StoreFault.TheVariants.{Device, Clash, Memory}
 use Rattle.reuse_tree.proofs.FileMaps.{get-put_same, get-put_other, get-removed_same, get-removed_other}
-use Rattle.reuse_session.specs.Entry.{makes, TurnsBy, LeadsByOneChange}
-use Rattle.reuse_session.specs.Tree.{is_of_tree, Sets}
-use Rattle.reuse_session.specs.declared.entry.Way.{Way}
-use Rattle.reuse_session.specs.declared.entry.Way.TheVariants.{Do, Undo}
+use Rattle.reuse_tree.specs.Entry.{makes, TurnsBy, LeadsByOneChange}
+use Rattle.reuse_tree.specs.Tree.{is_of_tree, Sets}
+use Rattle.reuse_tree.specs.declared.way.Way.{Way}
+use Rattle.reuse_tree.specs.declared.way.Way.TheVariants.{Do, Undo}
 use Rattle.reuse_session.proofs.Results.{none_is_some}
 use Rattle.reuse_session.proofs.OfTree.{outside}
 

@@ -19,7 +19,7 @@ use Rattle.reuse_header.specs.Annotation as header
 use Rattle.reuse_header.specs.Neighbour.{is_text, neighbour_annotation_of}
 use Rattle.reuse_tree.specs.Files.{Files}
 use Rattle.reuse_session.specs.Covered.{is_covered}
-use Rattle.reuse_session.specs.Listing.{is_folder}
+use Rattle.reuse_tree.specs.Listing.{is_folder}
 use Rattle.reuse_session.specs.Edit.{Edit}
 use Rattle.reuse_session.specs.HeaderFaults.{refused_by}
 use Rattle.reuse_session.specs.Clash.{is_clash}

@@ -4,16 +4,16 @@ use Rattle.reuse_tree.specs.Asked.{OnlyReads, IsLater}
 use Rattle.reuse_tree.specs.Files.{Files, Clashes, tree_of}
 use Rattle.reuse_tree.specs.declared.store.Store.{Ghosts}
 use Rattle.reuse_session.specs.Answer.{IsEarly, IsStop, HasCause, HasClash}
-use Rattle.reuse_session.specs.EntryText.{entry_text}
-use Rattle.reuse_session.specs.Head.{listed_way}
+use Rattle.reuse_tree.specs.EntryText.{entry_text}
+use Rattle.reuse_tree.specs.Head.{listed_way}
 use Rattle.reuse_session.specs.Journal.{State, ahead, next_count}
 use Rattle.reuse_session.specs.JournalFiles.{head_path, entry_path, IsFree}
 use Rattle.reuse_session.specs.Outcome.{edits_of, edit_count, recorded_size}
 use Rattle.reuse_session.specs.Session.{store_of, is_broken, memory_of, listed_count, head_room, IsKept, IsSameBut, IsSameButTwo, HasHeadText, HasEntryText, IsRecordOf, StandsOn, StopsAfter, StopsAfterRun}
-use Rattle.reuse_session.specs.Tree.{undo_folder_of}
+use Rattle.reuse_tree.specs.Tree.{undo_folder_of}
 use Rattle.reuse_session.specs.declared.command.Command.{Command}
-use Rattle.reuse_session.specs.declared.entry.Way.{Way}
-use Rattle.reuse_session.specs.declared.journal.entry.Entry.{Entry}
+use Rattle.reuse_tree.specs.declared.way.Way.{Way}
+use Rattle.reuse_tree.specs.declared.journal.entry.Entry.{Entry}
 use Rattle.reuse_session.specs.declared.reply.Reply.{Reply}
 use Rattle.reuse_session.specs.declared.reply.Reply.TheVariants.{Changed}
 use Rattle.reuse_session.specs.declared.reply.Refusal.{Refusal}

@@ -6,10 +6,10 @@ use Rattle.reuse_tree.specs.Asked.{OnlyReads}
 use Rattle.reuse_tree.specs.Change.{path_of}
 use Rattle.reuse_tree.specs.declared.store.Store.{Ghosts}
 use Rattle.reuse_tree.specs.declared.change.Change.{Change}
-use Rattle.reuse_session.specs.Entry.{opposite, LeadsBy, SomeMade, ArePartlyMade, IsReady, LeadsByOneChange}
+use Rattle.reuse_tree.specs.Entry.{opposite, LeadsBy, SomeMade, ArePartlyMade, IsReady, LeadsByOneChange}
 use Rattle.reuse_session.specs.JournalFiles.{head_path}
-use Rattle.reuse_session.specs.Tree.{Sets, undo_folder_of}
-use Rattle.reuse_session.specs.declared.entry.Way.{Way}
+use Rattle.reuse_tree.specs.Tree.{Sets, undo_folder_of}
+use Rattle.reuse_tree.specs.declared.way.Way.{Way}
 
 -- the folder of the journal has this head then, and its other files stay
 abbrev pub SetsHead : List ℕ → Files → Files → Type 0

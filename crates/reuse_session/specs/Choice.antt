@@ -5,7 +5,7 @@ use Rattle.std.specs.Str.{chars}
 use Rattle.reuse_dep5.specs.declared.glob.GlobPiece.{GlobPiece}
 use Rattle.reuse_dep5.specs.GlobMatch.{matches_glob}
 use Rattle.reuse_session.specs.Covered.{is_covered}
-use Rattle.reuse_session.specs.Listing.{is_among}
+use Rattle.reuse_tree.specs.Listing.{is_among}
 use Rattle.reuse_session.specs.declared.command.Scope.{Scope}
 
 -- the path is listed, where there is a list

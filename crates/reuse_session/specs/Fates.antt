@@ -14,7 +14,7 @@ use Rattle.reuse_session.specs.Command.{has_root}
 use Rattle.reuse_session.specs.Conversion.{conversion_edits}
 use Rattle.reuse_session.specs.Downloads.{id_refusal, download_edits}
 use Rattle.reuse_session.specs.Edit.{Edit}
-use Rattle.reuse_session.specs.Entry.{CanBeMade}
+use Rattle.reuse_tree.specs.Entry.{CanBeMade}
 use Rattle.reuse_session.specs.Outcome.{edits_of, is_too_many}
 use Rattle.reuse_session.specs.Reverting.{taken_back_on}
 use Rattle.reuse_session.specs.TreeStyles.{OwnNames, styles_in}
@@ -24,7 +24,7 @@ use Rattle.reuse_session.specs.declared.command.Command.TheVariants.{Annotate, C
 use Rattle.reuse_session.specs.declared.command.Place.{Place}
 use Rattle.reuse_session.specs.declared.command.Place.TheVariants as place
 use Rattle.reuse_session.specs.declared.command.Scope.{Scope}
-use Rattle.reuse_session.specs.declared.entry.Way.{Way}
+use Rattle.reuse_tree.specs.declared.way.Way.{Way}
 use Rattle.reuse_session.specs.declared.fate.Fate.{Fate}
 use Rattle.reuse_session.specs.declared.fate.Fate.TheVariants.{Changes, Unchanged, Skipped, Refused}
 use Rattle.reuse_session.specs.declared.licence.LicenceText.{LicenceText}

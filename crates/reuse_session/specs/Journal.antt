@@ -3,10 +3,10 @@ use Rattle.std.specs.Prelude.{◌≡◌, ℕ, true, false, List, [], ◌∷◌, 
 use Rattle.std.specs.List.{All}
 use Rattle.reuse_tree.specs.Files.{Files}
 use Rattle.reuse_tree.specs.declared.change.Change.{Change}
-use Rattle.reuse_session.specs.Entry.{paths_of, LeadsBy, CanBeMade, IsFirstStuck}
+use Rattle.reuse_tree.specs.Entry.{paths_of, LeadsBy, CanBeMade, IsFirstStuck}
 use Rattle.reuse_session.specs.Machine.{Label, row_of}
-use Rattle.reuse_session.specs.declared.entry.Way.{Way}
-use Rattle.reuse_session.specs.declared.entry.Way.TheVariants as way
+use Rattle.reuse_tree.specs.declared.way.Way.{Way}
+use Rattle.reuse_tree.specs.declared.way.Way.TheVariants as way
 use Rattle.reuse_session.specs.declared.reply.Row.{Row}
 use Rattle.reuse_session.specs.declared.reply.Reply.{Reply}
 use Rattle.reuse_session.specs.declared.reply.Reply.TheVariants as reply

@@ -4,12 +4,12 @@ use Rattle.std.specs.List.{All}
 use Rattle.std.specs.FinMap.{get}
 use Rattle.reuse_tree.specs.Path.{lies_under}
 use Rattle.reuse_tree.specs.Files.{Files}
-use Rattle.reuse_session.specs.Head.{IsGoodHead}
-use Rattle.reuse_session.specs.EntryText.{IsGoodEntry}
+use Rattle.reuse_tree.specs.Head.{IsGoodHead}
+use Rattle.reuse_tree.specs.EntryText.{IsGoodEntry}
 use Rattle.reuse_session.specs.Journal.{Recorded, Journal}
-use Rattle.reuse_session.specs.declared.journal.head.Head.{Head}
-use Rattle.reuse_session.specs.declared.journal.head.Pending.{Pending}
-use Rattle.reuse_session.specs.declared.journal.entry.Entry.{Entry}
+use Rattle.reuse_tree.specs.declared.journal.head.Head.{Head}
+use Rattle.reuse_tree.specs.declared.journal.head.Pending.{Pending}
+use Rattle.reuse_tree.specs.declared.journal.entry.Entry.{Entry}
 
 -- ---- their paths
 

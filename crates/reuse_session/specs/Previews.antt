@@ -9,7 +9,7 @@ use Rattle.reuse_session.specs.Journal.{Recorded, State, end_of}
 use Rattle.reuse_session.specs.Machine.{is_full}
 use Rattle.reuse_session.specs.Session.{store_of, IsKept}
 use Rattle.reuse_session.specs.declared.command.Command.{Command}
-use Rattle.reuse_session.specs.declared.entry.Way.{Way}
+use Rattle.reuse_tree.specs.declared.way.Way.{Way}
 use Rattle.reuse_session.specs.declared.fate.Fate.{Fate}
 use Rattle.reuse_session.specs.declared.reply.Refusal.{Refusal}
 use Rattle.reuse_session.specs.declared.reply.Refusal.TheVariants.{Broken, JournalFull, NothingToUndo, NothingToRedo, BadJournal, Fault, Memory}

@@ -8,15 +8,15 @@ use Rattle.reuse_tree.specs.declared.change.Change.{Change}
 use Rattle.reuse_tree.specs.declared.store.Store.{Ghosts}
 use Rattle.reuse_session.specs.Answer.{IsEarly, RefusedAsRead}
 use Rattle.reuse_session.specs.Calls.{folder_of, LeavesRun}
-use Rattle.reuse_session.specs.Entry.{paths_of}
+use Rattle.reuse_tree.specs.Entry.{paths_of}
 use Rattle.reuse_session.specs.Journal.{Recorded, State}
 use Rattle.reuse_session.specs.JournalFiles.{entry_path, number_of, EntrySays}
-use Rattle.reuse_session.specs.Listing.{is_among}
+use Rattle.reuse_tree.specs.Listing.{is_among}
 use Rattle.reuse_session.specs.Machine.{Kept, Snapshots, ran_by}
 use Rattle.reuse_session.specs.Session.{store_of, StandsAt, Follows, Runs}
 use Rattle.reuse_session.specs.Showing.{IsUnused, LedTo}
 use Rattle.reuse_session.specs.declared.command.Command.TheVariants.{Revert}
-use Rattle.reuse_session.specs.declared.journal.entry.Entry.{Entry}
+use Rattle.reuse_tree.specs.declared.journal.entry.Entry.{Entry}
 use Rattle.reuse_session.specs.declared.reply.Refusal.{Refusal}
 use Rattle.reuse_session.specs.declared.reply.Refusal.TheVariants.{NoSuchStep}
 use Rattle.reuse_session.specs.declared.reply.Reply.{Reply}

@@ -13,8 +13,8 @@ use Rattle.reuse_tree.specs.declared.digest.Seal.{Seal}
 use Rattle.reuse_text.specs.declared.TheConstants.{LONGEST_FILE}
 use Rattle.reuse_session.specs.Clash.{is_clash}
 use Rattle.reuse_session.specs.Edit.{Edit, made, dropped}
-use Rattle.reuse_session.specs.Entry.{makes}
-use Rattle.reuse_session.specs.declared.entry.Way.TheVariants.{Undo}
+use Rattle.reuse_tree.specs.Entry.{makes}
+use Rattle.reuse_tree.specs.declared.way.Way.TheVariants.{Undo}
 use Rattle.reuse_session.specs.declared.reply.Refusal.{Refusal}
 use Rattle.reuse_session.specs.declared.reply.Refusal.TheVariants.{Moved}
 

@@ -6,10 +6,10 @@ use Rattle.sha2.specs.Sha256.{sha256}
 use Rattle.reuse_tree.specs.Files.{Files, Clashes}
 use Rattle.reuse_tree.specs.Change.{path_of, IsBeforeByRange, IsAfterByRange}
 use Rattle.reuse_tree.specs.declared.change.Change.{Change}
-use Rattle.reuse_session.specs.Entry.{makes}
+use Rattle.reuse_tree.specs.Entry.{makes}
 use Rattle.reuse_session.specs.Journal.{State}
-use Rattle.reuse_session.specs.declared.entry.Way.{Way}
-use Rattle.reuse_session.specs.declared.entry.Way.TheVariants.{Do, Undo}
+use Rattle.reuse_tree.specs.declared.way.Way.{Way}
+use Rattle.reuse_tree.specs.declared.way.Way.TheVariants.{Do, Undo}
 
 -- by range and length alone, the change can be gone through this way where its path holds this
 abbrev pub IsReadyByRange : Way → Change → Option (List ℕ) → Type 0

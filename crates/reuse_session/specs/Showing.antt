@@ -3,7 +3,7 @@ use Rattle.std.specs.Prelude.{◌≡◌, ◌≢◌, ◌⊎◌, ℕ, Bool, true, 
 use Rattle.std.specs.List.{All, Contains, list_any}
 use Rattle.reuse_tree.specs.Files.{Files}
 use Rattle.reuse_tree.specs.declared.change.Change.{Change}
-use Rattle.reuse_session.specs.Entry.{IsEntry, LeadsAll}
+use Rattle.reuse_tree.specs.Entry.{IsEntry, LeadsAll}
 use Rattle.reuse_session.specs.History.{Memory, row_listing}
 use Rattle.reuse_session.specs.Journal.{Recorded, Journal}
 use Rattle.reuse_session.specs.JournalFiles.{number_of}

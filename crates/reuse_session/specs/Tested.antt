@@ -1,8 +1,8 @@
 -- What is tested of each change of an entry, before one of them is made.
 use Rattle.reuse_tree.specs.Files.{Files}
 use Rattle.reuse_tree.specs.declared.change.Change.{Change}
-use Rattle.reuse_session.specs.Entry.{opposite, CanBeMade, CanBeSetBack}
-use Rattle.reuse_session.specs.declared.entry.Way.{Way}
+use Rattle.reuse_tree.specs.Entry.{opposite, CanBeMade, CanBeSetBack}
+use Rattle.reuse_tree.specs.declared.way.Way.{Way}
 use Rattle.reuse_session.specs.declared.perform.Aim.{Aim}
 use Rattle.reuse_session.specs.declared.perform.Aim.TheVariants.{Go, SetBack}
 

@@ -7,7 +7,7 @@ use Rattle.reuse_tree.specs.Path.{lies_under}
 use Rattle.reuse_tree.specs.Files.{Files}
 use Rattle.reuse_session.specs.Choice.{is_chosen}
 use Rattle.reuse_session.specs.Command.{paths_among}
-use Rattle.reuse_session.specs.Listing.{is_folder}
+use Rattle.reuse_tree.specs.Listing.{is_folder}
 use Rattle.reuse_session.specs.declared.command.Place.{Place}
 use Rattle.reuse_session.specs.declared.command.Place.TheVariants.{Root, Path}
 use Rattle.reuse_session.specs.declared.command.Scope.{Scope}

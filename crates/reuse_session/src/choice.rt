@@ -4,13 +4,12 @@ ghost use Rattle.std.specs.Str.{chars};
 ghost use Rattle.reuse_dep5.specs.GlobMatch.{matches_glob};
 ghost use Rattle.reuse_notice.specs.Sets.{set_of};
 ghost use Rattle.reuse_session.specs.Choice.{matches_one};
-ghost use Rattle.reuse_session.specs.Listing.{is_among};
+ghost use Rattle.reuse_tree.specs.Listing.{is_among};
 
-use crate::items::Items;
 use crate::listing::is_among;
 use crate::places::sorted;
 use reuse_dep5::{Glob, glob_matches};
-use reuse_tree::PathText;
+use reuse_tree::{Items, PathText};
 use std::marker::Model;
 
 /// Paths in byte order, without repeats.
@@ -21,7 +20,7 @@ pub struct PathList {
 
 impl Model for PathList {
     ghost use Rattle.std.specs.Prelude.{List, ℕ};
-    ghost use Rattle.reuse_session.specs.Listing.{ArePaths};
+    ghost use Rattle.reuse_tree.specs.Listing.{ArePaths};
 
     ghost Value = { List (List ℕ) };
 

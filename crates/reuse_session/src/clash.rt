@@ -2,7 +2,7 @@
 ghost use Rattle.std.specs.Prelude.{◌≡◌, IfOk};
 ghost use Rattle.std.specs.List.{list_any};
 ghost use Rattle.reuse_tree.specs.Path.{lies_under};
-ghost use Rattle.reuse_session.specs.Listing.{ArePaths};
+ghost use Rattle.reuse_tree.specs.Listing.{ArePaths};
 ghost use Rattle.reuse_session.specs.Clash.{is_clash_of};
 
 use crate::listing::{is_among, is_folder};

@@ -1,10 +1,9 @@
 //! The changes of an entry, as a command holds them.
 ghost use Rattle.std.specs.Prelude.{◌≡◌};
-ghost use Rattle.reuse_session.specs.EntryText.{HavePaths};
-ghost use Rattle.reuse_session.specs.Entry.{IsEntry};
+ghost use Rattle.reuse_tree.specs.EntryText.{HavePaths};
+ghost use Rattle.reuse_tree.specs.Entry.{IsEntry};
 
-use crate::journal::Changes;
-use reuse_tree::Change;
+use reuse_tree::{Change, Changes};
 use std::marker::Model;
 
 /// The changes of an entry of the journal.
@@ -16,8 +15,8 @@ pub struct EntryChanges {
 impl Model for EntryChanges {
     ghost use Rattle.std.specs.Prelude.{List};
     ghost use Rattle.reuse_tree.specs.declared.change.Change.{Change};
-    ghost use Rattle.reuse_session.specs.Entry.{IsEntry};
-    ghost use Rattle.reuse_session.specs.EntryText.{HavePaths};
+    ghost use Rattle.reuse_tree.specs.Entry.{IsEntry};
+    ghost use Rattle.reuse_tree.specs.EntryText.{HavePaths};
 
     ghost Value = { List Change };
 

@@ -3,9 +3,8 @@ ghost use Rattle.std.specs.Prelude.{◌≡◌, IfOk, IfErr};
 ghost use Rattle.reuse_session.specs.Previews.{IsLookRefusal, IsTold};
 
 use crate::command::Command;
-use crate::items::Items;
 use crate::reply::Refusal;
-use reuse_tree::PathText;
+use reuse_tree::{Items, PathText};
 
 /// What a call would do at a path.
 #[derive(Debug, Drop)]

@@ -1,17 +1,14 @@
 //! What a session remembers of the journal: its entries' labels, and not their changes.
 ghost use Rattle.std.specs.Prelude.{◌≡◌, ◌<◌, ◌≤◌, ◌+◌, ◌*◌, ◌++◌, ◌∷◌, [], Option, None, Some, List, IfOk, length, map, true, false};
 ghost use Rattle.std.specs.Option.{option_copied};
-ghost use Rattle.reuse_session.specs.Head.{head_text, IsGoodHead, IsSoundHead};
+ghost use Rattle.reuse_tree.specs.Head.{head_text, IsGoodHead, IsSoundHead};
 ghost use Rattle.reuse_session.specs.History.{Memory, head_listing, row_listing, rows_listing, remember_run, entries_ahead, remember_moved};
 ghost use Rattle.reuse_session.specs.Machine.{is_full};
 ghost use Rattle.reuse_session.specs.Showing.{lists, entry_of, row_in};
 ghost use Rattle.reuse_session.specs.declared.history.ListedEntry.{ListedEntry};
 
-use crate::command::CommandName;
-use crate::entry::Way;
-use crate::journal::{EntryNumbers, Head, Pending, encode_head};
-use crate::moment::Moment;
 use crate::reply::{Row, Rows};
+use reuse_tree::{CommandName, EntryNumbers, Head, Moment, Pending, Way, encode_head};
 use std::alloc::{AllocError, Global};
 use std::marker::Model;
 

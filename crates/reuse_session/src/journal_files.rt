@@ -6,24 +6,24 @@ ghost use Rattle.reuse_tree.specs.Store.{reading_of};
 ghost use Rattle.reuse_tree.specs.declared.fault.StoreFault.{StoreFault};
 ghost use Rattle.reuse_tree.specs.declared.fault.StoreFault.TheVariants as faults;
 ghost use Rattle.reuse_session.specs.Answer.{IsReadRefusal, IsPutRefusal, bad_text, RefusedAsRead};
-ghost use Rattle.reuse_session.specs.Entry.{IsEntry, entry_size};
-ghost use Rattle.reuse_session.specs.EntryText.{entry_text, is_any_sealed, HavePaths};
-ghost use Rattle.reuse_session.specs.Format.{knows};
-ghost use Rattle.reuse_session.specs.Head.{IsSoundHead};
+ghost use Rattle.reuse_tree.specs.Entry.{IsEntry, entry_size};
+ghost use Rattle.reuse_tree.specs.EntryText.{entry_text, is_any_sealed, HavePaths};
+ghost use Rattle.reuse_tree.specs.Format.{knows};
+ghost use Rattle.reuse_tree.specs.Head.{IsSoundHead};
 ghost use Rattle.reuse_session.specs.Session.{HasEntryText, IsSameBut};
-ghost use Rattle.reuse_session.specs.Tree.{Sets, undo_folder_of};
+ghost use Rattle.reuse_tree.specs.Tree.{Sets, undo_folder_of};
 ghost use Rattle.reuse_session.specs.JournalFiles.{digit, head_path, entry_path, HeadSays, EntrySays};
-ghost use Rattle.reuse_session.specs.declared.journal.head.Head.{Head};
-ghost use Rattle.reuse_session.specs.declared.journal.entry.Entry.{Entry};
+ghost use Rattle.reuse_tree.specs.declared.journal.head.Head.{Head};
+ghost use Rattle.reuse_tree.specs.declared.journal.entry.Entry.{Entry};
 ghost use Rattle.reuse_tree.specs.Asked.{OnlyReads, IsLater};
 
-use crate::journal::{
-    DecodeFault, Entry, EntryNumbers, Head, decode_entry, decode_head, encode_entry,
-};
 use crate::known_path::known_path;
 use crate::reply::{Cause, Refusal};
 use reuse_text::LONGEST_FILE;
-use reuse_tree::{PathText, Reading, Store, StoreFault};
+use reuse_tree::{
+    DecodeFault, Entry, EntryNumbers, Head, PathText, Reading, Store, StoreFault, decode_entry,
+    decode_head, encode_entry,
+};
 use std::alloc::{AllocError, Global};
 use std::marker::Model;
 

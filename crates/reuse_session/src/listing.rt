@@ -7,7 +7,7 @@ ghost use Rattle.std.specs.Cmp.Lexicographic.{slice_cmp};
 ghost use Rattle.std.specs.List.Sorted.{IsPartitionPoint};
 ghost use Rattle.std.specs.FinMap.{keys};
 ghost use Rattle.reuse_tree.specs.Files.{tree_of};
-ghost use Rattle.reuse_session.specs.Listing.{ArePaths, is_among, is_folder_of};
+ghost use Rattle.reuse_tree.specs.Listing.{ArePaths, is_among, is_folder_of};
 ghost use Rattle.reuse_tree.specs.Asked.{OnlyReads, FailsAsRead};
 
 use reuse_text::Bytes;

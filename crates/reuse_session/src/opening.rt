@@ -4,25 +4,24 @@ ghost use Rattle.std.specs.FinMap as map;
 ghost use Rattle.std.specs.List.{All, AllZip};
 ghost use Rattle.reuse_tree.specs.Path.{journal_folder};
 ghost use Rattle.reuse_session.specs.Answer.{HasCause, IsEarly, IsNoClash, IsFailure, IsReadRefusal, IsOpenRefusal, RefusedAsRead};
-ghost use Rattle.reuse_session.specs.Head.{listed, IsSoundHead};
-ghost use Rattle.reuse_session.specs.declared.journal.head.Head.{Head};
+ghost use Rattle.reuse_tree.specs.Head.{listed, IsSoundHead};
+ghost use Rattle.reuse_tree.specs.declared.journal.head.Head.{Head};
 ghost use Rattle.reuse_session.specs.Journal.{Recorded, Journal, State};
 ghost use Rattle.reuse_session.specs.JournalFiles.{head_path, entry_path, number_of, HeadSays, EntrySays};
 ghost use Rattle.reuse_session.specs.Opening.{least, listed_entry, named, IsReadable, IsListedIn, IsFoundAt, IsLeastFound, NoFileAbove, IsFirstUnreadable, IsFirstBad, IsRead, IsSettled, IsStuckAt, MovesToOpen, MovesFor, OpensOn, StopsOpening};
 ghost use Rattle.reuse_session.specs.Session.{head_room, listed_count, HasHeadText, IsSameBut, Remembers};
 ghost use Rattle.reuse_session.specs.Standing.{IsStanding, IsUnderWay, InDoubt};
-ghost use Rattle.reuse_session.specs.Tree.{undo_folder_of};
+ghost use Rattle.reuse_tree.specs.Tree.{undo_folder_of};
 ghost use Rattle.reuse_session.specs.declared.reply.Cause.{Cause};
 ghost use Rattle.reuse_session.specs.declared.reply.Cause.TheVariants as causes;
 ghost use Rattle.reuse_tree.specs.Asked.{OnlyReads, IsLater};
 
 use crate::history::{History, ListedEntry};
-use crate::journal::{Entry, Head, Pending};
 use crate::journal_files::{HeadPath, entry_path, read_entry, read_head};
 use crate::known_path::known_path;
 use crate::reply::Refusal;
 use crate::roll_back::roll_back;
-use reuse_tree::{Reading, Store};
+use reuse_tree::{Entry, Head, Pending, Reading, Store};
 use std::alloc::{AllocError, Global};
 
 /// Reads the journal of a store, and rolls back what is pending. It answers what the head lists then.

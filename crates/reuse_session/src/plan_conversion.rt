@@ -3,7 +3,7 @@ ghost use Rattle.std.specs.Prelude.{◌≡◌, ◌<◌, ◌≤◌, IfOk, IfErr, 
 ghost use Rattle.reuse_session.specs.Reading.{get, keys, reading_of, tree_of, Files, IsOfPlan, ReadsAlone};
 ghost use Rattle.reuse_tree.specs.Change.{sealed_drop, sealed_make};
 ghost use Rattle.reuse_session.specs.Refused.{IsNoFault, dep5_refusal};
-ghost use Rattle.reuse_session.specs.Listing.{is_among};
+ghost use Rattle.reuse_tree.specs.Listing.{is_among};
 ghost use Rattle.reuse_session.specs.Conversion.{dep5_path, toml_path, conversion_edits};
 ghost use Rattle.reuse_dep5.specs.Conversion.{converted};
 ghost use Rattle.reuse_session.specs.Plan.{AnswersEdits};

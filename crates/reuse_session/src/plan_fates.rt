@@ -22,7 +22,6 @@ use crate::listing::tree_paths;
 use crate::places::{has_root, worked_paths};
 use crate::plan::plan_path;
 use crate::plan_conversion::plan_conversion;
-use crate::plan_size::is_too_many;
 use crate::plan_styles::read_styles;
 use crate::planned::{Planned, of_changes, refused};
 use crate::reply::Refusal;
@@ -30,7 +29,7 @@ use crate::revert_fates::plan_revert;
 use crate::skipped::is_skipped;
 use reuse_header::How;
 use reuse_notice::Additions;
-use reuse_tree::{Change, PathText, Store};
+use reuse_tree::{Change, PathText, Store, is_too_many};
 use std::alloc::{AllocError, Global};
 
 /// The fates of the paths that a run of the command goes through, on the tree that the store has.

@@ -6,7 +6,7 @@ ghost use Rattle.reuse_session.specs.TreeStyles.{OwnNames};
 ghost use Rattle.reuse_notice.specs.declared.adding.Additions.{Additions};
 ghost use Rattle.reuse_session.specs.Annotate.{neighbour_of, annotated_at};
 ghost use Rattle.reuse_session.specs.AnnotationPlan.{inside_by, neighbour_by};
-ghost use Rattle.reuse_session.specs.Listing.{is_among};
+ghost use Rattle.reuse_tree.specs.Listing.{is_among};
 ghost use Rattle.reuse_session.specs.Plan.{AnswersEdit, AnswersOf};
 ghost use Rattle.reuse_session.specs.Refused.{IsNoFault};
 ghost use Rattle.reuse_session.specs.Steps.{short_file, StepsTo, StepsBy};

@@ -8,23 +8,22 @@ ghost use Rattle.reuse_tree.specs.Change.{path_of, IsProper};
 ghost use Rattle.reuse_tree.specs.declared.change.Change.TheVariants.{Make, Splice};
 ghost use Rattle.reuse_tree.specs.declared.fault.StoreFault.{StoreFault};
 ghost use Rattle.reuse_session.specs.Answer.{IsTestRefusal};
-ghost use Rattle.reuse_session.specs.Entry.{makes, IsEntry, IsSmall};
-ghost use Rattle.reuse_session.specs.EntryText.{HavePaths};
+ghost use Rattle.reuse_tree.specs.Entry.{makes, IsEntry, IsSmall};
+ghost use Rattle.reuse_tree.specs.EntryText.{HavePaths};
 ghost use Rattle.reuse_session.specs.Plan.{AnswersEdits, MakesEdit};
 ghost use Rattle.reuse_session.specs.Previews.{IsLookRefusal};
 ghost use Rattle.reuse_session.specs.Reverting.{has_digest, is_as_left, revert_edits, stands_as_written, stands_at, taken_back, taken_back_on};
-ghost use Rattle.reuse_session.specs.Tree.{is_of_tree};
-ghost use Rattle.reuse_session.specs.declared.entry.Way.TheVariants.{Undo};
+ghost use Rattle.reuse_tree.specs.Tree.{is_of_tree};
+ghost use Rattle.reuse_tree.specs.declared.way.Way.TheVariants.{Undo};
 
 use crate::clash::is_clash;
-use crate::entry::Way;
 use crate::entry_changes::EntryChanges;
 use crate::listing::tree_paths;
 use crate::perform::makes_any;
 use crate::reply::Refusal;
 use crate::turn::makes;
 use reuse_text::{Bytes, LONGEST_FILE};
-use reuse_tree::{Change, Digest, PathText, Reading, Seal, Store};
+use reuse_tree::{Change, Digest, PathText, Reading, Seal, Store, Way};
 use std::alloc::{AllocError, Global};
 
 /// The changes of a revert, or its first refusal.

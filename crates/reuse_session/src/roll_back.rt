@@ -7,21 +7,20 @@ ghost use Rattle.reuse_tree.specs.Change.{path_of, IsProper};
 ghost use Rattle.reuse_tree.specs.Files.{Files, AreFiles, Clashes, tree_of};
 ghost use Rattle.reuse_session.specs.Answer.{told_of, HasCause, IsEarly, IsNoClash, IsTestRefusal, IsRollBackRefusal, RefusedAsRead};
 ghost use Rattle.reuse_session.specs.Carried.{IsSetBack, IsRolledBack, NotesMoves, StopsRollingBack};
-ghost use Rattle.reuse_session.specs.Entry.{makes, opposite, IsEntry, IsReady, IsSmall, ArePartlyMade, LeadsByOneChange, CanBeSetBack, IsFirstWithout};
+ghost use Rattle.reuse_tree.specs.Entry.{makes, opposite, IsEntry, IsReady, IsSmall, ArePartlyMade, LeadsByOneChange, CanBeSetBack, IsFirstWithout};
 ghost use Rattle.reuse_session.specs.Session.{IsSameBut};
-ghost use Rattle.reuse_session.specs.Tree.{is_of_tree, undo_folder_of};
+ghost use Rattle.reuse_tree.specs.Tree.{is_of_tree, undo_folder_of};
 ghost use Rattle.reuse_session.specs.JournalFiles.{head_path};
 ghost use Rattle.reuse_session.specs.declared.reply.Cause.{Cause};
 ghost use Rattle.reuse_session.specs.declared.reply.Refusal.TheVariants as refusals;
 ghost use Rattle.reuse_tree.specs.Asked.{OnlyReads, IsLater, FailsAsRead};
 
-use crate::entry::Way;
 use crate::journal_files::{HeadPath, put_head};
 use crate::perform::{Aim, opposite, test_each};
 use crate::reply::{Cause, Refusal};
 use crate::turn::{is_ready, put_turned, turned};
 use reuse_text::LONGEST_FILE;
-use reuse_tree::{Change, PathText, Reading, Store, StoreFault};
+use reuse_tree::{Change, PathText, Reading, Store, StoreFault, Way};
 use std::alloc::Global;
 
 /// Tests that each change of a step that is pending this way is made or not, and can be taken back where it is made. Then

@@ -2,16 +2,15 @@
 ghost use Rattle.std.specs.Prelude.{◌≡◌, ◌≢◌, ◌⊎◌, ◌<◌, ◌≤◌, ◌+◌, OnOk, OnErr, IsErrOf, length};
 ghost use Rattle.std.specs.List.{All};
 ghost use Rattle.reuse_tree.specs.Files.{Clashes, tree_of};
-ghost use Rattle.reuse_session.specs.Entry.{IsEntry, CanBeMade, CanGo};
+ghost use Rattle.reuse_tree.specs.Entry.{IsEntry, CanBeMade, CanGo};
 ghost use Rattle.reuse_session.specs.Carried.{IsCarriedOut, IsStopped};
 ghost use Rattle.reuse_session.specs.JournalFiles.{head_path};
 ghost use Rattle.reuse_tree.specs.Asked.{IsLater};
 
-use crate::entry::Way;
 use crate::journal_files::{HeadPath, put_head};
 use crate::perform::perform;
 use crate::reply::Cause;
-use reuse_tree::{Change, Store};
+use reuse_tree::{Change, Store, Way};
 use std::alloc::Global;
 
 /// Puts the head that tells the step as pending, makes its changes this way, and puts the head that lists it. Its caller has tested that

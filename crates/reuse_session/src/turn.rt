@@ -6,14 +6,13 @@ ghost use Rattle.reuse_tree.specs.Files.{Clashes};
 ghost use Rattle.reuse_tree.specs.Change.{path_of, IsProper};
 ghost use Rattle.reuse_session.specs.Parts.{held_in};
 ghost use Rattle.reuse_session.specs.Seals.{IsReadyByRange};
-ghost use Rattle.reuse_session.specs.Tree.{is_of_tree, Sets};
-ghost use Rattle.reuse_session.specs.Entry.{makes, IsSmall, IsReady, LeadsByOneChange, TurnsBy};
+ghost use Rattle.reuse_tree.specs.Tree.{is_of_tree, Sets};
+ghost use Rattle.reuse_tree.specs.Entry.{makes, IsSmall, IsReady, LeadsByOneChange, TurnsBy};
 ghost use Rattle.reuse_tree.specs.Asked.{OnlyReads, IsLater, FailsAsRead};
 
-use crate::entry::Way;
 use crate::reply::Cause;
 use reuse_text::LONGEST_FILE;
-use reuse_tree::{Change, ChangeState, Parts, Reading, Store, StoreFault};
+use reuse_tree::{Change, ChangeState, Parts, Reading, Store, StoreFault, Way};
 use std::alloc::Global;
 
 /// Whether the change, gone through this way, makes a file.

@@ -10,3 +10,15 @@ pub mod Calls
 pub mod CallParts
 pub mod FileMap
 pub mod FaultyStore
+pub mod Entry
+pub mod EntryText
+pub mod EntryReading
+pub mod EntryTests
+pub mod Head
+pub mod HeadReading
+pub mod Json
+pub mod JsonReading
+pub mod Format
+pub mod Decoded
+pub mod Tree
+pub mod Listing

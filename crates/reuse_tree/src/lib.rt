@@ -1,24 +1,39 @@
-//! Paths, changes of one file, and the store that holds a tree of files.
+//! Paths, changes of one file, the store that holds a tree of files, and the texts of the journal.
 #![tactic(auto)]
 
 mod change;
+mod command_name;
 mod digest;
 mod fault;
 mod faulty;
 mod file_map;
+mod items;
+pub mod journal;
 pub mod laws;
 mod memory;
+mod moment;
 mod parts;
 mod path;
 mod record;
 mod store;
+mod watched;
+mod way;
 
 pub use change::{Change, ChangeState};
+pub use command_name::CommandName;
 pub use digest::{Digest, Seal};
 pub use fault::StoreFault;
 pub use faulty::{FaultyStore, FuseStore, OnceStore};
+pub use items::Items;
+pub use journal::{
+    Changes, DecodeFault, Entry, EntryNumbers, Head, Pending, PendingWay, decode_entry,
+    decode_head, encode_entry, encode_head, is_too_many,
+};
 pub use memory::MemoryStore;
+pub use moment::Moment;
 pub use parts::Parts;
 pub use path::{PathError, PathText};
 pub use record::CallRecord;
 pub use store::{Reading, Store};
+pub use watched::{Asked, WatchedStore, Watcher};
+pub use way::Way;

@@ -18,13 +18,13 @@ use Rattle.reuse_session.specs.Plan.{IsRefusalOf}
 use Rattle.reuse_session.specs.Previews.{run_fates_on, IsLookRefusal}
 use Rattle.reuse_session.specs.Session.{store_of, is_broken, memory_of, IsKept, StandsOn}
 use Rattle.reuse_session.specs.Showing.{IsUnused, ShowsIn}
-use Rattle.reuse_session.specs.Tree.{undo_folder_of}
+use Rattle.reuse_tree.specs.Tree.{undo_folder_of}
 use Rattle.reuse_session.specs.declared.command.Command.{Command}
 use Rattle.reuse_session.specs.declared.command.Command.TheVariants.{Revert}
 use Rattle.reuse_session.specs.declared.events.Event.TheVariants as events
 use Rattle.reuse_session.specs.declared.fate.Fate.{Fate}
 use Rattle.reuse_session.specs.declared.fate.Fate.TheVariants as fate
-use Rattle.reuse_session.specs.declared.journal.entry.Entry.{Entry}
+use Rattle.reuse_tree.specs.declared.journal.entry.Entry.{Entry}
 use Rattle.reuse_session.specs.declared.reply.Refusal.{Refusal}
 use Rattle.reuse_session.specs.declared.reply.Refusal.TheVariants.{Broken, JournalFull, Fault as StoreFailed, Memory, Interrupted}
 use Rattle.reuse_session.specs.declared.reply.Reply.TheVariants as replies

@@ -21,7 +21,7 @@ use Rattle.reuse_session.specs.RevertCalls.{Reverts, TakesBack, LeavesRevert, as
 use Rattle.reuse_session.specs.Session.{store_of, is_broken, memory_of, HoldsSnapshots, StandsOn, IsKept}
 use Rattle.reuse_session.specs.Showing.{lists, IsUnused, Shows, ShowsIn, ShowsAt, steps_in}
 use Rattle.reuse_session.specs.Session.{StopsAfterRun}
-use Rattle.reuse_session.specs.Tree.{undo_folder_of}
+use Rattle.reuse_tree.specs.Tree.{undo_folder_of}
 use Rattle.reuse_session.specs.Standing.{IsStanding, InDoubt}
 use Rattle.reuse_session.specs.Stops.{Point, open_at, closed, Reopens, HoldState, AreLeft}
 use Rattle.reuse_session.specs.declared.command.Command.{Command}
@@ -31,7 +31,7 @@ use Rattle.reuse_session.specs.declared.events.Event.TheVariants as events
 use Rattle.reuse_session.specs.declared.fate.Call.{Call}
 use Rattle.reuse_session.specs.declared.fate.Call.TheVariants as calls
 use Rattle.reuse_session.specs.declared.fate.Fate.{Fate}
-use Rattle.reuse_session.specs.declared.journal.entry.Entry.{Entry}
+use Rattle.reuse_tree.specs.declared.journal.entry.Entry.{Entry}
 use Rattle.reuse_session.specs.declared.reply.Cause.{Cause}
 use Rattle.reuse_session.specs.declared.reply.Cause.TheVariants as causes
 use Rattle.reuse_session.specs.declared.reply.Reply.{Reply}

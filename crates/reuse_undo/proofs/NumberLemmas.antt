@@ -3,11 +3,11 @@ use Rattle.std.proofs.Common.{◌≡◌, ◌≢◌, ℕ, ◌+◌, ◌-◌, ◌<�
 use Rattle.std.specs.List.{AllPairs, Contains}
 use Rattle.std.proofs.lemmas.List.{get_or-reverse, get_or-map, get_or_append_left, get_or-append-add, length-reverse, length-map, length-append}
 use Rattle.reuse_tree.specs.Files.{Files}
-use Rattle.reuse_session.specs.Head.{listed}
+use Rattle.reuse_tree.specs.Head.{listed}
 use Rattle.reuse_session.specs.Journal.{Journal, Recorded}
 use Rattle.reuse_session.specs.JournalFiles.{number_of, head_of, HeadSays, KeepsJournal}
 use Rattle.reuse_session.specs.Showing.{IsUnused}
-use Rattle.reuse_session.specs.declared.journal.head.Head.{Head}
+use Rattle.reuse_tree.specs.declared.journal.head.Head.{Head}
 
 -- the number of a step that stands so far from the end
 number_at : (steps : List Recorded) (k : ℕ) (d : Recorded) → k < length steps → get_or (map number_of (reverse steps)) (length steps - 1 - k) 0 ≡ number_of (get_or steps k d)

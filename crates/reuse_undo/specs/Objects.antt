@@ -6,7 +6,7 @@ use Rattle.serde_json.specs.Data.{Data, string, boolean}
 use Rattle.serde_json.specs.Written.{compact_text}
 use Rattle.reuse_tree.specs.Change.{path_of}
 use Rattle.reuse_tree.specs.declared.change.Change.{Change}
-use Rattle.reuse_session.specs.Json.{count, object_of, array_of}
+use Rattle.reuse_tree.specs.Json.{count, object_of, array_of}
 use Rattle.reuse_session.specs.declared.reply.Row.{Row}
 use Rattle.reuse_session.specs.declared.reply.Shown.{Shown}
 use Rattle.reuse_undo.specs.Dates.{IsDateOf}

@@ -6,8 +6,8 @@ use Rattle.jiff.specs.Types.{Date}
 use Rattle.jiff.specs.Words.{date_text}
 use Rattle.reuse_undo.specs.Dates.{IsDateOf}
 use Rattle.reuse_session.specs.declared.reply.Row.{Row}
-use Rattle.reuse_session.specs.declared.command.CommandName.{CommandName}
-use Rattle.reuse_session.specs.declared.command.CommandName.TheVariants.{Annotate, ConvertDep5, Download, Revert}
+use Rattle.reuse_tree.specs.declared.command_name.CommandName.{CommandName}
+use Rattle.reuse_tree.specs.declared.command_name.CommandName.TheVariants.{Annotate, ConvertDep5, Download, Revert}
 
 abbrev pub command_word : CommandName → List ℕ
 command_word Annotate = codes "annotate"

@@ -15,11 +15,11 @@ mod place;
 #[cfg(test)]
 mod tests;
 
+pub use failure::Failure;
 use failure::LastFailure;
-pub use failure::{Asked, Failure};
 use folder::RootFolder;
 use reuse_tree::laws::files_stay_good;
-use reuse_tree::{CallRecord, Parts, PathText, Reading, Store, StoreFault};
+use reuse_tree::{Asked, CallRecord, Parts, PathText, Reading, Store, StoreFault};
 use std::alloc::Global;
 use std::fs::File;
 use std::rt::Files;

@@ -3,8 +3,6 @@
 
 mod above;
 mod arguments;
-#[cfg(test)]
-mod call_tests;
 mod date;
 mod diff;
 mod disk;
@@ -26,13 +24,10 @@ mod progress;
 mod request;
 mod rows;
 mod run_line;
-#[cfg(test)]
-mod session_tests;
 mod status;
 #[cfg(test)]
 mod tests;
 mod texts;
-mod watched;
 mod words;
 
 use disk::DiskStore;

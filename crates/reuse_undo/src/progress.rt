@@ -1,6 +1,5 @@
 //! How far long work is, for a terminal.
-use crate::disk::Asked;
-use crate::watched::Watcher;
+use reuse_tree::{Asked, Watcher};
 use std::alloc::Global;
 use std::cell::Cell;
 use std::io::{self, Write};

@@ -52,10 +52,12 @@ fn fault_of(alloc: Global, words: &str) -> Result<(u8, String), Fail> {
     }
 }
 
-/// A store with one file.
-fn store_of(alloc: Global, path: &str, bytes: &[u8]) -> Result<MemoryStore, Fail> {
+/// A store of these files.
+fn tree(alloc: Global, files: &[(&str, &[u8])]) -> Result<MemoryStore, Fail> {
     let mut store = MemoryStore::new();
-    store.put(alloc, &PathText::new(alloc, path)?, bytes)?;
+    for (path, bytes) in files {
+        store.put(alloc, &PathText::new(alloc, path)?, bytes)?;
+    }
     Ok(store)
 }
 
@@ -65,6 +67,17 @@ fn holds(alloc: Global, store: &mut MemoryStore, path: &str, bytes: &[u8]) -> Re
         Reading::Found(found) => Ok(found.as_slice() == bytes),
         _ => Ok(bytes.is_empty()),
     }
+}
+
+/// Whether the store has these files, and no others but those of the journal.
+fn has_just(alloc: Global, store: &mut MemoryStore, files: &[(&str, &[u8])]) -> Result<bool, Fail> {
+    for (path, bytes) in files {
+        if !holds(alloc, store, path, bytes)? {
+            return Ok(false);
+        }
+    }
+    let paths = store.list(alloc)?;
+    Ok(paths.iter().filter(|path| !path.is_in_journal()).count() == files.len())
 }
 
 /// The text `text` and a line end for the licence MIT, and none for any other.
@@ -137,7 +150,7 @@ fn leaves(
     lines: &[(&str, &str)],
     bytes: &[u8],
 ) -> Result<MemoryStore, Fail> {
-    let store = store_of(alloc, "a.py", b"print(1)\n")?;
+    let store = tree(alloc, &[("a.py", b"print(1)\n")])?;
     let mut store = tells(rt, alloc, store, lines)?;
     assert!(rt; holds(alloc, &mut store, "a.py", bytes)?);
     Ok(store)
@@ -288,7 +301,7 @@ impl Write for Full {
 /// Annotates a file where the reply can't be printed; the store then, and the fault.
 fn annotate_untold(alloc: Global) -> Result<(MemoryStore, Fault), Fail> {
     let line = read_line(alloc, "annotate|-c|Jane Doe|-l|MIT|a.py")?;
-    let store = store_of(alloc, "a.py", b"print(1)\n")?;
+    let store = tree(alloc, &[("a.py", b"print(1)\n")])?;
     let texts = texts(alloc)?;
     let request = request_of(line, texts);
     match run_request(

@@ -9,21 +9,19 @@ ghost use Rattle.reuse_session.specs.Outcome.{outcome_of, edits_of};
 ghost use Rattle.reuse_session.specs.Plan.{IsPlan, IsRefusalOf, Records};
 ghost use Rattle.reuse_session.specs.Previews.{run_fates_on, Foresees, OnlyLooks, IsPreviewRefusal, IsListedPreviewRefusal};
 ghost use Rattle.reuse_session.specs.Session.{store_of, is_broken, memory_of, StandsOn, StandsAt};
-ghost use Rattle.reuse_session.specs.declared.entry.Way.TheVariants as go;
+ghost use Rattle.reuse_tree.specs.declared.way.Way.TheVariants as go;
 ghost use Rattle.reuse_session.specs.declared.history.ListedEntry.{ListedEntry};
 
 use crate::command::Command;
-use crate::entry::Way;
 use crate::fate::Fates;
 use crate::history::ListedEntry;
-use crate::journal::Changes;
 use crate::journal_files::read_entry;
 use crate::plan::plan;
 use crate::plan_fates::plan_fates;
 use crate::reply::Refusal;
 use crate::session::{Session, end_of};
 use crate::travel_fates::travel_fates;
-use reuse_tree::Store;
+use reuse_tree::{Changes, Store, Way};
 use std::alloc::Global;
 
 impl<S: Store + Drop> Session<S> {

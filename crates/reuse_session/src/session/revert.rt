@@ -1,18 +1,17 @@
 //! A session takes a step back that need not be the last.
 ghost use Rattle.std.specs.Prelude.{◌≡◌, ◌↔◌, ◌⊎◌, not, IfOk, true, false};
 ghost use Rattle.reuse_session.specs.Answer.{IsRunAnswer};
-ghost use Rattle.reuse_session.specs.Listing.{ArePaths, is_among};
+ghost use Rattle.reuse_tree.specs.Listing.{ArePaths, is_among};
 ghost use Rattle.reuse_session.specs.RevertCalls.{as_run, left_of};
 
 use crate::command::Command;
 use crate::entry_changes::EntryChanges;
 use crate::journal_files::read_entry;
 use crate::listing::is_among;
-use crate::moment::Moment;
 use crate::perform::paths_of;
 use crate::reply::{Paths, Refusal, Reply, Reverted};
 use crate::session::Session;
-use reuse_tree::{PathText, Store};
+use reuse_tree::{Moment, PathText, Store};
 use std::alloc::Global;
 
 impl<S: Store + Drop> Session<S> {

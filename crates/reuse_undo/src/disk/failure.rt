@@ -1,16 +1,8 @@
 //! What the last call of a store that failed was.
 use crate::disk::fault::FolderFault;
+use reuse_tree::Asked;
 use std::alloc::Global;
 use std::fmt;
-
-/// What a call asked for.
-#[derive(Clone, Copy)]
-pub enum Asked {
-    List,
-    Read,
-    Write,
-    Remove,
-}
 
 /// A call that failed: what it asked for, at which path, and why it failed.
 #[derive(Drop)]

@@ -1,6 +1,5 @@
 //! `DiskStore` on folders that each test makes below the folder for temporary files.
 mod full;
-mod full_journal;
 mod odd;
 mod scratch;
 

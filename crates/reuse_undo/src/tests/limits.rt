@@ -1,8 +1,7 @@
 //! Files that are too long to be read, and paths that are too long for a neighbour.
 // The tags below are data: REUSE-IgnoreStart
-use super::holds;
 use super::worked_lines::annotate;
-use crate::session_tests::trees::tree;
+use super::{holds, tree};
 use std::alloc::Global;
 use std::process::Abort;
 use std::test::Fail;

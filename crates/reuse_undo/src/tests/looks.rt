@@ -1,6 +1,6 @@
 //! Rows, steps that are shown, dry runs, and a revert.
 // The tags below are data: REUSE-IgnoreStart
-use super::{START_OF_2024, leaves, run_at, store_of, tells};
+use super::{START_OF_2024, leaves, run_at, tells, tree};
 use std::alloc::Global;
 use std::test::Fail;
 
@@ -16,7 +16,7 @@ const ROWS: &[(&str, &str)] = &[
 #[test]
 fn prints_rows(rt: HostRuntime) -> Result<(), Fail> {
     let alloc = rt.alloc();
-    let store = store_of(alloc, "a.py", b"print(1)\n")?;
+    let store = tree(alloc, &[("a.py", b"print(1)\n")])?;
     let (store, _) = run_at(alloc, store, "annotate|-l|MIT|a.py", 0)?;
     let (store, _) = run_at(alloc, store, "annotate|-l|ISC|a.py", START_OF_2024)?;
     let (store, _) = run_at(alloc, store, "download|--texts|x|MIT", 250_000_000_000)?;

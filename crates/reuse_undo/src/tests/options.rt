@@ -1,6 +1,6 @@
 //! What the options of `annotate` set, and which exclude each other.
 // The tags below are data: REUSE-IgnoreStart
-use super::{fault_of, holds, read_line, store_of, tells};
+use super::{fault_of, holds, read_line, tells, tree};
 use std::alloc::Global;
 use std::test::Fail;
 
@@ -153,7 +153,7 @@ fn an_option_gives_a_text(rt: HostRuntime) -> Result<(), Fail> {
     let alloc = rt.alloc();
     for (words, header) in TEXTS {
         let line = format!(in alloc; "annotate|{words}|a.py")?;
-        let store = store_of(alloc, "a.py", b"")?;
+        let store = tree(alloc, &[("a.py", b"")])?;
         let lines = [(line.as_str(), "changed a.py\n")];
         let mut store = tells(&rt, alloc, store, &lines)?;
         let written = holds(alloc, &mut store, "a.py", header.as_bytes())?;

@@ -1,7 +1,6 @@
 //! Worked command lines: the files that they find, what is told, and the files that they leave.
 // The tags below are data: REUSE-IgnoreStart
-use super::tell;
-use crate::session_tests::trees::{has_just, tree};
+use super::{has_just, tell, tree};
 use reuse_tree::MemoryStore;
 use std::alloc::Global;
 use std::process::Abort;

@@ -4,14 +4,14 @@ use Rattle.reuse_tree.specs.Files.{Files}
 use Rattle.reuse_session.specs.Answer.{TellsNoFault}
 use Rattle.reuse_session.specs.Calls.{files_of, IsCall, LeavesTravel}
 use Rattle.reuse_session.specs.Driven.{IsAsked}
-use Rattle.reuse_session.specs.Head.{listed_way}
+use Rattle.reuse_tree.specs.Head.{listed_way}
 use Rattle.reuse_session.specs.JournalFiles.{IsFree}
 use Rattle.reuse_session.specs.Machine.{Snapshots, step}
 use Rattle.reuse_session.specs.Session.{store_of, Follows, StandsAt, StopsAfter, StopsAfterRun}
-use Rattle.reuse_session.specs.Tree.{undo_folder_of}
+use Rattle.reuse_tree.specs.Tree.{undo_folder_of}
 use Rattle.reuse_session.specs.Stops.{AreLeft}
-use Rattle.reuse_session.specs.declared.entry.Way.{Way}
-use Rattle.reuse_session.specs.declared.entry.Way.TheVariants as way
+use Rattle.reuse_tree.specs.declared.way.Way.{Way}
+use Rattle.reuse_tree.specs.declared.way.Way.TheVariants as way
 use Rattle.reuse_session.specs.declared.events.Event.{Event}
 use Rattle.reuse_session.specs.declared.events.Event.TheVariants as asked
 use Rattle.reuse_session.specs.declared.reply.Refusal.{Refusal}

@@ -5,7 +5,7 @@ use Rattle.reuse_session.specs.Answer.{HasCause}
 use Rattle.reuse_session.specs.JournalFiles.{IsFree}
 use Rattle.reuse_session.specs.Machine.{step}
 use Rattle.reuse_session.specs.Stops.{AreLeft}
-use Rattle.reuse_session.specs.Tree.{undo_folder_of}
+use Rattle.reuse_tree.specs.Tree.{undo_folder_of}
 use Rattle.reuse_session.proofs.Driving.{goes_on, closes}
 use Rattle.reuse_session.proofs.events.go_on.Goals as goal
 

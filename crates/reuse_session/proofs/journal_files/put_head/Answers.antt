@@ -1,6 +1,6 @@
 use Rattle.std.proofs.Common.{◌≡◌, ◌⊎◌, Some, OnErr, sym, subst, arith}
 use Rattle.std.proofs.lemmas.Result.{err_from_is_err_and}
-use Rattle.reuse_session.specs.Tree.{Sets}
+use Rattle.reuse_tree.specs.Tree.{Sets}
 use Rattle.reuse_session.specs.JournalFiles.{head_path}
 use Rattle.reuse_session.proofs.JournalReading.{counted_head}
 use Rattle.reuse_session.proofs.Turning.{put_sets, put_doubt}

@@ -2,7 +2,7 @@ use Rattle.std.proofs.Common.{ap, refl, ◌∙◌}
 use Rattle.std.specs.FinMap.{get}
 use Rattle.reuse_tree.specs.Store.{reading_of}
 use Rattle.reuse_session.specs.JournalFiles.{entry_path}
-use Rattle.reuse_session.specs.Tree.{undo_folder_of}
+use Rattle.reuse_tree.specs.Tree.{undo_folder_of}
 use Rattle.reuse_session.proofs.JournalReading.{file_in_folder}
 use Rattle.reuse_session.proofs.journal_files.read_entry.Goals as goal
 

@@ -3,7 +3,7 @@ use Rattle.std.specs.FinMap.{get}
 use Rattle.reuse_tree.specs.Store.{reading_of}
 use Rattle.reuse_text.specs.declared.TheConstants.{LONGEST_FILE}
 use Rattle.reuse_session.specs.JournalFiles.{head_path}
-use Rattle.reuse_session.specs.Tree.{undo_folder_of}
+use Rattle.reuse_tree.specs.Tree.{undo_folder_of}
 use Rattle.reuse_session.proofs.JournalReading.{file_in_folder}
 use Rattle.reuse_session.proofs.journal_files.read_head.Goals as goal
 

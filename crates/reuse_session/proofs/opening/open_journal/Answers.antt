@@ -5,12 +5,12 @@ use Rattle.reuse_session.specs.Session.{head_room, IsSameBut, Remembers}
 use Rattle.reuse_session.specs.JournalFiles.{head_of, head_path, entry_path, HeadSays, EntrySays}
 use Rattle.reuse_session.specs.declared.reply.Refusal.TheVariants.{Interrupted}
 use Rattle.std.specs.FinMap as map
-use Rattle.reuse_session.specs.Head.{listed}
-use Rattle.reuse_session.specs.declared.journal.head.Head.{Head}
-use Rattle.reuse_session.specs.declared.journal.entry.Entry.{Entry}
+use Rattle.reuse_tree.specs.Head.{listed}
+use Rattle.reuse_tree.specs.declared.journal.head.Head.{Head}
+use Rattle.reuse_tree.specs.declared.journal.entry.Entry.{Entry}
 use Rattle.reuse_session.specs.Journal.{Journal, State}
 use Rattle.reuse_session.specs.Standing.{IsStanding, InDoubt}
-use Rattle.reuse_session.specs.Tree.{undo_folder_of}
+use Rattle.reuse_tree.specs.Tree.{undo_folder_of}
 use Rattle.reuse_session.proofs.OpeningLemmas.{as_many_listed}
 use Rattle.reuse_session.proofs.FilesInDoubt.{IsPending, doubt_bad, none_pending, read_pending, read_opens, read_settles, settled_opens, still_in_doubt, left_in_doubt}
 use Rattle.reuse_session.proofs.Settling.{read_failure}

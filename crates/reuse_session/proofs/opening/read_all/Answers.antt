@@ -2,7 +2,7 @@ use Rattle.std.proofs.Common.{◌≡◌, ◌+◌, length, get_or, take, Some, re
 use Rattle.std.specs.List.{AllZip}
 use Rattle.reuse_tree.proofs.AskedLemmas.{reads_more}
 use Rattle.reuse_session.specs.Opening.{IsFoundAt, IsListedIn, IsReadable, IsLeastFound}
-use Rattle.reuse_session.specs.Tree.{undo_folder_of}
+use Rattle.reuse_tree.specs.Tree.{undo_folder_of}
 use Rattle.reuse_session.proofs.ReadNumbers.{long_more, listed_more, found_readable, found_unreadable}
 use Rattle.reuse_session.proofs.opening.read_all.Goals.{in-Some+in_ok-push-in-Some, in-None}
 use Rattle.reuse_session.proofs.opening.read_all.Goals as goal

@@ -2,7 +2,7 @@ use Rattle.std.proofs.Common.{◌≡◌, None, length, take}
 use Rattle.std.specs.List.{AllZip}
 use Rattle.reuse_tree.specs.Asked.{OnlyReads}
 use Rattle.reuse_session.specs.Opening.{IsListedIn, IsLeastFound}
-use Rattle.reuse_session.specs.Tree.{undo_folder_of}
+use Rattle.reuse_tree.specs.Tree.{undo_folder_of}
 use Rattle.reuse_session.proofs.opening.read_all.Given as goal
 
 -- the numbers so far are read

@@ -7,16 +7,16 @@ use Rattle.reuse_tree.proofs.AskedLemmas.{reads_more}
 use Rattle.reuse_tree.specs.Files.{AreFiles, Clashes, Files, tree_of}
 use Rattle.reuse_session.specs.Answer.{IsEarly, IsFailure}
 use Rattle.reuse_session.specs.Carried.{IsRolledBack, StopsRollingBack}
-use Rattle.reuse_session.specs.Entry.{IsEntry, ArePartlyMade, CanBeSetBack, IsFirstWithout}
-use Rattle.reuse_session.specs.Head.{way_of, IsGoodHead}
+use Rattle.reuse_tree.specs.Entry.{IsEntry, ArePartlyMade, CanBeSetBack, IsFirstWithout}
+use Rattle.reuse_tree.specs.Head.{way_of, IsGoodHead}
 use Rattle.reuse_session.specs.History.{head_listing}
 use Rattle.reuse_session.specs.JournalFiles.{head_path, entry_path, head_of, number_of, EntrySays}
 use Rattle.reuse_session.specs.Opening.{IsRead}
 use Rattle.reuse_session.specs.Session.{IsSameBut}
 use Rattle.reuse_session.specs.Standing.{IsStanding, IsUnderWay}
-use Rattle.reuse_session.specs.Tree.{undo_folder_of}
+use Rattle.reuse_tree.specs.Tree.{undo_folder_of}
 use Rattle.reuse_tree.specs.declared.change.Change.{Change}
-use Rattle.reuse_session.specs.declared.entry.Way.{Way}
+use Rattle.reuse_tree.specs.declared.way.Way.{Way}
 use Rattle.reuse_session.specs.declared.reply.Refusal.TheVariants.{Memory}
 use Rattle.reuse_session.specs.Journal.{Journal, Recorded, State}
 use Rattle.reuse_session.proofs.Settling.{is_entry, is_settled, is_stuck, partly_made, settles, settled_good, settled_sound, head_fits, at_same, pending_readable, stays_under_way, read_failure}

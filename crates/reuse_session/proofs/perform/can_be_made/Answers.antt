@@ -1,5 +1,5 @@
 use Rattle.std.proofs.Common.{sym, subst, ◌∙◌}
-use Rattle.reuse_session.specs.Listing.{ArePaths}
+use Rattle.reuse_tree.specs.Listing.{ArePaths}
 use Rattle.reuse_session.proofs.Testing.{not_ready, makes_none, makes_one}
 use Rattle.reuse_session.proofs.TreeLemmas.{keys_ascend}
 use Rattle.reuse_session.proofs.perform.can_be_made.Goals as goal

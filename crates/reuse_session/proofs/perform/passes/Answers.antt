@@ -5,9 +5,9 @@ use Rattle.std.proofs.lemmas.Result.{IfOk-weaker}
 use Rattle.reuse_tree.specs.Files.{Files, tree_of}
 use Rattle.reuse_tree.specs.Change.{path_of}
 use Rattle.reuse_tree.specs.declared.change.Change.{Change}
-use Rattle.reuse_session.specs.declared.entry.Way.{Way}
-use Rattle.reuse_session.specs.Tree.{is_of_tree}
-use Rattle.reuse_session.specs.Entry.{IsReady, CanBeMade, CanBeSetBack, makes, opposite}
+use Rattle.reuse_tree.specs.declared.way.Way.{Way}
+use Rattle.reuse_tree.specs.Tree.{is_of_tree}
+use Rattle.reuse_tree.specs.Entry.{IsReady, CanBeMade, CanBeSetBack, makes, opposite}
 use Rattle.reuse_session.specs.Tested.{aimed, Passes}
 use Rattle.reuse_session.specs.declared.perform.Aim.{Aim}
 use Rattle.reuse_session.proofs.OfTree.{tree_at}

@@ -4,7 +4,7 @@ use Rattle.std.proofs.lemmas.Bool.{false≢true}
 use Rattle.std.proofs.lemmas.List.{length-take}
 use Rattle.reuse_tree.specs.Files.{tree_of}
 use Rattle.reuse_tree.specs.Change.{path_of}
-use Rattle.reuse_session.specs.Entry.{IsEntry, makes}
+use Rattle.reuse_tree.specs.Entry.{IsEntry, makes}
 use Rattle.reuse_session.specs.Tested.{Passes}
 use Rattle.reuse_session.proofs.AtChange.{reads_on, tested, passes, first_without, walked}
 use Rattle.reuse_session.proofs.perform.test_each.Given.{Over}

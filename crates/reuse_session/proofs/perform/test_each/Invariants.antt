@@ -1,7 +1,7 @@
 use Rattle.std.proofs.Common.{take}
 use Rattle.std.specs.List.{All}
 use Rattle.reuse_tree.specs.Files.{tree_of}
-use Rattle.reuse_session.specs.Entry.{IsEntry}
+use Rattle.reuse_tree.specs.Entry.{IsEntry}
 use Rattle.reuse_session.specs.Tested.{aimed, Passes}
 use Rattle.reuse_session.proofs.AtChange.{ReadsBeside}
 use Rattle.reuse_session.proofs.perform.test_each.Given as goal

@@ -2,7 +2,7 @@ use Rattle.std.proofs.Common.{[], ◌∷◌, ◌++◌, filter, sym, ap, subst, �
 use Rattle.std.proofs.lemmas.Result.{MatchResult-weaker}
 use Rattle.std.proofs.lemmas.Bool.{eqb-true}
 use Rattle.reuse_tree.specs.Path.{lies_under}
-use Rattle.reuse_session.specs.Listing.{ArePaths}
+use Rattle.reuse_tree.specs.Listing.{ArePaths}
 use Rattle.reuse_session.specs.Worked.{expanded}
 use Rattle.reuse_session.specs.declared.command.Place.{Place}
 use Rattle.reuse_session.proofs.TreeLemmas.{keys_ascend}

@@ -6,7 +6,7 @@ use Rattle.reuse_tree.specs.Store.{reading_of}
 use Rattle.reuse_text.specs.declared.TheConstants.{LONGEST_FILE}
 use Rattle.reuse_session.specs.Annotate.{neighbour_of}
 use Rattle.reuse_session.specs.AnnotationPlan.{beside_by}
-use Rattle.reuse_session.specs.Listing.{ArePaths, is_among}
+use Rattle.reuse_tree.specs.Listing.{ArePaths, is_among}
 use Rattle.reuse_session.specs.Plan.{IsRefusalOf, AnswersEdit}
 use Rattle.reuse_session.proofs.TreeLemmas.{keys_ascend, of_store}
 use Rattle.reuse_session.proofs.Annotating.{is_absent, some_file}

@@ -6,7 +6,7 @@ use Rattle.reuse_session.specs.declared.reply.Refusal.TheVariants as refusals
 use Rattle.reuse_session.specs.AnnotationPlan.{own_of, annotated_by, beside_by, place_by, edit_by_place}
 use Rattle.reuse_session.specs.declared.target.Target.TheVariants as target
 use Rattle.reuse_session.specs.Covered.{is_covered}
-use Rattle.reuse_session.specs.Listing.{ArePaths, is_among}
+use Rattle.reuse_tree.specs.Listing.{ArePaths, is_among}
 use Rattle.reuse_session.specs.Plan.{IsRefusalOf, MakesEdit, AnswersEdit}
 use Rattle.reuse_session.specs.Steps.{StepsTo}
 use Rattle.reuse_session.proofs.TreeLemmas.{keys_ascend, read_there}

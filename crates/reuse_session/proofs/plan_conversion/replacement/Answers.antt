@@ -3,7 +3,7 @@ use Rattle.reuse_dep5.specs.Answers as answers
 use Rattle.reuse_dep5.specs.Conversion.{converted}
 use Rattle.reuse_text.specs.declared.TheConstants.{LONGEST_FILE}
 use Rattle.reuse_session.specs.Conversion.{conversion_edits}
-use Rattle.reuse_session.specs.Listing.{ArePaths, is_among}
+use Rattle.reuse_tree.specs.Listing.{ArePaths, is_among}
 use Rattle.reuse_session.specs.Plan.{IsRefusalOf}
 use Rattle.reuse_session.specs.declared.reply.Refusal.TheVariants as refusals
 use Rattle.reuse_session.proofs.TreeLemmas.{keys_ascend}

@@ -1,5 +1,5 @@
 use Rattle.std.proofs.Common.{◌∙◌, ap, subst, ◌||◌, nat_lt, length}
-use Rattle.reuse_session.specs.Entry.{entry_size}
+use Rattle.reuse_tree.specs.Entry.{entry_size}
 use Rattle.reuse_session.specs.FatePlan.{MakesUnlessRefused}
 use Rattle.reuse_session.proofs.FatePlans.{over_some}
 use Rattle.reuse_session.proofs.plan_fates.is_over.Goals as goal

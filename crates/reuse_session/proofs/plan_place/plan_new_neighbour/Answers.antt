@@ -3,7 +3,7 @@ use Rattle.std.specs.FinMap.{keys}
 use Rattle.reuse_header.specs.Neighbour.{neighbour_annotation_of}
 use Rattle.reuse_session.specs.Annotate.{edit_by}
 use Rattle.reuse_session.specs.Clash.{is_clash_of}
-use Rattle.reuse_session.specs.Listing.{ArePaths}
+use Rattle.reuse_tree.specs.Listing.{ArePaths}
 use Rattle.reuse_session.specs.Plan.{AnswersEdit}
 use Rattle.reuse_session.specs.declared.reply.Refusal.TheVariants as refusals
 use Rattle.reuse_session.proofs.TreeLemmas.{keys_ascend}

@@ -4,7 +4,7 @@ use Rattle.reuse_tree.specs.Change.{path_of, IsProper}
 use Rattle.reuse_tree.specs.declared.change.Change.{Change}
 use Rattle.reuse_tree.specs.declared.change.Change.TheVariants.{Drop}
 use Rattle.reuse_text.specs.declared.TheConstants.{LONGEST_FILE}
-use Rattle.reuse_session.specs.Entry.{IsSmall}
+use Rattle.reuse_tree.specs.Entry.{IsSmall}
 use Rattle.reuse_session.specs.Plan.{MakesEdit}
 use Rattle.reuse_session.specs.Reverting.{taken_back}
 use Rattle.reuse_session.proofs.ReadingLemmas.{absent_is, found_is, given_as}

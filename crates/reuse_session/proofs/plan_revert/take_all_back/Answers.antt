@@ -3,10 +3,10 @@ use Rattle.std.specs.FinMap.{keys}
 use Rattle.std.specs.List.{list_any}
 use Rattle.reuse_tree.specs.Files.{tree_of}
 use Rattle.reuse_tree.proofs.AskedLemmas.{reads_more}
-use Rattle.reuse_session.specs.Entry.{makes, IsEntry}
+use Rattle.reuse_tree.specs.Entry.{makes, IsEntry}
 use Rattle.reuse_session.specs.Plan.{MakesEdit}
 use Rattle.reuse_session.specs.Reverting.{taken_back_on}
-use Rattle.reuse_session.specs.declared.entry.Way.TheVariants.{Undo}
+use Rattle.reuse_tree.specs.declared.way.Way.TheVariants.{Undo}
 use Rattle.reuse_session.proofs.AtChange.{left_here, tested_from}
 use Rattle.reuse_session.proofs.RevertPlanning.{found, SoFar, after_back, back_refused}
 use Rattle.reuse_session.proofs.plan_revert.take_all_back.Given.{Over}

@@ -5,10 +5,10 @@ use Rattle.reuse_tree.specs.Files.{tree_of}
 use Rattle.reuse_tree.specs.Store.{reading_of}
 use Rattle.reuse_text.specs.declared.TheConstants.{LONGEST_FILE}
 use Rattle.reuse_session.specs.Clash.{is_clash, is_clash_of}
-use Rattle.reuse_session.specs.Entry.{makes}
-use Rattle.reuse_session.specs.Listing.{ArePaths}
+use Rattle.reuse_tree.specs.Entry.{makes}
+use Rattle.reuse_tree.specs.Listing.{ArePaths}
 use Rattle.reuse_session.specs.Plan.{MakesEdit}
-use Rattle.reuse_session.specs.declared.entry.Way.TheVariants.{Undo}
+use Rattle.reuse_tree.specs.declared.way.Way.TheVariants.{Undo}
 use Rattle.reuse_session.proofs.OfTree.{tree_at}
 use Rattle.reuse_session.proofs.RevertPlanning.{found, stuck_by_clash, where_free}
 use Rattle.reuse_session.proofs.TreeLemmas.{keys_ascend}

@@ -3,8 +3,8 @@ use Rattle.std.specs.FinMap.{keys}
 use Rattle.std.specs.List.{list_any}
 use Rattle.reuse_tree.specs.Files.{tree_of}
 use Rattle.reuse_tree.specs.Asked.{OnlyReads}
-use Rattle.reuse_session.specs.Entry.{makes, IsEntry}
-use Rattle.reuse_session.specs.declared.entry.Way.TheVariants.{Undo}
+use Rattle.reuse_tree.specs.Entry.{makes, IsEntry}
+use Rattle.reuse_tree.specs.declared.way.Way.TheVariants.{Undo}
 use Rattle.reuse_session.proofs.RevertFates.{RevertSoFar}
 use Rattle.reuse_session.proofs.revert_fates.plan_each.Given as goal
 

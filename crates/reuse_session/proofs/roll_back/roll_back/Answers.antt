@@ -4,7 +4,7 @@ use Rattle.std.proofs.lemmas.Result.{err_from_is_err_and}
 use Rattle.reuse_tree.specs.Files.{Clashes, tree_of}
 use Rattle.reuse_session.specs.Answer.{told_of, IsNoClash}
 use Rattle.reuse_session.specs.Carried.{StopsRollingBack}
-use Rattle.reuse_session.specs.Entry.{ArePartlyMade, CanBeSetBack}
+use Rattle.reuse_tree.specs.Entry.{ArePartlyMade, CanBeSetBack}
 use Rattle.reuse_session.specs.JournalFiles.{head_path}
 use Rattle.reuse_session.specs.declared.reply.Cause.{Cause}
 use Rattle.reuse_session.specs.declared.reply.Cause.TheVariants as causes

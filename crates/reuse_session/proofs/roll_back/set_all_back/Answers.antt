@@ -6,10 +6,10 @@ use Rattle.reuse_tree.specs.Files.{Files, tree_of}
 use Rattle.reuse_tree.specs.Change.{path_of}
 use Rattle.reuse_tree.specs.declared.change.Change.{Change}
 use Rattle.reuse_session.proofs.NotedMoves.{notes_none, notes_more, notes_last}
-use Rattle.reuse_session.specs.declared.entry.Way.{Way}
+use Rattle.reuse_tree.specs.declared.way.Way.{Way}
 use Rattle.reuse_session.specs.Carried.{IsRolledBack, StopsRollingBack}
-use Rattle.reuse_session.specs.Tree.{undo_folder_of, Sets}
-use Rattle.reuse_session.specs.Entry.{IsEntry, IsReady, CanBeSetBack, SomeMade, ArePartlyMade, LeadsByOneChange, opposite}
+use Rattle.reuse_tree.specs.Tree.{undo_folder_of, Sets}
+use Rattle.reuse_tree.specs.Entry.{IsEntry, IsReady, CanBeSetBack, SomeMade, ArePartlyMade, LeadsByOneChange, opposite}
 use Rattle.reuse_session.specs.JournalFiles.{head_path}
 use Rattle.reuse_session.specs.Session.{IsSameBut}
 use Rattle.reuse_session.proofs.AtChange.{IsOfEntry, at_change, folder_at_stop, of_entry, walked, stays_none, stays_on}

@@ -4,7 +4,7 @@ use Rattle.std.specs.FinMap.{get}
 use Rattle.std.specs.Option.{option_copied}
 use Rattle.reuse_tree.specs.Change.{path_of}
 use Rattle.reuse_tree.proofs.AskedLemmas.{later_none}
-use Rattle.reuse_session.specs.Entry.{TurnsBy, opposite}
+use Rattle.reuse_tree.specs.Entry.{TurnsBy, opposite}
 use Rattle.reuse_session.specs.Parts.{held_in}
 use Rattle.reuse_session.proofs.NotedMoves.{notes_last}
 use Rattle.reuse_session.proofs.Turning.{step_by, makes_where_clash}

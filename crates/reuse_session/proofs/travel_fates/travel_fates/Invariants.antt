@@ -1,6 +1,6 @@
 use Rattle.std.proofs.Common.{take}
 use Rattle.reuse_tree.specs.Files.{tree_of}
-use Rattle.reuse_session.specs.Entry.{IsEntry}
+use Rattle.reuse_tree.specs.Entry.{IsEntry}
 use Rattle.reuse_session.specs.Fates.{AreFatesOf}
 use Rattle.reuse_session.proofs.AtChange.{ReadsBeside}
 use Rattle.reuse_session.proofs.travel_fates.travel_fates.Given as goal

@@ -1,7 +1,7 @@
 use Rattle.std.proofs.Common.{subst}
 use Rattle.std.specs.Option.{option_copied}
 use Rattle.reuse_tree.proofs.Turning.{not_both}
-use Rattle.reuse_session.specs.Entry.{IsReady}
+use Rattle.reuse_tree.specs.Entry.{IsReady}
 use Rattle.reuse_session.proofs.turn.is_ready.Goals as goal
 
 pub returns-in-Undo-clause-stuck : goal.returns-in-Undo-clause-stuck

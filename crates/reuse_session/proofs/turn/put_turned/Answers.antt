@@ -3,7 +3,7 @@ use Rattle.std.proofs.lemmas.Result.{err_from_is_err_and}
 use Rattle.reuse_tree.specs.Change.{path_of}
 use Rattle.reuse_tree.specs.Parts.{joined}
 use Rattle.reuse_session.specs.Parts.{held_in}
-use Rattle.reuse_session.specs.Tree.{is_of_tree, Sets}
+use Rattle.reuse_tree.specs.Tree.{is_of_tree, Sets}
 use Rattle.reuse_session.proofs.Turning.{counts_none, put_sets, removal_sets, put_doubt, removal_doubt, sets_as}
 use Rattle.reuse_session.proofs.turn.put_turned.Goals as goal
 

@@ -3,7 +3,7 @@ use Rattle.std.specs.FinMap.{get}
 use Rattle.std.specs.Option.{option_copied}
 use Rattle.std.proofs.lemmas.Result.{on_ok_weaker, on_err_weaker}
 use Rattle.reuse_tree.specs.Change.{path_of}
-use Rattle.reuse_session.specs.Entry.{IsReady, TurnsBy}
+use Rattle.reuse_tree.specs.Entry.{IsReady, TurnsBy}
 use Rattle.reuse_session.specs.Parts.{held_in}
 use Rattle.reuse_session.proofs.Turning.{step_by, makes_where_clash}
 use Rattle.reuse_session.proofs.turn.turn_from.Given.{Over}

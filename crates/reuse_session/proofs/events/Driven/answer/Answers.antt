@@ -5,7 +5,7 @@ use Rattle.reuse_session.specs.JournalFiles.{IsFree}
 use Rattle.reuse_session.specs.Session.{store_of}
 use Rattle.reuse_session.specs.Driven.{store_in}
 use Rattle.reuse_session.specs.Stops.{Point, open_at, AnswersEvent, AreLeft}
-use Rattle.reuse_session.specs.Tree.{undo_folder_of}
+use Rattle.reuse_tree.specs.Tree.{undo_folder_of}
 use Rattle.reuse_session.specs.declared.events.Event.{Event}
 use Rattle.reuse_session.specs.declared.reply.Refusal.TheVariants.{Broken}
 use Rattle.reuse_session.proofs.Driving.{left_at, at_open, at_closed, answers_open, answers_closed, answers_reopen}

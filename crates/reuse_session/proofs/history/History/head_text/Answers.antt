@@ -1,8 +1,8 @@
 use Rattle.std.proofs.Common.{◌≡◌, ◌+◌, IfOk, map, refl, ap, ◌∙◌, subst}
-use Rattle.reuse_session.specs.Head.{IsGoodHead, IsSoundHead}
+use Rattle.reuse_tree.specs.Head.{IsGoodHead, IsSoundHead}
 use Rattle.reuse_session.specs.History.{Memory, head_listing}
 use Rattle.reuse_session.specs.declared.history.ListedEntry.{ListedEntry}
-use Rattle.reuse_session.specs.declared.journal.head.Head.{Head}
+use Rattle.reuse_tree.specs.declared.journal.head.Head.{Head}
 use Rattle.reuse_session.proofs.MemoryLemmas.{head_of_parts}
 use Rattle.reuse_session.proofs.history.History.head_text.Goals as goal
 

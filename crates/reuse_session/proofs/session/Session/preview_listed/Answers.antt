@@ -1,7 +1,7 @@
 use Rattle.std.proofs.Common.{◌≡◌, ◌∙◌, List, Err, ap, refl, sym, subst}
 use Rattle.reuse_tree.specs.Files.{tree_of}
 use Rattle.reuse_session.specs.Answer.{TellsNoFault}
-use Rattle.reuse_session.specs.Entry.{IsEntry}
+use Rattle.reuse_tree.specs.Entry.{IsEntry}
 use Rattle.reuse_session.specs.History.{remember_moved}
 use Rattle.reuse_session.specs.JournalFiles.{entry_in}
 use Rattle.reuse_session.specs.Previews.{Foresees}

@@ -2,7 +2,7 @@ use Rattle.std.proofs.Common.{◌≡◌, ⊎_elim, ◌∙◌, true, Err, refl, s
 use Rattle.std.proofs.lemmas.Bool.{false≢true}
 use Rattle.reuse_tree.proofs.AskedLemmas.{reads_none, reads_more}
 use Rattle.reuse_session.specs.Answer.{IsNoStep, RefusedAsRead, TellsNoFault}
-use Rattle.reuse_session.specs.Entry.{paths_of}
+use Rattle.reuse_tree.specs.Entry.{paths_of}
 use Rattle.reuse_session.specs.RevertCalls.{as_run, LeavesRevert}
 use Rattle.reuse_session.specs.Session.{store_of, memory_of}
 use Rattle.reuse_session.specs.Showing.{lists}

@@ -3,12 +3,12 @@ use Rattle.std.specs.List.{All}
 use Rattle.reuse_tree.specs.Files.{Clashes, tree_of}
 use Rattle.reuse_tree.specs.declared.change.Change.{Change}
 use Rattle.reuse_session.specs.Carried.{IsCarriedOut, IsStopped}
-use Rattle.reuse_session.specs.Entry.{IsEntry, CanBeMade, CanGo}
-use Rattle.reuse_session.specs.Head.{way_of}
+use Rattle.reuse_tree.specs.Entry.{IsEntry, CanBeMade, CanGo}
+use Rattle.reuse_tree.specs.Head.{way_of}
 use Rattle.reuse_session.specs.History.{head_listing}
 use Rattle.reuse_session.specs.JournalFiles.{head_path}
 use Rattle.reuse_session.specs.Session.{store_of, memory_of}
-use Rattle.reuse_session.specs.declared.entry.Way.{Way}
+use Rattle.reuse_tree.specs.declared.way.Way.{Way}
 use Rattle.reuse_session.proofs.FolderLemmas.{some_text}
 use Rattle.reuse_session.proofs.JournalReading.{file_in_folder}
 use Rattle.reuse_session.proofs.Standings.{carried, stopped}

@@ -3,12 +3,12 @@ use Rattle.std.specs.List.{All}
 use Rattle.reuse_tree.specs.Files.{tree_of}
 use Rattle.reuse_session.specs.Answer.{TellsNoFault}
 use Rattle.reuse_session.specs.Calls.{LeavesTravel}
-use Rattle.reuse_session.specs.Entry.{IsEntry, CanBeMade, IsFirstStuck}
-use Rattle.reuse_session.specs.Head.{way_of}
+use Rattle.reuse_tree.specs.Entry.{IsEntry, CanBeMade, IsFirstStuck}
+use Rattle.reuse_tree.specs.Head.{way_of}
 use Rattle.reuse_session.specs.Journal.{State, Travels, ahead, reply_of}
 use Rattle.reuse_session.specs.JournalFiles.{entry_in}
 use Rattle.reuse_session.specs.Session.{store_of, StandsOn}
-use Rattle.reuse_session.specs.declared.journal.head.Pending.{Pending}
+use Rattle.reuse_tree.specs.declared.journal.head.Pending.{Pending}
 use Rattle.reuse_session.proofs.Following.{names_path}
 use Rattle.reuse_tree.specs.Asked.{OnlyReads}
 use Rattle.reuse_tree.proofs.AskedLemmas.{reads_more}

@@ -1,6 +1,6 @@
 use Rattle.std.proofs.Common.{◌≡◌, ◌+◌, Ok, Err, length, arith, ap, sym, subst, ◌∙◌}
 use Rattle.reuse_session.specs.Calls.{LeavesRun}
-use Rattle.reuse_session.specs.Entry.{paths_of}
+use Rattle.reuse_tree.specs.Entry.{paths_of}
 use Rattle.reuse_session.specs.Session.{Runs}
 use Rattle.reuse_session.specs.declared.reply.Reply.TheVariants.{Changed}
 use Rattle.reuse_session.proofs.OnlyReading.{is_refused}

@@ -4,7 +4,7 @@ use Rattle.reuse_session.specs.Answer.{HasCause, HasClash}
 use Rattle.reuse_session.specs.JournalFiles.{head_path, entry_path}
 use Rattle.reuse_session.specs.Session.{store_of, IsSameButTwo}
 use Rattle.reuse_session.specs.Showing.{ShowsIn}
-use Rattle.reuse_session.specs.Tree.{undo_folder_of}
+use Rattle.reuse_tree.specs.Tree.{undo_folder_of}
 use Rattle.reuse_session.specs.declared.fate.Fate.{Fate}
 use Rattle.reuse_session.specs.declared.reply.Reply.TheVariants as replies
 use Rattle.reuse_undo.specs.Requests.{IsLook}

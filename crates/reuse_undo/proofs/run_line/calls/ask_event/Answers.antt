@@ -3,7 +3,7 @@ use Rattle.reuse_tree.specs.Files.{Clashes}
 use Rattle.reuse_session.specs.Answer.{HasClash}
 use Rattle.reuse_session.specs.JournalFiles.{head_path, entry_path}
 use Rattle.reuse_session.specs.Session.{store_of, IsSameButTwo}
-use Rattle.reuse_session.specs.Tree.{undo_folder_of}
+use Rattle.reuse_tree.specs.Tree.{undo_folder_of}
 use Rattle.reuse_session.specs.declared.events.Event.{Event}
 use Rattle.reuse_session.specs.declared.events.Event.TheVariants as events
 use Rattle.reuse_session.specs.declared.reply.Reply.TheVariants as replies

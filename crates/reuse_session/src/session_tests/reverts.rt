@@ -1,0 +1,127 @@
+//! Steps shown and reverted that need not be the last.
+// The tags below are data: REUSE-IgnoreStart
+use crate::session_tests::trees::{
+    ANNOTATED, DONE_UNSEALED, ENTRY, FIRST_UNSEALED, HEAD, PLAIN, events_of, has_just, holds,
+    moment, path, play, plays, signing, tree,
+};
+use crate::{CommandName, Refusal, Reverted, Session};
+use reuse_tree::{MemoryStore, Store};
+use std::alloc::Global;
+use std::process::Abort;
+use std::test::Fail;
+
+const LONGER: &[u8] =
+    b"# SPDX-FileCopyrightText: 2024 Jane Doe\n#\n# SPDX-License-Identifier: MIT\n\nprint(1)\nprint(2)\n";
+
+const EDITED: &[u8] = b"# SPDX-FileCopyrightText: 2025 Jane Doe\n\nprint(1)\n";
+
+// What a revert of the step answered, as a line, and the store then.
+fn reverted(
+    alloc: Global,
+    store: MemoryStore,
+    number: u32,
+    skip_moved: bool,
+) -> Result<(MemoryStore, String), Fail> {
+    let Ok(mut session) = Session::open(alloc, store) else {
+        return Err("open")?;
+    };
+    let line = line_of(alloc, &session.revert(alloc, number, skip_moved, moment()?))?;
+    Ok((session.into_store(), line))
+}
+
+fn line_of(alloc: Global, answer: &Result<Reverted, Refusal>) -> Result<String, Fail> {
+    let mut line = String::new(alloc);
+    match answer {
+        Ok(reverted) => {
+            line.push_str("changed")?;
+            for path in reverted.changed.as_slice() {
+                line.push_str(format!(in alloc; " {}", path.text())?.as_str())?;
+            }
+            line.push_str(", skipped")?;
+            for path in reverted.skipped.as_slice() {
+                line.push_str(format!(in alloc; " {}", path.text())?.as_str())?;
+            }
+        }
+        Err(refusal) => line.push_str(format!(in alloc; "{refusal}")?.as_str())?,
+    }
+    Ok(line)
+}
+
+// A store of two files that were signed in one step, of which the first was edited then.
+fn edited(alloc: Global, bytes: &[u8]) -> Result<MemoryStore, Fail> {
+    let files = tree(alloc, &[("a.py", PLAIN), ("b.py", PLAIN)])?;
+    let (mut store, _) = play(alloc, files, &[signing(alloc, &["a.py", "b.py"])?])?;
+    store.put(alloc, &path(alloc, "a.py")?, bytes)?;
+    Ok(store)
+}
+
+#[test]
+fn a_header_comes_out_of_a_file_that_was_edited_below(rt: HostRuntime) -> Result<(), Fail> {
+    let alloc = rt.alloc();
+    let (mut store, line) = reverted(alloc, edited(alloc, LONGER)?, 1, false)?;
+    assert!(rt; line.as_str() == "changed a.py b.py, skipped", "{line}");
+    let plain = [
+        ("a.py", b"print(1)\nprint(2)\n".as_slice()),
+        ("b.py", PLAIN),
+    ];
+    assert!(rt; has_just(alloc, &mut store, &plain)?);
+    let lines = "opened\nlog 1 done 2 done\nundone a.py b.py\n";
+    let mut store = plays(&rt, alloc, store, &["log", "undo"], lines)?;
+    assert!(rt; has_just(alloc, &mut store, &[("a.py", LONGER), ("b.py", ANNOTATED)])?);
+    Ok(())
+}
+
+#[test]
+fn what_has_moved_is_refused_or_skipped(rt: HostRuntime) -> Result<(), Fail> {
+    let alloc = rt.alloc();
+    let (store, line) = reverted(alloc, edited(alloc, EDITED)?, 1, false)?;
+    assert!(rt; line.as_str() == "a.py: moved", "{line}");
+    let (store, line) = reverted(alloc, store, 2, true)?;
+    assert!(rt; line.as_str() == "no such step: 2", "{line}");
+    let (mut store, line) = reverted(alloc, store, 1, true)?;
+    assert!(rt; line.as_str() == "changed b.py, skipped a.py", "{line}");
+    assert!(rt; has_just(alloc, &mut store, &[("a.py", EDITED), ("b.py", PLAIN)])?);
+    Ok(())
+}
+
+#[test]
+fn an_undone_step_is_shown_and_not_reverted(rt: HostRuntime) -> Result<(), Fail> {
+    let alloc = rt.alloc();
+    let files = tree(alloc, &[("a.py", PLAIN)])?;
+    let (store, _) = play(alloc, files, &events_of(alloc, &["a.py", "undo"])?)?;
+    let Ok(mut session) = Session::open(alloc, store) else {
+        return Err("open")?;
+    };
+    let shown = session.show(alloc, 1).map_err(|_| "show")?;
+    assert!(rt; shown.row.number == 1 && !shown.row.done && shown.changes.as_slice().len() == 1);
+    assert!(rt; matches!(session.show(alloc, 2), Err(Refusal::NoSuchStep(2))));
+    let answer = session.revert(alloc, 1, false, moment()?);
+    assert!(rt; matches!(answer, Err(Refusal::NoSuchStep(1))));
+    Ok(())
+}
+
+#[test]
+fn a_step_without_a_seal_is_reverted(rt: HostRuntime) -> Result<(), Fail> {
+    let alloc = rt.alloc();
+    let files = [
+        ("a.py", LONGER),
+        (HEAD, DONE_UNSEALED),
+        (ENTRY, FIRST_UNSEALED.as_bytes()),
+    ];
+    let (mut store, line) = reverted(alloc, tree(alloc, &files)?, 1, false)?;
+    assert!(rt; line.as_str() == "changed a.py, skipped", "{line}");
+    assert!(rt; holds(alloc, &mut store, "a.py", b"print(1)\nprint(2)\n")?);
+    let Ok(mut session) = Session::open(alloc, store) else {
+        return Err("open")?;
+    };
+    let shown = session.show(alloc, 2).map_err(|_| "show")?;
+    assert!(rt; shown.row.command == CommandName::Revert && shown.row.done);
+    assert!(rt;
+        shown
+            .changes
+            .as_slice()
+            .iter()
+            .all(|change| change.is_sealed())
+    );
+    Ok(())
+}

@@ -1,0 +1,36 @@
+//! Why a text of the journal was not read.
+use std::alloc::{AllocError, AllocFailed};
+use thiserror::Error;
+
+/// Why a journal text was not decoded.
+#[derive(Clone, Copy, Debug, PartialEq, Eq, Error)]
+pub enum DecodeFault {
+    /// No head or entry has this text.
+    #[error("not a good journal text")]
+    NotGood,
+    /// Memory ran out.
+    #[error("out of memory")]
+    Memory,
+}
+
+impl From<AllocError> for DecodeFault {
+    ghost use Rattle.std.specs.Prelude.{◌≡◌};
+    ghost use Rattle.reuse_tree.specs.declared.journal.fault.DecodeFault.TheVariants.{Memory};
+
+    ghost from_gives = { λ _ e. e ≡ Memory };
+
+    fn from(_error: AllocError) -> DecodeFault {
+        DecodeFault::Memory
+    }
+}
+
+impl<T: Drop> From<AllocFailed<T>> for DecodeFault {
+    ghost use Rattle.std.specs.Prelude.{◌≡◌};
+    ghost use Rattle.reuse_tree.specs.declared.journal.fault.DecodeFault.TheVariants.{Memory};
+
+    ghost from_gives = { λ _ e. e ≡ Memory };
+
+    fn from(_error: AllocFailed<T>) -> DecodeFault {
+        DecodeFault::Memory
+    }
+}

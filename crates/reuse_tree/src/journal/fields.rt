@@ -1,0 +1,199 @@
+//! A JSON value taken apart, member by member.
+ghost use Rattle.std.specs.Prelude.{◌≡◌, IfOk};
+ghost use Rattle.serde_json.specs.Data.{Data};
+ghost use Rattle.serde_json.specs.Find.{as_object, as_str};
+ghost use Rattle.serde_json.specs.View.{view, items_view, members_view};
+ghost use Rattle.reuse_tree.specs.Decoded.{Gives, GivesBy};
+ghost use Rattle.reuse_tree.specs.EntryReading.{digest_in, first_digest, hex_in, if_text, moment_in, path_in};
+ghost use Rattle.reuse_tree.specs.JsonReading.{first_member, if_none_left, format_in, number_in, small_in, smalls_in, read_items};
+ghost use Rattle.reuse_tree.specs.Json.{IsJson};
+
+use crate::digest::Digest;
+use crate::journal::fault::DecodeFault;
+use crate::journal::numbers::EntryNumbers;
+use crate::moment::Moment;
+use crate::path::{PathError, PathText};
+use hex::FromHexError;
+use reuse_text::Bytes;
+use serde_json::Value;
+use std::alloc::Global;
+use std::collections::btree_map::Iter;
+
+/// The members of an object that are left, in the order of their keys.
+pub(crate) type Fields<'a> = Iter<'a, String, Value>;
+
+/// The value that the text is.
+pub(crate) fn parse(alloc: Global, text: &[u8]) -> Result<Value, DecodeFault>
+    ensures ok { IfOk result (λ v. IsJson text.now (view v)) }
+    ensures refused { result ≡ Err DecodeFault.NotGood → (d : Data) → IsJson text.now d → ⊥ }
+{
+    match Value::from_slice(alloc, text) {
+        Ok(value) => Ok(value),
+        Err(error) => if error.is_memory() {
+            Err(DecodeFault::Memory)
+        } else {
+            Err(DecodeFault::NotGood)
+        },
+    }
+}
+
+/// The members of an object.
+pub(crate) fn fields(value: &Value) -> Result<Fields<'_>, DecodeFault>
+    ensures { GivesBy members_view result (as_object (view value.now)) }
+{
+    match value {
+        Value::Object(map) => Ok(map.iter()),
+        _ => Err(DecodeFault::NotGood),
+    }
+}
+
+/// The value of the next member, which has to have this key.
+pub(crate) fn field<'a>(fields: &mut Fields<'a>, key: &str) -> Result<&'a Value, DecodeFault>
+    ensures { GivesBy (λ v. (view v.now, members_view fields.new)) result
+        (first_member key.now (members_view fields.old)) }
+{
+    match fields.next() {
+        Some((name, value)) => if name.as_str() == key {
+            Ok(value)
+        } else {
+            Err(DecodeFault::NotGood)
+        },
+        None => Err(DecodeFault::NotGood),
+    }
+}
+
+/// Tests that no member is left.
+pub(crate) fn finish(mut fields: Fields<'_>) -> Result<(), DecodeFault>
+    ensures { Gives result (if_none_left (members_view fields.entry)) }
+{
+    match fields.next() {
+        Some(_) => Err(DecodeFault::NotGood),
+        None => Ok(()),
+    }
+}
+
+/// A text.
+pub(crate) fn text_of(value: &Value) -> Result<&str, DecodeFault>
+    ensures { GivesBy (λ s. s.now) result (as_str (view value.now)) }
+{
+    value.as_str().ok_or(DecodeFault::NotGood)
+}
+
+/// Tests that a value is this text.
+pub(crate) fn expect_text(value: &Value, text: &str) -> Result<(), DecodeFault>
+    ensures { Gives result (if_text text.now (view value.now)) }
+{
+    if text_of(value)? == text {
+        Ok(())
+    } else {
+        Err(DecodeFault::NotGood)
+    }
+}
+
+/// The bytes of a text of hexadecimal digits.
+pub(crate) fn bytes_of(alloc: Global, value: &Value) -> Result<Bytes, DecodeFault>
+    ensures { Gives result (hex_in (view value.now)) }
+{
+    match hex::decode(alloc, text_of(value)?) {
+        Ok(bytes) => Ok(Bytes::from_vec(bytes)),
+        Err(FromHexError::OutOfMemory) => Err(DecodeFault::Memory),
+        Err(_) => Err(DecodeFault::NotGood),
+    }
+}
+
+/// A digest.
+pub(crate) fn digest_of(alloc: Global, value: &Value) -> Result<Digest, DecodeFault>
+    ensures { Gives result (digest_in (view value.now)) }
+{
+    let bytes = bytes_of(alloc, value)?;
+    Digest::from_slice(bytes.as_slice()).ok_or(DecodeFault::NotGood)
+}
+
+/// The digest of the next member, which has to have this key. Where changes are not sealed, none.
+#[tactic(auto, unfolding(crate::specs::EntryReading::first_digest))]
+pub(crate) fn next_digest<'a>(
+    alloc: Global,
+    fields: &mut Fields<'a>,
+    key: &str,
+    sealed: bool,
+) -> Result<Option<Digest>, DecodeFault>
+    ensures { GivesBy (λ digest. (digest, members_view fields.new)) result (first_digest sealed key.now (members_view fields.old)) }
+{
+    if sealed {
+        Ok(Some(digest_of(alloc, field(fields, key)?)?))
+    } else {
+        Ok(None)
+    }
+}
+
+/// A path.
+pub(crate) fn path_of(alloc: Global, value: &Value) -> Result<PathText, DecodeFault>
+    ensures { Gives result (path_in (view value.now)) }
+{
+    match PathText::new(alloc, text_of(value)?) {
+        Ok(path) => Ok(path),
+        Err(PathError::BadPath) => Err(DecodeFault::NotGood),
+        Err(PathError::Memory) => Err(DecodeFault::Memory),
+    }
+}
+
+/// A moment.
+pub(crate) fn moment_of(value: &Value) -> Result<Moment, DecodeFault>
+    ensures { Gives result (moment_in (view value.now)) }
+{
+    Moment::new(number_of(value)?).ok_or(DecodeFault::NotGood)
+}
+
+/// A number of 64 bits.
+pub(crate) fn number_of(value: &Value) -> Result<u64, DecodeFault>
+    ensures { Gives result (number_in (view value.now)) }
+{
+    value.as_u64().ok_or(DecodeFault::NotGood)
+}
+
+/// A number of 32 bits.
+pub(crate) fn small_of(value: &Value) -> Result<u32, DecodeFault>
+    ensures { Gives result (small_in (view value.now)) }
+{
+    let number = number_of(value)?;
+    if number <= u64::from(u32::MAX) {
+        Ok(number as u32)
+    } else {
+        Err(DecodeFault::NotGood)
+    }
+}
+
+/// Whether the format is the second, in which entries are sealed, and not the first.
+pub(crate) fn is_second_format(value: &Value) -> Result<bool, DecodeFault>
+    ensures { Gives result (format_in (view value.now)) }
+{
+    match number_of(value)? {
+        1 => Ok(false),
+        2 => Ok(true),
+        _ => Err(DecodeFault::NotGood),
+    }
+}
+
+/// A list of numbers of 32 bits.
+#[tactic(auto, unfolding(crate::specs::JsonReading::smalls_in))]
+pub(crate) fn numbers_of(alloc: Global, value: &Value) -> Result<EntryNumbers, DecodeFault>
+    ensures { Gives result (smalls_in (view value.now)) }
+{
+    match value {
+        Value::Array(values) => {
+            let numbers = numbers_in(alloc, values.as_slice())?;
+            Ok(EntryNumbers::new(numbers))
+        }
+        _ => Err(DecodeFault::NotGood),
+    }
+}
+
+fn numbers_in(alloc: Global, values: &[Value]) -> Result<Vec<u32>, DecodeFault>
+    ensures { GivesBy (λ v. v.items) result (read_items small_in (items_view values.now)) }
+{
+    let mut numbers = Vec::with_capacity(alloc, values.len())?;
+    for value in values {
+        numbers.push(small_of(value)?)?;
+    }
+    Ok(numbers)
+}

@@ -1,0 +1,191 @@
+//! The head as text, and back.
+ghost use Rattle.std.specs.Prelude.{◌≡◌, ◌≢◌, ◌≤◌, ◌+◌, ◌*◌, ◌↔◌, true, AllPairs, IfOk, IsTrue, length};
+ghost use Rattle.serde_json.specs.View.{view};
+ghost use Rattle.reuse_tree.specs.Decoded.{Gives, IsAnswer};
+ghost use Rattle.reuse_tree.specs.Head.{head_text, listed, head_value, pending_value as value_of_pending, IsGoodHead, IsJsonHead, IsSoundHead, PendingFits};
+ghost use Rattle.reuse_tree.specs.HeadReading.{head_in, pending_in, some_pending_in, way_from};
+ghost use Rattle.reuse_tree.specs.Json.{counts};
+ghost use Rattle.reuse_tree.specs.declared.journal.head.Head.{Head};
+
+use crate::journal::fault::DecodeFault;
+use crate::journal::fields::{
+    field, fields, finish, is_second_format, numbers_of, parse, small_of, text_of,
+};
+use crate::journal::head::{Head, Pending, PendingWay};
+use reuse_text::LONGEST_FILE;
+use serde_json::{Value, json};
+use std::alloc::{AllocError, Global};
+
+const MOST_LISTED: usize = 4_096;
+
+// One more than the greatest number of an entry.
+const LARGEST_NEXT: u32 = 1_000_000;
+
+/// The compact JSON text of a head.
+pub fn encode_head(alloc: Global, head: &Head) -> Result<Vec<u8>, AllocError>
+    ensures text { IfOk result (λ text. text.items ≡ head_text head.now) }
+    ensures good { IsSoundHead head.now → IfOk result (λ text. IsGoodHead text.items head.now) }
+    ensures bound { IsSoundHead head.now
+        → IfOk result (λ text. length text.items ≤ 128 + 7 * length (listed head.now)) }
+{
+    let value = head_json(alloc, head)?;
+    value.to_vec(alloc)
+}
+
+fn head_json(alloc: Global, head: &Head) -> Result<Value, AllocError>
+    ensures { IfOk result (λ v. view v ≡ head_value true head.now) }
+{
+    let done = numbers_value(alloc, head.done.as_slice())?;
+    let undone = numbers_value(alloc, head.undone.as_slice())?;
+    let pending = pending_value(alloc, head.pending)?;
+    json!(in alloc; {
+        "done": done,
+        "format": 2u32,
+        "next": head.next,
+        "pending": pending,
+        "undone": undone
+    })
+}
+
+fn numbers_value(alloc: Global, numbers: &[u32]) -> Result<Value, AllocError>
+    ensures { IfOk result (λ v. view v ≡ counts numbers.now) }
+{
+    let mut values = Vec::with_capacity(alloc, numbers.len())?;
+    for number in numbers {
+        values.push(Value::from(*number))?;
+    }
+    Ok(Value::Array(values))
+}
+
+fn pending_value(alloc: Global, pending: Option<Pending>) -> Result<Value, AllocError>
+    ensures { IfOk result (λ v. view v ≡ value_of_pending pending) }
+{
+    match pending {
+        None => Ok(Value::Null),
+        Some(pending) => { json!(in alloc; {"entry": pending.entry, "way": pending.way.name()}) }
+    }
+}
+
+/// The head that a text stands for; `NotGood` where there is none.
+pub fn decode_head(alloc: Global, text: &[u8]) -> Result<Head, DecodeFault>
+    ensures ok { IfOk result (IsGoodHead text.now) }
+    ensures only { (head : Head) → IsGoodHead text.now head → IsAnswer result head }
+{
+    if text.len() > LONGEST_FILE {
+        return Err(DecodeFault::NotGood);
+    }
+    let head = read_head(alloc, text)?;
+    if is_sound(alloc, &head)? {
+        Ok(head)
+    } else {
+        Err(DecodeFault::NotGood)
+    }
+}
+
+// The head whose value the text is, sound or not.
+fn read_head(alloc: Global, text: &[u8]) -> Result<Head, DecodeFault>
+    ensures ok { IfOk result (IsJsonHead text.now) }
+    ensures only { (h : Head) → IsSoundHead h → IsJsonHead text.now h → IsAnswer result h }
+{
+    let value = parse(alloc, text)?;
+    head_of(alloc, &value)
+}
+
+#[tactic(auto, unfolding(crate::specs::HeadReading::head_in))]
+fn head_of(alloc: Global, value: &Value) -> Result<Head, DecodeFault>
+    ensures { Gives result (head_in (view value.now)) }
+{
+    let mut members = fields(value)?;
+    let done = numbers_of(alloc, field(&mut members, "done")?)?;
+    let _second = is_second_format(field(&mut members, "format")?)?;
+    let next = small_of(field(&mut members, "next")?)?;
+    let pending = pending_of(field(&mut members, "pending")?)?;
+    let undone = numbers_of(alloc, field(&mut members, "undone")?)?;
+    finish(members)?;
+    Ok(Head {
+        done,
+        undone,
+        next,
+        pending,
+    })
+}
+
+fn pending_of(value: &Value) -> Result<Option<Pending>, DecodeFault>
+    ensures { Gives result (pending_in (view value.now)) }
+{
+    if value.is_null() {
+        return Ok(None);
+    }
+    Ok(Some(some_pending_of(value)?))
+}
+
+#[tactic(auto, unfolding(crate::specs::HeadReading::some_pending_in))]
+fn some_pending_of(value: &Value) -> Result<Pending, DecodeFault>
+    ensures { Gives result (some_pending_in (view value.now)) }
+{
+    let mut members = fields(value)?;
+    let entry = small_of(field(&mut members, "entry")?)?;
+    let way = way_of(text_of(field(&mut members, "way")?)?)?;
+    finish(members)?;
+    Ok(Pending { entry, way })
+}
+
+fn way_of(name: &str) -> Result<PendingWay, DecodeFault>
+    ensures { Gives result (way_from name.now) }
+{
+    if name == "do" {
+        Ok(PendingWay::Do)
+    } else if name == "undo" {
+        Ok(PendingWay::Undo)
+    } else if name == "redo" {
+        Ok(PendingWay::Redo)
+    } else {
+        Err(DecodeFault::NotGood)
+    }
+}
+
+// Whether the numbers of a head fit one another.
+fn is_sound(alloc: Global, head: &Head) -> Result<bool, AllocError>
+    ensures { IfOk result (λ sound. IsTrue sound ↔ IsSoundHead head.now) }
+{
+    if head.next < 1 || head.next > LARGEST_NEXT {
+        return Ok(false);
+    }
+    let done = head.done.as_slice();
+    let undone = head.undone.as_slice();
+    if done.len() > MOST_LISTED || undone.len() > MOST_LISTED - done.len() {
+        return Ok(false);
+    }
+    let mut listed = Vec::from_slice(alloc, done)?;
+    listed.extend_from_slice(undone)?;
+    Ok(
+        listed.iter().all(|n| 1 <= *n && *n < head.next)
+            && are_distinct(listed.as_slice())
+            && pending_fits(head.pending, head.next, done, undone),
+    )
+}
+
+// Whether no number comes twice. It looks at each pair, so it is for a few thousand numbers.
+fn are_distinct(numbers: &[u32]) -> bool
+    ensures { IsTrue result ↔ AllPairs (λ m n. m ≢ n) numbers.now }
+{
+    for (i, number) in numbers.iter().enumerate() {
+        if numbers[..i].contains(number) {
+            return false;
+        }
+    }
+    true
+}
+
+fn pending_fits(pending: Option<Pending>, next: u32, done: &[u32], undone: &[u32]) -> bool
+    ensures { IsTrue result ↔ PendingFits pending next done.now undone.now }
+{
+    let Some(pending) = pending else {
+        return true;
+    };
+    match pending.way {
+        PendingWay::Do => pending.entry == next && pending.entry < LARGEST_NEXT,
+        PendingWay::Undo => done.last().copied() == Some(pending.entry),
+        PendingWay::Redo => undone.last().copied() == Some(pending.entry),
+    }
+}
