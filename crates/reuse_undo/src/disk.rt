@@ -9,6 +9,7 @@ mod failure;
 mod fault;
 mod folder;
 mod kept_out;
+mod known;
 mod listing;
 mod new_file;
 mod place;

@@ -10,7 +10,8 @@ ghost use Rattle.reuse_undo.specs.Within.{IsWithin};
 use crate::disk::empty_folders::remove_folders;
 use crate::disk::fault::{FolderFault, Obstacle};
 use crate::disk::kept_out::{NEW, is_kept_out};
-use crate::disk::listing::list_below;
+use crate::disk::known::KnownFiles;
+use crate::disk::listing::{list_below, paths_of};
 use crate::disk::new_file::NewFile;
 use crate::disk::place::{FileStatus, Found, FullPath, Place, check_root};
 use reuse_text::Bytes;
@@ -34,6 +35,8 @@ pub struct RootFolder<R: Files<File = File> + AllocGlobal + Clone + Drop> {
     seen: String,
     /// The regular file that the last call has read: a call for it needs no second look.
     last_read: Option<(FullPath, FileStatus)>,
+    /// The files that were listed or read since the last listing. One that is open is known again by its number, so its path needs no look.
+    known: KnownFiles,
     /// The place of new files, where its folder was looked at since the last listing or fault.
     new_file: Option<NewFile>,
     /// The folder that the last listing looked at last.
@@ -45,11 +48,13 @@ impl<R: Files<File = File> + AllocGlobal + Clone + Drop> RootFolder<R> {
     pub fn new(rt: R, root: String) -> RootFolder<R> {
         let seen = String::new(rt.alloc());
         let listed = String::new(rt.alloc());
+        let known = KnownFiles::new(Vec::new(rt.alloc()));
         RootFolder {
             rt,
             root,
             seen,
             last_read: None,
+            known,
             new_file: None,
             listed,
         }
@@ -116,12 +121,15 @@ impl<R: Files<File = File> + AllocGlobal + Clone + Drop> RootFolder<R> {
         self.last_read = None;
         self.new_file = None;
         let root = self.root.as_str();
-        list_below(&self.rt, alloc, root, "", &mut self.listed)
+        let files = list_below(&self.rt, alloc, root, "", &mut self.listed)?;
+        let paths = paths_of(alloc, &files)?;
+        self.known = KnownFiles::new(files);
+        Ok(paths)
     }
 
     /// The bytes of the regular file at the path, where they are at most `limit`. The file that is opened is the one that was looked
-    /// at: where something else has taken its place, a link too, it isn't read, and the path is looked at once more. One that is longer
-    /// isn't opened, so it needn't be readable.
+    /// at, now or before: where something else has taken its place, a link too, it isn't read, and the path is looked at once more. One
+    /// that is longer isn't opened, so it needn't be readable.
     pub fn read(
         &mut self,
         alloc: Global,
@@ -132,6 +140,12 @@ impl<R: Files<File = File> + AllocGlobal + Clone + Drop> RootFolder<R> {
         ensures kept_out { IsTrue (is_kept_out path.now) → IfOk result (λ reading. reading ≡ Reading.Absent) }
     {
         let full = self.full(alloc, path.text())?;
+        if is_kept_out(path.text()) {
+            return Ok(Reading::Absent);
+        }
+        if let Some((file, status)) = self.open_known(path, &full, limit) {
+            return self.read_open(alloc, full, file, status, limit);
+        }
         for _ in 0..MOST_LOOKS {
             let Place::File(status) = self.look(path, &full)? else {
                 return Ok(Reading::Absent);
@@ -142,12 +156,47 @@ impl<R: Files<File = File> + AllocGlobal + Clone + Drop> RootFolder<R> {
             }
             let file = fs::open(&self.rt, full.text())?;
             if status.is_of(&file.metadata()?) {
-                let reading = read_file(file, alloc, status.len, limit)?;
-                self.last_read = Some((full, status));
-                return Ok(reading);
+                self.known.note(alloc, path, status);
+                return self.read_open(alloc, full, file, status, limit);
             }
         }
         Err(FolderFault::Device(Obstacle::Changing))
+    }
+
+    /// Opens a file that is known, where it is the one that stands at the path still; what the system tells of it now.
+    fn open_known(
+        &mut self,
+        path: &PathText,
+        full: &FullPath,
+        limit: usize,
+    ) -> Option<(File, FileStatus)> {
+        let known = self.known.status_of(path)?;
+        if known.len > limit as u64 {
+            return None;
+        }
+        let file = fs::open(&self.rt, full.text()).ok()?;
+        let metadata = file.metadata().ok()?;
+        if metadata.is_file() && known.is_of(&metadata) {
+            Some((file, FileStatus::of(&metadata)))
+        } else {
+            None
+        }
+    }
+
+    /// The bytes of an open file, where they are at most `limit`.
+    fn read_open(
+        &mut self,
+        alloc: Global,
+        full: FullPath,
+        file: File,
+        status: FileStatus,
+        limit: usize,
+    ) -> Result<Reading, FolderFault>
+        ensures within { IfOk result (IsWithin limit) }
+    {
+        let reading = read_file(file, alloc, status.len, limit)?;
+        self.last_read = Some((full, status));
+        Ok(reading)
     }
 
     /// Makes the parts joined the file at the path, as a whole or not at all, and folders as needed.

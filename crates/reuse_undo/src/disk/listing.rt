@@ -1,13 +1,14 @@
 //! The files below a folder.
-ghost use Rattle.std.specs.Prelude.{◌≡◌, All, false, IfOk};
-ghost use Rattle.std.specs.List.Sorted.{IsSorted};
+ghost use Rattle.std.specs.Prelude.{◌≡◌, All, false, map, IfOk};
+ghost use Rattle.std.specs.List.Sorted.{IsSortedByKey};
 ghost use Rattle.std.specs.Ordering.{nat_cmp};
 ghost use Rattle.std.specs.Cmp.Lexicographic.{slice_cmp};
 ghost use Rattle.reuse_undo.specs.KeptOut.{is_kept_out};
 
 use crate::disk::fault::{FolderFault, Obstacle};
 use crate::disk::kept_out::{is_folder_kept_out, is_kept_out};
-use crate::disk::place::FullPath;
+use crate::disk::known::KnownFile;
+use crate::disk::place::{FileStatus, FullPath};
 use reuse_tree::PathText;
 use std::alloc::{AllocError, Global};
 use std::fs::{self, DirEntry};
@@ -27,8 +28,8 @@ pub fn push_text(alloc: Global, texts: &mut Vec<String>, text: &str) -> Result<(
 struct Listing {
     names: usize,
     folders: Vec<String>,
-    paths: Vec<PathText>,
-    ghost in_tree: { All (λ path. is_kept_out path ≡ false) paths.items },
+    files: Vec<KnownFile>,
+    ghost in_tree: { All (λ file. is_kept_out file.path ≡ false) files.items },
 }
 
 impl Listing {
@@ -39,7 +40,7 @@ impl Listing {
         Ok(Listing {
             names: 0,
             folders,
-            paths: Vec::new(alloc),
+            files: Vec::new(alloc),
         })
     }
 
@@ -58,16 +59,18 @@ impl Listing {
             return Err(FolderFault::Device(Obstacle::TooManyNames));
         }
         self.names += 1;
-        let kind = entry.file_type()?;
+        let metadata = entry.metadata()?;
         let start = root.len().saturating_add(1);
         let path = entry.path().as_str().get(start..).unwrap_or("");
-        if kind.is_dir() {
+        if metadata.is_dir() {
             if !is_folder_kept_out(path) {
                 push_text(alloc, &mut self.folders, path)?;
             }
-        } else if kind.is_file() && !is_kept_out(path) {
+        } else if metadata.is_file() && !is_kept_out(path) {
             let path = PathText::new(alloc, path)?;
-            self.paths.push(path).map_err(AllocError::from)?;
+            let status = FileStatus::of(&metadata);
+            let file = KnownFile { path, status };
+            self.files.push(file).map_err(AllocError::from)?;
         }
         Ok(())
     }
@@ -87,18 +90,18 @@ impl Listing {
         Ok(())
     }
 
-    /// What was found, in byte order.
-    fn into_paths(self) -> Result<Vec<PathText>, FolderFault>
-        ensures sorted { IfOk result (λ paths. IsSorted (slice_cmp nat_cmp) paths.items) }
-        ensures kept_out { IfOk result (λ paths. All (λ path. is_kept_out path ≡ false) paths.items) }
+    /// What was found, in byte order of the paths.
+    fn into_files(self) -> Vec<KnownFile>
+        ensures sorted { IsSortedByKey (λ file. file.path) (slice_cmp nat_cmp) result.items }
+        ensures kept_out { All (λ file. is_kept_out file.path ≡ false) result.items }
     {
-        let mut paths = self.paths;
-        paths.sort()?;
-        Ok(paths)
+        let mut files = self.files;
+        files.sort_unstable_by(|one, other| one.path.cmp(&other.path));
+        files
     }
 }
 
-/// The paths of the regular files below this folder, which is the root where it is empty, in byte order. `last` becomes the folder that was
+/// The regular files below this folder, which is the root where it is empty, in byte order of their paths. `last` becomes the folder that was
 /// looked at last, where a listing that fails has failed.
 pub fn list_below<R: Files + AllocGlobal + Clone + Drop>(
     rt: &R,
@@ -106,9 +109,9 @@ pub fn list_below<R: Files + AllocGlobal + Clone + Drop>(
     root: &str,
     folder: &str,
     last: &mut String,
-) -> Result<Vec<PathText>, FolderFault>
-    ensures sorted { IfOk result (λ paths. IsSorted (slice_cmp nat_cmp) paths.items) }
-    ensures kept_out { IfOk result (λ paths. All (λ path. is_kept_out path ≡ false) paths.items) }
+) -> Result<Vec<KnownFile>, FolderFault>
+    ensures sorted { IfOk result (λ files. IsSortedByKey (λ file. file.path) (slice_cmp nat_cmp) files.items) }
+    ensures kept_out { IfOk result (λ files. All (λ file. is_kept_out file.path ≡ false) files.items) }
 {
     let mut listing = Listing::of(alloc, folder)?;
     for _ in 0..=MOST_NAMES {
@@ -117,8 +120,19 @@ pub fn list_below<R: Files + AllocGlobal + Clone + Drop>(
                 *last = folder;
                 listing.take_folder(rt, alloc, root, last.as_str())?;
             }
-            None => return listing.into_paths(),
+            None => return Ok(listing.into_files()),
         }
     }
     Err(FolderFault::Device(Obstacle::TooManyNames))
+}
+
+/// The paths of the files.
+pub fn paths_of(alloc: Global, files: &[KnownFile]) -> Result<Vec<PathText>, AllocError>
+    ensures { IfOk result (λ paths. paths.items ≡ map (λ file. file.path) files.now) }
+{
+    let mut paths = Vec::with_capacity(alloc, files.len())?;
+    for file in files {
+        paths.push(file.path.try_clone(alloc)?)?;
+    }
+    Ok(paths)
 }

@@ -25,7 +25,8 @@ pub struct FileStatus {
 }
 
 impl FileStatus {
-    fn of(metadata: &Metadata) -> FileStatus {
+    /// What the system tells here.
+    pub fn of(metadata: &Metadata) -> FileStatus {
         FileStatus {
             len: metadata.len(),
             mode: kept_bits(metadata),
