@@ -81,11 +81,11 @@ fn fault(text: &str) -> Option<usize> {
 #[test]
 fn checks_expressions(rt: HostRuntime) {
     let cases = [
-        ("(MIT OR ISC) AND GPL-2.0+ WITH x", None),
         ("MIT AND", Some(7)),
         ("MIT ISC", Some(4)),
         ("MIT++", Some(4)),
         ("", Some(0)),
+        ("(MIT OR ISC) AND GPL-2.0+ WITH x", None),
         ("MIT And ISC", Some(4)),
         ("(MIT) WITH x", Some(6)),
         ("MIT WITH x+", Some(9)),

@@ -33,17 +33,38 @@ fn paths_have_good_parts(rt: HostRuntime) -> Result<(), Fail> {
     Ok(())
 }
 
+// The states of the change where its path holds these bytes.
+fn has_states(change: &Change, wanted: &[(&[u8], ChangeState)]) -> bool {
+    wanted
+        .iter()
+        .all(|(file, state)| change.state(Some(*file)) == *state)
+}
+
+// The example of a change that exchanges a byte.
+fn exchange(alloc: Global) -> Result<Change, Fail> {
+    splice(alloc, 1, b"b", b"XY", 1)
+}
+
 #[test]
 fn a_splice_has_two_ends(rt: HostRuntime) -> Result<(), Fail> {
+    let change = splice(rt.alloc(), 0, b"", b"ab", 2)?;
+    assert!(rt;
+        has_states(
+            &change,
+            &[
+                (b"ab", ChangeState::Before),
+                (b"abab", ChangeState::After),
+                (b"aba", ChangeState::Neither),
+            ]
+        )
+    );
+    Ok(())
+}
+
+#[test]
+fn a_splice_is_applied(rt: HostRuntime) -> Result<(), Fail> {
     let alloc = rt.alloc();
-    let change = splice(alloc, 0, b"", b"ab", 2)?;
-    assert!(rt; change.state(Some(b"ab".as_slice())) == ChangeState::Before);
-    assert!(rt; change.state(Some(b"abab".as_slice())) == ChangeState::After);
-    assert!(rt; change.state(Some(b"aba".as_slice())) == ChangeState::Neither);
-    let change = splice(alloc, 1, b"b", b"XY", 1)?;
-    assert!(rt; change.state(Some(b"aXYc".as_slice())) == ChangeState::After);
-    assert!(rt; change.state(Some(b"abcd".as_slice())) == ChangeState::Neither);
-    assert_eq!(rt; change.path().text(), "a");
+    let change = exchange(alloc)?;
     let file = b"abc".as_slice();
     if let ChangeState::Before = change.state(Some(file)) {
         let after = change.apply(alloc, Some(file))?.ok_or("absent")?;
@@ -51,8 +72,15 @@ fn a_splice_has_two_ends(rt: HostRuntime) -> Result<(), Fail> {
     } else {
         return Err("not before")?;
     }
-    let back = change.try_clone(alloc)?.inverse();
-    assert!(rt; back.state(Some(b"aXYc".as_slice())) == ChangeState::Before);
+    Ok(())
+}
+
+#[test]
+fn a_splice_is_turned_back(rt: HostRuntime) -> Result<(), Fail> {
+    let change = exchange(rt.alloc())?;
+    assert_eq!(rt; change.path().text(), "a");
+    let back = change.try_clone(rt.alloc())?.inverse();
+    assert!(rt; has_states(&back, &[(b"aXYc", ChangeState::Before)]));
     Ok(())
 }
 
@@ -74,49 +102,55 @@ fn a_digest_is_of_the_joined_bytes(rt: HostRuntime) -> Result<(), Fail> {
     Ok(())
 }
 
-#[test]
-fn a_sealed_splice_is_of_two_files(rt: HostRuntime) -> Result<(), Fail> {
-    let alloc = rt.alloc();
+// A sealed change that exchanges a byte.
+fn sealed_exchange(alloc: Global) -> Result<Change, Fail> {
     let path = PathText::new(alloc, "a")?;
     let old = Bytes::from_slice(alloc, b"b")?;
     let new = Bytes::from_slice(alloc, b"XY")?;
-    let change = Change::sealed_splice(path, b"abc", 1, old, new);
+    Ok(Change::sealed_splice(path, b"abc", 1, old, new))
+}
+
+#[test]
+fn a_sealed_splice_is_of_two_files(rt: HostRuntime) -> Result<(), Fail> {
+    let change = sealed_exchange(rt.alloc())?;
     assert!(rt; change.is_sealed());
-    assert!(rt; change.state(Some(b"abc".as_slice())) == ChangeState::Before);
-    assert!(rt; change.state(Some(b"aXYc".as_slice())) == ChangeState::After);
-    let edited = Some(b"aXYd".as_slice());
-    assert!(rt; change.state(edited) == ChangeState::Neither);
-    assert!(rt; change.state_by_range(edited) == ChangeState::After);
-    let back = change.try_clone(alloc)?.inverse();
-    assert!(rt; back.state(Some(b"aXYc".as_slice())) == ChangeState::Before);
-    assert!(rt; back.state(Some(b"abc".as_slice())) == ChangeState::After);
-    assert!(rt; back.state(edited) == ChangeState::Neither);
+    assert!(rt;
+        has_states(
+            &change,
+            &[
+                (b"abc", ChangeState::Before),
+                (b"aXYc", ChangeState::After),
+                (b"aXYd", ChangeState::Neither),
+            ]
+        )
+    );
+    assert!(rt; change.state_by_range(Some(b"aXYd".as_slice())) == ChangeState::After);
     Ok(())
+}
+
+// The bytes of the examples of files that are made or dropped
+fn made_bytes(alloc: Global) -> Result<(PathText, Bytes), Fail> {
+    Ok((
+        PathText::new(alloc, "a")?,
+        Bytes::from_slice(alloc, b"abc")?,
+    ))
 }
 
 #[test]
 fn a_sealed_make_has_the_digest_of_its_bytes(rt: HostRuntime) -> Result<(), Fail> {
-    let alloc = rt.alloc();
-    let file = Some(b"abc".as_slice());
-    let change = Change::sealed_make(
-        PathText::new(alloc, "a")?,
-        Bytes::from_slice(alloc, b"abc")?,
-    );
+    let (path, new) = made_bytes(rt.alloc())?;
+    let change = Change::sealed_make(path, new);
     assert!(rt; change.state(None) == ChangeState::Before);
-    assert!(rt; change.inverse().state(file) == ChangeState::Before);
-    let change = Change::sealed_drop(
-        PathText::new(alloc, "a")?,
-        Bytes::from_slice(alloc, b"abc")?,
-    );
-    assert!(rt; change.state(file) == ChangeState::Before);
+    assert!(rt; has_states(&change, &[(b"abc", ChangeState::After)]));
+    Ok(())
+}
+
+#[test]
+fn a_sealed_drop_has_the_digest_of_its_bytes(rt: HostRuntime) -> Result<(), Fail> {
+    let (path, old) = made_bytes(rt.alloc())?;
+    let change = Change::sealed_drop(path, old);
     assert!(rt; change.state(None) == ChangeState::After);
-    let change = Change::Make {
-        path: PathText::new(alloc, "a")?,
-        new: Bytes::from_slice(alloc, b"abd")?,
-        after: Some(Digest::of(b"abc")),
-    };
-    assert!(rt; change.state(None) == ChangeState::Neither);
-    assert!(rt; change.state(Some(b"abd".as_slice())) == ChangeState::Neither);
+    assert!(rt; has_states(&change, &[(b"abc", ChangeState::Before)]));
     Ok(())
 }
 

@@ -307,15 +307,14 @@ fn opening_call<'a>(
     call_between(alloc, start, reopen, answer, standing, standing)
 }
 
-/// Refuses the growths of a run, of its undo and redo, and of an opening where the run stopped.
-fn refuse_each_growth<R: Abort + Eprint + Files + Alloc>(
-    rt: &R,
+/// Refuses the growths of a run, of its undo and of its redo.
+fn refuse_growths_of_steps(
+    rt: &(impl Abort + Eprint),
     alloc: Global,
-    command: Command,
+    memory: &ScarceMemory,
+    events: &[Event; 3],
     example: Example,
 ) -> Result<(), Fail> {
-    let memory = ScarceMemory::new(rt, alloc)?;
-    let events = [Event::Run(command, moment()?), Event::Undo, Event::Redo];
     let (old, new, _) = example;
     let undone = ("opened\nlog 1 done 3 undone\n", old);
     let old = ("opened\nlog 1 done 2 undone\n", old);
@@ -326,10 +325,35 @@ fn refuse_each_growth<R: Abort + Eprint + Files + Alloc>(
         (&events[..], "redone", undone, new),
     ] {
         let call = last_call(alloc, example, events, word, before, after)?;
-        refuse_growths(rt, alloc, &memory, call)?;
+        refuse_growths(rt, alloc, memory, call)?;
     }
-    let call = opening_call(alloc, &events[..1], &Event::Reopen, old)?;
-    refuse_growths(rt, alloc, &memory, call)
+    Ok(())
+}
+
+/// Refuses the growths of an opening where the run stopped.
+fn refuse_growths_of_an_opening(
+    rt: &(impl Abort + Eprint),
+    alloc: Global,
+    memory: &ScarceMemory,
+    run: &[Event],
+    example: Example,
+) -> Result<(), Fail> {
+    let old = ("opened\nlog 1 done 2 undone\n", example.0);
+    let call = opening_call(alloc, run, &Event::Reopen, old)?;
+    refuse_growths(rt, alloc, memory, call)
+}
+
+/// Refuses the growths of a run, of its undo and redo, and of an opening where the run stopped.
+fn refuse_each_growth<R: Abort + Eprint + Files + Alloc>(
+    rt: &R,
+    alloc: Global,
+    command: Command,
+    example: Example,
+) -> Result<(), Fail> {
+    let events = [Event::Run(command, moment()?), Event::Undo, Event::Redo];
+    let memory = ScarceMemory::new(rt, alloc)?;
+    refuse_growths_of_steps(rt, alloc, &memory, &events, example)?;
+    refuse_growths_of_an_opening(rt, alloc, &memory, &events[..1], example)
 }
 
 #[test]

@@ -135,15 +135,31 @@ fn refused_call<'a>(alloc: Global, event: &'a Event, text: &[u8]) -> Result<Call
     })
 }
 
+/// Refuses the growths of a call on a tree with these styles.
+fn refuse_growths_for(
+    rt: &(impl Abort + Eprint),
+    alloc: Global,
+    memory: &ScarceMemory,
+    event: &Event,
+    text: &[u8],
+) -> Result<(), Fail> {
+    let call = refused_call(alloc, event, text)?;
+    refuse_growths(rt, alloc, memory, call)
+}
+
+/// A run of an annotate.
+fn annotating(alloc: Global) -> Result<Event, Fail> {
+    let command = licence(alloc, &["a.py"], "MIT", plain_scope(alloc))?;
+    Ok(Event::Run(command, moment()?))
+}
+
 #[test]
 fn bad_styles_are_refused_in_scarce_memory(rt: HostRuntime) -> Result<(), Fail> {
     let alloc = rt.alloc();
+    let event = annotating(alloc)?;
     let memory = ScarceMemory::new(&rt, alloc)?;
-    let command = licence(alloc, &["a.py"], "MIT", plain_scope(alloc))?;
-    let event = Event::Run(command, moment()?);
     for (text, _) in BAD {
-        let call = refused_call(alloc, &event, text)?;
-        refuse_growths(&rt, alloc, &memory, call)?;
+        refuse_growths_for(&rt, alloc, &memory, &event, text)?;
     }
     Ok(())
 }

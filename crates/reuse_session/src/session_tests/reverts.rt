@@ -84,18 +84,35 @@ fn what_has_moved_is_refused_or_skipped(rt: HostRuntime) -> Result<(), Fail> {
     Ok(())
 }
 
-#[test]
-fn an_undone_step_is_shown_and_not_reverted(rt: HostRuntime) -> Result<(), Fail> {
-    let alloc = rt.alloc();
+// A session on a store whose one step is undone.
+fn undone(alloc: Global) -> Result<Session<MemoryStore>, Fail> {
     let files = tree(alloc, &[("a.py", PLAIN)])?;
     let (store, _) = play(alloc, files, &events_of(alloc, &["a.py", "undo"])?)?;
-    let Ok(mut session) = Session::open(alloc, store) else {
-        return Err("open")?;
-    };
-    let shown = session.show(alloc, 1).map_err(|_| "show")?;
+    match Session::open(alloc, store) {
+        Ok(session) => Ok(session),
+        Err(_) => Err("open")?,
+    }
+}
+
+#[test]
+fn an_undone_step_is_shown(rt: HostRuntime) -> Result<(), Fail> {
+    let mut session = undone(rt.alloc())?;
+    let shown = session.show(rt.alloc(), 1).map_err(|_| "show")?;
     assert!(rt; shown.row.number == 1 && !shown.row.done && shown.changes.as_slice().len() == 1);
-    assert!(rt; matches!(session.show(alloc, 2), Err(Refusal::NoSuchStep(2))));
-    let answer = session.revert(alloc, 1, false, moment()?);
+    Ok(())
+}
+
+#[test]
+fn a_step_that_is_not_there_is_not_shown(rt: HostRuntime) -> Result<(), Fail> {
+    let mut session = undone(rt.alloc())?;
+    assert!(rt; matches!(session.show(rt.alloc(), 2), Err(Refusal::NoSuchStep(2))));
+    Ok(())
+}
+
+#[test]
+fn an_undone_step_is_not_reverted(rt: HostRuntime) -> Result<(), Fail> {
+    let mut session = undone(rt.alloc())?;
+    let answer = session.revert(rt.alloc(), 1, false, moment()?);
     assert!(rt; matches!(answer, Err(Refusal::NoSuchStep(1))));
     Ok(())
 }
