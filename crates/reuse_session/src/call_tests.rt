@@ -1,8 +1,3 @@
-//! Single calls of the crates below the sessions, each at least once.
-mod annotations;
+//! Single calls of the crates of trees and of dep5 files.
 mod dep5;
-mod headers;
-mod notices;
 mod stores;
-mod styles;
-mod texts;

@@ -13,8 +13,6 @@ mod known;
 mod listing;
 mod new_file;
 mod place;
-#[cfg(test)]
-mod tests;
 
 pub use failure::Failure;
 use failure::LastFailure;

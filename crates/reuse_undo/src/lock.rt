@@ -2,9 +2,6 @@
 ghost use Rattle.std.specs.Prelude.{◌≡◌, ◌↔◌, Err, IfErr, IsErr};
 ghost use Rattle.reuse_undo.specs.declared.fault.Fault.TheVariants.{InUse};
 
-#[cfg(test)]
-mod tests;
-
 use crate::fault::Fault;
 use std::fs::{self, File, TryLockError};
 use std::io;

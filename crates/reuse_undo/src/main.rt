@@ -25,8 +25,6 @@ mod request;
 mod rows;
 mod run_line;
 mod status;
-#[cfg(test)]
-mod tests;
 mod texts;
 mod words;
 

@@ -1,10 +1,9 @@
 //! Steps shown and reverted that need not be the last.
 // The tags below are data: REUSE-IgnoreStart
 use crate::session_tests::trees::{
-    ANNOTATED, DONE_UNSEALED, ENTRY, FIRST_UNSEALED, HEAD, PLAIN, events_of, has_just, holds,
-    moment, path, play, plays, signing, tree,
+    ANNOTATED, PLAIN, events_of, has_just, moment, path, play, plays, signing, tree,
 };
-use crate::{CommandName, Refusal, Reverted, Session};
+use crate::{Refusal, Reverted, Session};
 use reuse_tree::{MemoryStore, Store};
 use std::alloc::Global;
 use std::process::Abort;
@@ -12,8 +11,6 @@ use std::test::Fail;
 
 const LONGER: &[u8] =
     b"# SPDX-FileCopyrightText: 2024 Jane Doe\n#\n# SPDX-License-Identifier: MIT\n\nprint(1)\nprint(2)\n";
-
-const EDITED: &[u8] = b"# SPDX-FileCopyrightText: 2025 Jane Doe\n\nprint(1)\n";
 
 // What a revert of the step answered, as a line, and the store then.
 fn reverted(
@@ -71,19 +68,6 @@ fn a_header_comes_out_of_a_file_that_was_edited_below(rt: HostRuntime) -> Result
     Ok(())
 }
 
-#[test]
-fn what_has_moved_is_refused_or_skipped(rt: HostRuntime) -> Result<(), Fail> {
-    let alloc = rt.alloc();
-    let (store, line) = reverted(alloc, edited(alloc, EDITED)?, 1, false)?;
-    assert!(rt; line.as_str() == "a.py: moved", "{line}");
-    let (store, line) = reverted(alloc, store, 2, true)?;
-    assert!(rt; line.as_str() == "no such step: 2", "{line}");
-    let (mut store, line) = reverted(alloc, store, 1, true)?;
-    assert!(rt; line.as_str() == "changed b.py, skipped a.py", "{line}");
-    assert!(rt; has_just(alloc, &mut store, &[("a.py", EDITED), ("b.py", PLAIN)])?);
-    Ok(())
-}
-
 // A session on a store whose one step is undone.
 fn undone(alloc: Global) -> Result<Session<MemoryStore>, Fail> {
     let files = tree(alloc, &[("a.py", PLAIN)])?;
@@ -99,46 +83,5 @@ fn an_undone_step_is_shown(rt: HostRuntime) -> Result<(), Fail> {
     let mut session = undone(rt.alloc())?;
     let shown = session.show(rt.alloc(), 1).map_err(|_| "show")?;
     assert!(rt; shown.row.number == 1 && !shown.row.done && shown.changes.as_slice().len() == 1);
-    Ok(())
-}
-
-#[test]
-fn a_step_that_is_not_there_is_not_shown(rt: HostRuntime) -> Result<(), Fail> {
-    let mut session = undone(rt.alloc())?;
-    assert!(rt; matches!(session.show(rt.alloc(), 2), Err(Refusal::NoSuchStep(2))));
-    Ok(())
-}
-
-#[test]
-fn an_undone_step_is_not_reverted(rt: HostRuntime) -> Result<(), Fail> {
-    let mut session = undone(rt.alloc())?;
-    let answer = session.revert(rt.alloc(), 1, false, moment()?);
-    assert!(rt; matches!(answer, Err(Refusal::NoSuchStep(1))));
-    Ok(())
-}
-
-#[test]
-fn a_step_without_a_seal_is_reverted(rt: HostRuntime) -> Result<(), Fail> {
-    let alloc = rt.alloc();
-    let files = [
-        ("a.py", LONGER),
-        (HEAD, DONE_UNSEALED),
-        (ENTRY, FIRST_UNSEALED.as_bytes()),
-    ];
-    let (mut store, line) = reverted(alloc, tree(alloc, &files)?, 1, false)?;
-    assert!(rt; line.as_str() == "changed a.py, skipped", "{line}");
-    assert!(rt; holds(alloc, &mut store, "a.py", b"print(1)\nprint(2)\n")?);
-    let Ok(mut session) = Session::open(alloc, store) else {
-        return Err("open")?;
-    };
-    let shown = session.show(alloc, 2).map_err(|_| "show")?;
-    assert!(rt; shown.row.command == CommandName::Revert && shown.row.done);
-    assert!(rt;
-        shown
-            .changes
-            .as_slice()
-            .iter()
-            .all(|change| change.is_sealed())
-    );
     Ok(())
 }

@@ -1,10 +1,7 @@
 //! A session that stops at any call of its store: it then opens on the tree and the log from before its last call or from after it.
 // The tags below are data: REUSE-IgnoreStart
-use crate::session_tests::downloads_and_conversions::{DEP5, TOML};
-use crate::session_tests::trees::{
-    ANNOTATED, PLAIN, copy, dump, has_just, licence, moment, plain_scope, play, signing, tree,
-};
-use crate::{Answer, Command, Event, Refusal, Reply, Session, drive};
+use crate::session_tests::trees::{ANNOTATED, PLAIN, copy, dump, has_just, play, signing, tree};
+use crate::{Answer, Event, Refusal, Reply, Session, drive};
 use reuse_tree::{FuseStore, MemoryStore, OnceStore, Store};
 use std::alloc::Global;
 use std::process::Abort;
@@ -287,43 +284,5 @@ fn one_call_of_a_step_fails(rt: HostRuntime) -> Result<(), Fail> {
         let mut start = left_by(alloc, past)?;
         fails_everywhere(&rt, alloc, &mut start, last, before, after)?;
     }
-    Ok(())
-}
-
-const UNCONVERTED: Standing = ("opened\nlog\n", &[(".reuse/dep5", DEP5)]);
-
-const CONVERTED: Standing = ("opened\nlog 1 done\n", &[("REUSE.toml", TOML)]);
-
-#[test]
-fn a_conversion_stops_at_any_call(rt: HostRuntime) -> Result<(), Fail> {
-    let alloc = rt.alloc();
-    let run = [Event::Run(Command::ConvertDep5, moment()?)];
-    let mut start = tree(alloc, UNCONVERTED.1)?;
-    stops_everywhere(&rt, alloc, &mut start, &run, UNCONVERTED, CONVERTED)?;
-    assert_eq!(rt; changing_calls(alloc, &mut start, &run)?.as_str(), "+++++");
-    Ok(())
-}
-
-const PICTURE: (&str, &[u8]) = ("p.png", b"\x89\x00");
-
-const TAGGED: Standing = (
-    "opened\nlog 1 done\n",
-    &[
-        PICTURE,
-        ("p.png.license", b"SPDX-License-Identifier: MIT\n"),
-    ],
-);
-
-const UNTAGGED: Standing = ("opened\nlog 1 undone\n", &[PICTURE]);
-
-#[test]
-fn a_made_file_is_undone_or_not_at_any_stop(rt: HostRuntime) -> Result<(), Fail> {
-    let alloc = rt.alloc();
-    let command = licence(alloc, &["p.png"], "MIT", plain_scope(alloc))?;
-    let run = [Event::Run(command, moment()?)];
-    let (mut start, _) = drive(alloc, tree(alloc, UNTAGGED.1)?, &run);
-    let undo = [Event::Undo];
-    stops_everywhere(&rt, alloc, &mut start, &undo, TAGGED, UNTAGGED)?;
-    assert_eq!(rt; changing_calls(alloc, &mut start, &undo)?.as_str(), "+++");
     Ok(())
 }

@@ -1,6 +1,6 @@
 //! Headers that are added to files and to neighbours.
 // The tags below are data: REUSE-IgnoreStart
-use reuse_header::{How, Splice, Style, annotate_file, annotate_neighbour};
+use crate::{How, Splice, Style, annotate_file, annotate_neighbour};
 use reuse_notice::{Additions, Prefix};
 use reuse_text::LONGEST_FILE;
 use std::alloc::Global;

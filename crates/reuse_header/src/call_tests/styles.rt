@@ -1,5 +1,5 @@
 //! Own styles, and the names of styles.
-use reuse_header::{Kind, STYLES, Style, StyleTable, style_names};
+use crate::{Kind, STYLES, Style, StyleTable, style_names};
 use std::test::Fail;
 
 // The kinds that a file of styles gives to paths, or why it is refused.

@@ -1,0 +1,110 @@
+#!/usr/bin/env bash
+# Runs words with each option of annotate, words that ask for help, words that are refused, and words for places, and compares as worked_lines.sh
+# does, whose functions it takes. Ends with status 1 at the first fault.
+# usage: tests/options.sh PROGRAM
+# The tags below are data: REUSE-IgnoreStart
+set -euo pipefail
+. "$(dirname "$0")/worked_lines.sh"
+
+# Options that leave what is written for a.py as it is without them, and what each of them does elsewhere. (--merge-copyrights, --no-replace, -r,
+# and those of neighbours and of what is skipped do it in worked_lines.sh.)
+settings() {
+  local option style comment
+  writes '-l|MIT|a.py' a.py 'x\n' to a.py "$tagged"
+  for option in --single-line --merge-copyrights --no-replace --recursive -r --fallback-dot-license --skip-unrecognised --skip-existing \
+    --exclude-year -- '--recursive|--exclude|**a|--exclude=*'; do
+    writes "-l|MIT|$option|a.py" a.py 'x\n' to a.py "$tagged"
+  done
+  writes '-l|MIT|-s|python|--|-r' -r 'x\n' to -r "$tagged"
+  writes '-l|MIT|k.h' k.h '/* SPDX-License-Identifier: ISC */\nx\n' to k.h '/*\n * SPDX-License-Identifier: ISC\n * SPDX-License-Identifier: MIT\n */\nx\n'
+  writes '-l|MIT|--single-line|k.h' k.h '/* SPDX-License-Identifier: ISC */\nx\n' to k.h "// SPDX-License-Identifier: ISC\n// ${tag}x\n"
+  writes '-l|MIT|k.c' k.c 'x\n' to k.c "// $tag\nx\n"
+  writes '-l|MIT|--multi-line|k.c' k.c 'x\n' to k.c "/*\n * $tag */\n\nx\n"
+  writes '-l|MIT|--recursive|src' src/a.py 'x\n' src/deep/b.py 'x\n' to src/a.py "$tagged" src/deep/b.py "$tagged"
+  writes '-l|MIT|--recursive|-s|python|--exclude|**a|--exclude=*|.' a.py 'x\n' src/a 'x\n' src/b.py 'x\n' src/deep/ba 'x\n' to src/b.py "$tagged"
+  for option in -n --dry-run; do
+    stays "-l|MIT|$option|a.py" 0 'would change a.py\n' a.py 'x\n'
+    tells log 0 ''
+  done
+  writes '-l|MIT|--style|python|a.css' a.css 'x\n' to a.css "$tagged"
+  for style in 'c=// @' 'css=/*\n * @ */\n' 'html=<!--\n@-->\n' 'haskell=-- @' 'tex=% @' 'lisp=;; @' 'semicolon=; @' 'ml=(*\n * @ *)\n' 'vim=" @'; do
+    comment=${style#*=}
+    writes "-l|MIT|-s|${style%%=*}|a.py" a.py 'x\n' to a.py "${comment/@/"$tag"}\nx\n"
+  done
+}
+
+# The words become this header in an empty file.
+gives() { writes "$1|a.py" a.py '' to a.py "$2"; }
+
+texts() {
+  local notice notices=(
+    'spdx SPDX-FileCopyrightText: 2024 A' 'spdx-c SPDX-FileCopyrightText: (C) 2024 A' 'spdx-symbol SPDX-FileCopyrightText: © 2024 A'
+    'spdx-string SPDX-FileCopyrightText: Copyright 2024 A' 'spdx-string-c SPDX-FileCopyrightText: Copyright (C) 2024 A'
+    'spdx-string-symbol SPDX-FileCopyrightText: Copyright © 2024 A' 'string Copyright 2024 A' 'string-c Copyright (C) 2024 A'
+    'string-symbol Copyright © 2024 A' 'symbol © 2024 A'
+  )
+  gives '-c|A' "# SPDX-FileCopyrightText: $(date -u +%Y) A\n"
+  gives '--copyright|A|--exclude-year' '# SPDX-FileCopyrightText: A\n'
+  gives '-c|A|-y|2020' '# SPDX-FileCopyrightText: 2020 A\n'
+  gives '-c|A|--year|2021|-y|2019|-y|2020' '# SPDX-FileCopyrightText: 2019 - 2021 A\n'
+  gives '-c|A|-c|B|-y|2024' '# SPDX-FileCopyrightText: 2024 A\n# SPDX-FileCopyrightText: 2024 B\n'
+  gives '--copyright=-x|-y|2024' '# SPDX-FileCopyrightText: 2024 -x\n'
+  gives '--contributor|B|--contributor|A' '# SPDX-FileContributor: A\n# SPDX-FileContributor: B\n'
+  gives '-l|MIT|--license|0BSD' "# SPDX-License-Identifier: 0BSD\n# $tag"
+  for notice in "${notices[@]}"; do gives "-c|A|-y|2024|--copyright-prefix|${notice%% *}" "# ${notice#* }\n"; done
+  gives '-c|A|-y|2024|--copyright-style|string' '# Copyright 2024 A\n'
+}
+
+# Help, and words that are refused
+words() {
+  local before line
+  files a.py 'x\n'
+  before=$(files_of "$tree")
+  for line in '--help=Adds licensing information' 'annotate|--help=Adds copyright and licensing information'; do
+    run "${line%=*}"
+    [[ $status == 0 && $out == "${line#*=}"* && ! $error ]] || differs "$line"
+  done
+  tells --version 0 'reuse-undo 1.1.0 (journal format 2)\n'
+  for line in 'undo|x' 'annotate|-l|MIT' 'annotate|-l|MIT|-s|none|a.py' 'annotate|-l|MIT|--copyright-prefix|none|a.py' 'download|MIT' 'undo|--diff' \
+    show 'show|x' 'show|1|--diff|--json' 'revert|-1'; do
+    refuses "$line" ''
+  done
+  tells 'annotate|a.py' 2 'nothing to add'
+  tells 'annotate|-c|A|-y|2024|--exclude-year|a.py' 2 '--year and --exclude-year'
+  tells 'annotate|-c|A|-y|24|a.py' 2 'bad year: 24'
+  tells 'annotate|-c| |a.py' 2 'bad text: '
+  tells 'annotate|-l|MIT AND|a.py' 2 'bad licence expression at 7: MIT AND'
+  tells 'annotate|-y|24|../a' 2 'bad path: ../a'
+  tells 'annotate|-l|MIT|a|/a|b//c' 2 'bad path: /a'
+  # Options that exclude each other
+  line='annotate|-l|MIT|a.py|'
+  refuses "$line--single-line|--multi-line" 'cannot be used with'
+  refuses "$line--multi-line|--single-line" 'cannot be used with'
+  refuses "$line--fallback-dot-license|--skip-unrecognised" 'cannot be used with'
+  refuses "$line--skip-unrecognised|--fallback-dot-license" 'cannot be used with'
+  refuses "$line--style|c|--style|c" 'cannot be used multiple times'
+  tells "$line--exclude-year|-y|2024" 2 '--year and --exclude-year'
+  refuses "$line--texts|x" 'unexpected argument'
+  refuses "$line--files-from|x" --recursive
+  refuses "$line--exclude|x" --recursive
+  tells "$line-r|--exclude|a\\b" 2 'bad glob: a\\b'
+  refuses "$line--year" 'a value is required'
+  has_just 'words that are refused' "$before"
+  tells log 0 ''
+}
+
+# The place that a word names
+place_words() {
+  local word place before=(a.py 'x\n' a/b 'x\n' a/..b 'x\n')
+  while IFS='|' read -r word place; do
+    case $place in
+      none) stays "-s|python|-l|MIT|$word" 2 "bad path: $word" "${before[@]}" ;;
+      .) stays "-s|python|-l|MIT|$word" 1 '.: is a folder' "${before[@]}" ;;
+      *) writes "-s|python|-l|MIT|$word" "${before[@]}" to "$place" "$tagged" ;;
+    esac
+  done < <(printf '%s\n' 'a.py|a.py' './a.py|a.py' './a/./b/|a/b' 'a.py/|a.py' '.|.' './|.' './.|.' 'a/..b|a/..b' \
+    '|none' '/|none' './/|none' 'a//|none' 'a//b|none' 'a/..|none' '../a|none' "$tree/a.py|none")
+}
+
+for group in settings texts words place_words; do $group; done
+tell_counts
