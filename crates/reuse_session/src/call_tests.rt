@@ -1,3 +1,0 @@
-//! Single calls of the crates of trees and of dep5 files.
-mod dep5;
-mod stores;
