@@ -35,7 +35,8 @@ pub struct RootFolder<R: Files<File = File> + AllocGlobal + Clone + Drop> {
     seen: String,
     /// The regular file that the last call has read: a call for it needs no second look.
     last_read: Option<(FullPath, FileStatus)>,
-    /// The files that were listed or read since the last listing. One that is open is known again by its number, so its path needs no look.
+    /// The files that were listed or read since the last listing. One that is open is known again by its number, so the last part of its path
+    /// needs no look of its own.
     known: KnownFiles,
     /// The place of new files, where its folder was looked at since the last listing or fault.
     new_file: Option<NewFile>,
@@ -80,6 +81,19 @@ impl<R: Files<File = File> + AllocGlobal + Clone + Drop> RootFolder<R> {
         Ok(Place::Nothing)
     }
 
+    /// What the path is by the first part above it that is no folder, if one is none. A folder is looked at where the last path had another.
+    fn look_above(&mut self, full: &FullPath) -> Result<Option<Place>, FolderFault> {
+        if self.seen.as_str() == full.folder() {
+            return Ok(None);
+        }
+        let place = full.look_above(&self.rt)?;
+        if place.is_none() {
+            self.seen.clear();
+            self.seen.push_str(full.folder())?;
+        }
+        Ok(place)
+    }
+
     /// What stands at the path, which `full` is below the root.
     fn look(&mut self, path: &PathText, full: &FullPath) -> Result<Place, FolderFault>
         ensures { IsTrue (is_kept_out path.now) → result ≡ Ok Place.Other }
@@ -93,15 +107,10 @@ impl<R: Files<File = File> + AllocGlobal + Clone + Drop> RootFolder<R> {
         {
             return Ok(Place::File(status));
         }
-        if self.seen.as_str() != full.folder() {
-            match full.look_above(&self.rt)? {
-                None => {
-                    self.seen.clear();
-                    self.seen.push_str(full.folder())?;
-                }
-                Some(Place::Nothing) => return self.nothing(),
-                Some(place) => return Ok(place),
-            }
+        match self.look_above(full)? {
+            None => {}
+            Some(Place::Nothing) => return self.nothing(),
+            Some(place) => return Ok(place),
         }
         match full.look(&self.rt)? {
             Found::Nothing => self.nothing(),
@@ -171,7 +180,7 @@ impl<R: Files<File = File> + AllocGlobal + Clone + Drop> RootFolder<R> {
         limit: usize,
     ) -> Option<(File, FileStatus)> {
         let known = self.known.status_of(path)?;
-        if known.len > limit as u64 {
+        if known.len > limit as u64 || self.look_above(full).ok()?.is_some() {
             return None;
         }
         let file = fs::open(&self.rt, full.text()).ok()?;
