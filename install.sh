@@ -99,7 +99,7 @@ jobs_of() {
 
 mapfile -t crates < <(sed -n 's/^\([a-z0-9_]*\):.*/\1/p' "$top/crates.txt")
 processors=$(nproc)
-say "proving ${#crates[@]} crates on $processors processors; the first time that may take an hour on four"
+say "proving ${#crates[@]} crates on $processors processors; the first time that takes about half an hour on four"
 while [ ${#done[@]} -lt ${#crates[@]} ]; do
     idle=$processors
     for it in "${!running[@]}"; do idle=$((idle - lanes[$it])); done

@@ -1,8 +1,7 @@
 #!/usr/bin/env bash
 # Runs the program on folders of each kind that a tree may be: what of one is listed and in which order, what is read, put and removed in it, what
-# clashes, what is kept out, which links are not followed, which bits a file has afterwards, and which faults are told where the system refuses a
-# call. A laid journal of one step brings a file to any path: redo puts it, undo removes it, and an opening settles what was begun. Ends with
-# status 1 at the first fault.
+# clashes, what is kept out, and which links are not followed. A laid journal of one step brings a file to any path: redo puts it, undo removes it,
+# and an opening settles what was begun. Ends with status 1 at the first fault.
 # Not shown, since no words bring it about: a file under /proc that is too long, a file that is exchanged for another one within a run, a listing
 # of the journal's own files, and a listing, put or removal in a root that is no folder, where each call fails at its first reading. A name that
 # isn't UTF-8 is in odd_folders.sh, a full disk in full_disk.sh.
@@ -284,38 +283,6 @@ left_over() {
   holds made y
 }
 
-# A rewritten file keeps who may read, write and run it, whatever the mask, and loses the other bits. A new one has those of any new file.
-bits() {
-  local mask word call k wanted files=({a..k}) modes=(755 755 666 600 666 440 4755 2750 1666 777 400)
-  for mask in 000 022 027 077; do
-    umask $mask
-    stand "${files[@]}" plain
-    for k in "${!files[@]}"; do chmod "${modes[k]}" "$tree/${files[k]}"; done
-    puts made
-    for word in changed undone redone; do
-      call=("${word%ne}")
-      [[ $word != changed ]] || call=("${annotate[@]}" "${files[@]}")
-      tells_each $word "${files[@]}" : "${call[@]}"
-      for k in "${!files[@]}"; do
-        wanted=${modes[k]: -3}
-        [[ $(mode "${files[k]}") == "$wanted" ]] || fail "umask $mask: $word ${files[k]} has bits $(mode "${files[k]}"), not $wanted"
-      done
-      [[ $(mode made) == "$(mode plain)" ]] || fail "umask $mask: made has bits $(mode made)"
-    done
-  done
-  umask 022
-  # The bits of a removed file are not those of the file that is made anew at its path.
-  stand in/a plain
-  chmod 755 "$tree/in/a"
-  tells 'changed in/a' "${annotate[@]}" in/a
-  tells 'undone in/a' undo
-  puts in/made
-  removes in/a
-  refused 'in/a: no such path' "${annotate[@]}" in/a
-  puts in/a
-  [[ $(mode in/a) == "$(mode plain)" && $(mode in/made) == "$(mode plain)" ]] || fail "files made anew have bits $(mode in/a) and $(mode in/made)"
-}
-
 no_root() {
   local call reason calls_there=(log undo redo 'show 1' 'revert 1' convert-dep5 "download --texts $outside/texts MIT" 'annotate -l MIT a.py'
     'annotate -l MIT a/b.py' 'annotate -l MIT -r .')
@@ -353,81 +320,13 @@ long_names() {
   cannot 'store fault' "read $longest.license: File name too long (os error 36)" "${annotate[@]}" --force-dot-license "$longest"
 }
 
-# As nobody where the caller is root, whom the system refuses nothing
-closed() {
-  umask 000
-  if ((EUID == 0)); then
-    as=(setpriv --reuid=65534 --regid=65534 --clear-groups)
-    cp "$program" "$room/program"
-    program=$room/program
-    chmod 755 "$room" "$program"
-  fi
-  stand closed/a .reuse/undo/
-  chmod 000 "$tree/closed"
-  tells "reuse-undo: store fault"$'\n'"reuse-undo: note: can't list closed: $denied" "${annotate[@]}" -n -r .
-  lay "done" closed/a
-  tells "reuse-undo: store fault"$'\n'"reuse-undo: note: can't read closed/a: $denied" undo
-  lay undone closed/b
-  chmod 555 "$tree/closed"
-  cannot interrupted "write closed/a: $denied" "${annotate[@]}" closed/a
-  tells "$row" log
-  cannot_put closed/b "$denied"
-  lay "done" closed/a
-  cannot interrupted "remove closed/a: $denied" undo
-  lay undone closed/b
-  lists closed/a
-  holds closed/a y
-  chmod 755 "$tree/closed"
-  # The root itself
-  stand a .reuse/undo/
-  chmod 555 "$tree"
-  lists a
-  cannot interrupted "write a: $denied" "${annotate[@]}" a
-  tells '' log
-  cannot_put b "$denied"
-  removes_nothing b
-  lay "done" a
-  cannot interrupted "remove a: $denied" undo
-  lay undone b
-  lists a
-  holds a y
-  chmod 755 "$tree"
-  rm -r "$tree/.reuse"
-  chmod 555 "$tree"
-  cannot 'store fault' "write .reuse/undo/000001.json: $denied" "${annotate[@]}" a
-  chmod 755 "$tree"
-  as=()
-  umask 022
+# Says what was shown.
+tell_counts() {
+  echo "$calls calls on folders of $# kinds list, read, put, remove and refuse as stated"
 }
 
-# While another process holds the lock on the root, a run is refused; one on another root, above or below it too, isn't.
-locked() {
-  local kind
-  stand a.py in/a.py
-  mkdir "$outside/other"
-  printf y > "$outside/other/a.py"
-  ln -s ../tree "$outside/link"
-  for kind in -x -s; do
-    exec 9< "$tree"
-    flock -n $kind 9 || fail 'the tree is in use'
-    for root in "$tree" "$tree/in/.." "$outside/link"; do
-      refused 'in use by another run' "${annotate[@]}" a.py
-      refused 'in use by another run' log
-    done
-    for root in "$outside/other" "$tree/in" "$room"; do
-      tells '' log
-      refused 'nothing to undo' undo
-    done
-    root=$outside/absent
-    cannot 'store fault' 'read .reuse: No such file or directory (os error 2)' log
-    exec 9<&-
-    root=$tree
-    tells 'changed a.py' "${annotate[@]}" a.py
-    flock -n "$tree" true || fail 'a run leaves its lock'
-    tells 'undone a.py' undo
-  done
-}
-
-groups=(listing reads_and_writes longer_than_it_seems empty_tree clashes kept_out links left_over bits no_root long_names closed locked)
+# folder_rights.sh reads this file for its functions.
+[[ ${BASH_SOURCE[0]} == "$0" ]] || return 0
+groups=(listing reads_and_writes longer_than_it_seems empty_tree clashes kept_out links left_over no_root long_names)
 for group in "${groups[@]}"; do $group; done
-echo "$calls calls on folders of ${#groups[@]} kinds list, read, put, remove and refuse as stated"
+tell_counts "${groups[@]}"

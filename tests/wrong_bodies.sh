@@ -1,6 +1,6 @@
 #!/usr/bin/env bash
 # Tries the wrong bodies of tests/wrong_bodies/CRATE/*.edit, as `rt must-fail` does: each must be refused. They don't stand in the crate's must-fail/:
-# for the edits of a crate the gate proves it once more from nothing, and reuse_undo is the largest; and each further edit of reuse_session costs the
+# for the edits of a crate the gate proves it once more from nothing, and reuse_undo comes last; and each further edit of reuse_session costs the
 # gate over a minute, so there each public call and each kind of wrong body has one, and what tells more of the same calls is here. It works in a copy
 # of the repository.
 # usage: tests/wrong_bodies.sh [CRATE..]      (by default both)
