@@ -3,7 +3,6 @@ mod downloads_and_conversions;
 mod formats;
 mod growths;
 mod histories;
-mod journal_texts;
 mod journals;
 mod openings;
 mod own_styles;

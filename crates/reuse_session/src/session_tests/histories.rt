@@ -1,5 +1,9 @@
 //! Runs, undos, redos and logs over a store in memory, with worked values.
 // The tags below are data: REUSE-IgnoreStart
+use crate::laws::{
+    changed_paths_are_where_trees_differ, downloads_put_each_text, entries_lead_in_turn,
+    files_open_in_one_way, seals_tell_of_whole_files,
+};
 use crate::session_tests::trees::{ANNOTATED, PLAIN, leaves, sign, tree};
 use crate::{CommandName, Event, Moment, Reply, Rows, drive};
 use std::alloc::Global;
@@ -65,4 +69,13 @@ fn the_log_has_done_and_undone_steps(rt: HostRuntime) -> Result<(), Fail> {
     assert!(rt; second.number == 2 && second.when.seconds() == 1_704_067_200 && second.count == 1);
     assert!(rt; second.command == CommandName::Annotate && !second.done);
     Ok(())
+}
+
+#[test]
+fn laws_of_sessions_can_be_called() {
+    files_open_in_one_way();
+    entries_lead_in_turn();
+    downloads_put_each_text();
+    changed_paths_are_where_trees_differ();
+    seals_tell_of_whole_files();
 }

@@ -1,9 +1,9 @@
 //! Paths, changes, digests and stores.
-use reuse_text::Bytes;
-use reuse_tree::{
+use crate::{
     Change, ChangeState, Digest, FuseStore, MemoryStore, OnceStore, Parts, PathError, PathText,
     Reading, Store, StoreFault,
 };
+use reuse_text::Bytes;
 use std::alloc::Global;
 use std::process::Abort;
 use std::test::Fail;

@@ -1,19 +1,24 @@
 //! Texts of the journal, with worked values.
 // The tags below are data: REUSE-IgnoreStart
-use crate::laws::{
-    changed_paths_are_where_trees_differ, downloads_put_each_text, entries_lead_in_turn,
-    files_open_in_one_way, seals_tell_of_whole_files,
-};
-use crate::session_tests::trees::{FIRST, FIRST_UNSEALED, PLAIN};
+use crate::journal::laws::{written_entries_are_good, written_heads_are_good};
 use crate::{
-    Changes, CommandName, DecodeFault, Entry, EntryNumbers, Head, Moment, Pending, PendingWay,
-    decode_entry, decode_head, encode_entry, encode_head,
+    Change, Changes, CommandName, DecodeFault, Entry, EntryNumbers, Head, Moment, PathText,
+    Pending, PendingWay, decode_entry, decode_head, encode_entry, encode_head,
 };
 use reuse_text::Bytes;
-use reuse_tree::journal::laws::{written_entries_are_good, written_heads_are_good};
-use reuse_tree::{Change, PathText};
 use std::alloc::{AllocError, Global};
 use std::test::Fail;
+
+const PLAIN: &[u8] = b"print(1)\n";
+
+// The first entry, where it is an annotation of `a.py` at that moment. The digests are those that `sha256sum` prints of the file
+// before and after.
+const FIRST: &str =
+    "{\"changes\":[{\"after\":\"3f6ff4280e99750b9c673f7a16659c664206bc7eb0a4932f4c59c84ebbd70201\",\"at\":0,\"before\":\"cc42155088fca5730758db72b2a5bca33112a941dfaa2d43098ec422ce4ea213\",\"kind\":\"splice\",\"new\":\"2320535044582d46696c65436f70797269676874546578743a2032303234204a616e6520446f650a230a2320535044582d4c6963656e73652d4964656e7469666965723a204d49540a0a\",\"old\":\"\",\"path\":\"a.py\",\"rest\":9}],\"command\":\"annotate\",\"format\":2,\"when\":1704067200}";
+
+// The first entry, where it is an annotation of `a.py` at that moment, as it was written before entries were sealed.
+const FIRST_UNSEALED: &str =
+    "{\"changes\":[{\"at\":0,\"kind\":\"splice\",\"new\":\"2320535044582d46696c65436f70797269676874546578743a2032303234204a616e6520446f650a230a2320535044582d4c6963656e73652d4964656e7469666965723a204d49540a0a\",\"old\":\"\",\"path\":\"a.py\",\"rest\":9}],\"command\":\"annotate\",\"format\":1,\"when\":1704067200}";
 
 const NEW: &[u8] =
     b"# SPDX-FileCopyrightText: 2024 Jane Doe\n#\n# SPDX-License-Identifier: MIT\n\n";
@@ -201,13 +206,4 @@ fn entries_are_sealed_whole(rt: HostRuntime) -> Result<(), Fail> {
     assert!(rt; is_good(alloc, FIRST, "3f6ff4", "3F6FF4")?);
     assert!(rt; is_good(alloc, FIRST, "3f6ff4", "3f6ff5")?);
     Ok(())
-}
-
-#[test]
-fn laws_of_sessions_can_be_called() {
-    files_open_in_one_way();
-    entries_lead_in_turn();
-    downloads_put_each_text();
-    changed_paths_are_where_trees_differ();
-    seals_tell_of_whole_files();
 }
