@@ -97,7 +97,10 @@ jobs_of() {
     echo $((jobs > 1 ? jobs : 1))
 }
 
-mapfile -t crates < <(sed -n 's/^\([a-z0-9_]*\):.*/\1/p' "$top/crates.txt")
+# The largest first: of the crates that can begin together, it gets the most jobs.
+mapfile -t crates < <(sed -n 's/^\([a-z0-9_]*\):.*/\1/p' "$top/crates.txt" | while read -r it; do
+    echo "$(du -cb "$top/crates/$it"/{src,proofs} | tail -n 1 | cut -f 1) $it"
+done | sort -rn | cut -d ' ' -f 2)
 processors=$(nproc)
 say "proving ${#crates[@]} crates on $processors processors; the first time that takes about half an hour on four"
 while [ ${#done[@]} -lt ${#crates[@]} ]; do
@@ -105,7 +108,6 @@ while [ ${#done[@]} -lt ${#crates[@]} ]; do
     for it in "${!running[@]}"; do idle=$((idle - lanes[$it])); done
     ready=()
     for it in "${crates[@]}"; do ! is_ready "$it" || ready+=("$it"); done
-    # lowest first, which has most above it
     for at in "${!ready[@]}"; do
         it=${ready[$at]}
         [ $idle -gt 0 ] || break

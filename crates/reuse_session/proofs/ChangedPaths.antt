@@ -1,5 +1,5 @@
 -- A command changes the paths at which its fates say so.
-use Rattle.std.proofs.Common.{◌≡◌, ◌≢◌, ◌↔◌, inl, inr, ℕ, Bool, true, false, cond, not, ◌||◌, ◌&&◌, nat_lt, List, [], ◌∷◌, ◌++◌, length, map, Option, Some, None, is_some, unwrap_or, Result, Ok, Err, refl, sym, ap, subst, ◌∙◌}
+use Rattle.std.proofs.Common.{◌≡◌, ◌≢◌, ◌↔◌, inl, inr, ℕ, Bool, true, false, cond, not, ◌||◌, ◌&&◌, List, [], ◌∷◌, ◌++◌, length, map, Option, Some, None, is_some, Result, Ok, Err, refl, sym, ap, subst, ◌∙◌}
 use Rattle.std.specs.List.{AllByRecursion, Contains, cons_option, list_any}
 use Rattle.std.specs.Str.{bytes_eq}
 use Rattle.std.specs.FinMap.{get, empty}
@@ -9,38 +9,24 @@ use Rattle.std.proofs.lemmas.List.Elements.{All-contains, Contains-get_or, recur
 use Rattle.std.proofs.lemmas.List.Folds.{list_any_at, Any-from_list_any}
 use Rattle.std.proofs.lemmas.Slice.Eq.{bytes_eq-Decides}
 use Rattle.reuse_notice.specs.Sets.{set_of}
-use Rattle.reuse_notice.specs.declared.adding.Additions.{Additions}
-use Rattle.reuse_dep5.specs.Conversion.{converted}
-use Rattle.reuse_dep5.specs.declared.refusal.Dep5Refusal.{Dep5Refusal}
-use Rattle.reuse_header.specs.declared.annotation.How.{How}
 use Rattle.reuse_header.specs.Annotation as header
-use Rattle.reuse_header.specs.Header.{header_of}
-use Rattle.reuse_header.specs.Neighbour.{neighbour_annotation_of}
 use Rattle.reuse_tree.specs.Files.{Files}
-use Rattle.reuse_text.specs.declared.TheConstants.{LONGEST_FILE}
-use Rattle.reuse_session.specs.Annotate.{neighbour_of, neighbour_is_tagged, target_of, edit_by, edit_neighbour, edit_target, annotated_where, annotated_at}
+use Rattle.reuse_session.specs.Annotate.{edit_by, annotated_at}
 use Rattle.reuse_session.specs.Annotations.{Due}
-use Rattle.reuse_session.specs.Clash.{is_clash}
 use Rattle.reuse_session.specs.Command.{has_root, HoldsEntry}
-use Rattle.reuse_session.specs.Conversion.{dep5_path, toml_path, replaced_by, conversion_where, conversion_edits}
-use Rattle.reuse_session.specs.Covered.{is_covered}
-use Rattle.reuse_session.specs.Downloads.{text_for, ids_refusal, licence_edit, unless_refused, download_edits}
+use Rattle.reuse_session.specs.Downloads.{ids_refusal, licence_edit, unless_refused, download_edits}
 use Rattle.reuse_session.specs.Edit.{Edit, made, dropped}
 use Rattle.reuse_session.specs.Fates.{is_skipped, fate_by, fate_at, annotation_fates, edit_fates, or_else, revert_fate, path_fates, limit_fates, fates_of}
-use Rattle.reuse_session.specs.Licence.{licence_path, licence_id}
-use Rattle.reuse_tree.specs.Listing.{is_among, is_folder}
+use Rattle.reuse_session.specs.Licence.{licence_path}
+use Rattle.reuse_tree.specs.Listing.{is_among}
 use Rattle.reuse_session.specs.Outcome.{with_file, edited, edits_at, edits_by_names, edits_of, outcome_of}
 use Rattle.reuse_session.specs.TreeStyles.{OwnNames, styles_in}
 use Rattle.reuse_session.specs.Worked.{worked_paths}
 use Rattle.reuse_session.specs.declared.command.Command.{Command}
 use Rattle.reuse_session.specs.declared.command.Command.TheVariants.{Annotate, ConvertDep5, Download, Revert}
 use Rattle.reuse_session.specs.declared.command.Place.TheVariants as place
-use Rattle.reuse_session.specs.declared.command.Scope.{Scope}
 use Rattle.reuse_session.specs.declared.fate.Fate.{Fate}
 use Rattle.reuse_session.specs.declared.fate.Fate.TheVariants as fate
-use Rattle.reuse_session.specs.declared.licence.LicenceText.{LicenceText}
-use Rattle.reuse_session.specs.declared.target.Target.{Target}
-use Rattle.reuse_session.specs.declared.target.Target.TheVariants.{Inside, Beside, Nowhere}
 use Rattle.reuse_session.specs.declared.reply.Refusal.{Refusal}
 use Rattle.reuse_session.specs.declared.reply.Refusal.TheVariants as refusals
 use Rattle.reuse_session.specs.Reverting.{stands_as_written, is_short, put_back, taken_back, taken_back_on, stuck_on}
@@ -49,14 +35,14 @@ use Rattle.reuse_tree.specs.Change.{path_of, IsProper}
 use Rattle.reuse_tree.specs.declared.change.Change.{Change}
 use Rattle.reuse_tree.specs.declared.change.Change.TheVariants.{Make, Drop, Splice}
 use Rattle.std.proofs.lemmas.Option.{none-some, same_Some, cond_some}
-use Rattle.reuse_session.proofs.Annotating.{both_err, if_not, first_is, no_edits, all_edits}
-use Rattle.reuse_session.proofs.Downloading.{IsMade, are_made}
+use Rattle.reuse_session.proofs.Annotating.{first_is, no_edits}
+use Rattle.reuse_session.proofs.EachEdit.{EachTakenBack, each_edit}
 use Rattle.reuse_session.proofs.FatePlans.{none_refused}
 use Rattle.reuse_session.proofs.Outcomes.{edits_of_tree, some_edit, same_edit, unskipped}
 use Rattle.reuse_session.proofs.Planning.{paths_at, with_same, with_other, edited_other}
 use Rattle.reuse_session.proofs.RevertFitting.{backs, back_on, path_back, edits_are}
 use Rattle.reuse_session.proofs.RevertPlanning.{and_first, splice_differs}
-use Rattle.reuse_session.proofs.Results.{err_or, same_Ok, none_from_test}
+use Rattle.reuse_session.proofs.Results.{err_or}
 
 -- ---- the paths that change
 
@@ -173,57 +159,11 @@ differs_new tree path at due edit here e = λ same.
     let g = edit_gives path at [] due edit e in
     let is : None ≡ Some g.1 = sym here ∙ ap (get tree) (sym g.0) ∙ same ∙ g.2 in cc
 
-module _ (how : How) (scope : Scope) (additions : Additions) (tree : Files) (path : List ℕ) (edit : Edit) where
-  neighbour_differs : (file : Option (List ℕ)) → get tree (neighbour_of path) ≡ file → edit_neighbour how scope additions tree path file ≡ some_edit edit → Differs tree edit
-  neighbour_differs None here e =
-      differs_new tree path (neighbour_of path) (neighbour_annotation_of how additions []) edit here (if_not (is_clash tree (neighbour_of path)) (refusals.Clash (neighbour_of path)) _ (Some edit) e)
-  neighbour_differs (Some bytes) here e =
-      differs_there tree path (neighbour_of path) bytes (neighbour_annotation_of how additions bytes) edit here
-      (unskipped (scope.skip_existing && neighbour_is_tagged bytes) _ edit (if_not (nat_lt LONGEST_FILE (length bytes)) (refusals.TooLong path) _ (Some edit) e)).1
+gone_differs : (tree : Files) (path bytes : List ℕ) → get tree path ≡ Some bytes → Differs tree (dropped path bytes)
+gone_differs tree path bytes here = λ same. let is : Some bytes ≡ None = sym here ∙ same in cc
 
-  target_differs : (bytes : List ℕ) (target : Result Target Refusal) → get tree path ≡ Some bytes → edit_target how scope additions tree path bytes target ≡ some_edit edit → Differs tree edit
-  target_differs bytes (Err refusal) here e = absurd (cc)
-  target_differs bytes (Ok Nowhere) here e = absurd (cc)
-  target_differs bytes (Ok Beside) here e =
-      neighbour_differs (get tree (neighbour_of path)) refl (if_not (nat_lt 4096 (length (neighbour_of path))) (refusals.TooLong path) _ (Some edit) e)
-  target_differs bytes (Ok (Inside style)) here e =
-      differs_there tree path path bytes (header.annotation_of style how additions bytes) edit here (unskipped (scope.skip_existing && is_some (header_of style bytes)) _ edit e).1
-
-  annotated_differs : (own : OwnNames) → annotated_at how scope additions own tree path ≡ some_edit edit → Differs tree edit
-  annotated_differs own e = of_file (get tree path) refl e
-    where
-      of_file : (file : Option (List ℕ)) → get tree path ≡ file → annotated_where how scope additions own tree path file ≡ some_edit edit → Differs tree edit
-      of_file None here h = absurd (both_err (is_folder tree path) (refusals.IsFolder (place.Path path)) (refusals.NoSuchPath path) (Some edit) h)
-      of_file (Some bytes) here h = target_differs bytes (target_of scope own tree path bytes) here (if_not (not (is_covered path)) (refusals.NotCovered path) _ (Some edit) h)
-
-conversion_differs : (tree : Files) (edits : List Edit) → conversion_edits tree ≡ Ok edits → AllByRecursion (Differs tree) edits
-conversion_differs tree edits h = of_file (get tree dep5_path) refl h
-  where
-    both : (bytes text : List ℕ) → get tree dep5_path ≡ Some bytes → get tree toml_path ≡ None → AllByRecursion (Differs tree) (dropped dep5_path bytes ∷ made toml_path text ∷ [])
-    both bytes text here free = (λ same. let is : Some bytes ≡ None = sym here ∙ same in cc, (λ same. let is : None ≡ Some text = sym free ∙ same in cc, tt))
-
-    of_text : (bytes : List ℕ) (given : Result (List ℕ) Dep5Refusal) → get tree dep5_path ≡ Some bytes → get tree toml_path ≡ None → replaced_by tree bytes given ≡ Ok edits → AllByRecursion (Differs tree) edits
-    of_text bytes (Err refusal) here free e = absurd (cc)
-    of_text bytes (Ok text) here free e =
-        subst (AllByRecursion (Differs tree)) (same_Ok (dropped dep5_path bytes ∷ made toml_path text ∷ []) edits (err_or (is_clash tree toml_path) (refusals.Clash toml_path) (Ok (dropped dep5_path bytes ∷ made toml_path text ∷ [])) edits e).1) (both bytes text here free)
-
-    of_file : (file : Option (List ℕ)) → get tree dep5_path ≡ file → conversion_where tree file ≡ Ok edits → AllByRecursion (Differs tree) edits
-    of_file None here e = absurd (cc)
-    of_file (Some bytes) here e =
-        let one = err_or (nat_lt LONGEST_FILE (length bytes)) (refusals.TooLong dep5_path) (cond (is_some (get tree toml_path)) (Err (refusals.Exists toml_path)) (replaced_by tree bytes (converted bytes))) edits e in
-        let two = err_or (is_some (get tree toml_path)) (refusals.Exists toml_path) (replaced_by tree bytes (converted bytes)) edits one.1 in
-        of_text bytes (converted bytes) here (none_from_test (get tree toml_path) two.0) two.1
-
-download_differs : (ids : List (List ℕ)) (texts : List LicenceText) (tree : Files) (edits : List Edit) → download_edits ids texts tree ≡ Ok edits → AllByRecursion (Differs tree) edits
-download_differs ids texts tree edits h = by_refusal (ids_refusal tree texts (set_of ids)) refl h
-  where
-    each : (paths : List (List ℕ)) → AllByRecursion (IsMade tree texts) paths → AllByRecursion (Differs tree) (map (licence_edit texts) paths)
-    each [] all = tt
-    each (p ∷ paths) all = (λ same. none-some (unwrap_or (text_for texts (licence_id p)) []) (sym all.0.absent ∙ same), each paths all.1)
-
-    by_refusal : (o : Option Refusal) → ids_refusal tree texts (set_of ids) ≡ o → unless_refused o (map (licence_edit texts) (set_of (map licence_path (set_of ids)))) ≡ Ok edits → AllByRecursion (Differs tree) edits
-    by_refusal None none e = subst (AllByRecursion (Differs tree)) (same_Ok (map (licence_edit texts) (set_of (map licence_path (set_of ids)))) edits e) (each (set_of (map licence_path (set_of ids))) (are_made tree texts (set_of ids) none))
-    by_refusal (Some refusal) none e = absurd (cc)
+made_differs : (tree : Files) (path bytes : List ℕ) → get tree path ≡ None → Differs tree (made path bytes)
+made_differs tree path bytes free = λ same. none-some bytes (sym free ∙ same)
 
 -- what a change that changes something is taken back to isn't what was there
 back_differs : (change : Change) (file : Option (List ℕ)) (edit : Edit) → IsProper change → taken_back change file ≡ Some edit → file ≢ edit.file
@@ -244,27 +184,15 @@ back_differs_on : (tree : Files) (change : Change) (edit : Edit) → IsProper ch
 back_differs_on tree change edit proper e = λ same.
     back_differs change (get tree (path_of change)) edit proper (back_on tree change edit e).0 (ap (get tree) (sym (path_back tree change edit e)) ∙ same)
 
-revert_differs : (tree : Files) (changes : List Change) → AllByRecursion IsProper changes → AllByRecursion (Differs tree) (backs tree changes)
-revert_differs tree [] all = tt
-revert_differs tree (c ∷ cs) all = by_back (taken_back_on tree c) refl (revert_differs tree cs all.1)
-  where
-    by_back : (o : Option Edit) → taken_back_on tree c ≡ o → AllByRecursion (Differs tree) (backs tree cs) → AllByRecursion (Differs tree) (cons_option o (backs tree cs))
-    by_back None is rest = rest
-    by_back (Some edit) is rest = (back_differs_on tree c edit all.0 is, rest)
-
 each_differs : (command : Command) (tree : Files) (edits : List Edit) → HoldsEntry command → edits_of command tree ≡ Ok edits → AllByRecursion (Differs tree) edits
-each_differs (Annotate places additions how scope) tree edits holds h = by_styles (styles_in tree) h
+each_differs command tree edits holds h =
+    each_edit tree (Differs tree) IsProper (differs_there tree) (differs_new tree) (gone_differs tree) (made_differs tree) (back_differs_on tree) command edits (all_proper command holds) h
   where
-    by_styles : (styles : Result OwnNames Refusal) → edits_by_names places additions how scope tree styles ≡ Ok edits → AllByRecursion (Differs tree) edits
-    by_styles (Err refusal) e = absurd (cc)
-    by_styles (Ok own) e =
-        let parts = err_or (not scope.recursive && has_root places) (refusals.IsFolder place.Root) (edits_at (annotated_at how scope additions own tree) (worked_paths scope places tree)) edits e in
-        all_edits (annotated_at how scope additions own tree) (Differs tree) (λ p e k. annotated_differs how scope additions tree p e own k) (worked_paths scope places tree) edits parts.1
-each_differs ConvertDep5 tree edits holds h = conversion_differs tree edits h
-each_differs (Download ids texts) tree edits holds h = download_differs ids texts tree edits h
-each_differs (Revert changes skip_moved) tree edits holds h =
-    subst (AllByRecursion (Differs tree)) (edits_are tree (cond skip_moved [] (stuck_on tree changes)) (backs tree changes) edits h)
-    (revert_differs tree changes (recursion_from_All IsProper changes holds.0.proper))
+    all_proper : (command : Command) → HoldsEntry command → EachTakenBack IsProper command
+    all_proper (Annotate places additions how scope) holds = tt
+    all_proper ConvertDep5 holds = tt
+    all_proper (Download ids texts) holds = tt
+    all_proper (Revert changes skip_moved) holds = recursion_from_All IsProper changes holds.0.proper
 
 -- ---- the edited tree
 

@@ -115,8 +115,8 @@ module _ (tree : Files) (path file old new : List ℕ) (at rest : ℕ) (seal : O
     pub within : at + length new ≤ length file
     within = omega (arith, low, length-drop at file, ap length behind, length-append new (drop (length new) (drop at file)))
 
-    whole : file ≡ take at file ++ new ++ drop (at + length new) file
-    whole =
+    pub whole_there : file ≡ take at file ++ new ++ drop (at + length new) file
+    whole_there =
         sym (append_assoc (take at file) new (drop (at + length new) file)
         ∙ ap (λ xs. take at file ++ (new ++ xs)) (sym (drop-drop (length new) at file))
         ∙ ap (λ xs. take at file ++ xs) (sym behind) ∙ take-append-drop at file)
@@ -131,7 +131,7 @@ module _ (tree : Files) (path file old new : List ℕ) (at rest : ℕ) (seal : O
     pub splice_differs : old ≢ new → file ≢ spliced file at (length new) old
     splice_differs apart same =
         apart (sym (append_cancel_left (take at file) new old
-        (append_cancel_right (take at file ++ new) (take at file ++ old) (drop (at + length new) file) (sym whole ∙ same))))
+        (append_cancel_right (take at file ++ new) (take at file ++ old) (drop (at + length new) file) (sym whole_there ∙ same))))
 
     pub spliced_len : length (spliced file at (length new) old) ≡ length file - length new + length old
     spliced_len = omega (arith, within, front_len, rest_len, length-append (take at file ++ old) (drop (at + length new) file), length-append (take at file) old)
@@ -161,7 +161,7 @@ module _ (tree : Files) (path file old new : List ℕ) (at rest : ℕ) (seal : O
               range = (
                 take at file,
                 drop (at + length new) file,
-                record { whole = here ∙ ap (λ b. Some b) whole; before = front_len; behind = rest_len },
+                record { whole = here ∙ ap (λ b. Some b) whole_there; before = front_len; behind = rest_len },
                 record { whole = refl; before = front_len; behind = rest_len },
               );
               from = ap (option_map sha256) here;

@@ -12,14 +12,14 @@ use Rattle.reuse_tree.specs.Change.{sealed_splice}
 use Rattle.reuse_text.specs.declared.TheConstants.{LONGEST_FILE}
 use Rattle.reuse_session.specs.Plan.{CarriesOutEdit}
 
-module _ (bytes : List ℕ) (s n : ℕ) (within : s + n ≤ length bytes) where
-  -- the three parts of a file
-  whole : bytes ≡ take s bytes ++ take n (drop s bytes) ++ drop (s + n) bytes
-  whole =
-      sym (append_assoc (take s bytes) (take n (drop s bytes)) (drop (s + n) bytes)
-      ∙ ap (λ xs. take s bytes ++ (take n (drop s bytes) ++ xs)) (sym (drop-drop n s bytes))
-      ∙ ap (λ xs. take s bytes ++ xs) (take-append-drop n (drop s bytes)) ∙ take-append-drop s bytes)
+-- the three parts of a file
+pub three_parts : (bytes : List ℕ) (s n : ℕ) → bytes ≡ take s bytes ++ take n (drop s bytes) ++ drop (s + n) bytes
+three_parts bytes s n =
+    sym (append_assoc (take s bytes) (take n (drop s bytes)) (drop (s + n) bytes)
+    ∙ ap (λ xs. take s bytes ++ (take n (drop s bytes) ++ xs)) (sym (drop-drop n s bytes))
+    ∙ ap (λ xs. take s bytes ++ xs) (take-append-drop n (drop s bytes)) ∙ take-append-drop s bytes)
 
+module _ (bytes : List ℕ) (s n : ℕ) (within : s + n ≤ length bytes) where
   front_len : length (take s bytes) ≡ s
   front_len = length-take-le s bytes (omega (arith, within))
 
@@ -37,13 +37,13 @@ module _ (bytes : List ℕ) (s n : ℕ) (within : s + n ≤ length bytes) where
     path = refl;
     removed = refl;
     written = refl;
-    proper = λ e. false≢true (sym differs ∙ (bytes_eq-Decides _ bytes).1 (ap (λ o. take s bytes ++ o ++ drop (s + n) bytes) (sym e) ∙ sym whole));
+    proper = λ e. false≢true (sym differs ∙ (bytes_eq-Decides _ bytes).1 (ap (λ o. take s bytes ++ o ++ drop (s + n) bytes) (sym e) ∙ sym (three_parts bytes s n)));
     small = (
       omega (arith, old_len, rest_len, length-drop (s + n) bytes, within, short),
       omega (arith, front_len, rest_len, fits, length-append (take s bytes ++ new) (drop (s + n) bytes), length-append (take s bytes) new),
     );
     turns = record {
-      range = (take s bytes, drop (s + n) bytes, record { whole = here ∙ ap (λ b. Some b) whole; before = front_len; behind = sym rest_len }, record { whole = refl; before = front_len; behind = sym rest_len });
+      range = (take s bytes, drop (s + n) bytes, record { whole = here ∙ ap (λ b. Some b) (three_parts bytes s n); before = front_len; behind = sym rest_len }, record { whole = refl; before = front_len; behind = sym rest_len });
       from = ap (option_map sha256) here;
       to = ap (λ m. Some (sha256 (take s bytes ++ new ++ drop (s + m) bytes))) (sym old_len);
     };

@@ -19,6 +19,7 @@ ghost use Rattle.reuse_session.specs.Chosen.{IsNamed, StandsBeneath, IsAskedFor}
 ghost use Rattle.reuse_session.specs.Command.{HoldsEntry, paths_among};
 ghost use Rattle.reuse_session.specs.Covered.{is_covered};
 ghost use Rattle.reuse_session.specs.Edit.{Edit};
+ghost use Rattle.reuse_session.specs.EditBytes.{TakesAndWrites};
 ghost use Rattle.reuse_tree.specs.Entry.{CanBeMade, IsEntry, IsFirstStuck, LeadsAll, LeadsBy, AreAllSealed};
 ghost use Rattle.reuse_session.specs.Fresh.{IsFresh, first_state};
 ghost use Rattle.reuse_tree.specs.declared.change.Change.TheVariants.{Splice};
@@ -28,7 +29,7 @@ ghost use Rattle.reuse_session.specs.InTurn.{LeadsInTurn};
 ghost use Rattle.reuse_session.specs.Journal.{Recorded, State, Travels};
 ghost use Rattle.reuse_session.specs.JournalFiles.{IsFree};
 ghost use Rattle.reuse_session.specs.Opening.{IsFirstBad, IsStuckAt, CanOpenOn};
-ghost use Rattle.reuse_session.specs.Outcome.{outcome_of};
+ghost use Rattle.reuse_session.specs.Outcome.{edits_of, outcome_of};
 ghost use Rattle.reuse_session.specs.Previews.{Foresees};
 ghost use Rattle.reuse_session.specs.Reverting.{taken_back};
 ghost use Rattle.reuse_session.specs.Seals.{tree_for, IsAsLeft, IsToldApart, IsUntouched};
@@ -111,6 +112,12 @@ pub fn conversions_put_a_table()
     ensures accepted { (tree : Files) → ((after : Files) × (outcome_of ConvertDep5 tree ≡ Ok after)) ↔ CanConvert tree }
     ensures made { (tree after : Files) → outcome_of ConvertDep5 tree ≡ Ok after → PutsTable tree after }
     ensures left { (when : ℕ) (old new : State) (reply : Reply) → Runs ConvertDep5 when old (Ok reply) new → PutsTable old.tree new.tree }
+{}
+
+/// What an edit of a command tells beside the file that it leaves, and by which an entry has its size: a file comes that is what is written, or
+/// one goes that is what is removed, or between bytes that stay what is removed gives way to what is written.
+pub fn edits_tell_what_they_take_and_write()
+    ensures told { (command : Command) (tree : Files) (edits : List Edit) → edits_of command tree ≡ Ok edits → All (TakesAndWrites tree) edits }
 {}
 
 /// A tree with nothing under `.reuse/undo/` holds the state of the machine without earlier and later trees, of which no number is used;

@@ -5,7 +5,7 @@ use crate::laws::{
     files_open_in_one_way, seals_tell_of_whole_files,
 };
 use crate::session_tests::trees::{ANNOTATED, PLAIN, leaves, sign, tree};
-use crate::{CommandName, Event, Moment, Reply, Rows, drive};
+use crate::{Call, CommandName, Event, Moment, Reply, Rows, drive};
 use std::alloc::Global;
 use std::process::Abort;
 use std::test::Fail;
@@ -18,8 +18,9 @@ fn one_file_is_annotated_undone_and_redone(rt: HostRuntime) -> Result<(), Fail> 
     leaves(&rt, alloc, &old, &["a.py"], lines, &new)?;
     let lines = "opened\nchanged a.py\nundone a.py\n";
     leaves(&rt, alloc, &old, &["a.py", "undo"], lines, &old)?;
-    let lines = "opened\nchanged a.py\nundone a.py\nredone a.py\n";
-    leaves(&rt, alloc, &old, &["a.py", "undo", "redo"], lines, &new)
+    let words = ["a.py", "undo?", "undo", "redo?", "redo", "reopen"];
+    let lines = "opened\nchanged a.py\npreview\nundone a.py\npreview\nredone a.py\nopened\n";
+    leaves(&rt, alloc, &old, &words, lines, &new)
 }
 
 #[test]
@@ -39,9 +40,10 @@ fn signing_at(alloc: Global, path: &str, second: u64) -> Result<Event, Fail> {
     Ok(Event::Run(sign(alloc, &[path])?, when))
 }
 
-// Two steps at different seconds, of which the second is undone, and then the log.
+// A preview, two steps at different seconds, of which the second is undone, and then the log.
 fn two_steps(alloc: Global) -> Result<Vec<Event>, Fail> {
     let mut events = Vec::new(alloc);
+    events.push(Event::Preview(Call::Run(sign(alloc, &["b.py"])?)))?;
     events.push(signing_at(alloc, "a.py", 0)?)?;
     events.push(signing_at(alloc, "b.py", 1_704_067_200)?)?;
     events.push(Event::Undo)?;

@@ -1,7 +1,7 @@
 //! What the tests of sessions share: small trees, commands on them, and answers as lines of text.
 // The tags below are data: REUSE-IgnoreStart
 use crate::{
-    Answer, Command, Event, Globs, Moment, Paths, Place, Places, Reply, Scope, Unknown, drive,
+    Answer, Call, Command, Event, Globs, Moment, Paths, Place, Places, Reply, Scope, Unknown, drive,
 };
 use reuse_header::How;
 use reuse_notice::{Additions, Prefix};
@@ -24,14 +24,6 @@ pub const ENTRY: &str = ".reuse/undo/000001.json";
 /// before and after.
 pub const FIRST: &str =
     "{\"changes\":[{\"after\":\"3f6ff4280e99750b9c673f7a16659c664206bc7eb0a4932f4c59c84ebbd70201\",\"at\":0,\"before\":\"cc42155088fca5730758db72b2a5bca33112a941dfaa2d43098ec422ce4ea213\",\"kind\":\"splice\",\"new\":\"2320535044582d46696c65436f70797269676874546578743a2032303234204a616e6520446f650a230a2320535044582d4c6963656e73652d4964656e7469666965723a204d49540a0a\",\"old\":\"\",\"path\":\"a.py\",\"rest\":9}],\"command\":\"annotate\",\"format\":2,\"when\":1704067200}";
-
-/// The first entry, where it is an annotation of `a.py` at that moment, as it was written before entries were sealed.
-pub const FIRST_UNSEALED: &str =
-    "{\"changes\":[{\"at\":0,\"kind\":\"splice\",\"new\":\"2320535044582d46696c65436f70797269676874546578743a2032303234204a616e6520446f650a230a2320535044582d4c6963656e73652d4964656e7469666965723a204d49540a0a\",\"old\":\"\",\"path\":\"a.py\",\"rest\":9}],\"command\":\"annotate\",\"format\":1,\"when\":1704067200}";
-
-/// The head of a journal that has that entry alone, as it was written before entries were sealed.
-pub const DONE_UNSEALED: &[u8] =
-    b"{\"done\":[1],\"format\":1,\"next\":2,\"pending\":null,\"undone\":[]}";
 
 pub fn moment() -> Result<Moment, Fail> {
     Ok(Moment::new(1_704_067_200).ok_or("moment")?)
@@ -63,14 +55,6 @@ pub fn holds<S: Store>(
     }
 }
 
-/// Whether the path has no file.
-pub fn lacks<S: Store>(alloc: Global, store: &mut S, name: &str) -> Result<bool, Fail> {
-    Ok(matches!(
-        store.read(alloc, &path(alloc, name)?, LONGEST_FILE)?,
-        Reading::Absent
-    ))
-}
-
 /// Whether the store has these files, and no others but those of the journal.
 pub fn has_just(
     alloc: Global,
@@ -87,41 +71,6 @@ pub fn has_just(
     Ok(count == files.len())
 }
 
-/// Another store of the same files.
-pub fn copy(alloc: Global, store: &mut MemoryStore) -> Result<MemoryStore, Fail> {
-    let mut other = MemoryStore::new();
-    for path in &store.list(alloc)? {
-        if let Reading::Found(bytes) = store.read(alloc, path, LONGEST_FILE)? {
-            other.put(alloc, path, bytes.as_slice())?;
-        }
-    }
-    Ok(other)
-}
-
-/// All paths and files, one after the other.
-pub fn dump(alloc: Global, store: &mut MemoryStore) -> Result<Vec<u8>, Fail> {
-    let mut all = Vec::new(alloc);
-    for path in &store.list(alloc)? {
-        all.extend_from_slice(path.as_bytes())?;
-        all.push(0)?;
-        if let Reading::Found(bytes) = store.read(alloc, path, LONGEST_FILE)? {
-            all.extend_from_slice(bytes.as_slice())?;
-        }
-        all.push(0)?;
-    }
-    Ok(all)
-}
-
-/// Each answer as a line.
-fn lines_of(alloc: Global, answers: &[Answer]) -> Result<String, Fail> {
-    let mut lines = String::new(alloc);
-    for answer in answers {
-        push_answer(alloc, &mut lines, answer)?;
-        lines.push_str("\n")?;
-    }
-    Ok(lines)
-}
-
 /// Each answer as a line: of a session that is opened on the store, and of the events.
 pub fn play<S: Store + Drop>(
     alloc: Global,
@@ -129,16 +78,23 @@ pub fn play<S: Store + Drop>(
     events: &[Event],
 ) -> Result<(S, String), Fail> {
     let (store, answers) = drive(alloc, store, events);
-    let lines = lines_of(alloc, &answers)?;
+    let mut lines = String::new(alloc);
+    for answer in &answers {
+        push_answer(alloc, &mut lines, answer)?;
+        lines.push_str("\n")?;
+    }
     Ok((store, lines))
 }
 
-/// An event by a word: `undo`, `redo`, `log`, or the path of a file that is signed.
+/// An event by a word: `undo`, `redo` and previews of them, `log`, `reopen`, or the path of a file that is signed.
 fn event_of(alloc: Global, word: &str) -> Result<Event, Fail> {
     match word {
         "undo" => Ok(Event::Undo),
+        "undo?" => Ok(Event::Preview(Call::Undo)),
         "redo" => Ok(Event::Redo),
+        "redo?" => Ok(Event::Preview(Call::Redo)),
         "log" => Ok(Event::Log),
+        "reopen" => Ok(Event::Reopen),
         path => signing(alloc, &[path]),
     }
 }
@@ -216,7 +172,6 @@ pub fn annotate(
     paths: &[&str],
     holders: &[&str],
     licences: &[&str],
-    how: How,
     scope: Scope,
 ) -> Result<Command, Fail> {
     let mut places = Vec::new(alloc);
@@ -236,17 +191,13 @@ pub fn annotate(
     Ok(Command::Annotate {
         places: Places::new(places),
         additions,
-        how,
+        how: How {
+            form: None,
+            merge: false,
+            replace: true,
+        },
         scope,
     })
-}
-
-pub fn plain_how() -> How {
-    How {
-        form: None,
-        merge: false,
-        replace: true,
-    }
 }
 
 pub fn plain_scope(alloc: Global) -> Scope {
@@ -263,14 +214,7 @@ pub fn plain_scope(alloc: Global) -> Scope {
 
 /// Jane Doe's notice of 2024 and `MIT`, for the files of these paths.
 pub fn sign(alloc: Global, paths: &[&str]) -> Result<Command, Fail> {
-    annotate(
-        alloc,
-        paths,
-        &["Jane Doe"],
-        &["MIT"],
-        plain_how(),
-        plain_scope(alloc),
-    )
+    annotate(alloc, paths, &["Jane Doe"], &["MIT"], plain_scope(alloc))
 }
 
 /// The event of that command.
@@ -280,7 +224,7 @@ pub fn signing(alloc: Global, paths: &[&str]) -> Result<Event, Fail> {
 
 /// A command that adds a licence to the files of these paths.
 pub fn licence(alloc: Global, paths: &[&str], name: &str, scope: Scope) -> Result<Command, Fail> {
-    annotate(alloc, paths, &[], &[name], plain_how(), scope)
+    annotate(alloc, paths, &[], &[name], scope)
 }
 
 /// Runs the command on a tree, where these lines are answered; the store then.

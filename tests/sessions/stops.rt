@@ -1,6 +1,7 @@
 //! A session that stops at any call of its store: it then opens on the tree and the log from before its last call or from after it.
 // The tags below are data: REUSE-IgnoreStart
-use crate::session_tests::trees::{ANNOTATED, PLAIN, copy, dump, has_just, play, signing, tree};
+use crate::session_tests::files::{copy, dump};
+use crate::session_tests::trees::{ANNOTATED, PLAIN, has_just, play, signing, tree};
 use crate::{Answer, Event, Refusal, Reply, Session, drive};
 use reuse_tree::{FuseStore, MemoryStore, OnceStore, Store};
 use std::alloc::Global;

@@ -1,9 +1,8 @@
 //! A journal with an entry from before entries were sealed, and a sealed one.
 use crate::Event;
+use crate::session_tests::files::{DONE_UNSEALED, FIRST_UNSEALED};
 use crate::session_tests::stops::{CALLS, Standing, stop, stops_everywhere};
-use crate::session_tests::trees::{
-    ANNOTATED, DONE_UNSEALED, ENTRY, FIRST_UNSEALED, HEAD, PLAIN, signing, tree,
-};
+use crate::session_tests::trees::{ANNOTATED, ENTRY, HEAD, PLAIN, signing, tree};
 use std::test::Fail;
 
 const FIRST: &[(&str, &[u8])] = &[("a.py", ANNOTATED), ("b.py", PLAIN)];

@@ -1,8 +1,9 @@
 //! Journals in files: what a session writes, and what it makes of what is there.
 // The tags below are data: REUSE-IgnoreStart
+use crate::session_tests::faults::{DONE, PENDING, UNDONE};
+use crate::session_tests::files::{DONE_UNSEALED, FIRST_UNSEALED, copy, dump, lacks};
 use crate::session_tests::trees::{
-    ANNOTATED, DONE_UNSEALED, ENTRY, FIRST, FIRST_UNSEALED, HEAD, PLAIN, copy, dump, events_of,
-    holds, lacks, leaves, path, plays, signing, tree,
+    ANNOTATED, ENTRY, FIRST, HEAD, PLAIN, events_of, holds, leaves, path, plays, signing, tree,
 };
 use crate::{Command, Event, Ids, LicenceText, LicenceTexts, Moment, drive};
 use reuse_text::Bytes;
@@ -11,15 +12,8 @@ use std::alloc::Global;
 use std::process::Abort;
 use std::test::Fail;
 
-const DONE: &[u8] = b"{\"done\":[1],\"format\":2,\"next\":2,\"pending\":null,\"undone\":[]}";
-
-const UNDONE: &[u8] = b"{\"done\":[],\"format\":2,\"next\":2,\"pending\":null,\"undone\":[1]}";
-
 const DONE_REVERSED: &[u8] =
     b"{ \"undone\": [ ], \"pending\": null, \"next\": 2, \"format\": 1, \"done\": [ 1 ] }";
-
-const PENDING: &[u8] =
-    b"{\"done\":[],\"format\":2,\"next\":1,\"pending\":{\"entry\":1,\"way\":\"do\"},\"undone\":[]}";
 
 const PENDING_ANOTHER: &[u8] =
     b"{\"done\":[1],\"format\":1,\"next\":2,\"pending\":{\"entry\":2,\"way\":\"undo\"},\"undone\":[]}";

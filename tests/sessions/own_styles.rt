@@ -1,4 +1,4 @@
-//! Trees that give styles to their own names.
+//! Trees whose own styles are refused, or that have none.
 // The tags below are data: REUSE-IgnoreStart
 use crate::session_tests::growths::{Call, refuse_growths, text_of};
 use crate::session_tests::scarce_memory::ScarceMemory;
@@ -13,8 +13,6 @@ use std::process::Abort;
 use std::test::Fail;
 
 const FILE: &str = ".reuse/styles.toml";
-
-const STYLES: &[u8] = b"version = 1\n[styles]\n\".foo\" = \"python\"\n\".py\" = \"tex\"\n";
 
 const OLD: &[u8] = b"x\n";
 
@@ -31,29 +29,6 @@ const BAD: [(&[u8], &str); 4] = [
         "repeated name .a",
     ),
 ];
-
-#[test]
-fn own_names_stand_first(rt: HostRuntime) -> Result<(), Fail> {
-    let alloc = rt.alloc();
-    let files = [(FILE, STYLES), ("a.py", OLD), ("x.foo", OLD)];
-    let command = licence(alloc, &["x.foo", "a.py"], "MIT", plain_scope(alloc))?;
-    let lines = "opened\nchanged a.py x.foo\n";
-    let mut store = runs(&rt, alloc, &files, command, lines)?;
-    let tex = b"% SPDX-License-Identifier: MIT\n\nx\n".as_slice();
-    let python = b"# SPDX-License-Identifier: MIT\n\nx\n".as_slice();
-    let new = [(FILE, STYLES), ("a.py", tex), ("x.foo", python)];
-    assert!(rt; has_just(alloc, &mut store, &new)?);
-    // They are not looked at again.
-    store.put(alloc, &path(alloc, FILE)?, b"[")?;
-    let mut store = plays(&rt, alloc, store, &["undo"], "opened\nundone a.py x.foo\n")?;
-    let old = [(FILE, b"[".as_slice()), ("a.py", OLD), ("x.foo", OLD)];
-    assert!(rt; has_just(alloc, &mut store, &old)?);
-    store.remove(alloc, &path(alloc, FILE)?)?;
-    let store = plays(&rt, alloc, store, &["redo"], "opened\nredone a.py x.foo\n")?;
-    let mut store = plays(&rt, alloc, store, &["undo"], "opened\nundone a.py x.foo\n")?;
-    assert!(rt; has_just(alloc, &mut store, &[("a.py", OLD), ("x.foo", OLD)])?);
-    Ok(())
-}
 
 #[test]
 fn a_tree_may_have_no_names_of_its_own(rt: HostRuntime) -> Result<(), Fail> {

@@ -2,12 +2,13 @@
 //! and the history of before the call or of after it.
 // The tags below are data: REUSE-IgnoreStart
 use crate::session_tests::downloads_and_conversions::{DEP5, TOML, download};
+use crate::session_tests::files::{copy, dump};
 use crate::session_tests::scarce_memory::{GRAIN, PIECE, ScarceMemory};
 use crate::session_tests::stops::{Standing, before_the_last_head, call};
 use crate::session_tests::tally::{Tally, Told};
 use crate::session_tests::trees::{
-    ANNOTATED, PLAIN, annotate, copy, dump, licence, moment, path, plain_how, plain_scope, play,
-    push_answer, sign, signing, tree,
+    ANNOTATED, PLAIN, annotate, licence, moment, path, plain_scope, play, push_answer, sign,
+    signing, tree,
 };
 use crate::{Answer, Cause, Command, Event, Refusal, Reply, Session, drive};
 use reuse_tree::{MemoryStore, Store, WatchedStore};
@@ -365,8 +366,7 @@ fn a_header_is_added_in_scarce_memory(rt: HostRuntime) -> Result<(), Fail> {
 #[test]
 fn a_header_is_replaced_in_scarce_memory(rt: HostRuntime) -> Result<(), Fail> {
     let alloc = rt.alloc();
-    let (how, scope) = (plain_how(), plain_scope(alloc));
-    let command = annotate(alloc, &["k.h"], &["Jane Doe"], &[], how, scope)?;
+    let command = annotate(alloc, &["k.h"], &["Jane Doe"], &[], plain_scope(alloc))?;
     refuse_each_growth(&rt, alloc, command, REPLACED)
 }
 

@@ -1,0 +1,5 @@
+use Rattle.reuse_session.proofs.EditsTold.{edits_told}
+use Rattle.reuse_session.proofs.laws.edits_tell_what_they_take_and_write.Goals as goal
+
+pub returns : goal.returns
+returns c = record { told = edits_told }
