@@ -77,11 +77,11 @@ change_made tree path at clone bytes (Ok edit) splice here short fits answer sam
           (subst (λ (s : Splice). CarriesOutEdit tree (sealed_splice at bytes s.at s.old s.new) it) (same_splice made splice h) (makes e)),
     )
 
-take_none : (n : ℕ) → take {A = ℕ} n [] ≡ []
+pub take_none : (n : ℕ) → take {A = ℕ} n [] ≡ []
 take_none zero = refl
 take_none (suc n) = refl
 
-drop_none : (n : ℕ) → drop {A = ℕ} n [] ≡ []
+pub drop_none : (n : ℕ) → drop {A = ℕ} n [] ≡ []
 drop_none zero = refl
 drop_none (suc n) = refl
 

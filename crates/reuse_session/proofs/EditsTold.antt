@@ -1,5 +1,5 @@
 -- What the edits of a command tell that they take away and write is what changes at their paths.
-use Rattle.std.proofs.Common.{◌≡◌, inl, inr, ℕ, zero, suc, ◌+◌, ◌&&◌, List, [], ◌∷◌, ◌++◌, length, take, drop, Option, Some, None, Ok, Err, refl, ap, ap₂, subst, ◌∙◌}
+use Rattle.std.proofs.Common.{◌≡◌, inl, inr, ℕ, ◌+◌, ◌&&◌, List, [], ◌∷◌, ◌++◌, length, take, drop, Option, Some, None, Ok, Err, refl, ap, ap₂, subst, ◌∙◌}
 use Rattle.std.specs.List.{All, AllByRecursion}
 use Rattle.std.specs.Str.{bytes_eq}
 use Rattle.std.specs.FinMap.{get}
@@ -21,6 +21,7 @@ use Rattle.reuse_session.specs.Outcome.{edits_of}
 use Rattle.reuse_session.specs.Reverting.{stands_as_written, is_short, put_back, taken_back, taken_back_on}
 use Rattle.reuse_session.specs.declared.command.Command.{Command}
 use Rattle.reuse_session.specs.declared.command.Command.TheVariants.{Annotate, ConvertDep5, Download, Revert}
+use Rattle.reuse_session.proofs.EditLemmas.{take_none, drop_none}
 use Rattle.reuse_session.proofs.EachEdit.{EachTakenBack, each_edit}
 use Rattle.reuse_session.proofs.Outcomes.{some_edit, same_edit, unskipped}
 use Rattle.reuse_session.proofs.RevertFitting.{back_on}
@@ -45,14 +46,6 @@ told_there tree path at bytes due edit here e =
       before = here ∙ ap (λ b. Some b) (three_parts bytes one.start one.old_len);
       after = refl;
     })))
-
-take_none : (n : ℕ) → take {A = ℕ} n [] ≡ []
-take_none zero = refl
-take_none (suc n) = refl
-
-drop_none : (n : ℕ) → drop {A = ℕ} n [] ≡ []
-drop_none zero = refl
-drop_none (suc n) = refl
 
 told_new : (tree : Files) (path at : List ℕ) (due : Due) (edit : Edit) → get tree at ≡ None → edit_by path at [] due ≡ some_edit edit → TakesAndWrites tree edit
 told_new tree path at due edit here e =
