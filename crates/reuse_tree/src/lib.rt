@@ -9,8 +9,6 @@ mod faulty;
 mod file_map;
 mod items;
 pub mod journal;
-#[cfg(test)]
-mod journal_tests;
 pub mod laws;
 mod memory;
 mod moment;
@@ -18,8 +16,6 @@ mod parts;
 mod path;
 mod record;
 mod store;
-#[cfg(test)]
-mod store_tests;
 mod watched;
 mod way;
 
