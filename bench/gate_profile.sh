@@ -1,11 +1,11 @@
 #!/usr/bin/env bash
-# Measures what the gate does for each crate: its proof, its proof with tests, each must-fail edit and each run, in processor seconds and wall
-# time, and lists the twenty slowest functions, tests and edits. It works in a copy of the repository, one check at a time and from nothing, so the
-# seconds are those of one processor; the gate has several checks side by side. A function's time is that between its line of the check and the line
-# before, so the first that cites a lemma pays for it.
+# Measures what the gate does for each crate: its proof, each must-fail edit and the program's build and run, in processor seconds and wall time, and
+# lists the twenty slowest functions and edits. It works in a copy of the repository, one check at a time and from nothing, so the seconds are those
+# of one processor; the gate has several checks side by side. A function's time is that between its line of the check and the line before, so the
+# first that cites a lemma pays for it.
 # usage: bench/gate_profile.sh [-k] [-m EDITS] [-o TABLE] [CRATE..]
-#   -k         begins with the work that the repository keeps in out/: no proof from nothing and no tests, but a check of nothing new, which
-#              is what each edit costs at least, and the edits
+#   -k         begins with the work that the repository keeps in out/: no proof from nothing, but a check of nothing new, which is what each
+#              edit costs at least, and the edits
 #   -m EDITS   tries so many edits of each crate, evenly chosen (0: none), and not all
 #   -o TABLE   keeps all figures in this file too: kind, crate, name, processor seconds, wall seconds
 # Without a CRATE it measures all of them, which takes hours.
@@ -47,11 +47,10 @@ note() {
   printf '%-9s %-14s %-50s %s\n' "${@:1:3}" "${4/$'\t'/ }" >&2
 }
 
-# What each function took, of those that stand in no list of functions before
+# What each function took
 functions() {
-  awk -v kind="$2" -v crate="$1" -v seen="$room/seen" '
-    BEGIN { while ((getline name < seen) > 0) known[name] = 1 }
-    $2 == "checked" { sub(/,$/, "", $3); took = $1 - last; if (last && !($3 in known)) printf "%s\t%s\t%s\t%.1f\t%.1f\n", kind, crate, $3, took, took; print $3 >> seen }
+  awk -v crate="$1" '
+    $2 == "checked" { sub(/,$/, "", $3); took = $1 - last; if (last) printf "function\t%s\t%s\t%.1f\t%.1f\n", crate, $3, took, took }
     { last = $1 }' "$room/log" >> "$room/table"
 }
 
@@ -72,23 +71,13 @@ apply() {
   done < "$2"
 }
 
-# Proves a crate from nothing, then its tests, and builds and runs both.
+# Proves a crate from nothing, and builds and runs a program.
 prove() {
   local crate=$1 folder=$2
   rm -rf "$folder/out"
   measure "$folder" "$rt" check --jobs 1 || { tail -n 20 "$room/log"; exit 1; }
   note proof "$crate" "$(grep -o 'functions=[0-9]*' "$room/log" || true)" "$spent"
-  functions "$crate" function
-  if grep -rqF '#[test]' "$folder/src"; then
-    mv "$folder/out/incremental" "$room/kept"
-    measure "$folder" "$rt" check --test --jobs 1 || { tail -n 20 "$room/log"; exit 1; }
-    note tests "$crate" "$(grep -o 'tests=[0-9]*' "$room/log" || true)" "$spent"
-    functions "$crate" test
-    measure "$folder" "$rt" test --jobs 1 || { tail -n 20 "$room/log"; exit 1; }
-    note run "$crate" "tests, built and run" "$spent"
-    rm -rf "$folder/out/incremental"
-    mv "$room/kept" "$folder/out/incremental"
-  fi
+  functions "$crate"
   if [ -e "$folder/src/main.rt" ]; then
     measure "$folder" "$rt" run --jobs 1 -- log || { tail -n 20 "$room/log"; exit 1; }
     note run "$crate" "program, built and run" "$spent"
@@ -103,7 +92,6 @@ for crate in "${crates[@]}"; do
     [ -e "$room/crates/$below/out" ] || ! [ -d "$top/crates/$below/out" ] || cp -a "$top/crates/$below/out" "$room/crates/$below/"
     (cd "$room/crates/$below" && [ -e out/rlib/stamp ] || "$rt" lib --jobs 1) > "$room/below" 2>&1 || { tail -n 20 "$room/below"; exit 1; }
   done
-  : > "$room/seen"
   if [ "$kept" ]; then
     [ -e "$folder/out" ] || cp -a "$top/crates/$crate/out" "$folder/"
     (cd "$folder" && "$rt" check --jobs 1) > "$room/log" 2>&1 || { tail -n 20 "$room/log"; exit 1; }
@@ -133,10 +121,10 @@ table=$room/table
 
 echo
 echo 'kind      crate          of                   processor s    wall s'
-awk -F'\t' '$1 != "function" && $1 != "test" && $1 != "edit" { printf "%-9s %-14s %-24s %8.1f %9.1f\n", $1, $2, $3, $4, $5 }
+awk -F'\t' '$1 != "function" && $1 != "edit" { printf "%-9s %-14s %-24s %8.1f %9.1f\n", $1, $2, $3, $4, $5 }
   $1 == "edit" { number[$2]++; cpu[$2] += $4; wall[$2] += $5 }
   END { for (crate in number) printf "%-9s %-14s %-24s %8.1f %9.1f\n", "edits", crate, number[crate] " together", cpu[crate], wall[crate] }' "$table"
-for kind in function test edit; do
+for kind in function edit; do
   echo
   echo "the slowest of kind $kind, wall s"
   awk -F'\t' -v kind=$kind '$1 == kind { printf "%8.1f  %s %s\n", $5, $2, $3 }' "$table" | sort -rn | head -n 20
