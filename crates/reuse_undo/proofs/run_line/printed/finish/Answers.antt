@@ -1,0 +1,36 @@
+use Rattle.std.proofs.Common.{◌≡◌, ℕ, Bool, List, Option, Result, Ok, Err}
+use Rattle.reuse_session.specs.declared.reply.Refusal.{Refusal}
+use Rattle.reuse_undo.specs.RowLines.{AppendsSome}
+use Rattle.reuse_undo.specs.RunLine.{IfNoDiff}
+use Rattle.reuse_undo.specs.Told.{Accepts, Finishes, IsToldText, TellsFailure}
+use Rattle.reuse_undo.specs.declared.fault.Fault.{Fault}
+use Rattle.reuse_undo.specs.declared.fault.Fault.TheVariants.{WouldRefuse}
+use Rattle.reuse_undo.specs.declared.line.Telling.{Telling}
+use Rattle.reuse_undo.specs.declared.request.Told.{Told}
+use Rattle.reuse_undo.proofs.run_line.printed.finish.Goals as goal
+
+-- what is accepted, or would be refused, is told, and no diff is lacking
+told : (telling : Telling) (answer : Told) (old new : Option (List ℕ)) (result : Result ℕ Fault) → Accepts answer result → AppendsSome old new (IsToldText telling answer) → Finishes telling answer old new result
+told telling answer old new (Ok count) accepts appends = (appends, accepts)
+told telling answer old new (Err (WouldRefuse fates)) accepts appends = (appends, accepts)
+told telling answer old new (Err fault) accepts appends = absurd accepts
+
+drawn : (answer : Told) (Claim : Refusal → Type 0) (result : Result ℕ Fault) → Accepts answer result → IfNoDiff result Claim
+drawn answer Claim (Ok count) accepts = tt
+drawn answer Claim (Err (WouldRefuse fates)) accepts = tt
+drawn answer Claim (Err fault) accepts = absurd accepts
+
+written : (answer : Told) (old new : Bool) (result : Result ℕ Fault) → Accepts answer result → new ≡ old → TellsFailure old new result
+written answer old new (Ok count) accepts kept = kept
+written answer old new (Err (WouldRefuse fates)) accepts kept = kept
+written answer old new (Err fault) accepts kept = absurd accepts
+
+pub returns : goal.returns
+returns g c =
+    let told_text = c.in_ok-text.ensures.text (rw c.as_slice.ensures.value c.in_ok-diff.ensures.behind) in
+    let appends = rw c.as_slice-2.ensures.value at c.in_ok-write_text.ensures.written in
+    record {
+      told = told c.args.telling c.args.told _ _ c.accept.result c.accept.ensures (c.in_ok-text.text.items, (told_text, appends));
+      undrawn = drawn c.args.told _ c.accept.result c.accept.ensures;
+      failed = written c.args.told _ _ c.accept.result c.accept.ensures c.in_ok-write_text.ensures.kept;
+    }
