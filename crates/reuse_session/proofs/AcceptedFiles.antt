@@ -20,7 +20,7 @@ use Rattle.reuse_session.specs.Accepted.{IsUnread, HasRoomBeside, RulesAccept, C
 use Rattle.reuse_session.specs.Annotate.{neighbour_of, neighbour_is_tagged, goes_beside, target_of, target_of_unknown, target_by_name, target_by_style, target_by_bytes, edit_by, edit_inside, edit_neighbour, edit_beside, edit_target, annotated_where, annotated_at}
 use Rattle.reuse_session.specs.Annotated.{Pair, pair_at, HasKind, IsSkipped, IsCommented, IsAccompanied, TakesComment, TakesNeighbour}
 use Rattle.reuse_session.specs.Annotations.{Due}
-use Rattle.reuse_session.specs.Clash.{is_clash}
+use Rattle.reuse_tree.specs.Clash.{is_clash}
 use Rattle.reuse_session.specs.Covered.{is_covered}
 use Rattle.reuse_session.specs.Edit.{Edit}
 use Rattle.reuse_session.specs.TreeStyles.{OwnNames}

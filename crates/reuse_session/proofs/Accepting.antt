@@ -10,7 +10,7 @@ use Rattle.reuse_notice.proofs.SetLemmas.{In, Contains-from_in, In-set_of}
 use Rattle.reuse_dep5.specs.Conversion.{converted}
 use Rattle.reuse_tree.specs.Files.{Files, Clashes}
 use Rattle.reuse_session.specs.Accepted.{CanBeDownloaded, CanDownload, CanConvert}
-use Rattle.reuse_session.specs.Clash.{is_clash}
+use Rattle.reuse_tree.specs.Clash.{is_clash}
 use Rattle.reuse_session.specs.Conversion.{dep5_path, toml_path, replaced_by, conversion_where, conversion_edits}
 use Rattle.reuse_session.specs.Downloads.{text_for, refusal_of_found, id_refusal, ids_refusal, licence_edit, unless_refused, download_edits}
 use Rattle.reuse_session.specs.Edit.{Edit}

@@ -18,7 +18,7 @@ use Rattle.reuse_tree.specs.Change.{sealed_drop, sealed_make}
 use Rattle.std.specs.Option.{option_map}
 use Rattle.sha2.specs.Sha256.{sha256}
 use Rattle.reuse_text.specs.declared.TheConstants.{LONGEST_FILE}
-use Rattle.reuse_session.specs.Clash.{is_clash, is_clash_of}
+use Rattle.reuse_tree.specs.Clash.{is_clash, is_clash_of}
 use Rattle.reuse_session.specs.Edit.{Edit, made, dropped}
 use Rattle.reuse_session.specs.Conversion.{dep5_path, toml_path, replaced_by, conversion_where, conversion_edits}
 use Rattle.reuse_tree.specs.Listing.{ArePaths, is_among}

@@ -19,7 +19,7 @@ use Rattle.reuse_session.specs.Edit.{Edit}
 use Rattle.reuse_header.specs.Neighbour.{neighbour_annotation_of}
 use Rattle.reuse_session.specs.Annotate.{neighbour_of, neighbour_is_tagged, goes_beside, target_of, edit_by, annotated_where}
 use Rattle.reuse_session.specs.AnnotationPlan.{own_of, annotated_by, beside_by, neighbour_by, inside_by, place_by, edit_by_place}
-use Rattle.reuse_session.specs.Clash.{is_clash}
+use Rattle.reuse_tree.specs.Clash.{is_clash}
 use Rattle.reuse_session.specs.Covered.{is_covered}
 use Rattle.reuse_session.specs.declared.reply.Refusal.TheVariants as refusals
 use Rattle.reuse_session.specs.declared.target.Target.TheVariants.{Beside}

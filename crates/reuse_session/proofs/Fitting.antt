@@ -25,7 +25,7 @@ use Rattle.reuse_text.specs.declared.TheConstants.{LONGEST_FILE}
 use Rattle.reuse_session.specs.Edit.{Edit}
 use Rattle.reuse_session.specs.Annotate.{neighbour_of, neighbour_is_tagged, target_of, edit_by, edit_inside, edit_neighbour, edit_beside, edit_target, annotated_where, annotated_at}
 use Rattle.reuse_session.specs.Annotations.{Due}
-use Rattle.reuse_session.specs.Clash.{is_clash}
+use Rattle.reuse_tree.specs.Clash.{is_clash}
 use Rattle.reuse_session.specs.Command.{has_root, paths_among, HoldsEntry}
 use Rattle.reuse_session.specs.Covered.{last_part, is_in, is_outside, has_stem, is_covered}
 use Rattle.reuse_tree.specs.Listing.{ArePaths, is_among, is_folder}

@@ -16,7 +16,7 @@ use Rattle.reuse_tree.specs.Files.{Files}
 use Rattle.reuse_tree.specs.Change.{path_of}
 use Rattle.reuse_tree.specs.declared.change.Change.{Change}
 use Rattle.reuse_tree.specs.declared.change.Change.TheVariants.{Make, Drop, Splice}
-use Rattle.reuse_session.specs.Clash.{is_clash}
+use Rattle.reuse_tree.specs.Clash.{is_clash}
 use Rattle.reuse_session.specs.Edit.{Edit, made, dropped}
 use Rattle.reuse_tree.specs.Entry.{makes, paths_of, touches, IsEntry}
 use Rattle.reuse_tree.specs.EntryText.{HavePaths}

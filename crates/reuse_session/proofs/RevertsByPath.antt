@@ -9,7 +9,7 @@ use Rattle.std.proofs.lemmas.Slice.Eq.{bytes_eq-Decides}
 use Rattle.reuse_tree.specs.Files.{Files, Clashes}
 use Rattle.reuse_tree.specs.Change.{path_of, Turns}
 use Rattle.reuse_tree.specs.declared.change.Change.{Change}
-use Rattle.reuse_session.specs.Clash.{is_clash}
+use Rattle.reuse_tree.specs.Clash.{is_clash}
 use Rattle.reuse_session.specs.Edit.{Edit}
 use Rattle.reuse_tree.specs.Entry.{makes, touches, IsEntry, IsSmall, LeadsAll}
 use Rattle.reuse_tree.specs.Listing.{is_among}

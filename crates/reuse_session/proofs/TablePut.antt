@@ -7,7 +7,7 @@ use Rattle.reuse_dep5.specs.declared.refusal.Dep5Refusal.{Dep5Refusal}
 use Rattle.reuse_dep5.specs.Conversion.{converted}
 use Rattle.reuse_tree.specs.Files.{Files}
 use Rattle.reuse_text.specs.declared.TheConstants.{LONGEST_FILE}
-use Rattle.reuse_session.specs.Clash.{is_clash}
+use Rattle.reuse_tree.specs.Clash.{is_clash}
 use Rattle.reuse_session.specs.Conversion.{dep5_path, toml_path, replaced_by, conversion_where, conversion_edits}
 use Rattle.reuse_session.specs.Edit.{Edit, made, dropped}
 use Rattle.reuse_session.specs.Outcome.{edited, outcome_of}

@@ -22,7 +22,7 @@ use Rattle.reuse_session.specs.Covered.{is_covered}
 use Rattle.reuse_tree.specs.Listing.{is_folder}
 use Rattle.reuse_session.specs.Edit.{Edit}
 use Rattle.reuse_session.specs.HeaderFaults.{refused_by}
-use Rattle.reuse_session.specs.Clash.{is_clash}
+use Rattle.reuse_tree.specs.Clash.{is_clash}
 use Rattle.reuse_session.specs.declared.command.Scope.{Scope}
 use Rattle.reuse_session.specs.declared.command.Unknown.{Unknown}
 use Rattle.reuse_session.specs.declared.command.Unknown.TheVariants as unknown

@@ -8,7 +8,7 @@ use Rattle.reuse_notice.specs.Sets.{set_of}
 use Rattle.reuse_tree.specs.Files.{Files}
 use Rattle.reuse_text.specs.declared.TheConstants.{LONGEST_FILE}
 use Rattle.reuse_session.specs.Edit.{Edit, made}
-use Rattle.reuse_session.specs.Clash.{is_clash}
+use Rattle.reuse_tree.specs.Clash.{is_clash}
 use Rattle.reuse_session.specs.Licence.{is_id, licence_path, licence_id}
 use Rattle.reuse_session.specs.declared.licence.LicenceText.{LicenceText}
 use Rattle.reuse_session.specs.declared.reply.Refusal.{Refusal}

@@ -11,7 +11,7 @@ use Rattle.reuse_tree.specs.declared.change.Change.{Change}
 use Rattle.reuse_tree.specs.declared.change.Change.TheVariants.{Make, Drop, Splice}
 use Rattle.reuse_tree.specs.declared.digest.Seal.{Seal}
 use Rattle.reuse_text.specs.declared.TheConstants.{LONGEST_FILE}
-use Rattle.reuse_session.specs.Clash.{is_clash}
+use Rattle.reuse_tree.specs.Clash.{is_clash}
 use Rattle.reuse_session.specs.Edit.{Edit, made, dropped}
 use Rattle.reuse_tree.specs.Entry.{makes}
 use Rattle.reuse_tree.specs.declared.way.Way.TheVariants.{Undo}

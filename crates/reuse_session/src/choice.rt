@@ -6,10 +6,9 @@ ghost use Rattle.reuse_notice.specs.Sets.{set_of};
 ghost use Rattle.reuse_session.specs.Choice.{matches_one};
 ghost use Rattle.reuse_tree.specs.Listing.{is_among};
 
-use crate::listing::is_among;
 use crate::places::sorted;
 use reuse_dep5::{Glob, glob_matches};
-use reuse_tree::{Items, PathText};
+use reuse_tree::{Items, PathText, is_among};
 use std::marker::Model;
 
 /// Paths in byte order, without repeats.

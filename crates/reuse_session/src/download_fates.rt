@@ -12,10 +12,10 @@ ghost use Rattle.reuse_session.specs.declared.reply.Refusal.{Refusal};
 
 use crate::fate::Fate;
 use crate::licence::LicenceText;
-use crate::listing::tree_paths;
 use crate::plan_download::{download_changes, made_path, sorted_ids};
 use crate::planned::{Planned, as_fate, of_changes};
 use crate::reply::Refusal;
+use crate::tree_paths::tree_paths;
 use reuse_text::Bytes;
 use reuse_tree::{PathText, Store};
 use std::alloc::Global;

@@ -12,8 +12,7 @@ ghost use Rattle.reuse_session.specs.Command.{is_root, has_root, path_in, paths_
 use crate::choice::matches_one;
 use crate::command::{Place, Scope};
 use crate::covered::is_covered;
-use crate::listing::paths_beneath;
-use reuse_tree::PathText;
+use reuse_tree::{PathText, paths_beneath};
 use std::alloc::{AllocError, Global};
 
 /// Whether the root is among the places.

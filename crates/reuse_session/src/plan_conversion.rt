@@ -8,13 +8,12 @@ ghost use Rattle.reuse_session.specs.Conversion.{dep5_path, toml_path, conversio
 ghost use Rattle.reuse_dep5.specs.Conversion.{converted};
 ghost use Rattle.reuse_session.specs.Plan.{AnswersEdits};
 
-use crate::clash::is_clash;
 use crate::known_path::known_path;
-use crate::listing::{is_among, tree_paths};
 use crate::reply::Refusal;
+use crate::tree_paths::tree_paths;
 use reuse_dep5::{Dep5Refusal, convert_dep5};
 use reuse_text::{Bytes, LONGEST_FILE};
-use reuse_tree::{Change, PathText, Reading, Store};
+use reuse_tree::{Change, PathText, Reading, Store, is_among, is_clash};
 use std::alloc::{AllocError, Global};
 
 /// The changes of a conversion, or its first refusal.

@@ -9,15 +9,14 @@ ghost use Rattle.reuse_session.specs.Downloads.{text_for, refusal_of_found, id_r
 ghost use Rattle.reuse_session.specs.DownloadPlan.{made_at};
 ghost use Rattle.reuse_session.specs.Plan.{AnswersEdits};
 
-use crate::clash::is_clash;
 use crate::licence::LicenceText;
 use crate::licence_file::{licence_id, licence_path, text_for};
 use crate::licence_id::as_id;
-use crate::listing::{is_among, tree_paths};
 use crate::places::sorted;
 use crate::reply::Refusal;
+use crate::tree_paths::tree_paths;
 use reuse_text::{Bytes, LONGEST_FILE};
-use reuse_tree::{Change, PathText, Store};
+use reuse_tree::{Change, PathText, Store, is_among, is_clash};
 use std::alloc::{AllocError, Global};
 
 /// The changes of a download, or its first refusal.

@@ -13,9 +13,7 @@ ghost use Rattle.reuse_session.specs.Steps.{short_file, StepsTo, StepsBy};
 ghost use Rattle.reuse_session.specs.declared.command.Scope.{Scope};
 
 use crate::annotation::Annotation;
-use crate::clash::is_clash;
 use crate::command::Place;
-use crate::listing::is_folder;
 use crate::plan_edit::{change_by, making_by};
 use crate::plan_target::{neighbour_of, target_by_bytes};
 use crate::reply::Refusal;
@@ -24,7 +22,7 @@ use reuse_header::{
     Style, annotate_file, annotate_neighbour, annotations_fit, find, neighbour_has_tag,
 };
 use reuse_text::{Bytes, LONGEST_FILE};
-use reuse_tree::{Change, PathError, PathText, Reading};
+use reuse_tree::{Change, PathError, PathText, Reading, is_clash, is_folder};
 use std::alloc::Global;
 
 /// What is known of a file's change once the file was read.

@@ -16,14 +16,13 @@ ghost use Rattle.reuse_session.specs.Reverting.{has_digest, is_as_left, revert_e
 ghost use Rattle.reuse_tree.specs.Tree.{is_of_tree};
 ghost use Rattle.reuse_tree.specs.declared.way.Way.TheVariants.{Undo};
 
-use crate::clash::is_clash;
 use crate::entry_changes::EntryChanges;
-use crate::listing::tree_paths;
 use crate::perform::makes_any;
 use crate::reply::Refusal;
+use crate::tree_paths::tree_paths;
 use crate::turn::makes;
 use reuse_text::{Bytes, LONGEST_FILE};
-use reuse_tree::{Change, Digest, PathText, Reading, Seal, Store, Way};
+use reuse_tree::{Change, Digest, PathText, Reading, Seal, Store, Way, is_clash};
 use std::alloc::{AllocError, Global};
 
 /// The changes of a revert, or its first refusal.

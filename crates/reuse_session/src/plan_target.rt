@@ -11,12 +11,11 @@ ghost use Rattle.reuse_session.specs.Refused.{IsNoFault};
 
 use crate::annotation::Annotation;
 use crate::command::Unknown;
-use crate::listing::is_among;
 use crate::reply::Refusal;
 use crate::target::Target;
 use reuse_header::{Kind, StyleTable};
 use reuse_text::{Bytes, is_text};
-use reuse_tree::PathText;
+use reuse_tree::{PathText, is_among};
 use std::alloc::{AllocError, Global};
 
 /// The bytes of a neighbour's path.

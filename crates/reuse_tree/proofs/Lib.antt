@@ -23,3 +23,4 @@ pub mod PlainTexts
 pub mod SmallDigits
 pub mod WrittenEntries
 pub mod WrittenTexts
+mod ClashLemmas

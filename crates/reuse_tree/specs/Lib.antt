@@ -22,3 +22,4 @@ pub mod Format
 pub mod Decoded
 pub mod Tree
 pub mod Listing
+pub mod Clash

@@ -2,6 +2,7 @@
 #![tactic(auto)]
 
 mod change;
+mod clash;
 mod command_name;
 mod digest;
 mod fault;
@@ -10,6 +11,7 @@ mod file_map;
 mod items;
 pub mod journal;
 pub mod laws;
+mod listing;
 mod memory;
 mod moment;
 mod parts;
@@ -20,6 +22,7 @@ mod watched;
 mod way;
 
 pub use change::{Change, ChangeState};
+pub use clash::is_clash;
 pub use command_name::CommandName;
 pub use digest::{Digest, Seal};
 pub use fault::StoreFault;
@@ -29,6 +32,7 @@ pub use journal::{
     Changes, DecodeFault, Entry, EntryNumbers, Head, Pending, PendingWay, decode_entry,
     decode_head, encode_entry, encode_head, is_too_many,
 };
+pub use listing::{is_among, is_folder, paths_beneath};
 pub use memory::MemoryStore;
 pub use moment::Moment;
 pub use parts::Parts;

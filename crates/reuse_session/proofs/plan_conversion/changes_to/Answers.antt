@@ -1,6 +1,6 @@
 use Rattle.std.proofs.Common.{◌∙◌, [], ◌∷◌, sym, ap, ap₂, subst, Err}
 use Rattle.reuse_tree.specs.Change.{sealed_drop, sealed_make}
-use Rattle.reuse_session.specs.Clash.{is_clash_of}
+use Rattle.reuse_tree.specs.Clash.{is_clash_of}
 use Rattle.reuse_session.specs.Conversion.{conversion_edits}
 use Rattle.reuse_tree.specs.Listing.{ArePaths}
 use Rattle.reuse_session.specs.Plan.{MakesEdits}

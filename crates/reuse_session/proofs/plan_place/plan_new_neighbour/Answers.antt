@@ -2,7 +2,7 @@ use Rattle.std.proofs.Common.{◌∙◌, [], Err, sym, ap, subst}
 use Rattle.std.specs.FinMap.{keys}
 use Rattle.reuse_header.specs.Neighbour.{neighbour_annotation_of}
 use Rattle.reuse_session.specs.Annotate.{edit_by}
-use Rattle.reuse_session.specs.Clash.{is_clash_of}
+use Rattle.reuse_tree.specs.Clash.{is_clash_of}
 use Rattle.reuse_tree.specs.Listing.{ArePaths}
 use Rattle.reuse_session.specs.Plan.{AnswersEdit}
 use Rattle.reuse_session.specs.declared.reply.Refusal.TheVariants as refusals

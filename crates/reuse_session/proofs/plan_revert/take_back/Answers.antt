@@ -4,7 +4,7 @@ use Rattle.reuse_tree.specs.Change.{path_of}
 use Rattle.reuse_tree.specs.Files.{tree_of}
 use Rattle.reuse_tree.specs.Store.{reading_of}
 use Rattle.reuse_text.specs.declared.TheConstants.{LONGEST_FILE}
-use Rattle.reuse_session.specs.Clash.{is_clash, is_clash_of}
+use Rattle.reuse_tree.specs.Clash.{is_clash, is_clash_of}
 use Rattle.reuse_tree.specs.Entry.{makes}
 use Rattle.reuse_tree.specs.Listing.{ArePaths}
 use Rattle.reuse_session.specs.Plan.{MakesEdit}

@@ -3,7 +3,7 @@ use Rattle.std.specs.Ordering.{nat_cmp, is_lt}
 use Rattle.std.specs.Cmp.Lexicographic.{slice_cmp}
 use Rattle.std.proofs.lemmas.List.Sorted.{IsPartitionPoint-from_clause}
 use Rattle.reuse_tree.proofs.ListingLemmas.{below_first}
-use Rattle.reuse_session.proofs.listing.lower_bound.Goals as goal
+use Rattle.reuse_tree.proofs.listing.lower_bound.Goals as goal
 
 pub returns-clause-bound : goal.returns-clause-bound
 returns-clause-bound c sorted =

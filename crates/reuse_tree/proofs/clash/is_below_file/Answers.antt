@@ -1,6 +1,6 @@
 use Rattle.std.proofs.Common.{◌∙◌, sym, arith}
-use Rattle.reuse_session.proofs.ClashLemmas.{part_found, no_part}
-use Rattle.reuse_session.proofs.clash.is_below_file.Goals as goal
+use Rattle.reuse_tree.proofs.ClashLemmas.{part_found, no_part}
+use Rattle.reuse_tree.proofs.clash.is_below_file.Goals as goal
 
 pub returns-then-is_among : goal.returns-then-is_among
 returns-then-is_among c sorted =

@@ -1,7 +1,7 @@
 use Rattle.std.proofs.Common.{◌∙◌, ap}
 use Rattle.reuse_tree.specs.Path.{lies_under}
 use Rattle.reuse_tree.proofs.ListingLemmas.{folder_found, folder_none}
-use Rattle.reuse_session.proofs.listing.is_folder.Goals as goal
+use Rattle.reuse_tree.proofs.listing.is_folder.Goals as goal
 
 pub returns-then-at-paths : goal.returns-then-at-paths
 returns-then-at-paths c sorted =

@@ -1,7 +1,7 @@
 use Rattle.std.proofs.Common.{◌∙◌, ap}
 use Rattle.std.specs.Str.{bytes_eq}
 use Rattle.reuse_tree.proofs.ListingLemmas.{among_found, among_none}
-use Rattle.reuse_session.proofs.listing.is_among.Goals as goal
+use Rattle.reuse_tree.proofs.listing.is_among.Goals as goal
 
 pub returns-then-at-paths : goal.returns-then-at-paths
 returns-then-at-paths c sorted =

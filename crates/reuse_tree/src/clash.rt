@@ -3,18 +3,14 @@ ghost use Rattle.std.specs.Prelude.{◌≡◌, IfOk};
 ghost use Rattle.std.specs.List.{list_any};
 ghost use Rattle.reuse_tree.specs.Path.{lies_under};
 ghost use Rattle.reuse_tree.specs.Listing.{ArePaths};
-ghost use Rattle.reuse_session.specs.Clash.{is_clash_of};
+ghost use Rattle.reuse_tree.specs.Clash.{is_clash_of};
 
 use crate::listing::{is_among, is_folder};
-use reuse_tree::PathText;
+use crate::path::PathText;
 use std::alloc::{AllocError, Global};
 
 /// Whether no file can be made at the path: a part above it is one of the paths, which are in byte order, or it is a folder of these.
-pub(crate) fn is_clash(
-    alloc: Global,
-    paths: &[PathText],
-    path: &PathText,
-) -> Result<bool, AllocError>
+pub fn is_clash(alloc: Global, paths: &[PathText], path: &PathText) -> Result<bool, AllocError>
     ensures { ArePaths paths.now → IfOk result (λ clash. clash ≡ is_clash_of paths.now path.now) }
 {
     if is_below_file(paths, path.as_bytes()) {

@@ -7,7 +7,7 @@ use Rattle.std.proofs.lemmas.List.{drop_more, take-append-drop}
 use Rattle.std.proofs.lemmas.Slice.Eq.{bytes_eq-Decides}
 use Rattle.std.proofs.Math.Seq.{take-append_seam}
 use Rattle.reuse_tree.specs.Path.{lies_under}
-use Rattle.reuse_session.specs.Clash.{is_clash_of}
+use Rattle.reuse_tree.specs.Clash.{is_clash_of}
 use Rattle.reuse_tree.specs.Listing.{is_among, is_folder_of}
 use Rattle.reuse_tree.proofs.ListingLemmas.{under_from_test, test_from_under}
 

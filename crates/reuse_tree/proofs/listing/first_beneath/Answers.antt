@@ -2,7 +2,7 @@ use Rattle.std.proofs.Common.{◌≡◌, [], ◌∷◌, ◌++◌, subst, true, f
 use Rattle.std.specs.Ordering.{nat_cmp, is_lt}
 use Rattle.std.specs.Cmp.Lexicographic.{slice_cmp}
 use Rattle.std.specs.List.Sorted.{IsPartitionPoint}
-use Rattle.reuse_session.proofs.listing.first_beneath.Goals as goal
+use Rattle.reuse_tree.proofs.listing.first_beneath.Goals as goal
 
 pub returns-clause-bound : goal.returns-clause-bound
 returns-clause-bound c sorted =

@@ -1,6 +1,6 @@
 use Rattle.std.proofs.Common.{◌≡◌, ◌∙◌, sym, ap, subst, IfOk}
-use Rattle.reuse_session.proofs.ClashLemmas.{is_below, clash_below, clash_folder}
-use Rattle.reuse_session.proofs.clash.is_clash.Goals as goal
+use Rattle.reuse_tree.proofs.ClashLemmas.{is_below, clash_below, clash_folder}
+use Rattle.reuse_tree.proofs.clash.is_clash.Goals as goal
 
 pub returns-then-is_below_file : goal.returns-then-is_below_file
 returns-then-is_below_file c sorted =

@@ -3,7 +3,7 @@ use Rattle.std.specs.List.{prefix_len}
 use Rattle.std.proofs.lemmas.List.{take_rest}
 use Rattle.reuse_tree.specs.Path.{lies_under}
 use Rattle.reuse_tree.proofs.ListingLemmas.{beneath_at}
-use Rattle.reuse_session.proofs.listing.paths_beneath.Goals as goal
+use Rattle.reuse_tree.proofs.listing.paths_beneath.Goals as goal
 
 pub returns : goal.returns
 returns c sorted =

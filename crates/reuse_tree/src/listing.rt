@@ -1,33 +1,16 @@
-//! The paths of a tree, in byte order: what stands at a path.
-ghost use Rattle.std.specs.Prelude.{◌≡◌, ◌<◌, ◌≤◌, [], ◌∷◌, ◌++◌, IfOk, true, false, length, filter};
+//! Paths in byte order: what stands at a path.
+ghost use Rattle.std.specs.Prelude.{◌≡◌, ◌≤◌, [], ◌∷◌, ◌++◌, IfOk, true, false, length, filter};
 ghost use Rattle.std.specs.List.{prefix_len};
 ghost use Rattle.reuse_tree.specs.Path.{lies_under};
 ghost use Rattle.std.specs.Ordering.{nat_cmp, is_lt};
 ghost use Rattle.std.specs.Cmp.Lexicographic.{slice_cmp};
 ghost use Rattle.std.specs.List.Sorted.{IsPartitionPoint};
-ghost use Rattle.std.specs.FinMap.{keys};
-ghost use Rattle.reuse_tree.specs.Files.{tree_of};
 ghost use Rattle.reuse_tree.specs.Listing.{ArePaths, is_among, is_folder_of};
-ghost use Rattle.reuse_tree.specs.Asked.{OnlyReads, FailsAsRead};
 
+use crate::path::PathText;
 use reuse_text::Bytes;
-use reuse_tree::{PathText, Store, StoreFault};
 use std::alloc::{AllocError, Global};
 use std::cmp::Ordering;
-
-/// The paths of the tree that the store has: of all its files but those of the journal.
-pub(crate) fn tree_paths<S: Store>(
-    alloc: Global,
-    store: &mut S,
-) -> Result<Vec<PathText>, StoreFault>
-    ensures paths { S.honest store.new → IfOk result (λ paths. paths.items ≡ keys (tree_of (S.files store.old))) }
-    ensures fails { FailsAsRead S.Store store.old store.new result }
-    ensures reads { OnlyReads S.Store store.old store.new }
-{
-    let mut paths = store.list(alloc)?;
-    paths.retain(|path| !path.is_in_journal());
-    Ok(paths)
-}
 
 // How many of the paths, which are in byte order, are below the target.
 fn lower_bound(paths: &[PathText], target: &[u8]) -> usize
@@ -47,7 +30,7 @@ fn is_below(path: &PathText, target: &[u8]) -> bool
 }
 
 /// Whether the path is one of these, which are in byte order.
-pub(crate) fn is_among(paths: &[PathText], path: &[u8]) -> bool
+pub fn is_among(paths: &[PathText], path: &[u8]) -> bool
     ensures { ArePaths paths.now → result ≡ is_among paths.now path.now }
 {
     let at = lower_bound(paths, path);
@@ -55,11 +38,7 @@ pub(crate) fn is_among(paths: &[PathText], path: &[u8]) -> bool
 }
 
 /// Whether one of the paths, which are in byte order, lies under the folder.
-pub(crate) fn is_folder(
-    alloc: Global,
-    paths: &[PathText],
-    folder: &PathText,
-) -> Result<bool, AllocError>
+pub fn is_folder(alloc: Global, paths: &[PathText], folder: &PathText) -> Result<bool, AllocError>
     ensures { ArePaths paths.now → IfOk result (λ found. found ≡ is_folder_of paths.now folder.now) }
 {
     let at = first_beneath(alloc, paths, folder)?;
@@ -67,7 +46,7 @@ pub(crate) fn is_folder(
 }
 
 /// The paths, which are in byte order, that lie under the folder.
-pub(crate) fn paths_beneath<'a>(
+pub fn paths_beneath<'a>(
     alloc: Global,
     paths: &'a [PathText],
     folder: &PathText,

@@ -1,6 +1,6 @@
 use Rattle.std.proofs.Common.{◌≡◌, ℕ, ◌<◌, false, get_or, take}
 use Rattle.reuse_tree.specs.Listing.{ArePaths, is_among}
-use Rattle.reuse_session.proofs.clash.is_below_file.Given as goal
+use Rattle.reuse_tree.proofs.clash.is_below_file.Given as goal
 
 -- none of the parts so far is one of the paths
 abbrev pub invariant-loop-i : goal.invariant-loop-i
