@@ -1,5 +1,5 @@
 -- What an edit tells that it takes away and writes is what changes at its path.
-use Rattle.std.specs.Prelude.{◌≡◌, ◌⊎◌, ℕ, List, [], ◌++◌, Option, Some, None}
+use Rattle.std.specs.Prelude.{◌≡◌, ◌⊎◌, ℕ, List, [], ◌++◌, Some, None}
 use Rattle.std.specs.FinMap.{get}
 use Rattle.reuse_tree.specs.Files.{Files}
 use Rattle.reuse_session.specs.Edit.{Edit}
