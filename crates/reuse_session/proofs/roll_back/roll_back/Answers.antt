@@ -1,14 +1,16 @@
-use Rattle.std.proofs.Common.{◌≡◌, ◌≢◌, Bool, true, false, Err, OnErr, refl, sym, ap, subst, ◌∙◌}
+use Rattle.std.proofs.Common.{◌≡◌, ◌≢◌, ◌<◌, ◌≤◌, ℕ, Bool, true, false, List, Result, Err, OnErr, arith, refl, sym, ap, subst, ◌∙◌}
 use Rattle.std.specs.List.{All}
 use Rattle.std.proofs.lemmas.Result.{err_from_is_err_and}
+use Rattle.reuse_tree.proofs.AskedLemmas.{reads_more}
 use Rattle.reuse_tree.specs.Files.{Clashes, tree_of}
-use Rattle.reuse_session.specs.Answer.{told_of, IsNoClash}
+use Rattle.reuse_session.specs.Answer.{told_of, HasCause, IsEarly, IsNoClash, IsRollBackRefusal}
 use Rattle.reuse_session.specs.Carried.{StopsRollingBack}
 use Rattle.reuse_tree.specs.Entry.{ArePartlyMade, CanBeSetBack}
 use Rattle.reuse_session.specs.JournalFiles.{head_path}
 use Rattle.reuse_session.specs.declared.reply.Cause.{Cause}
 use Rattle.reuse_session.specs.declared.reply.Cause.TheVariants as causes
-use Rattle.reuse_session.specs.declared.reply.Refusal.TheVariants.{Moved}
+use Rattle.reuse_session.specs.declared.reply.Refusal.{Refusal}
+use Rattle.reuse_session.specs.declared.reply.Refusal.TheVariants.{Moved, Interrupted}
 use Rattle.reuse_session.proofs.Walk.{none_without}
 use Rattle.reuse_session.proofs.MadeLemmas.{settles_from}
 use Rattle.reuse_session.proofs.roll_back.roll_back.Goals as goal
@@ -22,6 +24,45 @@ told_no_clash false causes.Moved moved clash = moved refl
 told_no_clash false causes.Clash moved clash = clash refl
 told_no_clash false causes.Device moved clash = tt
 told_no_clash false causes.Memory moved clash = tt
+
+told_refusal : (started : Bool) (cause : Cause) → IsRollBackRefusal (told_of started cause)
+told_refusal true cause = tt
+told_refusal false causes.Moved = tt
+told_refusal false causes.Clash = tt
+told_refusal false causes.Device = tt
+told_refusal false causes.Memory = tt
+
+told_cause : (Rose : Type 0) (started : Bool) (cause : Cause) → (cause ≡ causes.Device → Rose) → HasCause Rose (told_of started cause)
+told_cause Rose true causes.Moved rose = tt
+told_cause Rose true causes.Clash rose = tt
+told_cause Rose true causes.Device rose = rose refl
+told_cause Rose true causes.Memory rose = tt
+told_cause Rose false causes.Moved rose = tt
+told_cause Rose false causes.Clash rose = tt
+told_cause Rose false causes.Device rose = rose refl
+told_cause Rose false causes.Memory rose = tt
+
+told_early : (started : Bool) (cause : Cause) → IsEarly (told_of started cause) → started ≡ false
+told_early true cause early = absurd early
+told_early false cause early = refl
+
+-- what is told is no file that has changed, but that of a stop
+never_moved : (started : Bool) (cause : Cause) (path : List ℕ) {answer : Result (Unit {0}) Refusal} → answer ≡ Err (told_of started cause) → answer ≡ Err (Moved path) → ⊥
+never_moved true cause path is e = cc
+never_moved false causes.Moved path is e = cc
+never_moved false causes.Clash path is e = cc
+never_moved false causes.Device path is e = cc
+never_moved false causes.Memory path is e = cc
+
+told_late : (started : Bool) (cause stop : Cause) {answer : Result (Unit {0}) Refusal} → answer ≡ Err (told_of started cause) → answer ≡ Err (Interrupted stop) → stop ≢ causes.Moved → started ≡ true
+told_late true cause stop is e other = refl
+told_late false causes.Moved stop is e other = absurd (other (cc))
+told_late false causes.Clash stop is e other = absurd (cc)
+told_late false causes.Device stop is e other = absurd (cc)
+told_late false causes.Memory stop is e other = absurd (cc)
+
+past : {old mid new : ℕ} → old ≤ mid → mid < new → old < new
+past a b = omega arith
 
 -- once each change was tested, none has moved and none clashes
 pub returns-in-Err-clause-clash : goal.returns-in-Err-clause-clash
@@ -55,3 +96,31 @@ returns-in-Err-clause-stopped g c honest good start partly cause e =
     let stopped = c.set_all_back.ensures.stopped honest good start (subst (λ files. ArePartlyMade c.args.way c.args.changes.now start (tree_of files)) (sym same) partly) in
     subst (λ files. StopsRollingBack c.args.way c.args.changes.now c.args.settled.now start files after) same
     (subst (λ r. OnErr r (StopsRollingBack c.args.way c.args.changes.now c.args.settled.now start (store.files c.test_each.new.store) after)) c.in-Err.is stopped)
+
+pub returns-in-Err-clause-refusal : goal.returns-in-Err-clause-refusal
+returns-in-Err-clause-refusal g c = subst IsRollBackRefusal (sym c.told.ensures) (told_refusal c.set_all_back.new.started c.in-Err.cause)
+
+pub returns-in-Err-clause-moved : goal.returns-in-Err-clause-moved
+returns-in-Err-clause-moved g c honest good path e = absurd (never_moved c.set_all_back.new.started c.in-Err.cause path (ap (λ r. Err r) c.told.ensures) e)
+
+pub returns-in-Err-clause-settles : goal.returns-in-Err-clause-settles
+returns-in-Err-clause-settles g c honest good start are partly path e = never_moved c.set_all_back.new.started c.in-Err.cause path (ap (λ r. Err r) c.told.ensures) e
+
+pub returns-in-Err-clause-tested : goal.returns-in-Err-clause-tested
+returns-in-Err-clause-tested g c honest good cause e = c.in_ok-test_each.ensures.ready (c.set_all_back.ensures.later.was_honest honest) good
+
+pub returns-in-Err-clause-early : goal.returns-in-Err-clause-early
+returns-in-Err-clause-early g c early =
+    let unstarted = told_early c.set_all_back.new.started c.in-Err.cause (subst IsEarly c.told.ensures early) in
+    reads_more g.S.Store c.args.store.now c.test_each.new.store c.set_all_back.new.store c.test_each.ensures.reads (c.set_all_back.ensures.notes.still unstarted).1
+
+pub returns-in-Err-clause-late : goal.returns-in-Err-clause-late
+returns-in-Err-clause-late g c stop e other =
+    subst (λ n. n < g.S.Store.moves c.set_all_back.new.store) c.test_each.ensures.reads.moves
+    (c.set_all_back.ensures.notes.begun refl (told_late c.set_all_back.new.started c.in-Err.cause stop (ap (λ r. Err r) c.told.ensures) e other))
+
+pub returns-in-Err-clause-fault : goal.returns-in-Err-clause-fault
+returns-in-Err-clause-fault g c =
+    let Rose = g.S.Store.failures c.args.store.now < g.S.Store.failures c.set_all_back.new.store in
+    subst (HasCause Rose) (sym c.told.ensures)
+    (told_cause Rose c.set_all_back.new.started c.in-Err.cause (λ e. past c.test_each.ensures.reads.failures (c.set_all_back.ensures.device (c.in-Err.is ∙ ap (λ x. Err x) e))))

@@ -1,23 +1,122 @@
-use Rattle.std.proofs.Common.{◌≡◌, Some, OnOk, ap, sym, subst, ◌∙◌}
+use Rattle.std.proofs.Common.{◌≡◌, ◌<◌, ◌≤◌, ◌+◌, ◌⊎◌, ℕ, List, length, Some, None, OnOk, OnErr, arith, ap, sym, subst, ◌∙◌}
+use Rattle.std.proofs.lemmas.Grind.{common_steps}
 use Rattle.std.specs.FinMap.{get}
+use Rattle.reuse_tree.proofs.AskedLemmas.{later_reads, later_more}
 use Rattle.reuse_tree.specs.Change.{path_of}
-use Rattle.reuse_tree.specs.Store.{reading_of}
-use Rattle.reuse_tree.specs.declared.store.Reading.TheVariants.{Found}
+use Rattle.reuse_tree.specs.Files.{Clashes}
+use Rattle.reuse_tree.specs.declared.change.Change.{Change}
+use Rattle.reuse_tree.specs.declared.way.Way.{Way}
+use Rattle.reuse_tree.specs.Entry.{IsReady, IsSmall, LeadsByOneChange, opposite}
 use Rattle.reuse_text.specs.declared.TheConstants.{LONGEST_FILE}
 use Rattle.reuse_session.specs.Carried.{IsSetBack}
-use Rattle.reuse_session.proofs.ReadingLemmas.{found_is}
+use Rattle.reuse_session.proofs.ReadingLemmas.{absent_is, found_is, long_is}
+use Rattle.reuse_session.proofs.roll_back.set_back.Given.{Over}
+use Rattle.reuse_session.proofs.roll_back.set_back.Goals.{After-set_back_from, After-drop-bytes-inside}
 use Rattle.reuse_session.proofs.roll_back.set_back.Goals as goal
+
+past : {old mid new : ℕ} → old ≤ mid → mid < new → old < new
+past a b = omega arith
+
+-- a file that a change can be gone through from isn't too long
+too_long : (way : Way) (change : Change) (bytes : List ℕ) → IsSmall change → LONGEST_FILE < length bytes → IsReady way change (Some bytes) → ⊥
+too_long way change bytes small long ready = grind (arith, common_steps)
+
+pub returns-in-TooLong-clause-moved : goal.returns-in-TooLong-clause-moved
+returns-in-TooLong-clause-moved g c honest proper small e =
+    let file = long_is _ LONGEST_FILE (sym c.in-TooLong.is ∙ c.in_ok-read.ensures.reading honest) in
+    let here = ap (get (g.S.Store.files c.args.store.now)) (sym c.path.ensures) ∙ file.1 in
+    let never = λ (way : Way) (ready : IsReady way c.args.change.now (get (g.S.Store.files c.args.store.now) (path_of c.args.change.now))).
+    too_long way c.args.change.now file.0 small file.2 (subst (IsReady way c.args.change.now) here ready) in
+    (never (opposite c.args.way), never c.args.way)
+
+-- what the path of the change held
+absent : (g : Over) (c : After-set_back_from g) → g.S.Store.honest c.read.new.self → get (g.S.Store.files c.args.store.now) (path_of c.args.change.now) ≡ None
+absent g c reading =
+    ap (get (g.S.Store.files c.args.store.now)) (sym c.path.ensures) ∙ absent_is _ LONGEST_FILE (sym c.in-Absent.is ∙ c.in_ok-read.ensures.reading reading)
+
+found : (g : Over) (c : After-drop-bytes-inside g) → g.S.Store.honest c.read.new.self → get (g.S.Store.files c.args.store.now) (path_of c.args.change.now) ≡ Some c.as_slice.result.now
+found g c reading =
+    ap (get (g.S.Store.files c.args.store.now)) (sym c.path.ensures) ∙ (found_is _ LONGEST_FILE c.in-Found.bytes (sym c.in-Found.is ∙ c.in_ok-read.ensures.reading reading)).0
+    ∙ ap (λ b. Some b) (sym c.as_slice.ensures)
+
+pub returns-in-Absent-clause-ok : goal.returns-in-Absent-clause-ok
+returns-in-Absent-clause-ok g c honest proper small =
+    let new = g.S.Store.files c.set_back_from.new.store in
+    let reading = c.set_back_from.ensures.later.was_honest honest in
+    let same = c.read.ensures.reads.files reading in
+    subst (λ f. OnOk c.set_back_from.result (IsSetBack c.args.way c.args.change.now f new)) same (c.set_back_from.ensures.ok honest (ap (λ f. get f (path_of c.args.change.now)) same ∙ absent g c reading))
+
+pub returns-in-Absent-clause-err : goal.returns-in-Absent-clause-err
+returns-in-Absent-clause-err g c honest proper small =
+    let new = g.S.Store.files c.set_back_from.new.store in
+    let reading = c.set_back_from.ensures.later.was_honest honest in
+    let same = c.read.ensures.reads.files reading in
+    subst (λ f. OnErr c.set_back_from.result ((new ≡ f) ⊎ LeadsByOneChange (opposite c.args.way) c.args.change.now f new)) same (c.set_back_from.ensures.err honest (ap (λ f. get f (path_of c.args.change.now)) same ∙ absent g c reading))
+
+pub returns-in-Absent-clause-moved : goal.returns-in-Absent-clause-moved
+returns-in-Absent-clause-moved g c honest proper small e =
+    let never = c.set_back_from.ensures.moved proper e in
+    let here = absent g c (c.set_back_from.ensures.later.was_honest honest) in
+    (λ ready. never.0 (subst (IsReady (opposite c.args.way) c.args.change.now) here ready), λ ready. never.1 (subst (IsReady c.args.way c.args.change.now) here ready))
+
+pub returns-in-Absent-clause-clash : goal.returns-in-Absent-clause-clash
+returns-in-Absent-clause-clash g c honest proper small e =
+    let reading = c.set_back_from.ensures.later.was_honest honest in
+    let same = c.read.ensures.reads.files reading in
+    let here = absent g c reading in
+    let clash = c.set_back_from.ensures.clash honest proper (ap (λ f. get f (path_of c.args.change.now)) same ∙ here) e in
+    (λ ready. clash.0 (subst (IsReady c.args.way c.args.change.now) here ready), clash.1, subst (λ f. Clashes f (path_of c.args.change.now)) same clash.2)
+
+pub returns-in-Absent-clause-device : goal.returns-in-Absent-clause-device
+returns-in-Absent-clause-device g c e = past c.read.ensures.reads.failures (c.set_back_from.ensures.device e)
+
+pub returns-in-Absent-clause-written : goal.returns-in-Absent-clause-written
+returns-in-Absent-clause-written g c of_tree = c.set_back_from.ensures.written of_tree ∙ c.read.ensures.reads.written
+
+pub returns-in-Absent-clause-moves : goal.returns-in-Absent-clause-moves
+returns-in-Absent-clause-moves g c = subst (λ n. g.S.Store.moves c.set_back_from.new.store ≤ n + 1) c.read.ensures.reads.moves c.set_back_from.ensures.moves
+
+pub returns-in-Absent-clause-later : goal.returns-in-Absent-clause-later
+returns-in-Absent-clause-later g c =
+    later_more g.S.Store c.args.store.now c.read.new.self c.set_back_from.new.store (later_reads g.S.Store c.args.store.now c.read.new.self c.read.ensures.reads) c.set_back_from.ensures.later
 
 pub returns-in-Found-clause-ok : goal.returns-in-Found-clause-ok
 returns-in-Found-clause-ok g c honest proper small =
-    let files = g.S.Store.files in
-    let old = files c.args.store.now in
-    let change = c.args.change.now in
+    let new = g.S.Store.files c.set_back_from-in-Found.new.store in
     let reading = c.set_back_from-in-Found.ensures.later.was_honest honest in
     let same = c.read.ensures.reads.files reading in
-    let path : c.path.result.now ≡ path_of change = c.path.ensures in
-    let was : Found c.in-Found.bytes ≡ reading_of (get old c.path.result.now) LONGEST_FILE = sym c.in-Found.is ∙ c.in_ok-read.ensures.reading reading in
-    let here : get old (path_of change) ≡ Some c.in-Found.bytes = ap (get old) (sym path) ∙ (found_is (get old c.path.result.now) LONGEST_FILE c.in-Found.bytes was).0 in
-    let there : get (files c.read.new.self) (path_of change) ≡ Some c.as_slice.result.now = ap (λ f. get f (path_of change)) same ∙ here ∙ ap (λ b. Some b) (sym c.as_slice.ensures) in
-    subst (λ f. OnOk c.set_back_from-in-Found.result (IsSetBack c.args.way change f (files c.set_back_from-in-Found.new.store))) same
-    (c.set_back_from-in-Found.ensures.ok honest there)
+    subst (λ f. OnOk c.set_back_from-in-Found.result (IsSetBack c.args.way c.args.change.now f new)) same (c.set_back_from-in-Found.ensures.ok honest (ap (λ f. get f (path_of c.args.change.now)) same ∙ found g c reading))
+
+pub returns-in-Found-clause-err : goal.returns-in-Found-clause-err
+returns-in-Found-clause-err g c honest proper small =
+    let new = g.S.Store.files c.set_back_from-in-Found.new.store in
+    let reading = c.set_back_from-in-Found.ensures.later.was_honest honest in
+    let same = c.read.ensures.reads.files reading in
+    subst (λ f. OnErr c.set_back_from-in-Found.result ((new ≡ f) ⊎ LeadsByOneChange (opposite c.args.way) c.args.change.now f new)) same (c.set_back_from-in-Found.ensures.err honest (ap (λ f. get f (path_of c.args.change.now)) same ∙ found g c reading))
+
+pub returns-in-Found-clause-moved : goal.returns-in-Found-clause-moved
+returns-in-Found-clause-moved g c honest proper small e =
+    let never = c.set_back_from-in-Found.ensures.moved proper e in
+    let here = found g c (c.set_back_from-in-Found.ensures.later.was_honest honest) in
+    (λ ready. never.0 (subst (IsReady (opposite c.args.way) c.args.change.now) here ready), λ ready. never.1 (subst (IsReady c.args.way c.args.change.now) here ready))
+
+pub returns-in-Found-clause-clash : goal.returns-in-Found-clause-clash
+returns-in-Found-clause-clash g c honest proper small e =
+    let reading = c.set_back_from-in-Found.ensures.later.was_honest honest in
+    let same = c.read.ensures.reads.files reading in
+    let here = found g c reading in
+    let clash = c.set_back_from-in-Found.ensures.clash honest proper (ap (λ f. get f (path_of c.args.change.now)) same ∙ here) e in
+    (λ ready. clash.0 (subst (IsReady c.args.way c.args.change.now) here ready), clash.1, subst (λ f. Clashes f (path_of c.args.change.now)) same clash.2)
+
+pub returns-in-Found-clause-device : goal.returns-in-Found-clause-device
+returns-in-Found-clause-device g c e = past c.read.ensures.reads.failures (c.set_back_from-in-Found.ensures.device e)
+
+pub returns-in-Found-clause-written : goal.returns-in-Found-clause-written
+returns-in-Found-clause-written g c of_tree = c.set_back_from-in-Found.ensures.written of_tree ∙ c.read.ensures.reads.written
+
+pub returns-in-Found-clause-moves : goal.returns-in-Found-clause-moves
+returns-in-Found-clause-moves g c = subst (λ n. g.S.Store.moves c.set_back_from-in-Found.new.store ≤ n + 1) c.read.ensures.reads.moves c.set_back_from-in-Found.ensures.moves
+
+pub returns-in-Found-clause-later : goal.returns-in-Found-clause-later
+returns-in-Found-clause-later g c =
+    later_more g.S.Store c.args.store.now c.read.new.self c.set_back_from-in-Found.new.store (later_reads g.S.Store c.args.store.now c.read.new.self c.read.ensures.reads) c.set_back_from-in-Found.ensures.later

@@ -1,19 +1,43 @@
-use Rattle.std.proofs.Common.{◌≡◌, ◌⊎◌, List, ℕ, Some, Err, length, arith, refl, sym, ap, subst, ◌∙◌}
+use Rattle.std.proofs.Common.{◌≡◌, ◌⊎◌, ◌≤◌, ◌+◌, List, ℕ, Some, Result, Err, length, arith, refl, sym, ap, subst, ◌∙◌}
 use Rattle.std.specs.List.{All}
 use Rattle.reuse_tree.specs.Files.{Clashes, tree_of}
 use Rattle.reuse_tree.specs.declared.change.Change.{Change}
+use Rattle.reuse_session.specs.Calls.{IsCall}
+use Rattle.reuse_session.specs.declared.session.Session.{Session}
+use Rattle.reuse_tree.specs.declared.store.Store.{Ghosts}
+use Rattle.reuse_tree.proofs.AskedLemmas.{later_none}
+use Rattle.reuse_session.proofs.OnlyReading.{is_refused}
 use Rattle.reuse_session.specs.Carried.{IsCarriedOut, IsStopped}
 use Rattle.reuse_tree.specs.Entry.{IsEntry, CanBeMade, CanGo}
 use Rattle.reuse_tree.specs.Head.{way_of}
+use Rattle.reuse_session.specs.Answer.{HasCause}
 use Rattle.reuse_session.specs.History.{head_listing}
 use Rattle.reuse_session.specs.JournalFiles.{head_path}
-use Rattle.reuse_session.specs.Session.{store_of, memory_of}
+use Rattle.reuse_session.specs.Session.{store_of, memory_of, head_room, listed_count}
+use Rattle.reuse_session.specs.declared.reply.Cause.{Cause}
+use Rattle.reuse_session.specs.declared.reply.Cause.TheVariants as causes
+use Rattle.reuse_session.specs.declared.reply.Refusal.{Refusal}
+use Rattle.reuse_session.specs.declared.reply.Refusal.TheVariants.{Memory, Interrupted}
 use Rattle.reuse_tree.specs.declared.way.Way.{Way}
 use Rattle.reuse_session.proofs.FolderLemmas.{some_text}
 use Rattle.reuse_session.proofs.JournalReading.{file_in_folder}
 use Rattle.reuse_session.proofs.Standings.{carried, stopped}
 use Rattle.reuse_session.proofs.Stepping.{good_between, good_second, stop_clash}
 use Rattle.reuse_session.proofs.session.Session.step.Goals as goal
+
+stop_cause : (Rose : Type 0) (cause : Cause) → (cause ≡ causes.Device → Rose) → HasCause Rose (Interrupted cause)
+stop_cause Rose causes.Moved rose = tt
+stop_cause Rose causes.Clash rose = tt
+stop_cause Rose causes.Device rose = rose refl
+stop_cause Rose causes.Memory rose = tt
+
+within : (old new first second one two : ℕ) → new ≤ old + first + second → first ≤ one → second ≤ two → new ≤ old + one + two
+within old new first second one two a b c = omega arith
+
+-- a call that is refused for want of memory has done nothing
+call_none : {S : Type 0} (store : Ghosts S) (session : Session S) (answer : Result (Unit {0}) Refusal) → answer ≡ Err Memory → IsCall store answer session session
+call_none store session answer e =
+    subst (λ r. IsCall store r session session) (sym e) (record { refused = λ early. (refl, refl); interrupted = λ stop. absurd stop; fault = tt; later = later_none store (store_of session) })
 
 pub carry_out-carried-requires : goal.carry_out-carried-requires
 carry_out-carried-requires g c honest =
@@ -71,3 +95,33 @@ pub returns-in-Err-clause-late : goal.returns-in-Err-clause-late
 returns-in-Err-clause-late g c good stop =
     let some = some_text c.in_ok-before.before.items (head_listing (memory_of c.args.self.now) (Some c.args.pending)) c.in_ok-before.ensures.text in
     omega (arith, some, ap length c.deref.ensures.value, c.carry_out-carried.ensures.begun good)
+
+pub returns-in-Ok-clause-written : goal.returns-in-Ok-clause-written
+returns-in-Ok-clause-written g c sound after good =
+    within _ _ _ _ _ _ (c.carry_out-carried.ensures.written good) (subst (λ text. length text ≤ head_room (listed_count (memory_of c.args.self.now))) (sym c.deref.ensures.value) (c.in_ok-before.ensures.bound sound))
+    (subst (λ text. length text ≤ head_room (listed_count c.args.moved)) (sym c.deref-2.ensures.value) (c.in_ok-settled.ensures.bound after))
+
+pub returns-in-Err-clause-written : goal.returns-in-Err-clause-written
+returns-in-Err-clause-written g c sound after good =
+    within _ _ _ _ _ _ (c.carry_out-carried.ensures.written good) (subst (λ text. length text ≤ head_room (listed_count (memory_of c.args.self.now))) (sym c.deref.ensures.value) (c.in_ok-before.ensures.bound sound))
+    (subst (λ text. length text ≤ head_room (listed_count c.args.moved)) (sym c.deref-2.ensures.value) (c.in_ok-settled.ensures.bound after))
+
+pub returns-in-Ok-clause-call : goal.returns-in-Ok-clause-call
+returns-in-Ok-clause-call g c = record { refused = tt; interrupted = tt; fault = tt; later = c.carry_out-carried.ensures.later }
+
+pub returns-in-Err-clause-call : goal.returns-in-Err-clause-call
+returns-in-Err-clause-call g c = record {
+  refused = λ early. absurd early;
+  interrupted = λ stop. refl;
+  fault = stop_cause _ c.in-Err.cause (λ e. c.carry_out-carried.ensures.device (c.in-Err.is ∙ ap (λ x. Err x) e));
+  later = c.carry_out-carried.ensures.later;
+}
+
+pub returns-in_err-before-clause-call : goal.returns-in_err-before-clause-call
+returns-in_err-before-clause-call g c = call_none g.S.Store c.args.self.now c.from_residual.result (is_refused c.from_residual.result c.from_residual.ensures.1)
+
+pub returns-in_err-settled-clause-call : goal.returns-in_err-settled-clause-call
+returns-in_err-settled-clause-call g c = call_none g.S.Store c.args.self.now c.from_residual-in_err-settled.result (is_refused c.from_residual-in_err-settled.result c.from_residual-in_err-settled.ensures.1)
+
+pub returns-in_err-head-clause-call : goal.returns-in_err-head-clause-call
+returns-in_err-head-clause-call g c = call_none g.S.Store c.args.self.now c.from_residual-in_err-head.result (is_refused c.from_residual-in_err-head.result c.from_residual-in_err-head.ensures.1)

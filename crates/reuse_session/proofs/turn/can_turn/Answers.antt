@@ -1,0 +1,19 @@
+use Rattle.std.proofs.Common.{◌<◌, ℕ, List, length, Some, arith, sym, ap, subst, ◌∙◌}
+use Rattle.std.proofs.lemmas.Grind.{common_steps}
+use Rattle.std.specs.FinMap.{get}
+use Rattle.reuse_text.specs.declared.TheConstants.{LONGEST_FILE}
+use Rattle.reuse_tree.specs.declared.change.Change.{Change}
+use Rattle.reuse_tree.specs.declared.way.Way.{Way}
+use Rattle.reuse_tree.specs.Entry.{IsReady, IsSmall}
+use Rattle.reuse_session.proofs.ReadingLemmas.{long_is}
+use Rattle.reuse_session.proofs.turn.can_turn.Goals as goal
+
+-- a file that a change can be gone through from isn't too long
+too_long : (way : Way) (change : Change) (bytes : List ℕ) → IsSmall change → LONGEST_FILE < length bytes → IsReady way change (Some bytes) → ⊥
+too_long way change bytes small long ready = grind (arith, common_steps)
+
+pub returns-in-TooLong-clause-ok : goal.returns-in-TooLong-clause-ok
+returns-in-TooLong-clause-ok g c honest proper small =
+    let file = long_is _ LONGEST_FILE (sym c.in-TooLong.is ∙ c.in_ok-read.ensures.reading honest) in
+    let here = ap (get (g.S.Store.files c.args.store.now)) (sym c.path.ensures) ∙ file.1 in
+    (λ no. absurd (cc), λ ready. absurd (too_long c.args.way c.args.change.now file.0 small file.2 (subst (IsReady c.args.way c.args.change.now) here ready)))

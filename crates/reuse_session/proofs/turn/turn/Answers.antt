@@ -1,0 +1,113 @@
+use Rattle.std.proofs.Common.{◌≡◌, ◌<◌, ◌≤◌, ◌+◌, ◌⊎◌, ℕ, List, length, Some, None, OnOk, OnErr, arith, sym, ap, subst, ◌∙◌}
+use Rattle.std.proofs.lemmas.Grind.{common_steps}
+use Rattle.std.specs.FinMap.{get}
+use Rattle.reuse_text.specs.declared.TheConstants.{LONGEST_FILE}
+use Rattle.reuse_tree.proofs.AskedLemmas.{later_reads, later_more}
+use Rattle.reuse_tree.specs.Change.{path_of}
+use Rattle.reuse_tree.specs.Files.{Clashes}
+use Rattle.reuse_tree.specs.declared.change.Change.{Change}
+use Rattle.reuse_tree.specs.declared.way.Way.{Way}
+use Rattle.reuse_tree.specs.Entry.{IsReady, IsSmall, LeadsByOneChange}
+use Rattle.reuse_session.proofs.ReadingLemmas.{absent_is, found_is, long_is}
+use Rattle.reuse_session.proofs.turn.turn.Given.{Over}
+use Rattle.reuse_session.proofs.turn.turn.Goals.{After-turn_from, After-drop-bytes-inside}
+use Rattle.reuse_session.proofs.turn.turn.Goals as goal
+
+past : {old mid new : ℕ} → old ≤ mid → mid < new → old < new
+past a b = omega arith
+
+-- a file that a change can be gone through from isn't too long
+too_long : (way : Way) (change : Change) (bytes : List ℕ) → IsSmall change → LONGEST_FILE < length bytes → IsReady way change (Some bytes) → ⊥
+too_long way change bytes small long ready = grind (arith, common_steps)
+
+-- what the path of the change held
+absent : (g : Over) (c : After-turn_from g) → g.S.Store.honest c.read.new.self → get (g.S.Store.files c.args.store.now) (path_of c.args.change.now) ≡ None
+absent g c reading =
+    ap (get (g.S.Store.files c.args.store.now)) (sym c.path.ensures) ∙ absent_is _ LONGEST_FILE (sym c.in-Absent.is ∙ c.in_ok-read.ensures.reading reading)
+
+found : (g : Over) (c : After-drop-bytes-inside g) → g.S.Store.honest c.read.new.self → get (g.S.Store.files c.args.store.now) (path_of c.args.change.now) ≡ Some c.as_slice.result.now
+found g c reading =
+    ap (get (g.S.Store.files c.args.store.now)) (sym c.path.ensures) ∙ (found_is _ LONGEST_FILE c.in-Found.bytes (sym c.in-Found.is ∙ c.in_ok-read.ensures.reading reading)).0
+    ∙ ap (λ b. Some b) (sym c.as_slice.ensures)
+
+pub returns-in-Absent-clause-ok : goal.returns-in-Absent-clause-ok
+returns-in-Absent-clause-ok g c honest =
+    let new = g.S.Store.files c.turn_from.new.store in
+    let reading = c.turn_from.ensures.later.was_honest honest in
+    let same = c.read.ensures.reads.files reading in
+    subst (λ f. OnOk c.turn_from.result (LeadsByOneChange c.args.way c.args.change.now f new)) same (c.turn_from.ensures.ok honest (ap (λ f. get f (path_of c.args.change.now)) same ∙ absent g c reading))
+
+pub returns-in-Absent-clause-err : goal.returns-in-Absent-clause-err
+returns-in-Absent-clause-err g c honest =
+    let new = g.S.Store.files c.turn_from.new.store in
+    let reading = c.turn_from.ensures.later.was_honest honest in
+    let same = c.read.ensures.reads.files reading in
+    subst (λ f. OnErr c.turn_from.result ((new ≡ f) ⊎ LeadsByOneChange c.args.way c.args.change.now f new)) same (c.turn_from.ensures.err honest (ap (λ f. get f (path_of c.args.change.now)) same ∙ absent g c reading))
+
+pub returns-in-Absent-clause-moved : goal.returns-in-Absent-clause-moved
+returns-in-Absent-clause-moved g c honest proper small e ready =
+    c.turn_from.ensures.moved proper e (subst (IsReady c.args.way c.args.change.now) (absent g c (c.turn_from.ensures.later.was_honest honest)) ready)
+
+pub returns-in-Absent-clause-clash : goal.returns-in-Absent-clause-clash
+returns-in-Absent-clause-clash g c honest e =
+    let reading = c.turn_from.ensures.later.was_honest honest in
+    let same = c.read.ensures.reads.files reading in
+    let clash = c.turn_from.ensures.clash honest (ap (λ f. get f (path_of c.args.change.now)) same ∙ absent g c reading) e in
+    (clash.0, subst (λ f. Clashes f (path_of c.args.change.now)) same clash.1)
+
+pub returns-in-Absent-clause-device : goal.returns-in-Absent-clause-device
+returns-in-Absent-clause-device g c e = past c.read.ensures.reads.failures (c.turn_from.ensures.device e)
+
+pub returns-in-Absent-clause-written : goal.returns-in-Absent-clause-written
+returns-in-Absent-clause-written g c of_tree = c.turn_from.ensures.written of_tree ∙ c.read.ensures.reads.written
+
+pub returns-in-Absent-clause-moves : goal.returns-in-Absent-clause-moves
+returns-in-Absent-clause-moves g c = subst (λ n. g.S.Store.moves c.turn_from.new.store ≤ n + 1) c.read.ensures.reads.moves c.turn_from.ensures.moves
+
+pub returns-in-Absent-clause-later : goal.returns-in-Absent-clause-later
+returns-in-Absent-clause-later g c =
+    later_more g.S.Store c.args.store.now c.read.new.self c.turn_from.new.store (later_reads g.S.Store c.args.store.now c.read.new.self c.read.ensures.reads) c.turn_from.ensures.later
+
+pub returns-in-Found-clause-ok : goal.returns-in-Found-clause-ok
+returns-in-Found-clause-ok g c honest =
+    let new = g.S.Store.files c.turn_from-in-Found.new.store in
+    let reading = c.turn_from-in-Found.ensures.later.was_honest honest in
+    let same = c.read.ensures.reads.files reading in
+    subst (λ f. OnOk c.turn_from-in-Found.result (LeadsByOneChange c.args.way c.args.change.now f new)) same (c.turn_from-in-Found.ensures.ok honest (ap (λ f. get f (path_of c.args.change.now)) same ∙ found g c reading))
+
+pub returns-in-Found-clause-err : goal.returns-in-Found-clause-err
+returns-in-Found-clause-err g c honest =
+    let new = g.S.Store.files c.turn_from-in-Found.new.store in
+    let reading = c.turn_from-in-Found.ensures.later.was_honest honest in
+    let same = c.read.ensures.reads.files reading in
+    subst (λ f. OnErr c.turn_from-in-Found.result ((new ≡ f) ⊎ LeadsByOneChange c.args.way c.args.change.now f new)) same (c.turn_from-in-Found.ensures.err honest (ap (λ f. get f (path_of c.args.change.now)) same ∙ found g c reading))
+
+pub returns-in-Found-clause-moved : goal.returns-in-Found-clause-moved
+returns-in-Found-clause-moved g c honest proper small e ready =
+    c.turn_from-in-Found.ensures.moved proper e (subst (IsReady c.args.way c.args.change.now) (found g c (c.turn_from-in-Found.ensures.later.was_honest honest)) ready)
+
+pub returns-in-Found-clause-clash : goal.returns-in-Found-clause-clash
+returns-in-Found-clause-clash g c honest e =
+    let reading = c.turn_from-in-Found.ensures.later.was_honest honest in
+    let same = c.read.ensures.reads.files reading in
+    let clash = c.turn_from-in-Found.ensures.clash honest (ap (λ f. get f (path_of c.args.change.now)) same ∙ found g c reading) e in
+    (clash.0, subst (λ f. Clashes f (path_of c.args.change.now)) same clash.1)
+
+pub returns-in-Found-clause-device : goal.returns-in-Found-clause-device
+returns-in-Found-clause-device g c e = past c.read.ensures.reads.failures (c.turn_from-in-Found.ensures.device e)
+
+pub returns-in-Found-clause-written : goal.returns-in-Found-clause-written
+returns-in-Found-clause-written g c of_tree = c.turn_from-in-Found.ensures.written of_tree ∙ c.read.ensures.reads.written
+
+pub returns-in-Found-clause-moves : goal.returns-in-Found-clause-moves
+returns-in-Found-clause-moves g c = subst (λ n. g.S.Store.moves c.turn_from-in-Found.new.store ≤ n + 1) c.read.ensures.reads.moves c.turn_from-in-Found.ensures.moves
+
+pub returns-in-Found-clause-later : goal.returns-in-Found-clause-later
+returns-in-Found-clause-later g c =
+    later_more g.S.Store c.args.store.now c.read.new.self c.turn_from-in-Found.new.store (later_reads g.S.Store c.args.store.now c.read.new.self c.read.ensures.reads) c.turn_from-in-Found.ensures.later
+
+pub returns-in-TooLong-clause-moved : goal.returns-in-TooLong-clause-moved
+returns-in-TooLong-clause-moved g c honest proper small e ready =
+    let file = long_is _ LONGEST_FILE (sym c.in-TooLong.is ∙ c.in_ok-read.ensures.reading honest) in
+    let here = ap (get (g.S.Store.files c.args.store.now)) (sym c.path.ensures) ∙ file.1 in
+    too_long c.args.way c.args.change.now file.0 small file.2 (subst (IsReady c.args.way c.args.change.now) here ready)
