@@ -1,4 +1,4 @@
-use Rattle.std.proofs.Common.{◌≡◌, ◌∙◌, Bool, cond, List, ℕ, Some, IsSome, sym, ap, subst, true, false, Ok, Err}
+use Rattle.std.proofs.Common.{◌≡◌, ◌∙◌, Bool, cond, List, ℕ, Some, IsSome, sym, ap, subst, true, false, Ok, Err, Result, IfErr, refl, arith}
 use Rattle.std.specs.FinMap.{get, keys}
 use Rattle.reuse_tree.specs.Files.{tree_of}
 use Rattle.reuse_text.specs.declared.TheConstants.{LONGEST_FILE}
@@ -9,12 +9,61 @@ use Rattle.reuse_session.specs.Covered.{is_covered}
 use Rattle.reuse_tree.specs.Listing.{ArePaths, is_among}
 use Rattle.reuse_session.specs.Plan.{IsRefusalOf, MakesEdit, AnswersEdit}
 use Rattle.reuse_session.specs.Steps.{StepsTo}
+use Rattle.std.proofs.lemmas.Result.{err_from_is_err_and}
+use Rattle.reuse_tree.specs.Asked.{FailsAsRead, OnlyReads}
+use Rattle.reuse_tree.proofs.AskedLemmas.{reads_none, reads_more}
+use Rattle.reuse_tree.specs.declared.store.Store.{Ghosts}
+use Rattle.reuse_tree.specs.declared.fault.StoreFault.{StoreFault}
+use Rattle.reuse_tree.specs.declared.fault.StoreFault.TheVariants as faults
+use Rattle.reuse_session.specs.declared.reply.Refusal.{Refusal}
+use Rattle.reuse_session.specs.Answer.{IsOfPlan}
+use Rattle.reuse_session.specs.Cause.{refusal_of}
+use Rattle.reuse_session.specs.Reading.{ReadsAlone}
+use Rattle.reuse_session.specs.Refused.{IsNoFault}
 use Rattle.reuse_session.proofs.TreeLemmas.{keys_ascend, read_there}
 use Rattle.reuse_session.proofs.Annotating.{some_file}
 use Rattle.reuse_session.proofs.EditLemmas.{some_bytes, uncovered_is, covered_is}
 use Rattle.reuse_session.proofs.plan.plan_path.Given.{Over}
 use Rattle.reuse_session.proofs.plan.plan_path.Goals.{After-is_covered, In_ok-goes_beside}
 use Rattle.reuse_session.proofs.plan.plan_path.Goals as goal
+
+same_refusal : {A : Type 0} (one other : Refusal) → ◌≡◌ {A = Result A Refusal} (Err one) (Err other) → one ≡ other
+same_refusal one other e = cc
+
+of_plan : (refusal : Refusal) → IsNoFault refusal → IsOfPlan refusal
+of_plan (refusals.Moved path) is = absurd is
+of_plan (refusals.Fault fault) is = absurd is
+of_plan refusal is = is
+
+-- an answer that tells no fault
+no_fault : {S A : Type 0} (store : Ghosts S) (old new : S) (answer : Result A Refusal) → IfErr answer IsNoFault → OnlyReads store old new → ReadsAlone store IsOfPlan old new answer
+no_fault store old new (Ok done) is reads = record { reads = reads; fails = record { device = λ e. absurd (cc); clash = λ h e. cc; memory = λ e. cc }; kinds = tt }
+no_fault store old new (Err refusal) is reads = record {
+  reads = reads;
+  fails = record {
+    device = λ e. absurd (subst IsNoFault (same_refusal refusal (refusals.Fault faults.Device) e) is);
+    clash = λ h e. subst IsNoFault (same_refusal refusal (refusals.Fault faults.Clash) e) is;
+    memory = λ e. subst IsNoFault (same_refusal refusal (refusals.Fault faults.Memory) e) is;
+  };
+  kinds = of_plan refusal is;
+}
+
+short : {S A : Type 0} (store : Ghosts S) (old new : S) (answer : Result A Refusal) → answer ≡ Err refusals.Memory → OnlyReads store old new → ReadsAlone store IsOfPlan old new answer
+short store old new answer is reads = no_fault store old new answer (subst (λ r. IfErr r IsNoFault) (sym is) tt) reads
+
+-- a fault of the store
+failed : {S A B : Type 0} (store : Ghosts S) (old new : S) (fault : StoreFault) (answer : Result A Refusal) → answer ≡ Err (refusal_of fault) → FailsAsRead {A = B} store old new (Err fault) → OnlyReads store old new → ReadsAlone store IsOfPlan old new answer
+failed {S} {A} {B} store old new faults.Memory answer is fails reads = short store old new answer is reads
+failed {S} {A} {B} store old new faults.Device answer is fails reads = subst (ReadsAlone store IsOfPlan old new) (sym is) (record { reads = reads; fails = record { device = λ e. fails.device refl; clash = λ h e. cc; memory = λ e. cc }; kinds = tt })
+failed {S} {A} {B} store old new faults.Clash answer is fails reads = subst (ReadsAlone store IsOfPlan old new) (sym is) (record { reads = reads; fails = record { device = λ e. absurd (cc); clash = λ h e. fails.clash h refl; memory = λ e. cc }; kinds = tt })
+
+-- an answer after a reading
+later : {S A : Type 0} (store : Ghosts S) (old mid new : S) (answer : Result A Refusal) → OnlyReads store old mid → ReadsAlone store IsOfPlan mid new answer → ReadsAlone store IsOfPlan old new answer
+later store old mid new answer before asks = record {
+  reads = reads_more store old mid new before asks.reads;
+  fails = record { device = λ e. omega (arith, before.failures, asks.fails.device e); clash = asks.fails.clash; memory = asks.fails.memory };
+  kinds = asks.kinds;
+}
 
 pub returns-then-not-is_among-clause-edit : goal.returns-then-not-is_among-clause-edit
 returns-then-not-is_among-clause-edit g c honest are =
@@ -88,3 +137,36 @@ returns-in-Err-clause-edit g c honest are =
     subst (λ r. IsRefusalOf r c.in-Err.refusal) (sym (due g at.In_ok-goes_beside are file.0 file.1 false c.if-branch.false))
     (c.in-Err.ensures.step (tree_of (g.S.Store.files c.args.store.now)) file.0 file.1
     (read_there (g.S.Store.files c.args.store.now) c.args.path.now file.0 LONGEST_FILE c.in_ok-reading.reading file.1 (c.in_ok-reading.ensures.reading honest)))
+
+pub returns-then-not-is_among-clause-asks : goal.returns-then-not-is_among-clause-asks
+returns-then-not-is_among-clause-asks g c = no_fault g.S.Store _ _ c.plan_absent.result c.plan_absent.ensures.no_fault (reads_none g.S.Store _)
+
+pub returns-then-not-is_covered-clause-asks : goal.returns-then-not-is_covered-clause-asks
+returns-then-not-is_covered-clause-asks g c = no_fault g.S.Store _ _ (Err (refusals.NotCovered c.in_ok-try_clone.field-0)) tt (reads_none g.S.Store _)
+
+pub returns-in_err-try_clone-clause-asks : goal.returns-in_err-try_clone-clause-asks
+returns-in_err-try_clone-clause-asks g c =
+    let p = err_from_is_err_and c.from_residual.result c.from_residual.ensures.1 in
+    short g.S.Store _ _ _ (p.1 ∙ ap (λ r. Err r) p.2) (reads_none g.S.Store _)
+
+pub returns-in_err-goes_beside-clause-asks : goal.returns-in_err-goes_beside-clause-asks
+returns-in_err-goes_beside-clause-asks g c =
+    let p = err_from_is_err_and c.from_residual-in_err-goes_beside.result c.from_residual-in_err-goes_beside.ensures.1 in
+    short g.S.Store _ _ _ (p.1 ∙ ap (λ r. Err r) p.2) (reads_none g.S.Store _)
+
+pub returns-in_err-reading-clause-asks : goal.returns-in_err-reading-clause-asks
+returns-in_err-reading-clause-asks g c =
+    let p = err_from_is_err_and c.from_residual-in_err-reading.result c.from_residual-in_err-reading.ensures.1 in
+    failed g.S.Store _ _ c.in_err-reading.field-0.0 _ (p.1 ∙ ap (λ r. Err r) p.2) c.in_err-reading.ensures.fails c.in_err-reading.ensures.reads
+
+pub returns-then-branch-clause-asks : goal.returns-then-branch-clause-asks
+returns-then-branch-clause-asks g c = c.plan_beside.ensures.asks
+
+pub returns-in-Ok-Done-clause-asks : goal.returns-in-Ok-Done-clause-asks
+returns-in-Ok-Done-clause-asks g c = no_fault g.S.Store _ _ (Ok c.in-Ok-Done.change) tt c.in_ok-reading.ensures.reads
+
+pub returns-in-Ok-Beside-clause-asks : goal.returns-in-Ok-Beside-clause-asks
+returns-in-Ok-Beside-clause-asks g c = later g.S.Store _ _ _ _ c.in_ok-reading.ensures.reads c.plan_beside-in-Ok-Beside.ensures.asks
+
+pub returns-in-Err-clause-asks : goal.returns-in-Err-clause-asks
+returns-in-Err-clause-asks g c = no_fault g.S.Store _ _ (Err c.in-Err.refusal) c.in-Err.ensures.no_fault c.in_ok-reading.ensures.reads
