@@ -1,9 +1,16 @@
-use Rattle.std.proofs.Common.{◌≡◌, ◌≤◌, ◌+◌, length, arith, ◌⊎◌, inl, inr, ⊎_elim, Some, Err, refl, sym, ap, subst, ◌∙◌}
-use Rattle.std.proofs.lemmas.Result.{err_from_is_err_and}
-use Rattle.reuse_session.specs.Opening.{IsRead, IsSettled, MovesToOpen, StopsOpening}
-use Rattle.reuse_session.specs.Session.{head_room, IsSameBut, Remembers}
+use Rattle.std.proofs.Common.{◌≡◌, ◌<◌, ◌≤◌, ◌+◌, length, arith, ◌⊎◌, inl, inr, ⊎_elim, None, Some, Result, Ok, Err, IfErr, refl, sym, ap, subst, ◌∙◌}
+use Rattle.std.proofs.lemmas.Result.{IfOk-from_err, IfErr-at_err}
+use Rattle.reuse_session.specs.Answer.{HasCause, IsEarly, IsNoClash, IsOpenRefusal, IsReadRefusal, RefusedAsRead}
+use Rattle.reuse_session.specs.History.{Memory}
+use Rattle.reuse_session.specs.Opening.{IsRead, IsSettled, IsStuckAt, MovesToOpen, OpensOn, StopsOpening}
+use Rattle.reuse_session.specs.Session.{head_room, HasHeadText, IsSameBut, Remembers}
 use Rattle.reuse_session.specs.JournalFiles.{head_of, head_path, entry_path, HeadSays, EntrySays}
-use Rattle.reuse_session.specs.declared.reply.Refusal.TheVariants.{Interrupted}
+use Rattle.reuse_session.specs.declared.reply.Refusal.{Refusal}
+use Rattle.reuse_session.specs.declared.reply.Refusal.TheVariants.{BadJournal, Moved, Fault, Interrupted}
+use Rattle.reuse_tree.specs.Asked.{OnlyReads}
+use Rattle.reuse_tree.specs.declared.fault.StoreFault.TheVariants as faults
+use Rattle.reuse_tree.specs.declared.store.Store.{Ghosts}
+use Rattle.reuse_tree.proofs.AskedLemmas.{reads_more, later_reads, later_more}
 use Rattle.std.specs.FinMap as map
 use Rattle.reuse_tree.specs.Head.{listed}
 use Rattle.reuse_tree.specs.declared.journal.head.Head.{Head}
@@ -13,41 +20,99 @@ use Rattle.reuse_session.specs.Standing.{IsStanding, InDoubt}
 use Rattle.reuse_tree.specs.Tree.{undo_folder_of}
 use Rattle.reuse_session.proofs.OpeningLemmas.{as_many_listed}
 use Rattle.reuse_session.proofs.FilesInDoubt.{IsPending, doubt_bad, none_pending, read_pending, read_opens, read_settles, settled_opens, still_in_doubt, left_in_doubt}
+use Rattle.reuse_session.proofs.OnlyReading.{is_refused, passed_on, still_caused}
 use Rattle.reuse_session.proofs.Settling.{read_failure}
 use Rattle.reuse_session.proofs.opening.open_journal.Given.{Over}
-use Rattle.reuse_session.proofs.opening.open_journal.Goals.{After-read_journal, After-settle}
+use Rattle.reuse_session.proofs.opening.open_journal.Goals.{After-settle}
 use Rattle.reuse_session.proofs.opening.open_journal.Goals as goal
 
-pub returns-in_err-pending-clause-settles : goal.returns-in_err-pending-clause-settles
-returns-in_err-pending-clause-settles g c honest first second doubt =
-    let old = g.S.Store.files c.args.store.now in
-    let new = g.S.Store.files c.read_journal.new.store in
-    let p = err_from_is_err_and c.from_residual.result c.from_residual.ensures.1 in
+-- an answer tells no refusal
+no_refusal : {A : Type 0} (x : A) (refusal : Refusal) → ◌≡◌ {A = Result A Refusal} (Ok x) (Err refusal) → ⊥
+no_refusal x refusal e = absurd (cc)
+
+-- a refusal of reading, as one of opening
+opening_too : (refusal : Refusal) → IsReadRefusal refusal → IsOpenRefusal refusal
+opening_too (BadJournal path) is = tt
+opening_too (Moved path) is = tt
+opening_too (Interrupted cause) is = tt
+opening_too refusal is = is
+
+reading_cause : {A S : Type 0} (store : Ghosts S) (old new : S) (refusal : Refusal) → IsReadRefusal refusal → RefusedAsRead {A = A} store old new (Err refusal)
+    → HasCause (store.failures old < store.failures new) refusal
+reading_cause store old new (Fault faults.Device) is fails = fails.device refl
+reading_cause store old new (Fault faults.Memory) is fails = is
+reading_cause store old new (Interrupted cause) is fails = absurd is
+reading_cause store old new refusal is fails = tt
+
+reading_no_clash : {A S : Type 0} (store : Ghosts S) (old new : S) (refusal : Refusal) → IsReadRefusal refusal → RefusedAsRead {A = A} store old new (Err refusal) → store.honest new → IsNoClash refusal
+reading_no_clash store old new (Fault faults.Clash) is fails honest = fails.clash honest refl
+reading_no_clash store old new (Interrupted cause) is fails honest = absurd is
+reading_no_clash store old new refusal is fails honest = tt
+
+pub returns-in_err-pending : goal.returns-in_err-pending
+returns-in_err-pending g c =
+    let store = g.S.Store in
+    let old = c.args.store.now in
+    let new = c.read_journal.new.store in
+    let call = c.read_journal.result in
+    let result = c.from_residual.result in
     let refusal = c.in_err-pending.field-0.0 in
-    let failure = read_failure refusal c.in_err-pending.ensures.refusal (λ path e. doubt_bad first second old doubt path (c.read_journal.ensures.bad honest path (c.in_err-pending.was ∙ ap (λ x. Err x) e))) in
-    left_in_doubt c.from_residual.result p.0 refusal
-    (λ memory. (IsStanding new first × Remembers memory first.journal) ⊎ (IsStanding new second × Remembers memory second.journal))
-    first second new p.1 p.2 failure (subst (InDoubt first second) (sym (c.read_journal.ensures.reads.files honest)) doubt)
+    let was = c.in_err-pending.was in
+    let given = c.from_residual.ensures.1 in
+    let is = is_refused result given in
+    let reads = c.read_journal.ensures.reads in
+    let kind = c.in_err-pending.ensures.refusal in
+    let fails = subst (λ r. RefusedAsRead store old new r) was c.read_journal.ensures.fails in
+    record {
+      opened = λ h. IfOk-from_err result (λ memory. (held : State) × Remembers memory held.journal × OpensOn (store.files old) held (store.files new)) c.from_residual.ensures.0;
+      bad = λ h path e. c.read_journal.ensures.bad h path (passed_on result call given was e);
+      moved = λ h path e. absurd (IfErr-at_err IsReadRefusal (passed_on result call given was e) c.read_journal.ensures.refusal);
+      interrupted = λ h cause e. absurd (IfErr-at_err IsReadRefusal (passed_on result call given was e) c.read_journal.ensures.refusal);
+      settles = λ h first second doubt.
+          let failure = read_failure refusal kind (λ path e. doubt_bad first second (store.files old) doubt path (c.read_journal.ensures.bad h path (was ∙ ap (λ x. Err x) e))) in
+          let memories = λ (memory : Memory). (IsStanding (store.files new) first × Remembers memory first.journal) ⊎ (IsStanding (store.files new) second × Remembers memory second.journal) in
+          left_in_doubt result refusal refusal memories first second (store.files new) is refl failure (subst (InDoubt first second) (sym (reads.files h)) doubt);
+      texts = λ h. IfOk-from_err result (λ memory. (store.files new ≡ store.files old) ⊎ HasHeadText memory (store.files new)) c.from_residual.ensures.0;
+      written = λ h head says. omega (arith, reads.written);
+      moves = λ h. inl reads.moves;
+      early = subst (λ r. IfErr r (λ refusal. IsEarly refusal → OnlyReads store old new)) (sym is) (λ early. reads);
+      late = λ cause e other. absurd (IfErr-at_err IsReadRefusal (passed_on result call given was e) c.read_journal.ensures.refusal);
+      quiet = λ h held standing. reads;
+      folder = λ h other ne. ap (λ f. map.get (undo_folder_of f) other) (reads.files h);
+      refusal = subst (λ r. IfErr r IsOpenRefusal) (sym is) (opening_too refusal kind);
+      clash = λ h. subst (λ r. IfErr r IsNoClash) (sym is) (reading_no_clash store old new refusal kind fails h);
+      fault = subst (λ r. IfErr r (HasCause (store.failures old < store.failures new))) (sym is) (reading_cause store old new refusal kind fails);
+      later = later_reads store old new reads;
+    }
 
-pub returns-in-None-clause-opened : goal.returns-in-None-clause-opened
-returns-in-None-clause-opened g c honest =
-    let old = g.S.Store.files c.args.store.now in
+pub returns-in-None : goal.returns-in-None
+returns-in-None g c =
+    let store = g.S.Store in
+    let old = c.args.store.now in
+    let new = c.read_journal.new.store in
     let memory = c.in_ok-pending.history in
-    let r = c.in_ok-pending.ensures.ok honest in
-    let read = subst (λ p. IsRead old p memory r.0) c.in-None.is r.1 in
-    read_opens old (g.S.Store.files c.read_journal.new.store) memory r.0 read (c.read_journal.ensures.reads.files honest)
-    (g.met.S.Store.are_files c.args.store.now (c.read_journal.ensures.reads.was_honest honest))
-
-pub returns-in-None-clause-settles : goal.returns-in-None-clause-settles
-returns-in-None-clause-settles g c honest first second doubt =
-    let old = g.S.Store.files c.args.store.now in
-    let memory = c.in_ok-pending.history in
-    let r = c.in_ok-pending.ensures.ok honest in
-    let read = subst (λ p. IsRead old p memory r.0) c.in-None.is r.1 in
-    read_settles old (g.S.Store.files c.read_journal.new.store) memory r.0 read (c.read_journal.ensures.reads.files honest) first second doubt
-
-pub returns-in-None-clause-texts : goal.returns-in-None-clause-texts
-returns-in-None-clause-texts g c honest = inl (c.read_journal.ensures.reads.files honest)
+    let reads = c.read_journal.ensures.reads in
+    let read = λ (h : store.honest new).
+    let r = c.in_ok-pending.ensures.ok h in
+    let given : (journal : Journal) × IsRead (store.files old) None memory journal = (r.0, subst (λ p. IsRead (store.files old) p memory r.0) c.in-None.is r.1) in given in
+    record {
+      opened = λ h. read_opens (store.files old) (store.files new) memory (read h).0 (read h).1 (reads.files h) (g.met.S.Store.are_files old (reads.was_honest h));
+      bad = λ h path e. absurd (no_refusal memory (BadJournal path) e);
+      moved = λ h path e. absurd (no_refusal memory (Moved path) e);
+      interrupted = λ h cause e. absurd (no_refusal memory (Interrupted cause) e);
+      settles = λ h first second doubt. read_settles (store.files old) (store.files new) memory (read h).0 (read h).1 (reads.files h) first second doubt;
+      texts = λ h. inl (reads.files h);
+      written = λ h head says. omega (arith, reads.written);
+      moves = λ h. inl reads.moves;
+      early = tt;
+      late = λ cause e other. absurd (no_refusal memory (Interrupted cause) e);
+      quiet = λ h held standing. reads;
+      folder = λ h other ne. ap (λ f. map.get (undo_folder_of f) other) (reads.files h);
+      refusal = tt;
+      clash = λ h. tt;
+      fault = tt;
+      later = later_reads store old new reads;
+    }
 
 -- what is known once a pending step was settled, whichever way that went
 module _ (g : Over) (c : After-settle g) (honest : g.S.Store.honest c.settle.new.store) where
@@ -104,65 +169,75 @@ module _ (g : Over) (c : After-settle g) (honest : g.S.Store.honest c.settle.new
       ))
       (c.settle.ensures.moves honest)
 
-pub returns-in_err-settle-in-Some-clause-settles : goal.returns-in_err-settle-in-Some-clause-settles
-returns-in_err-settle-in-Some-clause-settles g c honest first second doubt =
-    let s = (goal.at.returns-in_err-settle-in-Some-clause-settles g c).After-settle in
-    let step = pending_in_doubt g s honest first second doubt in
-    let left = c.in_err-settle-in-Some.ensures.settles honest _ (read_after g s honest) step.step first step.number step.under in
-    let p = err_from_is_err_and c.from_residual-in_err-settle-in-Some.result c.from_residual-in_err-settle-in-Some.ensures.1 in
-    left_in_doubt c.from_residual-in_err-settle-in-Some.result p.0 c.in_err-settle-in-Some.field-0.0
-    (λ memory. (IsStanding (g.S.Store.files c.settle.new.store) first × Remembers memory first.journal) ⊎ (IsStanding (g.S.Store.files c.settle.new.store) second × Remembers memory second.journal))
-    first second (g.S.Store.files c.settle.new.store) p.1 p.2 left.0 (still_in_doubt first second (g.S.Store.files c.read_journal.new.store) (g.S.Store.files c.settle.new.store) c.in-Some.pending c.in_ok-pending.history step left.1)
+pub returns-in_err-settle-in-Some : goal.returns-in_err-settle-in-Some
+returns-in_err-settle-in-Some g c =
+    let s = (goal.at.returns-in_err-settle-in-Some g c).After-settle in
+    let store = g.S.Store in
+    let old = c.args.store.now in
+    let mid = c.read_journal.new.store in
+    let new = c.settle.new.store in
+    let call = c.settle.result in
+    let result = c.from_residual-in_err-settle-in-Some.result in
+    let refusal = c.in_err-settle-in-Some.field-0.0 in
+    let was = c.in_err-settle-in-Some.was in
+    let given = c.from_residual-in_err-settle-in-Some.ensures.1 in
+    let is = is_refused result given in
+    let reads = c.read_journal.ensures.reads in
+    let told = c.in_err-settle-in-Some.ensures in
+    record {
+      opened = λ h. IfOk-from_err result (λ memory. (held : State) × Remembers memory held.journal × OpensOn (store.files old) held (store.files new)) c.from_residual-in_err-settle-in-Some.ensures.0;
+      bad = λ h path e. absurd (c.settle.ensures.no_bad h _ (read_after g s h) path (passed_on result call given was e));
+      moved = λ h path e. subst (λ f. IsStuckAt f path) (same_files g s h) (c.settle.ensures.moved h _ (read_after g s h) path (passed_on result call given was e));
+      interrupted = λ h cause e. subst (λ f. StopsOpening f (store.files new)) (same_files g s h) (c.settle.ensures.interrupted h _ (read_after g s h) cause (passed_on result call given was e));
+      settles = λ h first second doubt.
+          let step = pending_in_doubt g s h first second doubt in
+          let left = told.settles h _ (read_after g s h) step.step first step.number step.under in
+          let memories = λ (memory : Memory). (IsStanding (store.files new) first × Remembers memory first.journal) ⊎ (IsStanding (store.files new) second × Remembers memory second.journal) in
+          left_in_doubt result refusal refusal memories first second (store.files new) is refl left.0
+          (still_in_doubt first second (store.files mid) (store.files new) c.in-Some.pending c.in_ok-pending.history step left.1);
+      texts = λ h. IfOk-from_err result (λ memory. (store.files new ≡ store.files old) ⊎ HasHeadText memory (store.files new)) c.from_residual-in_err-settle-in-Some.ensures.0;
+      written = head_written g s;
+      moves = moves_to_open g s;
+      early = subst (λ r. IfErr r (λ refusal. IsEarly refusal → OnlyReads store old new)) (sym is) (λ early. reads_more store old mid new reads (told.early early));
+      late = λ cause e other. omega (arith, reads.moves, c.settle.ensures.late cause (passed_on result call given was e) other);
+      quiet = λ h held standing. absurd (never_standing g s h held standing);
+      folder = folder_kept g s;
+      refusal = subst (λ r. IfErr r IsOpenRefusal) (sym is) told.refusal;
+      clash = λ h. subst (λ r. IfErr r IsNoClash) (sym is) (told.clash h _ (read_after g s h));
+      fault = subst (λ r. IfErr r (HasCause (store.failures old < store.failures new))) (sym is)
+          (still_caused refusal (store.failures mid < store.failures new) (store.failures old < store.failures new) (λ rose. omega (arith, reads.failures, rose)) told.fault);
+      later = later_more store old mid new (later_reads store old mid reads) c.settle.ensures.later;
+    }
 
-pub returns-in_ok-settle-in-Some-clause-opened : goal.returns-in_ok-settle-in-Some-clause-opened
-returns-in_ok-settle-in-Some-clause-opened g c honest =
-    let s = (goal.at.returns-in_ok-settle-in-Some-clause-opened g c).After-settle in
-    let read = read_before g s honest in
-    let settled = c.in_ok-settle-in-Some.ensures.done honest read.0 (read_after g s honest) in
-    settled_opens _ (g.S.Store.files c.settle.new.store) c.in-Some.pending c.in_ok-pending.history read.0 read.1
-    (subst (λ files. IsSettled c.in-Some.pending read.0 files (g.S.Store.files c.settle.new.store)) (same_files g s honest) settled)
-
-pub returns-in_ok-settle-in-Some-clause-texts : goal.returns-in_ok-settle-in-Some-clause-texts
-returns-in_ok-settle-in-Some-clause-texts g c honest =
-    let s = (goal.at.returns-in_ok-settle-in-Some-clause-texts g c).After-settle in
-    inr (c.in_ok-settle-in-Some.ensures.texts honest (read_before g s honest).0 (read_after g s honest))
-
-pub returns-in_err-settle-in-Some-clause-quiet : goal.returns-in_err-settle-in-Some-clause-quiet
-returns-in_err-settle-in-Some-clause-quiet g c honest held standing =
-    absurd (never_standing g (goal.at.returns-in_err-settle-in-Some-clause-quiet g c).After-settle honest held standing)
-
-pub returns-in_ok-settle-in-Some-clause-quiet : goal.returns-in_ok-settle-in-Some-clause-quiet
-returns-in_ok-settle-in-Some-clause-quiet g c honest held standing =
-    absurd (never_standing g (goal.at.returns-in_ok-settle-in-Some-clause-quiet g c).After-settle honest held standing)
-
-pub returns-in_err-settle-in-Some-clause-folder : goal.returns-in_err-settle-in-Some-clause-folder
-returns-in_err-settle-in-Some-clause-folder g c = folder_kept g (goal.at.returns-in_err-settle-in-Some-clause-folder g c).After-settle
-
-pub returns-in_ok-settle-in-Some-clause-folder : goal.returns-in_ok-settle-in-Some-clause-folder
-returns-in_ok-settle-in-Some-clause-folder g c = folder_kept g (goal.at.returns-in_ok-settle-in-Some-clause-folder g c).After-settle
-
-pub returns-in_err-settle-in-Some-clause-interrupted : goal.returns-in_err-settle-in-Some-clause-interrupted
-returns-in_err-settle-in-Some-clause-interrupted g c honest cause e =
-    let s = (goal.at.returns-in_err-settle-in-Some-clause-interrupted g c).After-settle in
-    let p = err_from_is_err_and c.from_residual-in_err-settle-in-Some.result c.from_residual-in_err-settle-in-Some.ensures.1 in
-    let given : p.0 ≡ Interrupted cause = let x = sym p.1 ∙ e in cc in
-    let was = c.in_err-settle-in-Some.was ∙ ap (λ x. Err x) (sym p.2 ∙ given) in
-    subst (λ f. StopsOpening f (g.S.Store.files c.settle.new.store)) (same_files g s honest) (c.settle.ensures.interrupted honest _ (read_after g s honest) cause was)
-
-pub returns-in_ok-settle-in-Some-clause-settles : goal.returns-in_ok-settle-in-Some-clause-settles
-returns-in_ok-settle-in-Some-clause-settles g c honest first second doubt =
-    let s = (goal.at.returns-in_ok-settle-in-Some-clause-settles g c).After-settle in
-    let step = pending_in_doubt g s honest first second doubt in
-    inl (c.in_ok-settle-in-Some.ensures.settles honest _ (read_after g s honest) step.step first step.number step.under, step.remembers)
-
-pub returns-in_err-settle-in-Some-clause-written : goal.returns-in_err-settle-in-Some-clause-written
-returns-in_err-settle-in-Some-clause-written g c = head_written g (goal.at.returns-in_err-settle-in-Some-clause-written g c).After-settle
-
-pub returns-in_ok-settle-in-Some-clause-written : goal.returns-in_ok-settle-in-Some-clause-written
-returns-in_ok-settle-in-Some-clause-written g c = head_written g (goal.at.returns-in_ok-settle-in-Some-clause-written g c).After-settle
-
-pub returns-in_err-settle-in-Some-clause-moves : goal.returns-in_err-settle-in-Some-clause-moves
-returns-in_err-settle-in-Some-clause-moves g c = moves_to_open g (goal.at.returns-in_err-settle-in-Some-clause-moves g c).After-settle
-
-pub returns-in_ok-settle-in-Some-clause-moves : goal.returns-in_ok-settle-in-Some-clause-moves
-returns-in_ok-settle-in-Some-clause-moves g c = moves_to_open g (goal.at.returns-in_ok-settle-in-Some-clause-moves g c).After-settle
+pub returns-in_ok-settle-in-Some : goal.returns-in_ok-settle-in-Some
+returns-in_ok-settle-in-Some g c =
+    let s = (goal.at.returns-in_ok-settle-in-Some g c).After-settle in
+    let store = g.S.Store in
+    let old = c.args.store.now in
+    let mid = c.read_journal.new.store in
+    let new = c.settle.new.store in
+    let memory = c.in_ok-pending.history in
+    let done = c.in_ok-settle-in-Some.ensures in
+    record {
+      opened = λ h.
+          let read = read_before g s h in
+          settled_opens _ (store.files new) c.in-Some.pending memory read.0 read.1
+          (subst (λ files. IsSettled c.in-Some.pending read.0 files (store.files new)) (same_files g s h) (done.done h read.0 (read_after g s h)));
+      bad = λ h path e. absurd (no_refusal memory (BadJournal path) e);
+      moved = λ h path e. absurd (no_refusal memory (Moved path) e);
+      interrupted = λ h cause e. absurd (no_refusal memory (Interrupted cause) e);
+      settles = λ h first second doubt.
+          let step = pending_in_doubt g s h first second doubt in
+          inl (done.settles h _ (read_after g s h) step.step first step.number step.under, step.remembers);
+      texts = λ h. inr (done.texts h (read_before g s h).0 (read_after g s h));
+      written = head_written g s;
+      moves = moves_to_open g s;
+      early = tt;
+      late = λ cause e other. absurd (no_refusal memory (Interrupted cause) e);
+      quiet = λ h held standing. absurd (never_standing g s h held standing);
+      folder = folder_kept g s;
+      refusal = tt;
+      clash = λ h. tt;
+      fault = tt;
+      later = later_more store old mid new (later_reads store old mid c.read_journal.ensures.reads) c.settle.ensures.later;
+    }
