@@ -16,22 +16,11 @@ use Rattle.reuse_session.specs.declared.reply.Refusal.{Refusal}
 use Rattle.reuse_session.specs.declared.reply.Refusal.TheVariants as refusals
 use Rattle.reuse_session.specs.Answer.{IsTestRefusal, RefusedAsRead}
 use Rattle.reuse_session.specs.Cause.{refusal_of}
+use Rattle.reuse_session.proofs.Asking.{fails_behind, fails_otherwise}
 use Rattle.reuse_session.proofs.AtChange.{reads_on, tested, passes, first_without}
 use Rattle.reuse_session.proofs.perform.test_each.Given.{Over}
 use Rattle.reuse_session.proofs.perform.test_each.Goals.{In_ok-passes}
 use Rattle.reuse_session.proofs.perform.test_each.Goals as goal
-
--- a fault of the store after a reading
-at_fault : {S A B : Type 0} (store : Ghosts S) (old mid new : S) (fault : StoreFault) (answer : Result A Refusal) → answer ≡ Err (refusal_of fault) → OnlyReads store old mid → FailsAsRead {A = B} store mid new (Err fault) → RefusedAsRead store old new answer
-at_fault store old mid new faults.Memory answer is before fails = subst (RefusedAsRead store old new) (sym is) (record { device = λ e. absurd (cc); clash = λ h e. cc; memory = λ e. cc })
-at_fault store old mid new faults.Device answer is before fails = subst (RefusedAsRead store old new) (sym is) (record { device = λ e. omega (arith, before.failures, fails.device refl); clash = λ h e. cc; memory = λ e. cc })
-at_fault store old mid new faults.Clash answer is before fails = subst (RefusedAsRead store old new) (sym is) (record { device = λ e. absurd (cc); clash = λ h e. fails.clash h refl; memory = λ e. cc })
-
-at_move : {S A : Type 0} (store : Ghosts S) (old new : S) (path : List ℕ) → RefusedAsRead {A = A} store old new (Err (refusals.Moved path))
-at_move store old new path = record { device = λ e. absurd (cc); clash = λ h e. cc; memory = λ e. cc }
-
-at_end : {S A : Type 0} (store : Ghosts S) (old new : S) (done : A) → RefusedAsRead store old new (Ok done)
-at_end store old new done = record { device = λ e. absurd (cc); clash = λ h e. cc; memory = λ e. cc }
 
 same_path : (one other : List ℕ) → ◌≡◌ {A = Result (Unit {0}) Refusal} (Err (refusals.Moved one)) (Err (refusals.Moved other)) → one ≡ other
 same_path one other e = cc
@@ -90,13 +79,13 @@ returns-clause-ready g c honest good =
     subst (All (Passes c.args.aim c.args.way (tree_of (g.S.Store.files c.args.store.now)))) all (c.loop-change.invariant.ready honest good)
 
 pub returns-then-not-branch-clause-fails : goal.returns-then-not-branch-clause-fails
-returns-then-not-branch-clause-fails g c = at_move g.S.Store _ _ _
+returns-then-not-branch-clause-fails g c = fails_otherwise g.S.Store _ _ (Err (refusals.Moved _)) tt
 
 pub returns-then-not-branch-clause-reads : goal.returns-then-not-branch-clause-reads
 returns-then-not-branch-clause-reads g c = reads_more g.S.Store _ _ _ c.loop-change.invariant.walk.reads c.passes.ensures.reads
 
 pub returns-clause-fails : goal.returns-clause-fails
-returns-clause-fails g c = at_end g.S.Store _ _ _
+returns-clause-fails g c = fails_otherwise g.S.Store _ _ (Ok tt) tt
 
 pub returns-clause-reads : goal.returns-clause-reads
 returns-clause-reads g c = c.loop-change.invariant.walk.reads
@@ -104,7 +93,7 @@ returns-clause-reads g c = c.loop-change.invariant.walk.reads
 pub returns-in_err-passes-clause-fails : goal.returns-in_err-passes-clause-fails
 returns-in_err-passes-clause-fails g c =
     let p = err_from_is_err_and c.from_residual-in_err-passes.result c.from_residual-in_err-passes.ensures.1 in
-    at_fault g.S.Store _ _ _ c.in_err-passes.field-0.0 _ (p.1 ∙ ap (λ r. Err r) p.2) c.loop-change.invariant.walk.reads c.in_err-passes.ensures.fails
+    fails_behind g.S.Store _ _ _ c.in_err-passes.field-0.0 _ (p.1 ∙ ap (λ r. Err r) p.2) c.loop-change.invariant.walk.reads c.in_err-passes.ensures.fails
 
 pub returns-in_err-passes-clause-moved : goal.returns-in_err-passes-clause-moved
 returns-in_err-passes-clause-moved g c honest good path moved =

@@ -8,51 +8,14 @@ use Rattle.reuse_session.specs.Annotate.{neighbour_of}
 use Rattle.reuse_session.specs.AnnotationPlan.{beside_by}
 use Rattle.reuse_tree.specs.Listing.{ArePaths, is_among}
 use Rattle.reuse_session.specs.Plan.{IsRefusalOf, AnswersEdit}
-use Rattle.reuse_tree.specs.Asked.{FailsAsRead, OnlyReads}
 use Rattle.reuse_tree.proofs.AskedLemmas.{reads_none}
-use Rattle.reuse_tree.specs.declared.store.Store.{Ghosts}
-use Rattle.reuse_tree.specs.declared.fault.StoreFault.{StoreFault}
-use Rattle.reuse_tree.specs.declared.fault.StoreFault.TheVariants as faults
-use Rattle.reuse_session.specs.declared.reply.Refusal.{Refusal}
 use Rattle.reuse_session.specs.declared.reply.Refusal.TheVariants as refusals
 use Rattle.reuse_session.specs.Answer.{IsOfPlan}
-use Rattle.reuse_session.specs.Cause.{refusal_of}
-use Rattle.reuse_session.specs.Reading.{ReadsAlone}
-use Rattle.reuse_session.specs.Refused.{IsNoFault}
+use Rattle.reuse_session.proofs.Asking.{no_fault, short, failed, plan_faults}
 use Rattle.reuse_session.proofs.TreeLemmas.{keys_ascend, of_store}
 use Rattle.reuse_session.proofs.Annotating.{is_absent, some_file}
 use Rattle.reuse_session.proofs.EditLemmas.{some_bytes, beside_is}
 use Rattle.reuse_session.proofs.plan.plan_beside.Goals as goal
-
-same_refusal : {A : Type 0} (one other : Refusal) → ◌≡◌ {A = Result A Refusal} (Err one) (Err other) → one ≡ other
-same_refusal one other e = cc
-
-of_plan : (refusal : Refusal) → IsNoFault refusal → IsOfPlan refusal
-of_plan (refusals.Moved path) is = absurd is
-of_plan (refusals.Fault fault) is = absurd is
-of_plan refusal is = is
-
--- an answer that tells no fault
-no_fault : {S A : Type 0} (store : Ghosts S) (old new : S) (answer : Result A Refusal) → IfErr answer IsNoFault → OnlyReads store old new → ReadsAlone store IsOfPlan old new answer
-no_fault store old new (Ok done) is reads = record { reads = reads; fails = record { device = λ e. absurd (cc); clash = λ h e. cc; memory = λ e. cc }; kinds = tt }
-no_fault store old new (Err refusal) is reads = record {
-  reads = reads;
-  fails = record {
-    device = λ e. absurd (subst IsNoFault (same_refusal refusal (refusals.Fault faults.Device) e) is);
-    clash = λ h e. subst IsNoFault (same_refusal refusal (refusals.Fault faults.Clash) e) is;
-    memory = λ e. subst IsNoFault (same_refusal refusal (refusals.Fault faults.Memory) e) is;
-  };
-  kinds = of_plan refusal is;
-}
-
-short : {S A : Type 0} (store : Ghosts S) (old new : S) (answer : Result A Refusal) → answer ≡ Err refusals.Memory → OnlyReads store old new → ReadsAlone store IsOfPlan old new answer
-short store old new answer is reads = no_fault store old new answer (subst (λ r. IfErr r IsNoFault) (sym is) tt) reads
-
--- a fault of the store
-failed : {S A B : Type 0} (store : Ghosts S) (old new : S) (fault : StoreFault) (answer : Result A Refusal) → answer ≡ Err (refusal_of fault) → FailsAsRead {A = B} store old new (Err fault) → OnlyReads store old new → ReadsAlone store IsOfPlan old new answer
-failed {S} {A} {B} store old new faults.Memory answer is fails reads = short store old new answer is reads
-failed {S} {A} {B} store old new faults.Device answer is fails reads = subst (ReadsAlone store IsOfPlan old new) (sym is) (record { reads = reads; fails = record { device = λ e. fails.device refl; clash = λ h e. cc; memory = λ e. cc }; kinds = tt })
-failed {S} {A} {B} store old new faults.Clash answer is fails reads = subst (ReadsAlone store IsOfPlan old new) (sym is) (record { reads = reads; fails = record { device = λ e. absurd (cc); clash = λ h e. fails.clash h refl; memory = λ e. cc }; kinds = tt })
 
 pub returns-in_err-neighbour-clause-edit : goal.returns-in_err-neighbour-clause-edit
 returns-in_err-neighbour-clause-edit g c honest are =
@@ -90,7 +53,7 @@ returns-clause-edit g c honest are =
 pub returns-in_err-neighbour-clause-asks : goal.returns-in_err-neighbour-clause-asks
 returns-in_err-neighbour-clause-asks g c =
     let p = err_from_is_err_and c.from_residual.result c.from_residual.ensures.1 in
-    short g.S.Store _ _ _ (p.1 ∙ ap (λ r. Err r) (p.2 ∙ c.in_err-neighbour.ensures.memory)) (reads_none g.S.Store _)
+    short g.S.Store IsOfPlan _ _ _ (p.1 ∙ ap (λ r. Err r) (p.2 ∙ c.in_err-neighbour.ensures.memory)) tt (reads_none g.S.Store _)
 
 pub returns-then-not-is_among-clause-asks : goal.returns-then-not-is_among-clause-asks
 returns-then-not-is_among-clause-asks g c = no_fault g.S.Store _ _ c.plan_new_neighbour.result c.plan_new_neighbour.ensures.no_fault (reads_none g.S.Store _)
@@ -98,7 +61,7 @@ returns-then-not-is_among-clause-asks g c = no_fault g.S.Store _ _ c.plan_new_ne
 pub returns-in_err-reading-clause-asks : goal.returns-in_err-reading-clause-asks
 returns-in_err-reading-clause-asks g c =
     let p = err_from_is_err_and c.from_residual-in_err-reading.result c.from_residual-in_err-reading.ensures.1 in
-    failed g.S.Store _ _ c.in_err-reading.field-0.0 _ (p.1 ∙ ap (λ r. Err r) p.2) c.in_err-reading.ensures.fails c.in_err-reading.ensures.reads
+    failed g.S.Store IsOfPlan _ _ c.in_err-reading.field-0.0 _ (p.1 ∙ ap (λ r. Err r) p.2) (plan_faults c.in_err-reading.field-0.0) c.in_err-reading.ensures.fails c.in_err-reading.ensures.reads
 
 pub returns-clause-asks : goal.returns-clause-asks
 returns-clause-asks g c = no_fault g.S.Store _ _ c.plan_neighbour.result c.plan_neighbour.ensures.no_fault c.in_ok-reading.ensures.reads

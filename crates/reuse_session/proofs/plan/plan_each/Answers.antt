@@ -3,17 +3,13 @@ use Rattle.std.proofs.lemmas.List.{drop_all}
 use Rattle.std.proofs.lemmas.Result.{err_from_is_err_and}
 use Rattle.reuse_tree.specs.Files.{tree_of}
 use Rattle.reuse_tree.proofs.AskedLemmas.{reads_more}
-use Rattle.reuse_tree.specs.Asked.{OnlyReads}
 use Rattle.reuse_tree.specs.declared.change.Change.{Change}
-use Rattle.reuse_tree.specs.declared.store.Store.{Ghosts}
-use Rattle.reuse_session.specs.declared.reply.Refusal.{Refusal}
-use Rattle.reuse_session.specs.declared.reply.Refusal.TheVariants as refusals
 use Rattle.reuse_session.specs.Answer.{IsOfPlan}
-use Rattle.reuse_session.specs.Reading.{ReadsAlone}
 use Rattle.reuse_session.specs.AnnotationPlan.{annotated_by}
 use Rattle.reuse_session.specs.Plan.{AnswersEdit, MakesEdit, IsRefusalOf}
 use Rattle.reuse_session.specs.Unlisted.{IfKnown}
 use Rattle.reuse_session.proofs.Annotating.{SoFar, after_path, at_refusal, at_end}
+use Rattle.reuse_session.proofs.Asking.{told, short, refused_later}
 use Rattle.reuse_session.proofs.AtChange.{left_here}
 use Rattle.reuse_session.proofs.plan.plan_each.Given.{Over}
 use Rattle.reuse_session.proofs.plan.plan_each.Goals.{After-plan_unlisted}
@@ -54,39 +50,19 @@ returns-in-Err-clause-edits g c h =
     at_refusal (at tree) tree c.args.paths.now c.path-item.result (drop (c.loop-path.path-index + 1) c.args.paths.now) c.loop-path.changes.items c.in-Err.refusal (so_far g read h)
     (subst (λ f. IsRefusalOf (at (tree_of f) c.path-item.result) c.in-Err.refusal) (same g read h) (c.in-Err.ensures.edit h))
 
--- a refusal of what was read later is one of the whole
-later : {S A B : Type 0} (store : Ghosts S) (old mid new : S) (refusal : Refusal) → OnlyReads store old mid → ReadsAlone {A = A} store IsOfPlan mid new (Err refusal) → ReadsAlone {A = B} store IsOfPlan old new (Err refusal)
-later {S} {A} {B} store old mid new refusal before asks = record {
-  reads = reads_more store old mid new before asks.reads;
-  fails = record {
-    device = λ e. omega (arith, before.failures, asks.fails.device (cc));
-    clash = λ h e. asks.fails.clash h (cc);
-    memory = λ e. asks.fails.memory (cc);
-  };
-  kinds = asks.kinds;
-}
-
--- an answer that is no refusal
-told : {S A : Type 0} (store : Ghosts S) (old new : S) (answer : A) → OnlyReads store old new → ReadsAlone store IsOfPlan old new (Ok answer)
-told store old new answer reads = record { reads = reads; fails = record { device = λ e. absurd (cc); clash = λ h e. cc; memory = λ e. cc }; kinds = tt }
-
--- want of memory
-short : {S A : Type 0} (store : Ghosts S) (old new : S) (answer : Result A Refusal) → answer ≡ Err refusals.Memory → OnlyReads store old new → ReadsAlone store IsOfPlan old new answer
-short {S} {A} store old new answer is reads = subst (ReadsAlone store IsOfPlan old new) (sym is) (record { reads = reads; fails = record { device = λ e. absurd (cc); clash = λ h e. cc; memory = λ e. cc }; kinds = tt })
-
 pub returns-in-Err-clause-asks : goal.returns-in-Err-clause-asks
-returns-in-Err-clause-asks g c = later g.S.Store _ _ _ c.in-Err.refusal c.loop-path.invariant.reads c.in-Err.ensures.asks
+returns-in-Err-clause-asks g c = refused_later g.S.Store IsOfPlan _ _ _ c.in-Err.refusal c.loop-path.invariant.reads c.in-Err.ensures.asks
 
 pub returns-in-Ok-Unknown-clause-asks : goal.returns-in-Ok-Unknown-clause-asks
-returns-in-Ok-Unknown-clause-asks g c = told g.S.Store _ _ _ (reads_more g.S.Store _ _ _ c.loop-path.invariant.reads c.plan_unlisted.ensures.asks.reads)
+returns-in-Ok-Unknown-clause-asks g c = told g.S.Store IsOfPlan _ _ (Ok _) tt tt (reads_more g.S.Store _ _ _ c.loop-path.invariant.reads c.plan_unlisted.ensures.asks.reads)
 
 pub returns-clause-asks : goal.returns-clause-asks
-returns-clause-asks g c = told g.S.Store _ _ _ c.loop-path.invariant.reads
+returns-clause-asks g c = told g.S.Store IsOfPlan _ _ (Ok _) tt tt c.loop-path.invariant.reads
 
 pub returns-in_err-push_change-clause-asks : goal.returns-in_err-push_change-clause-asks
 returns-in_err-push_change-clause-asks g c =
     let p = err_from_is_err_and c.from_residual.result c.from_residual.ensures.1 in
-    short g.S.Store _ _ _ (p.1 ∙ ap (λ r. Err r) p.2) (reads_more g.S.Store _ _ _ c.loop-path.invariant.reads c.plan_unlisted.ensures.asks.reads)
+    short g.S.Store IsOfPlan _ _ _ (p.1 ∙ ap (λ r. Err r) p.2) tt (reads_more g.S.Store _ _ _ c.loop-path.invariant.reads c.plan_unlisted.ensures.asks.reads)
 
 pub returns-clause-edits : goal.returns-clause-edits
 returns-clause-edits g c honest =

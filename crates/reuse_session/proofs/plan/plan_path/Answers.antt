@@ -10,60 +10,15 @@ use Rattle.reuse_tree.specs.Listing.{ArePaths, is_among}
 use Rattle.reuse_session.specs.Plan.{IsRefusalOf, MakesEdit, AnswersEdit}
 use Rattle.reuse_session.specs.Steps.{StepsTo}
 use Rattle.std.proofs.lemmas.Result.{err_from_is_err_and}
-use Rattle.reuse_tree.specs.Asked.{FailsAsRead, OnlyReads}
-use Rattle.reuse_tree.proofs.AskedLemmas.{reads_none, reads_more}
-use Rattle.reuse_tree.specs.declared.store.Store.{Ghosts}
-use Rattle.reuse_tree.specs.declared.fault.StoreFault.{StoreFault}
-use Rattle.reuse_tree.specs.declared.fault.StoreFault.TheVariants as faults
-use Rattle.reuse_session.specs.declared.reply.Refusal.{Refusal}
+use Rattle.reuse_tree.proofs.AskedLemmas.{reads_none}
 use Rattle.reuse_session.specs.Answer.{IsOfPlan}
-use Rattle.reuse_session.specs.Cause.{refusal_of}
-use Rattle.reuse_session.specs.Reading.{ReadsAlone}
-use Rattle.reuse_session.specs.Refused.{IsNoFault}
+use Rattle.reuse_session.proofs.Asking.{no_fault, short, failed, later, plan_faults}
 use Rattle.reuse_session.proofs.TreeLemmas.{keys_ascend, read_there}
 use Rattle.reuse_session.proofs.Annotating.{some_file}
 use Rattle.reuse_session.proofs.EditLemmas.{some_bytes, uncovered_is, covered_is}
 use Rattle.reuse_session.proofs.plan.plan_path.Given.{Over}
 use Rattle.reuse_session.proofs.plan.plan_path.Goals.{After-is_covered, In_ok-goes_beside}
 use Rattle.reuse_session.proofs.plan.plan_path.Goals as goal
-
-same_refusal : {A : Type 0} (one other : Refusal) → ◌≡◌ {A = Result A Refusal} (Err one) (Err other) → one ≡ other
-same_refusal one other e = cc
-
-of_plan : (refusal : Refusal) → IsNoFault refusal → IsOfPlan refusal
-of_plan (refusals.Moved path) is = absurd is
-of_plan (refusals.Fault fault) is = absurd is
-of_plan refusal is = is
-
--- an answer that tells no fault
-no_fault : {S A : Type 0} (store : Ghosts S) (old new : S) (answer : Result A Refusal) → IfErr answer IsNoFault → OnlyReads store old new → ReadsAlone store IsOfPlan old new answer
-no_fault store old new (Ok done) is reads = record { reads = reads; fails = record { device = λ e. absurd (cc); clash = λ h e. cc; memory = λ e. cc }; kinds = tt }
-no_fault store old new (Err refusal) is reads = record {
-  reads = reads;
-  fails = record {
-    device = λ e. absurd (subst IsNoFault (same_refusal refusal (refusals.Fault faults.Device) e) is);
-    clash = λ h e. subst IsNoFault (same_refusal refusal (refusals.Fault faults.Clash) e) is;
-    memory = λ e. subst IsNoFault (same_refusal refusal (refusals.Fault faults.Memory) e) is;
-  };
-  kinds = of_plan refusal is;
-}
-
-short : {S A : Type 0} (store : Ghosts S) (old new : S) (answer : Result A Refusal) → answer ≡ Err refusals.Memory → OnlyReads store old new → ReadsAlone store IsOfPlan old new answer
-short store old new answer is reads = no_fault store old new answer (subst (λ r. IfErr r IsNoFault) (sym is) tt) reads
-
--- a fault of the store
-failed : {S A B : Type 0} (store : Ghosts S) (old new : S) (fault : StoreFault) (answer : Result A Refusal) → answer ≡ Err (refusal_of fault) → FailsAsRead {A = B} store old new (Err fault) → OnlyReads store old new → ReadsAlone store IsOfPlan old new answer
-failed {S} {A} {B} store old new faults.Memory answer is fails reads = short store old new answer is reads
-failed {S} {A} {B} store old new faults.Device answer is fails reads = subst (ReadsAlone store IsOfPlan old new) (sym is) (record { reads = reads; fails = record { device = λ e. fails.device refl; clash = λ h e. cc; memory = λ e. cc }; kinds = tt })
-failed {S} {A} {B} store old new faults.Clash answer is fails reads = subst (ReadsAlone store IsOfPlan old new) (sym is) (record { reads = reads; fails = record { device = λ e. absurd (cc); clash = λ h e. fails.clash h refl; memory = λ e. cc }; kinds = tt })
-
--- an answer after a reading
-later : {S A : Type 0} (store : Ghosts S) (old mid new : S) (answer : Result A Refusal) → OnlyReads store old mid → ReadsAlone store IsOfPlan mid new answer → ReadsAlone store IsOfPlan old new answer
-later store old mid new answer before asks = record {
-  reads = reads_more store old mid new before asks.reads;
-  fails = record { device = λ e. omega (arith, before.failures, asks.fails.device e); clash = asks.fails.clash; memory = asks.fails.memory };
-  kinds = asks.kinds;
-}
 
 pub returns-then-not-is_among-clause-edit : goal.returns-then-not-is_among-clause-edit
 returns-then-not-is_among-clause-edit g c honest are =
@@ -147,17 +102,17 @@ returns-then-not-is_covered-clause-asks g c = no_fault g.S.Store _ _ (Err (refus
 pub returns-in_err-try_clone-clause-asks : goal.returns-in_err-try_clone-clause-asks
 returns-in_err-try_clone-clause-asks g c =
     let p = err_from_is_err_and c.from_residual.result c.from_residual.ensures.1 in
-    short g.S.Store _ _ _ (p.1 ∙ ap (λ r. Err r) p.2) (reads_none g.S.Store _)
+    short g.S.Store IsOfPlan _ _ _ (p.1 ∙ ap (λ r. Err r) p.2) tt (reads_none g.S.Store _)
 
 pub returns-in_err-goes_beside-clause-asks : goal.returns-in_err-goes_beside-clause-asks
 returns-in_err-goes_beside-clause-asks g c =
     let p = err_from_is_err_and c.from_residual-in_err-goes_beside.result c.from_residual-in_err-goes_beside.ensures.1 in
-    short g.S.Store _ _ _ (p.1 ∙ ap (λ r. Err r) p.2) (reads_none g.S.Store _)
+    short g.S.Store IsOfPlan _ _ _ (p.1 ∙ ap (λ r. Err r) p.2) tt (reads_none g.S.Store _)
 
 pub returns-in_err-reading-clause-asks : goal.returns-in_err-reading-clause-asks
 returns-in_err-reading-clause-asks g c =
     let p = err_from_is_err_and c.from_residual-in_err-reading.result c.from_residual-in_err-reading.ensures.1 in
-    failed g.S.Store _ _ c.in_err-reading.field-0.0 _ (p.1 ∙ ap (λ r. Err r) p.2) c.in_err-reading.ensures.fails c.in_err-reading.ensures.reads
+    failed g.S.Store IsOfPlan _ _ c.in_err-reading.field-0.0 _ (p.1 ∙ ap (λ r. Err r) p.2) (plan_faults c.in_err-reading.field-0.0) c.in_err-reading.ensures.fails c.in_err-reading.ensures.reads
 
 pub returns-then-branch-clause-asks : goal.returns-then-branch-clause-asks
 returns-then-branch-clause-asks g c = c.plan_beside.ensures.asks
@@ -166,7 +121,7 @@ pub returns-in-Ok-Done-clause-asks : goal.returns-in-Ok-Done-clause-asks
 returns-in-Ok-Done-clause-asks g c = no_fault g.S.Store _ _ (Ok c.in-Ok-Done.change) tt c.in_ok-reading.ensures.reads
 
 pub returns-in-Ok-Beside-clause-asks : goal.returns-in-Ok-Beside-clause-asks
-returns-in-Ok-Beside-clause-asks g c = later g.S.Store _ _ _ _ c.in_ok-reading.ensures.reads c.plan_beside-in-Ok-Beside.ensures.asks
+returns-in-Ok-Beside-clause-asks g c = later g.S.Store IsOfPlan _ _ _ _ c.in_ok-reading.ensures.reads c.plan_beside-in-Ok-Beside.ensures.asks
 
 pub returns-in-Err-clause-asks : goal.returns-in-Err-clause-asks
 returns-in-Err-clause-asks g c = no_fault g.S.Store _ _ (Err c.in-Err.refusal) c.in-Err.ensures.no_fault c.in_ok-reading.ensures.reads

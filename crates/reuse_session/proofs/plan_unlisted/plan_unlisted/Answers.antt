@@ -9,17 +9,9 @@ use Rattle.reuse_session.specs.Covered.{is_covered}
 use Rattle.reuse_session.specs.Plan.{AnswersEdit}
 use Rattle.reuse_session.specs.Unlisted.{IfKnown}
 use Rattle.std.proofs.lemmas.Result.{err_from_is_err_and}
-use Rattle.reuse_tree.specs.Asked.{FailsAsRead, OnlyReads}
-use Rattle.reuse_tree.proofs.AskedLemmas.{reads_none, reads_more}
-use Rattle.reuse_tree.specs.declared.store.Store.{Ghosts}
-use Rattle.reuse_tree.specs.declared.fault.StoreFault.{StoreFault}
-use Rattle.reuse_tree.specs.declared.fault.StoreFault.TheVariants as faults
-use Rattle.reuse_session.specs.declared.reply.Refusal.{Refusal}
-use Rattle.reuse_session.specs.declared.reply.Refusal.TheVariants as refusals
+use Rattle.reuse_tree.proofs.AskedLemmas.{reads_none}
 use Rattle.reuse_session.specs.Answer.{IsOfPlan}
-use Rattle.reuse_session.specs.Cause.{refusal_of}
-use Rattle.reuse_session.specs.Reading.{ReadsAlone}
-use Rattle.reuse_session.specs.Refused.{IsNoFault}
+use Rattle.reuse_session.proofs.Asking.{no_fault, short, failed, later, plan_faults}
 use Rattle.reuse_session.proofs.EditLemmas.{some_bytes}
 use Rattle.reuse_session.proofs.Fitting.{neighbour_of_tree}
 use Rattle.reuse_session.proofs.OfTree.{tree_at}
@@ -27,44 +19,6 @@ use Rattle.reuse_session.proofs.ReadingLemmas.{absent_is, there_is}
 use Rattle.reuse_session.proofs.plan_unlisted.plan_unlisted.Given.{Over}
 use Rattle.reuse_session.proofs.plan_unlisted.plan_unlisted.Goals.{In_ok-reading}
 use Rattle.reuse_session.proofs.plan_unlisted.plan_unlisted.Goals as goal
-
-same_refusal : {A : Type 0} (one other : Refusal) → ◌≡◌ {A = Result A Refusal} (Err one) (Err other) → one ≡ other
-same_refusal one other e = cc
-
-of_plan : (refusal : Refusal) → IsNoFault refusal → IsOfPlan refusal
-of_plan (refusals.Moved path) is = absurd is
-of_plan (refusals.Fault fault) is = absurd is
-of_plan refusal is = is
-
--- an answer that tells no fault
-no_fault : {S A : Type 0} (store : Ghosts S) (old new : S) (answer : Result A Refusal) → IfErr answer IsNoFault → OnlyReads store old new → ReadsAlone store IsOfPlan old new answer
-no_fault store old new (Ok done) is reads = record { reads = reads; fails = record { device = λ e. absurd (cc); clash = λ h e. cc; memory = λ e. cc }; kinds = tt }
-no_fault store old new (Err refusal) is reads = record {
-  reads = reads;
-  fails = record {
-    device = λ e. absurd (subst IsNoFault (same_refusal refusal (refusals.Fault faults.Device) e) is);
-    clash = λ h e. subst IsNoFault (same_refusal refusal (refusals.Fault faults.Clash) e) is;
-    memory = λ e. subst IsNoFault (same_refusal refusal (refusals.Fault faults.Memory) e) is;
-  };
-  kinds = of_plan refusal is;
-}
-
-short : {S A : Type 0} (store : Ghosts S) (old new : S) (answer : Result A Refusal) → answer ≡ Err refusals.Memory → OnlyReads store old new → ReadsAlone store IsOfPlan old new answer
-short store old new answer is reads = no_fault store old new answer (subst (λ r. IfErr r IsNoFault) (sym is) tt) reads
-
--- a fault of the store
-failed : {S A B : Type 0} (store : Ghosts S) (old new : S) (fault : StoreFault) (answer : Result A Refusal) → answer ≡ Err (refusal_of fault) → FailsAsRead {A = B} store old new (Err fault) → OnlyReads store old new → ReadsAlone store IsOfPlan old new answer
-failed {S} {A} {B} store old new faults.Memory answer is fails reads = short store old new answer is reads
-failed {S} {A} {B} store old new faults.Device answer is fails reads = subst (ReadsAlone store IsOfPlan old new) (sym is) (record { reads = reads; fails = record { device = λ e. fails.device refl; clash = λ h e. cc; memory = λ e. cc }; kinds = tt })
-failed {S} {A} {B} store old new faults.Clash answer is fails reads = subst (ReadsAlone store IsOfPlan old new) (sym is) (record { reads = reads; fails = record { device = λ e. absurd (cc); clash = λ h e. fails.clash h refl; memory = λ e. cc }; kinds = tt })
-
--- an answer after a reading
-later : {S A : Type 0} (store : Ghosts S) (old mid new : S) (answer : Result A Refusal) → OnlyReads store old mid → ReadsAlone store IsOfPlan mid new answer → ReadsAlone store IsOfPlan old new answer
-later store old mid new answer before asks = record {
-  reads = reads_more store old mid new before asks.reads;
-  fails = record { device = λ e. omega (arith, before.failures, asks.fails.device e); clash = asks.fails.clash; memory = asks.fails.memory };
-  kinds = asks.kinds;
-}
 
 module _ (g : Over) (c : In_ok-reading g) where
   neighbour : c.in-Some.neighbour ≡ neighbour_of c.args.path.now
@@ -103,18 +57,18 @@ returns-then-not-is_covered-clause-asks g c = no_fault g.S.Store _ _ (Ok _) tt (
 pub returns-in_err-neighbour-clause-asks : goal.returns-in_err-neighbour-clause-asks
 returns-in_err-neighbour-clause-asks g c =
     let p = err_from_is_err_and c.from_residual.result c.from_residual.ensures.1 in
-    short g.S.Store _ _ _ (p.1 ∙ ap (λ r. Err r) (p.2 ∙ c.in_err-neighbour.ensures.memory)) (reads_none g.S.Store _)
+    short g.S.Store IsOfPlan _ _ _ (p.1 ∙ ap (λ r. Err r) (p.2 ∙ c.in_err-neighbour.ensures.memory)) tt (reads_none g.S.Store _)
 
 pub returns-in_err-reading-clause-asks : goal.returns-in_err-reading-clause-asks
 returns-in_err-reading-clause-asks g c =
     let p = err_from_is_err_and c.from_residual-in_err-reading.result c.from_residual-in_err-reading.ensures.1 in
-    failed g.S.Store _ _ c.in_err-reading.field-0.0 _ (p.1 ∙ ap (λ r. Err r) p.2) c.in_err-reading.ensures.fails c.in_err-reading.ensures.reads
+    failed g.S.Store IsOfPlan _ _ c.in_err-reading.field-0.0 _ (p.1 ∙ ap (λ r. Err r) p.2) (plan_faults c.in_err-reading.field-0.0) c.in_err-reading.ensures.fails c.in_err-reading.ensures.reads
 
 pub returns-in-Absent-clause-asks : goal.returns-in-Absent-clause-asks
-returns-in-Absent-clause-asks g c = later g.S.Store _ _ _ _ c.in_ok-reading.ensures.reads c.plan_alone.ensures.asks
+returns-in-Absent-clause-asks g c = later g.S.Store IsOfPlan _ _ _ _ c.in_ok-reading.ensures.reads c.plan_alone.ensures.asks
 
 pub returns-clause-asks : goal.returns-clause-asks
-returns-clause-asks g c = later g.S.Store _ _ _ _ c.in_ok-reading.ensures.reads c.plan_beside_file.ensures.asks
+returns-clause-asks g c = later g.S.Store IsOfPlan _ _ _ _ c.in_ok-reading.ensures.reads c.plan_beside_file.ensures.asks
 
 pub returns-in_default-clause-asks : goal.returns-in_default-clause-asks
 returns-in_default-clause-asks g c = no_fault g.S.Store _ _ (Ok _) tt (reads_none g.S.Store _)
