@@ -1,17 +1,19 @@
 -- Calls that only read a store: what they tell of a fault, by what they were told.
-use Rattle.std.proofs.Common.{◌≡◌, Result, Ok, Err, IfErr, refl, sym, subst, arith}
+use Rattle.std.proofs.Common.{◌≡◌, ◌<◌, List, ℕ, Result, Ok, Err, IfErr, IsErrAnd, OnOk, refl, sym, ap, subst, arith}
+use Rattle.std.specs.Result.{IsErr}
 use Rattle.reuse_tree.specs.Asked.{FailsAsRead, OnlyReads}
 use Rattle.reuse_tree.specs.declared.fault.StoreFault.{StoreFault}
 use Rattle.reuse_tree.specs.declared.fault.StoreFault.TheVariants as faults
 use Rattle.reuse_tree.specs.declared.store.Store.{Ghosts}
 use Rattle.reuse_tree.proofs.AskedLemmas.{reads_more, reads_none}
-use Rattle.reuse_session.specs.Answer.{IsOfPlan, RefusedAsRead}
+use Rattle.reuse_session.specs.Answer.{HasCause, IsNoClash, IsOfPlan, IsOpenRefusal, IsReadRefusal, RefusedAsRead}
 use Rattle.reuse_session.specs.Cause.{refusal_of}
 use Rattle.reuse_session.specs.Previews.{IsLookRefusal}
 use Rattle.reuse_session.specs.Reading.{ReadsAlone}
 use Rattle.reuse_session.specs.Refused.{IsNoFault}
 use Rattle.reuse_session.specs.declared.reply.Refusal.{Refusal}
-use Rattle.reuse_session.specs.declared.reply.Refusal.TheVariants.{Fault, Memory, Moved}
+use Rattle.reuse_session.specs.declared.reply.Refusal.TheVariants.{BadJournal, Fault, Interrupted, Memory, Moved}
+use Rattle.reuse_session.proofs.OnlyReading.{passed_on}
 
 -- the answer tells no fault of the store
 abbrev pub IsOther : {A : Type 0} → Result A Refusal → Type 0
@@ -90,3 +92,67 @@ pub look_faults : (fault : StoreFault) → IsLookRefusal (refusal_of fault)
 look_faults faults.Device = tt
 look_faults faults.Clash = tt
 look_faults faults.Memory = tt
+
+-- ---- of the journal's files
+
+-- an answer that is an error isn't done
+pub not_done : {A E : Type 0} (answer : Result A E) (Done : Type 0) → IsErr answer → OnOk answer Done
+not_done (Ok x) Done e = absurd (cc)
+not_done (Err y) Done e = tt
+
+pub told_fault : {A : Type 0} (answer : Result A Refusal) (fault told : StoreFault) → answer ≡ Err (refusal_of fault) → answer ≡ Err (Fault told) → fault ≡ told
+told_fault answer faults.Memory told is e = absurd (cc)
+told_fault answer faults.Device told is e = cc
+told_fault answer faults.Clash told is e = cc
+
+pub memory_fails : {S A : Type 0} (store : Ghosts S) (old new : S) (answer : Result A Refusal) → answer ≡ Err Memory → RefusedAsRead store old new answer
+memory_fails store old new answer is = subst (RefusedAsRead store old new) (sym is) (fails_otherwise store old new (Err Memory) tt)
+
+pub fault_fails : {S A B : Type 0} (store : Ghosts S) (old new : S) (given : Result B StoreFault) (answer : Result A Refusal) (fault : StoreFault) → given ≡ Err fault → answer ≡ Err (refusal_of fault)
+    → FailsAsRead store old new given → RefusedAsRead store old new answer
+fault_fails {S} {A} {B} store old new given answer fault was is fails =
+    fails_behind {B = B} store old old new fault answer is (reads_none store old) (subst (λ (r : Result B StoreFault). FailsAsRead store old new r) was fails)
+
+-- a refusal that is passed on, behind some readings
+pub same_fails : {S A B : Type 0} (store : Ghosts S) (old mid new : S) (given : Result B Refusal) (answer : Result A Refusal) (refusal : Refusal)
+    → given ≡ Err refusal → IsErrAnd answer (λ told. told ≡ refusal) → OnlyReads store old mid → RefusedAsRead store mid new given → RefusedAsRead store old new answer
+same_fails store old mid new given answer refusal was is reads fails = record {
+  device = λ e. omega (arith, reads.failures, fails.device (passed_on answer given is was e));
+  clash = λ h e. fails.clash h (passed_on answer given is was e);
+  memory = λ e. fails.memory (passed_on answer given is was e);
+}
+
+pub ok_no_bad : {A : Type 0} (x : A) (path : List ℕ) → ◌≡◌ {A = Result A Refusal} (Ok x) (Err (BadJournal path)) → ⊥
+ok_no_bad x path e = absurd (cc)
+
+pub memory_no_bad : {A : Type 0} (answer : Result A Refusal) (path : List ℕ) → answer ≡ Err Memory → answer ≡ Err (BadJournal path) → ⊥
+memory_no_bad answer path is e = absurd (cc)
+
+pub fault_no_bad : {A : Type 0} (answer : Result A Refusal) (fault : StoreFault) (path : List ℕ) → answer ≡ Err (refusal_of fault) → answer ≡ Err (BadJournal path) → ⊥
+fault_no_bad answer faults.Memory path is e = absurd (cc)
+fault_no_bad answer faults.Device path is e = absurd (cc)
+fault_no_bad answer faults.Clash path is e = absurd (cc)
+
+pub read_faults : (fault : StoreFault) → IsReadRefusal (refusal_of fault)
+read_faults faults.Memory = tt
+read_faults faults.Device = tt
+read_faults faults.Clash = tt
+
+-- a refusal of reading, as one of opening
+pub opening_too : (refusal : Refusal) → IsReadRefusal refusal → IsOpenRefusal refusal
+opening_too (BadJournal path) is = tt
+opening_too (Moved path) is = tt
+opening_too (Interrupted cause) is = tt
+opening_too refusal is = is
+
+pub reading_cause : {A S : Type 0} (store : Ghosts S) (old new : S) (refusal : Refusal) → IsReadRefusal refusal → RefusedAsRead {A = A} store old new (Err refusal)
+    → HasCause (store.failures old < store.failures new) refusal
+reading_cause store old new (Fault faults.Device) is fails = fails.device refl
+reading_cause store old new (Fault faults.Memory) is fails = is
+reading_cause store old new (Interrupted cause) is fails = absurd is
+reading_cause store old new refusal is fails = tt
+
+pub reading_no_clash : {A S : Type 0} (store : Ghosts S) (old new : S) (refusal : Refusal) → IsReadRefusal refusal → RefusedAsRead {A = A} store old new (Err refusal) → store.honest new → IsNoClash refusal
+reading_no_clash store old new (Fault faults.Clash) is fails honest = fails.clash honest refl
+reading_no_clash store old new (Interrupted cause) is fails honest = absurd is
+reading_no_clash store old new refusal is fails honest = tt

@@ -1,8 +1,13 @@
 -- What was read of a path says what the path has.
 use Rattle.std.proofs.Common.{◌≡◌, ℕ, ◌<◌, ◌≤◌, Bool, true, false, cond, nat_le, List, length, Option, Some, None, IsSome, refl, sym, ap, subst, arith}
 use Rattle.std.proofs.lemmas.Bool.Decides.{nat_tests}
+use Rattle.std.proofs.lemmas.Grind.{common_steps}
 use Rattle.reuse_tree.specs.declared.store.Reading.TheVariants.{Absent, Found, TooLong}
 use Rattle.reuse_tree.specs.Store.{reading_of}
+use Rattle.reuse_tree.specs.declared.change.Change.{Change}
+use Rattle.reuse_tree.specs.declared.way.Way.{Way}
+use Rattle.reuse_tree.specs.Entry.{IsReady, IsSmall}
+use Rattle.reuse_text.specs.declared.TheConstants.{LONGEST_FILE}
 
 -- a fact of two things, at what they are
 pub given_as : {A B : Type 0} (Holds : A → B → Type 0) {x given : A} {y file : B} → x ≡ given → y ≡ file → Holds given file → Holds x y
@@ -42,3 +47,7 @@ found_is (Some other) limit bytes e = by_test (nat_le (length other) limit) refl
 pub there_is : (file : Option (List ℕ)) (limit : ℕ) → (reading_of file limit ≡ Absent → ⊥) → IsSome file
 there_is None limit h = absurd (h refl)
 there_is (Some bytes) limit h = refl
+
+-- a file that a change can be gone through from isn't too long
+pub too_long : (way : Way) (change : Change) (bytes : List ℕ) → IsSmall change → LONGEST_FILE < length bytes → IsReady way change (Some bytes) → ⊥
+too_long way change bytes small long ready = grind (arith, common_steps)

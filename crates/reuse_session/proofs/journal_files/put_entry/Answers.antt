@@ -10,15 +10,11 @@ use Rattle.reuse_session.specs.Answer.{IsPutRefusal}
 use Rattle.reuse_session.specs.Cause.{refusal_of}
 use Rattle.reuse_session.specs.declared.reply.Refusal.{Refusal}
 use Rattle.reuse_session.specs.declared.reply.Refusal.TheVariants.{Memory, Fault}
+use Rattle.reuse_session.proofs.Asking.{not_done, told_fault}
 use Rattle.reuse_session.proofs.OnlyReading.{is_refused}
 use Rattle.reuse_session.proofs.JournalReading.{put_says, put_beside, failed_beside, counted_most, counted_entry}
 use Rattle.reuse_session.proofs.Turning.{put_sets}
 use Rattle.reuse_session.proofs.journal_files.put_entry.Goals as goal
-
--- an answer that is an error isn't done
-not_done : {A E : Type 0} (r : Result A E) (P : Type 0) → IsErr r → OnOk r P
-not_done (Ok x) P e = absurd (cc)
-not_done (Err y) P e = tt
 
 done_no_fault : {A : Type 0} (x : A) (fault : StoreFault) → ◌≡◌ {A = Result A Refusal} (Ok x) (Err (Fault fault)) → ⊥
 done_no_fault x fault e = absurd (cc)
@@ -30,11 +26,6 @@ put_refusal : (fault : StoreFault) → IsPutRefusal (refusal_of fault)
 put_refusal faults.Memory = tt
 put_refusal faults.Device = tt
 put_refusal faults.Clash = tt
-
-told_fault : {A : Type 0} (r : Result A Refusal) (fault told : StoreFault) → r ≡ Err (refusal_of fault) → r ≡ Err (Fault told) → fault ≡ told
-told_fault r faults.Memory told is e = absurd (cc)
-told_fault r faults.Device told is e = cc
-told_fault r faults.Clash told is e = cc
 
 at_least : (m n : ℕ) → m ≤ m + n
 at_least m n = omega arith

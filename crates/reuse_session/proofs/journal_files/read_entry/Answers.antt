@@ -9,6 +9,7 @@ use Rattle.reuse_session.specs.Answer.{IsReadRefusal, RefusedAsRead}
 use Rattle.reuse_session.specs.Cause.{refusal_of}
 use Rattle.reuse_session.specs.declared.reply.Refusal.{Refusal}
 use Rattle.reuse_session.specs.declared.reply.Refusal.TheVariants.{Memory, Fault, BadJournal}
+use Rattle.reuse_session.proofs.Asking.{read_faults, memory_no_bad, fault_no_bad, memory_fails, fault_fails}
 use Rattle.reuse_session.proofs.OnlyReading.{is_refused}
 use Rattle.reuse_tree.specs.Entry.{IsEntry}
 use Rattle.reuse_tree.specs.EntryText.{HavePaths}
@@ -18,42 +19,6 @@ use Rattle.reuse_session.specs.JournalFiles.{entry_path, EntrySays}
 use Rattle.reuse_tree.specs.Tree.{undo_folder_of}
 use Rattle.reuse_session.proofs.JournalReading.{file_in_folder}
 use Rattle.reuse_session.proofs.journal_files.read_entry.Goals as goal
-
--- the refusals of a store that is read
-memory_no_bad : {A : Type 0} (r : Result A Refusal) (path : List ℕ) → r ≡ Err Memory → r ≡ Err (BadJournal path) → ⊥
-memory_no_bad r path is e = absurd (cc)
-
-fault_no_bad : {A : Type 0} (r : Result A Refusal) (fault : StoreFault) (path : List ℕ) → r ≡ Err (refusal_of fault) → r ≡ Err (BadJournal path) → ⊥
-fault_no_bad r faults.Memory path is e = absurd (cc)
-fault_no_bad r faults.Device path is e = absurd (cc)
-fault_no_bad r faults.Clash path is e = absurd (cc)
-
-reading_refusal : (fault : StoreFault) → IsReadRefusal (refusal_of fault)
-reading_refusal faults.Memory = tt
-reading_refusal faults.Device = tt
-reading_refusal faults.Clash = tt
-
-told_fault : {A : Type 0} (r : Result A Refusal) (fault told : StoreFault) → r ≡ Err (refusal_of fault) → r ≡ Err (Fault told) → fault ≡ told
-told_fault r faults.Memory told is e = absurd (cc)
-told_fault r faults.Device told is e = cc
-told_fault r faults.Clash told is e = cc
-
-no_memory_fault : {A : Type 0} (r : Result A Refusal) (fault : StoreFault) → r ≡ Err (refusal_of fault) → r ≡ Err (Fault faults.Memory) → ⊥
-no_memory_fault r faults.Memory is e = absurd (cc)
-no_memory_fault r faults.Device is e = absurd (cc)
-no_memory_fault r faults.Clash is e = absurd (cc)
-
-module _ {S A : Type 0} (store : Ghosts S) (old new : S) where
-  memory_fails : (r : Result A Refusal) → r ≡ Err Memory → RefusedAsRead store old new r
-  memory_fails r is = record { device = λ e. absurd (cc); clash = λ h e. absurd (cc); memory = λ e. absurd (cc) }
-
-  fault_fails : {B : Type 0} (given : Result B StoreFault) (r : Result A Refusal) (fault : StoreFault) → given ≡ Err fault → r ≡ Err (refusal_of fault) → FailsAsRead store old new given
-      → RefusedAsRead store old new r
-  fault_fails given r fault was is fails = record {
-    device = λ e. fails.device (was ∙ ap (λ f. Err f) (told_fault r fault faults.Device is e));
-    clash = λ h e. fails.clash h (was ∙ ap (λ f. Err f) (told_fault r fault faults.Clash is e));
-    memory = no_memory_fault r fault is;
-  }
 
 pub returns-clause-ok : goal.returns-clause-ok
 returns-clause-ok g c honest =
@@ -97,7 +62,7 @@ returns-in_err-reading g c =
       good = IfOk-from_err result (λ entry. IsEntry entry.changes) c.from_residual-in_err-reading.ensures.0;
       paths = IfOk-from_err result (λ entry. HavePaths entry.changes) c.from_residual-in_err-reading.ensures.0;
       bad = λ h path e. absurd (fault_no_bad result c.in_err-reading.field-0.0 path is e);
-      refusal = subst (λ r. IfErr r IsReadRefusal) (sym is) (reading_refusal c.in_err-reading.field-0.0);
+      refusal = subst (λ r. IfErr r IsReadRefusal) (sym is) (read_faults c.in_err-reading.field-0.0);
       fails = fault_fails store old c.read.new.self c.read.result result c.in_err-reading.field-0.0 c.in_err-reading.was is c.read.ensures.fails;
       reads = c.read.ensures.reads;
     }

@@ -20,6 +20,7 @@ use Rattle.reuse_session.specs.Standing.{IsStanding, InDoubt}
 use Rattle.reuse_tree.specs.Tree.{undo_folder_of}
 use Rattle.reuse_session.proofs.OpeningLemmas.{as_many_listed}
 use Rattle.reuse_session.proofs.FilesInDoubt.{IsPending, doubt_bad, none_pending, read_pending, read_opens, read_settles, settled_opens, still_in_doubt, left_in_doubt}
+use Rattle.reuse_session.proofs.Asking.{opening_too, reading_cause, reading_no_clash}
 use Rattle.reuse_session.proofs.OnlyReading.{is_refused, passed_on, still_caused}
 use Rattle.reuse_session.proofs.Settling.{read_failure}
 use Rattle.reuse_session.proofs.opening.open_journal.Given.{Over}
@@ -29,25 +30,6 @@ use Rattle.reuse_session.proofs.opening.open_journal.Goals as goal
 -- an answer tells no refusal
 no_refusal : {A : Type 0} (x : A) (refusal : Refusal) → ◌≡◌ {A = Result A Refusal} (Ok x) (Err refusal) → ⊥
 no_refusal x refusal e = absurd (cc)
-
--- a refusal of reading, as one of opening
-opening_too : (refusal : Refusal) → IsReadRefusal refusal → IsOpenRefusal refusal
-opening_too (BadJournal path) is = tt
-opening_too (Moved path) is = tt
-opening_too (Interrupted cause) is = tt
-opening_too refusal is = is
-
-reading_cause : {A S : Type 0} (store : Ghosts S) (old new : S) (refusal : Refusal) → IsReadRefusal refusal → RefusedAsRead {A = A} store old new (Err refusal)
-    → HasCause (store.failures old < store.failures new) refusal
-reading_cause store old new (Fault faults.Device) is fails = fails.device refl
-reading_cause store old new (Fault faults.Memory) is fails = is
-reading_cause store old new (Interrupted cause) is fails = absurd is
-reading_cause store old new refusal is fails = tt
-
-reading_no_clash : {A S : Type 0} (store : Ghosts S) (old new : S) (refusal : Refusal) → IsReadRefusal refusal → RefusedAsRead {A = A} store old new (Err refusal) → store.honest new → IsNoClash refusal
-reading_no_clash store old new (Fault faults.Clash) is fails honest = fails.clash honest refl
-reading_no_clash store old new (Interrupted cause) is fails honest = absurd is
-reading_no_clash store old new refusal is fails honest = tt
 
 pub returns-in_err-pending : goal.returns-in_err-pending
 returns-in_err-pending g c =

@@ -11,6 +11,7 @@ use Rattle.reuse_session.specs.declared.reply.Refusal.{Refusal}
 use Rattle.reuse_session.specs.declared.reply.Refusal.TheVariants.{Memory, BadJournal}
 use Rattle.reuse_session.specs.Opening.{IsFoundAt, IsListedIn, IsReadable, IsLeastFound, least}
 use Rattle.reuse_tree.specs.Tree.{undo_folder_of}
+use Rattle.reuse_session.proofs.Asking.{ok_no_bad, memory_no_bad, fails_otherwise, memory_fails, same_fails}
 use Rattle.reuse_session.proofs.OnlyReading.{is_refused, passed_on}
 use Rattle.reuse_session.proofs.ReadNumbers.{long_more, listed_more, found_readable, found_unreadable}
 use Rattle.reuse_session.proofs.opening.read_all.Goals.{in-Some+in_ok-push-in-Some, in-None}
@@ -60,28 +61,6 @@ loop-number-init g c =
       found = λ h. All-nil (IsReadable folder);
     }
 
--- the refusals that a read answer can't tell, and those that it hands on
-module _ {S A : Type 0} (store : Ghosts S) where
-  ok_no_bad : (x : A) (path : List ℕ) → ◌≡◌ {A = Result A Refusal} (Ok x) (Err (BadJournal path)) → ⊥
-  ok_no_bad x path e = absurd (cc)
-
-  ok_fails : (old new : S) (x : A) → RefusedAsRead store old new (Ok x)
-  ok_fails old new x = record { device = λ e. absurd (cc); clash = λ h e. absurd (cc); memory = λ e. absurd (cc) }
-
-  memory_no_bad : (result : Result A Refusal) (path : List ℕ) → result ≡ Err Memory → result ≡ Err (BadJournal path) → ⊥
-  memory_no_bad result path is e = absurd (cc)
-
-  memory_fails : (old new : S) (result : Result A Refusal) → result ≡ Err Memory → RefusedAsRead store old new result
-  memory_fails old new result is = record { device = λ e. absurd (cc); clash = λ h e. absurd (cc); memory = λ e. absurd (cc) }
-
-  same_fails : {B : Type 0} (old mid new : S) (given : Result B Refusal) (result : Result A Refusal) (refusal : Refusal)
-      → given ≡ Err refusal → IsErrAnd result (λ told. told ≡ refusal) → OnlyReads store old mid → RefusedAsRead store mid new given → RefusedAsRead store old new result
-  same_fails old mid new given result refusal was is reads fails = record {
-    device = λ e. omega (arith, reads.failures, fails.device (passed_on result given is was e));
-    clash = λ h e. fails.clash h (passed_on result given is was e);
-    memory = λ e. fails.memory (passed_on result given is was e);
-  }
-
 pub returns : goal.returns
 returns g c =
     let store = g.S.Store in
@@ -95,8 +74,8 @@ returns g c =
       all = λ none. kept.long none ∙ ap length whole;
       found = λ h. subst (λ ns. IsLeastFound folder ns unreadable) whole (kept.found h);
       refusal = tt;
-      no_bad = λ path. ok_no_bad store (c.loop-number.entries, unreadable) path;
-      fails = ok_fails store _ _ _;
+      no_bad = λ path. ok_no_bad (c.loop-number.entries, unreadable) path;
+      fails = fails_otherwise store _ _ (Ok _) tt;
       reads = kept.reads;
     }
 
@@ -129,7 +108,7 @@ returns-in_err-push-in-Some g c =
       all = IfOk-from_err result (λ read. read.1 ≡ None → length read.0.items ≡ length numbers) c.from_residual-in_err-push-in-Some.ensures.0;
       found = λ h. IfOk-from_err result (λ read. IsLeastFound folder numbers read.1) c.from_residual-in_err-push-in-Some.ensures.0;
       refusal = subst (λ r. IfErr r IsReadRefusal) (sym is) tt;
-      no_bad = λ path. memory_no_bad store result path is;
+      no_bad = λ path. memory_no_bad result path is;
       fails = memory_fails store _ _ result is;
       reads = reads_more store _ _ _ c.loop-number.invariant.reads c.listed_at.ensures.reads;
     }

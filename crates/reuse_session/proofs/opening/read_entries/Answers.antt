@@ -13,6 +13,7 @@ use Rattle.reuse_session.specs.declared.reply.Refusal.TheVariants.{Memory, BadJo
 use Rattle.reuse_tree.specs.declared.journal.head.Head.{Head}
 use Rattle.reuse_tree.specs.Files.{Files}
 use Rattle.reuse_tree.specs.Tree.{undo_folder_of}
+use Rattle.reuse_session.proofs.Asking.{ok_no_bad, memory_no_bad, fails_otherwise, memory_fails, same_fails}
 use Rattle.reuse_session.proofs.OnlyReading.{is_refused, passed_on}
 use Rattle.reuse_session.proofs.ReadNumbers.{zip_parts}
 use Rattle.reuse_session.proofs.opening.read_entries.Goals as goal
@@ -67,31 +68,6 @@ slice_bounds-from_slice-end-2 g c =
     parts_within c.args.head.now c.as_slice.result.now c.as_slice-done.result.now c.as_slice-2.result.now c.in_ok-entries.entries.items c.deref-2.result.now
     (c.as_slice.ensures.value ∙ c.in_ok-numbers.ensures) c.as_slice-done.ensures c.as_slice-2.ensures (c.in_ok-entries.ensures.all c.in_default.is) c.deref-2.ensures.value
 
--- refusals other than the store's
-module _ {S A : Type 0} (store : Ghosts S) (old new : S) where
-  ok_no_bad : (x : A) (path : List ℕ) → ◌≡◌ {A = Result A Refusal} (Ok x) (Err (BadJournal path)) → ⊥
-  ok_no_bad x path e = absurd (cc)
-
-  ok_fails : (x : A) → RefusedAsRead store old new (Ok x)
-  ok_fails x = record { device = λ e. absurd (cc); clash = λ h e. absurd (cc); memory = λ e. absurd (cc) }
-
-  bad_fails : (path : List ℕ) → RefusedAsRead {A = A} store old new (Err (BadJournal path))
-  bad_fails path = record { device = λ e. absurd (cc); clash = λ h e. absurd (cc); memory = λ e. absurd (cc) }
-
-  memory_no_bad : (result : Result A Refusal) (path : List ℕ) → result ≡ Err Memory → result ≡ Err (BadJournal path) → ⊥
-  memory_no_bad result path is e = absurd (cc)
-
-  memory_fails : (result : Result A Refusal) → result ≡ Err Memory → RefusedAsRead store old new result
-  memory_fails result is = record { device = λ e. absurd (cc); clash = λ h e. absurd (cc); memory = λ e. absurd (cc) }
-
-  same_fails : {B : Type 0} (given : Result B Refusal) (result : Result A Refusal) (refusal : Refusal)
-      → given ≡ Err refusal → IsErrAnd result (λ told. told ≡ refusal) → RefusedAsRead store old new given → RefusedAsRead store old new result
-  same_fails given result refusal was is fails = record {
-    device = λ e. fails.device (passed_on result given is was e);
-    clash = λ h e. fails.clash h (passed_on result given is was e);
-    memory = λ e. fails.memory (passed_on result given is was e);
-  }
-
 pub returns-clause-ok : goal.returns-clause-ok
 returns-clause-ok g c honest =
     let folder = undo_folder_of (g.S.Store.files c.args.store.now) in
@@ -122,10 +98,10 @@ returns-clause-ok g c honest =
     )
 
 pub returns-clause-bad : goal.returns-clause-bad
-returns-clause-bad g c honest path e = absurd (ok_no_bad g.S.Store c.args.store.now c.read_all.new.store c.new.result path e)
+returns-clause-bad g c honest path e = absurd (ok_no_bad c.new.result path e)
 
 pub returns-clause-fails : goal.returns-clause-fails
-returns-clause-fails g c = ok_fails g.S.Store c.args.store.now c.read_all.new.store c.new.result
+returns-clause-fails g c = fails_otherwise g.S.Store c.args.store.now c.read_all.new.store (Ok c.new.result) tt
 
 pub returns-clause-reads : goal.returns-clause-reads
 returns-clause-reads g c = c.read_all.ensures.reads
@@ -146,7 +122,7 @@ returns-in-Some g c =
             subst (λ ns. IsLeastFound folder ns (Some c.in-Some.number)) numbers (subst (IsLeastFound folder c.as_slice.result.now) c.in-Some.is (c.in_ok-entries.ensures.found h)),
           );
       refusal = tt;
-      fails = bad_fails store old c.read_all.new.store place;
+      fails = fails_otherwise store old c.read_all.new.store (Err (BadJournal place)) tt;
       reads = c.read_all.ensures.reads;
     }
 
@@ -161,7 +137,7 @@ returns-in_err-entries g c =
       ok = λ h. IfOk-from_err result (AreListed (undo_folder_of (store.files old)) c.args.head.now) c.from_residual-in_err-entries.ensures.0;
       bad = λ h path e. absurd (c.read_all.ensures.no_bad path (passed_on result given is c.in_err-entries.was e));
       refusal = subst (λ r. IfErr r IsReadRefusal) (sym (is_refused result is)) c.in_err-entries.ensures.refusal;
-      fails = same_fails store old c.read_all.new.store given result c.in_err-entries.field-0.0 c.in_err-entries.was is c.read_all.ensures.fails;
+      fails = same_fails store old old c.read_all.new.store given result c.in_err-entries.field-0.0 c.in_err-entries.was is (reads_none store old) c.read_all.ensures.fails;
       reads = c.read_all.ensures.reads;
     }
 
@@ -173,7 +149,7 @@ returns-in_err-numbers g c =
     let is = is_refused result c.from_residual.ensures.1 in
     record {
       ok = λ h. IfOk-from_err result (AreListed (undo_folder_of (store.files old)) c.args.head.now) c.from_residual.ensures.0;
-      bad = λ h path e. absurd (memory_no_bad store old old result path is e);
+      bad = λ h path e. absurd (memory_no_bad result path is e);
       refusal = subst (λ r. IfErr r IsReadRefusal) (sym is) tt;
       fails = memory_fails store old old result is;
       reads = reads_none store old;
@@ -187,7 +163,7 @@ returns-in_err-entry_path g c =
     let is = is_refused result c.from_residual-in_err-entry_path.ensures.1 in
     record {
       ok = λ h. IfOk-from_err result (AreListed (undo_folder_of (store.files old)) c.args.head.now) c.from_residual-in_err-entry_path.ensures.0;
-      bad = λ h path e. absurd (memory_no_bad store old c.read_all.new.store result path is e);
+      bad = λ h path e. absurd (memory_no_bad result path is e);
       refusal = subst (λ r. IfErr r IsReadRefusal) (sym is) tt;
       fails = memory_fails store old c.read_all.new.store result is;
       reads = c.read_all.ensures.reads;
@@ -201,7 +177,7 @@ returns-in_err-from_slice g c =
     let is = is_refused result c.from_residual-in_err-from_slice.ensures.1 in
     record {
       ok = λ h. IfOk-from_err result (AreListed (undo_folder_of (store.files old)) c.args.head.now) c.from_residual-in_err-from_slice.ensures.0;
-      bad = λ h path e. absurd (memory_no_bad store old c.read_all.new.store result path is e);
+      bad = λ h path e. absurd (memory_no_bad result path is e);
       refusal = subst (λ r. IfErr r IsReadRefusal) (sym is) tt;
       fails = memory_fails store old c.read_all.new.store result is;
       reads = c.read_all.ensures.reads;
@@ -215,7 +191,7 @@ returns-in_err-from_slice-2 g c =
     let is = is_refused result c.from_residual-in_err-from_slice-2.ensures.1 in
     record {
       ok = λ h. IfOk-from_err result (AreListed (undo_folder_of (store.files old)) c.args.head.now) c.from_residual-in_err-from_slice-2.ensures.0;
-      bad = λ h path e. absurd (memory_no_bad store old c.read_all.new.store result path is e);
+      bad = λ h path e. absurd (memory_no_bad result path is e);
       refusal = subst (λ r. IfErr r IsReadRefusal) (sym is) tt;
       fails = memory_fails store old c.read_all.new.store result is;
       reads = c.read_all.ensures.reads;

@@ -28,15 +28,11 @@ use Rattle.reuse_session.proofs.Settling.{is_entry, is_settled, is_stuck, partly
 use Rattle.reuse_session.proofs.OpeningLemmas.{recorded}
 use Rattle.reuse_session.proofs.TakenBack.{was_under_way}
 use Rattle.reuse_session.proofs.JournalReading.{file_in_folder}
+use Rattle.reuse_session.proofs.Asking.{not_done, memory_no_bad, opening_too, reading_cause, reading_no_clash}
 use Rattle.reuse_session.proofs.OnlyReading.{early_files, is_refused, passed_on}
 use Rattle.reuse_session.proofs.opening.settle.Given.{Over}
 use Rattle.reuse_session.proofs.opening.settle.Goals.{After-roll_back}
 use Rattle.reuse_session.proofs.opening.settle.Goals as goal
-
--- want of memory is told, and no other refusal
-not_done : {A E : Type 0} (r : Result A E) (P : Type 0) → IsErr r → OnOk r P
-not_done (Ok x) P e = absurd (cc)
-not_done (Err y) P e = tt
 
 memory_no_moved : {A : Type 0} (r : Result A Refusal) (path : List ℕ) → r ≡ Err Memory → r ≡ Err (Moved path) → ⊥
 memory_no_moved r path is e = absurd (cc)
@@ -44,30 +40,8 @@ memory_no_moved r path is e = absurd (cc)
 memory_no_stop : {A : Type 0} (r : Result A Refusal) (cause : Cause) → r ≡ Err Memory → r ≡ Err (Interrupted cause) → ⊥
 memory_no_stop r cause is e = absurd (cc)
 
-memory_no_bad : {A : Type 0} (r : Result A Refusal) (path : List ℕ) → r ≡ Err Memory → r ≡ Err (BadJournal path) → ⊥
-memory_no_bad r path is e = absurd (cc)
-
 same_or_more : (m n k : ℕ) → m ≡ n → m ≤ n + k
 same_or_more m n k e = omega arith
-
--- a refusal of reading, as one of opening
-opening_too : (refusal : Refusal) → IsReadRefusal refusal → IsOpenRefusal refusal
-opening_too (BadJournal path) is = tt
-opening_too (Moved path) is = tt
-opening_too (Interrupted cause) is = tt
-opening_too refusal is = is
-
-reading_cause : {A S : Type 0} (store : Ghosts S) (old new : S) (refusal : Refusal) → IsReadRefusal refusal → RefusedAsRead {A = A} store old new (Err refusal)
-    → HasCause (store.failures old < store.failures new) refusal
-reading_cause store old new (Fault faults.Device) is fails = fails.device refl
-reading_cause store old new (Fault faults.Memory) is fails = is
-reading_cause store old new (Interrupted cause) is fails = absurd is
-reading_cause store old new refusal is fails = tt
-
-reading_no_clash : {A S : Type 0} (store : Ghosts S) (old new : S) (refusal : Refusal) → IsReadRefusal refusal → RefusedAsRead {A = A} store old new (Err refusal) → store.honest new → IsNoClash refusal
-reading_no_clash store old new (Fault faults.Clash) is fails honest = fails.clash honest refl
-reading_no_clash store old new (Interrupted cause) is fails honest = absurd is
-reading_no_clash store old new refusal is fails honest = tt
 
 pub returns-in_err-entry : goal.returns-in_err-entry
 returns-in_err-entry g c =

@@ -9,17 +9,13 @@ use Rattle.reuse_tree.specs.declared.way.Way.{Way}
 use Rattle.reuse_tree.specs.Entry.{IsReady, IsSmall, LeadsByOneChange, opposite}
 use Rattle.reuse_text.specs.declared.TheConstants.{LONGEST_FILE}
 use Rattle.reuse_session.specs.Carried.{IsSetBack}
-use Rattle.reuse_session.proofs.ReadingLemmas.{absent_is, found_is, long_is}
+use Rattle.reuse_session.proofs.ReadingLemmas.{absent_is, found_is, long_is, too_long}
 use Rattle.reuse_session.proofs.roll_back.set_back.Given.{Over}
 use Rattle.reuse_session.proofs.roll_back.set_back.Goals.{After-set_back_from, After-drop-bytes-inside}
 use Rattle.reuse_session.proofs.roll_back.set_back.Goals as goal
 
 past : {old mid new : ℕ} → old ≤ mid → mid < new → old < new
 past a b = omega arith
-
--- a file that a change can be gone through from isn't too long
-too_long : (way : Way) (change : Change) (bytes : List ℕ) → IsSmall change → LONGEST_FILE < length bytes → IsReady way change (Some bytes) → ⊥
-too_long way change bytes small long ready = grind (arith, common_steps)
 
 pub returns-in-TooLong-clause-moved : goal.returns-in-TooLong-clause-moved
 returns-in-TooLong-clause-moved g c honest proper small e =

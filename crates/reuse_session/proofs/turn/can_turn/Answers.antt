@@ -5,12 +5,8 @@ use Rattle.reuse_text.specs.declared.TheConstants.{LONGEST_FILE}
 use Rattle.reuse_tree.specs.declared.change.Change.{Change}
 use Rattle.reuse_tree.specs.declared.way.Way.{Way}
 use Rattle.reuse_tree.specs.Entry.{IsReady, IsSmall}
-use Rattle.reuse_session.proofs.ReadingLemmas.{long_is}
+use Rattle.reuse_session.proofs.ReadingLemmas.{long_is, too_long}
 use Rattle.reuse_session.proofs.turn.can_turn.Goals as goal
-
--- a file that a change can be gone through from isn't too long
-too_long : (way : Way) (change : Change) (bytes : List ℕ) → IsSmall change → LONGEST_FILE < length bytes → IsReady way change (Some bytes) → ⊥
-too_long way change bytes small long ready = grind (arith, common_steps)
 
 pub returns-in-TooLong-clause-ok : goal.returns-in-TooLong-clause-ok
 returns-in-TooLong-clause-ok g c honest proper small =

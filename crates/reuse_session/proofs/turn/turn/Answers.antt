@@ -8,17 +8,13 @@ use Rattle.reuse_tree.specs.Files.{Clashes}
 use Rattle.reuse_tree.specs.declared.change.Change.{Change}
 use Rattle.reuse_tree.specs.declared.way.Way.{Way}
 use Rattle.reuse_tree.specs.Entry.{IsReady, IsSmall, LeadsByOneChange}
-use Rattle.reuse_session.proofs.ReadingLemmas.{absent_is, found_is, long_is}
+use Rattle.reuse_session.proofs.ReadingLemmas.{absent_is, found_is, long_is, too_long}
 use Rattle.reuse_session.proofs.turn.turn.Given.{Over}
 use Rattle.reuse_session.proofs.turn.turn.Goals.{After-turn_from, After-drop-bytes-inside}
 use Rattle.reuse_session.proofs.turn.turn.Goals as goal
 
 past : {old mid new : ℕ} → old ≤ mid → mid < new → old < new
 past a b = omega arith
-
--- a file that a change can be gone through from isn't too long
-too_long : (way : Way) (change : Change) (bytes : List ℕ) → IsSmall change → LONGEST_FILE < length bytes → IsReady way change (Some bytes) → ⊥
-too_long way change bytes small long ready = grind (arith, common_steps)
 
 -- what the path of the change held
 absent : (g : Over) (c : After-turn_from g) → g.S.Store.honest c.read.new.self → get (g.S.Store.files c.args.store.now) (path_of c.args.change.now) ≡ None
