@@ -95,23 +95,8 @@ look_faults faults.Memory = tt
 
 -- ---- of the journal's files
 
--- an answer that is an error isn't done
-pub not_done : {A E : Type 0} (answer : Result A E) (Done : Type 0) → IsErr answer → OnOk answer Done
-not_done (Ok x) Done e = absurd (cc)
-not_done (Err y) Done e = tt
-
-pub told_fault : {A : Type 0} (answer : Result A Refusal) (fault told : StoreFault) → answer ≡ Err (refusal_of fault) → answer ≡ Err (Fault told) → fault ≡ told
-told_fault answer faults.Memory told is e = absurd (cc)
-told_fault answer faults.Device told is e = cc
-told_fault answer faults.Clash told is e = cc
-
 pub memory_fails : {S A : Type 0} (store : Ghosts S) (old new : S) (answer : Result A Refusal) → answer ≡ Err Memory → RefusedAsRead store old new answer
 memory_fails store old new answer is = subst (RefusedAsRead store old new) (sym is) (fails_otherwise store old new (Err Memory) tt)
-
-pub fault_fails : {S A B : Type 0} (store : Ghosts S) (old new : S) (given : Result B StoreFault) (answer : Result A Refusal) (fault : StoreFault) → given ≡ Err fault → answer ≡ Err (refusal_of fault)
-    → FailsAsRead store old new given → RefusedAsRead store old new answer
-fault_fails {S} {A} {B} store old new given answer fault was is fails =
-    fails_behind {B = B} store old old new fault answer is (reads_none store old) (subst (λ (r : Result B StoreFault). FailsAsRead store old new r) was fails)
 
 -- a refusal that is passed on, behind some readings
 pub same_fails : {S A B : Type 0} (store : Ghosts S) (old mid new : S) (given : Result B Refusal) (answer : Result A Refusal) (refusal : Refusal)
@@ -127,16 +112,6 @@ ok_no_bad x path e = absurd (cc)
 
 pub memory_no_bad : {A : Type 0} (answer : Result A Refusal) (path : List ℕ) → answer ≡ Err Memory → answer ≡ Err (BadJournal path) → ⊥
 memory_no_bad answer path is e = absurd (cc)
-
-pub fault_no_bad : {A : Type 0} (answer : Result A Refusal) (fault : StoreFault) (path : List ℕ) → answer ≡ Err (refusal_of fault) → answer ≡ Err (BadJournal path) → ⊥
-fault_no_bad answer faults.Memory path is e = absurd (cc)
-fault_no_bad answer faults.Device path is e = absurd (cc)
-fault_no_bad answer faults.Clash path is e = absurd (cc)
-
-pub read_faults : (fault : StoreFault) → IsReadRefusal (refusal_of fault)
-read_faults faults.Memory = tt
-read_faults faults.Device = tt
-read_faults faults.Clash = tt
 
 -- a refusal of reading, as one of opening
 pub opening_too : (refusal : Refusal) → IsReadRefusal refusal → IsOpenRefusal refusal

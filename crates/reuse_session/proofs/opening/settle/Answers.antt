@@ -1,14 +1,11 @@
-use Rattle.std.proofs.Common.{◌≡◌, ◌<◌, ◌≤◌, ◌+◌, ◌⊎◌, inl, inr, ℕ, MatchResult, List, refl, arith, length, Some, None, Result, Ok, Err, IfErr, OnOk, sym, ap, subst, ◌∙◌}
+use Rattle.std.proofs.Common.{◌≡◌, ◌⊎◌, inr, MatchResult, List, refl, arith, length, Some, None, Err, IfErr, OnOk, sym, ap, subst, ◌∙◌}
 use Rattle.std.specs.FinMap.{get}
 use Rattle.std.specs.List.{All}
-use Rattle.std.proofs.lemmas.Result.{IfErr-at_err, IfErr-weaker, on_ok_weaker}
+use Rattle.std.proofs.lemmas.Result.{err_from_is_err_and, IfErr-weaker, on_ok_weaker}
 use Rattle.reuse_tree.specs.Asked.{OnlyReads}
-use Rattle.reuse_tree.proofs.AskedLemmas.{reads_more, later_reads}
+use Rattle.reuse_tree.proofs.AskedLemmas.{reads_more}
 use Rattle.reuse_tree.specs.Files.{AreFiles, Clashes, Files, tree_of}
-use Rattle.reuse_session.specs.Answer.{HasCause, IsEarly, IsFailure, IsNoClash, IsOpenRefusal, IsReadRefusal, RefusedAsRead}
-use Rattle.std.specs.Result.{IsErr}
-use Rattle.reuse_session.specs.declared.reply.Cause.{Cause}
-use Rattle.reuse_session.specs.declared.reply.Refusal.{Refusal}
+use Rattle.reuse_session.specs.Answer.{IsEarly, IsFailure}
 use Rattle.reuse_session.specs.Carried.{IsRolledBack, StopsRollingBack}
 use Rattle.reuse_tree.specs.Entry.{IsEntry, ArePartlyMade, CanBeSetBack, IsFirstWithout}
 use Rattle.reuse_tree.specs.Head.{way_of, IsGoodHead}
@@ -20,120 +17,42 @@ use Rattle.reuse_session.specs.Standing.{IsStanding, IsUnderWay}
 use Rattle.reuse_tree.specs.Tree.{undo_folder_of}
 use Rattle.reuse_tree.specs.declared.change.Change.{Change}
 use Rattle.reuse_tree.specs.declared.way.Way.{Way}
-use Rattle.reuse_session.specs.declared.reply.Refusal.TheVariants.{BadJournal, Fault, Interrupted, Memory, Moved}
-use Rattle.reuse_tree.specs.declared.fault.StoreFault.TheVariants as faults
-use Rattle.reuse_tree.specs.declared.store.Store.{Ghosts}
+use Rattle.reuse_session.specs.declared.reply.Refusal.TheVariants.{Memory}
 use Rattle.reuse_session.specs.Journal.{Journal, Recorded, State}
 use Rattle.reuse_session.proofs.Settling.{is_entry, is_settled, is_stuck, partly_made, settles, settled_good, settled_sound, head_fits, at_same, pending_readable, stays_under_way, read_failure}
 use Rattle.reuse_session.proofs.OpeningLemmas.{recorded}
 use Rattle.reuse_session.proofs.TakenBack.{was_under_way}
 use Rattle.reuse_session.proofs.JournalReading.{file_in_folder}
-use Rattle.reuse_session.proofs.Asking.{not_done, memory_no_bad, opening_too, reading_cause, reading_no_clash}
-use Rattle.reuse_session.proofs.OnlyReading.{early_files, is_refused, passed_on}
+use Rattle.reuse_session.proofs.OnlyReading.{early_files, passed_on}
 use Rattle.reuse_session.proofs.opening.settle.Given.{Over}
 use Rattle.reuse_session.proofs.opening.settle.Goals.{After-roll_back}
 use Rattle.reuse_session.proofs.opening.settle.Goals as goal
 
-memory_no_moved : {A : Type 0} (r : Result A Refusal) (path : List ℕ) → r ≡ Err Memory → r ≡ Err (Moved path) → ⊥
-memory_no_moved r path is e = absurd (cc)
-
-memory_no_stop : {A : Type 0} (r : Result A Refusal) (cause : Cause) → r ≡ Err Memory → r ≡ Err (Interrupted cause) → ⊥
-memory_no_stop r cause is e = absurd (cc)
-
-same_or_more : (m n k : ℕ) → m ≡ n → m ≤ n + k
-same_or_more m n k e = omega arith
-
-pub returns-in_err-entry : goal.returns-in_err-entry
-returns-in_err-entry g c =
-    let store = g.S.Store in
-    let old = c.args.store.now in
-    let new = c.read_entry.new.store in
-    let call = c.read_entry.result in
-    let result = c.from_residual.result in
+pub returns-in_err-entry-clause-settles : goal.returns-in_err-entry-clause-settles
+returns-in_err-entry-clause-settles g c honest journal read step first number under =
+    let files = g.S.Store.files in
+    let p = err_from_is_err_and c.from_residual.result c.from_residual.ensures.1 in
     let refusal = c.in_err-entry.field-0.0 in
-    let was = c.in_err-entry.was in
-    let given = c.from_residual.ensures.1 in
-    let is = is_refused result given in
-    let err = c.from_residual.ensures.0 in
-    let reads = c.read_entry.ensures.reads in
-    let kind = c.in_err-entry.ensures.refusal in
-    let fails = subst (λ r. RefusedAsRead store old new r) was c.read_entry.ensures.fails in
-    record {
-      done = λ h journal read. not_done result _ err;
-      moved = λ h journal read path e. absurd (IfErr-at_err IsReadRefusal (passed_on result call given was e) c.read_entry.ensures.refusal);
-      settles = λ h journal read step first number under.
-          let readable = pending_readable (store.files old) c.args.pending c.args.history.now journal read in
-          let failure = read_failure refusal kind (λ path e. (c.read_entry.ensures.bad h path (was ∙ ap (λ x. Err x) e)).1 readable.0 readable.1) in
-          stays_under_way result refusal refusal c.args.pending.way step first (store.files old) (store.files new) is refl failure (reads.files h) under;
-      interrupted = λ h journal read cause e. absurd (IfErr-at_err IsReadRefusal (passed_on result call given was e) c.read_entry.ensures.refusal);
-      early = subst (λ r. IfErr r (λ refusal. IsEarly refusal → OnlyReads store old new)) (sym is) (λ early. reads);
-      late = λ cause e other. absurd (IfErr-at_err IsReadRefusal (passed_on result call given was e) c.read_entry.ensures.refusal);
-      folder = λ h journal read other ne. ap (λ f. get (undo_folder_of f) other) (reads.files h);
-      texts = λ h journal read. not_done result _ err;
-      no_bad = λ h journal read path e.
-          let readable = pending_readable (store.files old) c.args.pending c.args.history.now journal read in
-          (c.read_entry.ensures.bad h path (passed_on result call given was e)).1 readable.0 readable.1;
-      written = λ h journal read. same_or_more _ _ _ reads.written;
-      moves = λ h. inl reads.moves;
-      refusal = subst (λ r. IfErr r IsOpenRefusal) (sym is) (opening_too refusal kind);
-      clash = λ h journal read. subst (λ r. IfErr r IsNoClash) (sym is) (reading_no_clash store old new refusal kind fails h);
-      fault = subst (λ r. IfErr r (HasCause (store.failures old < store.failures new))) (sym is) (reading_cause store old new refusal kind fails);
-      later = later_reads store old new reads;
-    }
+    let readable = pending_readable (files c.args.store.now) c.args.pending c.args.history.now journal read in
+    let failure = read_failure refusal c.in_err-entry.ensures.refusal (λ path e. (c.read_entry.ensures.bad honest path (c.in_err-entry.was ∙ ap (λ x. Err x) e)).1 readable.0 readable.1) in
+    stays_under_way c.from_residual.result p.0 refusal c.args.pending.way step first (files c.args.store.now) (files c.read_entry.new.store) p.1 p.2 failure (c.read_entry.ensures.reads.files honest) under
 
-pub returns-in_err-settled : goal.returns-in_err-settled
-returns-in_err-settled g c =
-    let store = g.S.Store in
-    let old = c.args.store.now in
-    let new = c.read_entry.new.store in
-    let result = c.from_residual-in_err-settled.result in
-    let is = is_refused result c.from_residual-in_err-settled.ensures.1 in
-    let err = c.from_residual-in_err-settled.ensures.0 in
-    let reads = c.read_entry.ensures.reads in
-    record {
-      done = λ h journal read. not_done result _ err;
-      moved = λ h journal read path e. absurd (memory_no_moved result path is e);
-      settles = λ h journal read step first number under. stays_under_way result Memory Memory c.args.pending.way step first (store.files old) (store.files new) is refl tt (reads.files h) under;
-      interrupted = λ h journal read cause e. absurd (memory_no_stop result cause is e);
-      early = subst (λ r. IfErr r (λ refusal. IsEarly refusal → OnlyReads store old new)) (sym is) (λ early. reads);
-      late = λ cause e other. absurd (memory_no_stop result cause is e);
-      folder = λ h journal read other ne. ap (λ f. get (undo_folder_of f) other) (reads.files h);
-      texts = λ h journal read. not_done result _ err;
-      no_bad = λ h journal read path. memory_no_bad result path is;
-      written = λ h journal read. same_or_more _ _ _ reads.written;
-      moves = λ h. inl reads.moves;
-      refusal = subst (λ r. IfErr r IsOpenRefusal) (sym is) tt;
-      clash = λ h journal read. subst (λ r. IfErr r IsNoClash) (sym is) tt;
-      fault = subst (λ r. IfErr r (HasCause (store.failures old < store.failures new))) (sym is) tt;
-      later = later_reads store old new reads;
-    }
+pub returns-in_err-entry-clause-no_bad : goal.returns-in_err-entry-clause-no_bad
+returns-in_err-entry-clause-no_bad g c honest journal read path e =
+    let readable = pending_readable (g.S.Store.files c.args.store.now) c.args.pending c.args.history.now journal read in
+    (c.read_entry.ensures.bad honest path (passed_on c.from_residual.result c.read_entry.result c.from_residual.ensures.1 c.in_err-entry.was e)).1 readable.0 readable.1
 
-pub returns-in_err-head : goal.returns-in_err-head
-returns-in_err-head g c =
-    let store = g.S.Store in
-    let old = c.args.store.now in
-    let new = c.read_entry.new.store in
-    let result = c.from_residual-in_err-head.result in
-    let is = is_refused result c.from_residual-in_err-head.ensures.1 in
-    let err = c.from_residual-in_err-head.ensures.0 in
-    let reads = c.read_entry.ensures.reads in
-    record {
-      done = λ h journal read. not_done result _ err;
-      moved = λ h journal read path e. absurd (memory_no_moved result path is e);
-      settles = λ h journal read step first number under. stays_under_way result Memory Memory c.args.pending.way step first (store.files old) (store.files new) is refl tt (reads.files h) under;
-      interrupted = λ h journal read cause e. absurd (memory_no_stop result cause is e);
-      early = subst (λ r. IfErr r (λ refusal. IsEarly refusal → OnlyReads store old new)) (sym is) (λ early. reads);
-      late = λ cause e other. absurd (memory_no_stop result cause is e);
-      folder = λ h journal read other ne. ap (λ f. get (undo_folder_of f) other) (reads.files h);
-      texts = λ h journal read. not_done result _ err;
-      no_bad = λ h journal read path. memory_no_bad result path is;
-      written = λ h journal read. same_or_more _ _ _ reads.written;
-      moves = λ h. inl reads.moves;
-      refusal = subst (λ r. IfErr r IsOpenRefusal) (sym is) tt;
-      clash = λ h journal read. subst (λ r. IfErr r IsNoClash) (sym is) tt;
-      fault = subst (λ r. IfErr r (HasCause (store.failures old < store.failures new))) (sym is) tt;
-      later = later_reads store old new reads;
-    }
+pub returns-in_err-settled-clause-settles : goal.returns-in_err-settled-clause-settles
+returns-in_err-settled-clause-settles g c honest journal read step first number under =
+    let files = g.S.Store.files in
+    let p = err_from_is_err_and c.from_residual-in_err-settled.result c.from_residual-in_err-settled.ensures.1 in
+    stays_under_way c.from_residual-in_err-settled.result p.0 Memory c.args.pending.way step first (files c.args.store.now) (files c.read_entry.new.store) p.1 p.2 tt (c.read_entry.ensures.reads.files honest) under
+
+pub returns-in_err-head-clause-settles : goal.returns-in_err-head-clause-settles
+returns-in_err-head-clause-settles g c honest journal read step first number under =
+    let files = g.S.Store.files in
+    let p = err_from_is_err_and c.from_residual-in_err-head.result c.from_residual-in_err-head.ensures.1 in
+    stays_under_way c.from_residual-in_err-head.result p.0 Memory c.args.pending.way step first (files c.args.store.now) (files c.read_entry.new.store) p.1 p.2 tt (c.read_entry.ensures.reads.files honest) under
 
 -- what is known once the pending step is rolled back, or isn't
 module _ (g : Over) (c : After-roll_back g) (honest : g.S.Store.honest c.roll_back.new.store) (journal : Journal) (read : IsRead (g.S.Store.files c.args.store.now) (Some c.args.pending) c.args.history.now journal) where
