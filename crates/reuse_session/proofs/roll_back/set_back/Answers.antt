@@ -14,9 +14,6 @@ use Rattle.reuse_session.proofs.roll_back.set_back.Given.{Over}
 use Rattle.reuse_session.proofs.roll_back.set_back.Goals.{After-set_back_from, After-drop-bytes-inside}
 use Rattle.reuse_session.proofs.roll_back.set_back.Goals as goal
 
-past : {old mid new : ℕ} → old ≤ mid → mid < new → old < new
-past a b = omega arith
-
 pub returns-in-TooLong-clause-moved : goal.returns-in-TooLong-clause-moved
 returns-in-TooLong-clause-moved g c honest proper small e =
     let file = long_is _ LONGEST_FILE (sym c.in-TooLong.is ∙ c.in_ok-read.ensures.reading honest) in
@@ -63,19 +60,6 @@ returns-in-Absent-clause-clash g c honest proper small e =
     let clash = c.set_back_from.ensures.clash honest proper (ap (λ f. get f (path_of c.args.change.now)) same ∙ here) e in
     (λ ready. clash.0 (subst (IsReady c.args.way c.args.change.now) here ready), clash.1, subst (λ f. Clashes f (path_of c.args.change.now)) same clash.2)
 
-pub returns-in-Absent-clause-device : goal.returns-in-Absent-clause-device
-returns-in-Absent-clause-device g c e = past c.read.ensures.reads.failures (c.set_back_from.ensures.device e)
-
-pub returns-in-Absent-clause-written : goal.returns-in-Absent-clause-written
-returns-in-Absent-clause-written g c of_tree = c.set_back_from.ensures.written of_tree ∙ c.read.ensures.reads.written
-
-pub returns-in-Absent-clause-moves : goal.returns-in-Absent-clause-moves
-returns-in-Absent-clause-moves g c = subst (λ n. g.S.Store.moves c.set_back_from.new.store ≤ n + 1) c.read.ensures.reads.moves c.set_back_from.ensures.moves
-
-pub returns-in-Absent-clause-later : goal.returns-in-Absent-clause-later
-returns-in-Absent-clause-later g c =
-    later_more g.S.Store c.args.store.now c.read.new.self c.set_back_from.new.store (later_reads g.S.Store c.args.store.now c.read.new.self c.read.ensures.reads) c.set_back_from.ensures.later
-
 pub returns-in-Found-clause-ok : goal.returns-in-Found-clause-ok
 returns-in-Found-clause-ok g c honest proper small =
     let new = g.S.Store.files c.set_back_from-in-Found.new.store in
@@ -103,16 +87,3 @@ returns-in-Found-clause-clash g c honest proper small e =
     let here = found g c reading in
     let clash = c.set_back_from-in-Found.ensures.clash honest proper (ap (λ f. get f (path_of c.args.change.now)) same ∙ here) e in
     (λ ready. clash.0 (subst (IsReady c.args.way c.args.change.now) here ready), clash.1, subst (λ f. Clashes f (path_of c.args.change.now)) same clash.2)
-
-pub returns-in-Found-clause-device : goal.returns-in-Found-clause-device
-returns-in-Found-clause-device g c e = past c.read.ensures.reads.failures (c.set_back_from-in-Found.ensures.device e)
-
-pub returns-in-Found-clause-written : goal.returns-in-Found-clause-written
-returns-in-Found-clause-written g c of_tree = c.set_back_from-in-Found.ensures.written of_tree ∙ c.read.ensures.reads.written
-
-pub returns-in-Found-clause-moves : goal.returns-in-Found-clause-moves
-returns-in-Found-clause-moves g c = subst (λ n. g.S.Store.moves c.set_back_from-in-Found.new.store ≤ n + 1) c.read.ensures.reads.moves c.set_back_from-in-Found.ensures.moves
-
-pub returns-in-Found-clause-later : goal.returns-in-Found-clause-later
-returns-in-Found-clause-later g c =
-    later_more g.S.Store c.args.store.now c.read.new.self c.set_back_from-in-Found.new.store (later_reads g.S.Store c.args.store.now c.read.new.self c.read.ensures.reads) c.set_back_from-in-Found.ensures.later

@@ -13,9 +13,6 @@ use Rattle.reuse_session.proofs.turn.turn.Given.{Over}
 use Rattle.reuse_session.proofs.turn.turn.Goals.{After-turn_from, After-drop-bytes-inside}
 use Rattle.reuse_session.proofs.turn.turn.Goals as goal
 
-past : {old mid new : ℕ} → old ≤ mid → mid < new → old < new
-past a b = omega arith
-
 -- what the path of the change held
 absent : (g : Over) (c : After-turn_from g) → g.S.Store.honest c.read.new.self → get (g.S.Store.files c.args.store.now) (path_of c.args.change.now) ≡ None
 absent g c reading =
@@ -51,19 +48,6 @@ returns-in-Absent-clause-clash g c honest e =
     let clash = c.turn_from.ensures.clash honest (ap (λ f. get f (path_of c.args.change.now)) same ∙ absent g c reading) e in
     (clash.0, subst (λ f. Clashes f (path_of c.args.change.now)) same clash.1)
 
-pub returns-in-Absent-clause-device : goal.returns-in-Absent-clause-device
-returns-in-Absent-clause-device g c e = past c.read.ensures.reads.failures (c.turn_from.ensures.device e)
-
-pub returns-in-Absent-clause-written : goal.returns-in-Absent-clause-written
-returns-in-Absent-clause-written g c of_tree = c.turn_from.ensures.written of_tree ∙ c.read.ensures.reads.written
-
-pub returns-in-Absent-clause-moves : goal.returns-in-Absent-clause-moves
-returns-in-Absent-clause-moves g c = subst (λ n. g.S.Store.moves c.turn_from.new.store ≤ n + 1) c.read.ensures.reads.moves c.turn_from.ensures.moves
-
-pub returns-in-Absent-clause-later : goal.returns-in-Absent-clause-later
-returns-in-Absent-clause-later g c =
-    later_more g.S.Store c.args.store.now c.read.new.self c.turn_from.new.store (later_reads g.S.Store c.args.store.now c.read.new.self c.read.ensures.reads) c.turn_from.ensures.later
-
 pub returns-in-Found-clause-ok : goal.returns-in-Found-clause-ok
 returns-in-Found-clause-ok g c honest =
     let new = g.S.Store.files c.turn_from-in-Found.new.store in
@@ -88,19 +72,6 @@ returns-in-Found-clause-clash g c honest e =
     let same = c.read.ensures.reads.files reading in
     let clash = c.turn_from-in-Found.ensures.clash honest (ap (λ f. get f (path_of c.args.change.now)) same ∙ found g c reading) e in
     (clash.0, subst (λ f. Clashes f (path_of c.args.change.now)) same clash.1)
-
-pub returns-in-Found-clause-device : goal.returns-in-Found-clause-device
-returns-in-Found-clause-device g c e = past c.read.ensures.reads.failures (c.turn_from-in-Found.ensures.device e)
-
-pub returns-in-Found-clause-written : goal.returns-in-Found-clause-written
-returns-in-Found-clause-written g c of_tree = c.turn_from-in-Found.ensures.written of_tree ∙ c.read.ensures.reads.written
-
-pub returns-in-Found-clause-moves : goal.returns-in-Found-clause-moves
-returns-in-Found-clause-moves g c = subst (λ n. g.S.Store.moves c.turn_from-in-Found.new.store ≤ n + 1) c.read.ensures.reads.moves c.turn_from-in-Found.ensures.moves
-
-pub returns-in-Found-clause-later : goal.returns-in-Found-clause-later
-returns-in-Found-clause-later g c =
-    later_more g.S.Store c.args.store.now c.read.new.self c.turn_from-in-Found.new.store (later_reads g.S.Store c.args.store.now c.read.new.self c.read.ensures.reads) c.turn_from-in-Found.ensures.later
 
 pub returns-in-TooLong-clause-moved : goal.returns-in-TooLong-clause-moved
 returns-in-TooLong-clause-moved g c honest proper small e ready =
