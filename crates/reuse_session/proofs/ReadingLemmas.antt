@@ -1,8 +1,10 @@
 -- What was read of a path says what the path has.
-use Rattle.std.proofs.Common.{◌≡◌, ℕ, ◌<◌, ◌≤◌, Bool, true, false, cond, nat_le, List, length, Option, Some, None, IsSome, refl, sym, ap, subst, arith}
+use Rattle.std.proofs.Common.{◌≡◌, ◌∙◌, ℕ, ◌<◌, ◌≤◌, Bool, true, false, cond, nat_le, List, length, Option, Some, None, IsSome, refl, sym, ap, subst, arith}
 use Rattle.std.proofs.lemmas.Bool.Decides.{nat_tests}
 use Rattle.std.proofs.lemmas.Grind.{common_steps}
 use Rattle.reuse_tree.specs.declared.store.Reading.TheVariants.{Absent, Found, TooLong}
+use Rattle.std.specs.FinMap.{get}
+use Rattle.reuse_tree.specs.Files.{Files}
 use Rattle.reuse_tree.specs.Store.{reading_of}
 use Rattle.reuse_tree.specs.declared.change.Change.{Change}
 use Rattle.reuse_tree.specs.declared.way.Way.{Way}
@@ -47,6 +49,13 @@ found_is (Some other) limit bytes e = by_test (nat_le (length other) limit) refl
 pub there_is : (file : Option (List ℕ)) (limit : ℕ) → (reading_of file limit ≡ Absent → ⊥) → IsSome file
 there_is None limit h = absurd (h refl)
 there_is (Some bytes) limit h = refl
+
+-- what a path holds, once it was read
+pub absent_at : (files : Files) (path asked : List ℕ) (limit : ℕ) → asked ≡ path → Absent ≡ reading_of (get files asked) limit → get files path ≡ None
+absent_at files path asked limit same is = ap (get files) (sym same) ∙ absent_is (get files asked) limit is
+
+pub found_at : (files : Files) (path asked bytes held : List ℕ) (limit : ℕ) → asked ≡ path → held ≡ bytes → Found bytes ≡ reading_of (get files asked) limit → get files path ≡ Some held
+found_at files path asked bytes held limit same lent is = ap (get files) (sym same) ∙ (found_is (get files asked) limit bytes is).0 ∙ ap (λ b. Some b) (sym lent)
 
 -- a file that a change can be gone through from isn't too long
 pub too_long : (way : Way) (change : Change) (bytes : List ℕ) → IsSmall change → LONGEST_FILE < length bytes → IsReady way change (Some bytes) → ⊥

@@ -1,8 +1,7 @@
 //! The paths of a tree, in byte order.
 ghost use Rattle.std.specs.Prelude.{◌≡◌, IfOk};
-ghost use Rattle.std.specs.FinMap.{keys};
-ghost use Rattle.reuse_tree.specs.Asked.{OnlyReads, FailsAsRead};
-ghost use Rattle.reuse_tree.specs.Files.{tree_of};
+ghost use Rattle.reuse_tree.specs.Asked.{FailsAsRead};
+ghost use Rattle.reuse_session.specs.Reading.{keys, tree_of, OnlyReads};
 
 use reuse_tree::{PathText, Store, StoreFault};
 use std::alloc::Global;

@@ -9,7 +9,7 @@ use Rattle.reuse_tree.specs.declared.way.Way.{Way}
 use Rattle.reuse_tree.specs.Entry.{IsReady, IsSmall, LeadsByOneChange, opposite}
 use Rattle.reuse_text.specs.declared.TheConstants.{LONGEST_FILE}
 use Rattle.reuse_session.specs.Carried.{IsSetBack}
-use Rattle.reuse_session.proofs.ReadingLemmas.{absent_is, found_is, long_is, too_long}
+use Rattle.reuse_session.proofs.ReadingLemmas.{absent_at, found_at, long_is, too_long}
 use Rattle.reuse_session.proofs.roll_back.set_back.Given.{Over}
 use Rattle.reuse_session.proofs.roll_back.set_back.Goals.{After-set_back_from, After-drop-bytes-inside}
 use Rattle.reuse_session.proofs.roll_back.set_back.Goals as goal
@@ -24,13 +24,10 @@ returns-in-TooLong-clause-moved g c honest proper small e =
 
 -- what the path of the change held
 absent : (g : Over) (c : After-set_back_from g) → g.S.Store.honest c.read.new.self → get (g.S.Store.files c.args.store.now) (path_of c.args.change.now) ≡ None
-absent g c reading =
-    ap (get (g.S.Store.files c.args.store.now)) (sym c.path.ensures) ∙ absent_is _ LONGEST_FILE (sym c.in-Absent.is ∙ c.in_ok-read.ensures.reading reading)
+absent g c reading = absent_at (g.S.Store.files c.args.store.now) _ _ LONGEST_FILE c.path.ensures (sym c.in-Absent.is ∙ c.in_ok-read.ensures.reading reading)
 
 found : (g : Over) (c : After-drop-bytes-inside g) → g.S.Store.honest c.read.new.self → get (g.S.Store.files c.args.store.now) (path_of c.args.change.now) ≡ Some c.as_slice.result.now
-found g c reading =
-    ap (get (g.S.Store.files c.args.store.now)) (sym c.path.ensures) ∙ (found_is _ LONGEST_FILE c.in-Found.bytes (sym c.in-Found.is ∙ c.in_ok-read.ensures.reading reading)).0
-    ∙ ap (λ b. Some b) (sym c.as_slice.ensures)
+found g c reading = found_at (g.S.Store.files c.args.store.now) _ _ _ _ LONGEST_FILE c.path.ensures c.as_slice.ensures (sym c.in-Found.is ∙ c.in_ok-read.ensures.reading reading)
 
 pub returns-in-Absent-clause-ok : goal.returns-in-Absent-clause-ok
 returns-in-Absent-clause-ok g c honest proper small =

@@ -8,20 +8,17 @@ use Rattle.reuse_tree.specs.Files.{Clashes}
 use Rattle.reuse_tree.specs.declared.change.Change.{Change}
 use Rattle.reuse_tree.specs.declared.way.Way.{Way}
 use Rattle.reuse_tree.specs.Entry.{IsReady, IsSmall, LeadsByOneChange}
-use Rattle.reuse_session.proofs.ReadingLemmas.{absent_is, found_is, long_is, too_long}
+use Rattle.reuse_session.proofs.ReadingLemmas.{absent_at, found_at, long_is, too_long}
 use Rattle.reuse_session.proofs.turn.turn.Given.{Over}
 use Rattle.reuse_session.proofs.turn.turn.Goals.{After-turn_from, After-drop-bytes-inside}
 use Rattle.reuse_session.proofs.turn.turn.Goals as goal
 
 -- what the path of the change held
 absent : (g : Over) (c : After-turn_from g) → g.S.Store.honest c.read.new.self → get (g.S.Store.files c.args.store.now) (path_of c.args.change.now) ≡ None
-absent g c reading =
-    ap (get (g.S.Store.files c.args.store.now)) (sym c.path.ensures) ∙ absent_is _ LONGEST_FILE (sym c.in-Absent.is ∙ c.in_ok-read.ensures.reading reading)
+absent g c reading = absent_at (g.S.Store.files c.args.store.now) _ _ LONGEST_FILE c.path.ensures (sym c.in-Absent.is ∙ c.in_ok-read.ensures.reading reading)
 
 found : (g : Over) (c : After-drop-bytes-inside g) → g.S.Store.honest c.read.new.self → get (g.S.Store.files c.args.store.now) (path_of c.args.change.now) ≡ Some c.as_slice.result.now
-found g c reading =
-    ap (get (g.S.Store.files c.args.store.now)) (sym c.path.ensures) ∙ (found_is _ LONGEST_FILE c.in-Found.bytes (sym c.in-Found.is ∙ c.in_ok-read.ensures.reading reading)).0
-    ∙ ap (λ b. Some b) (sym c.as_slice.ensures)
+found g c reading = found_at (g.S.Store.files c.args.store.now) _ _ _ _ LONGEST_FILE c.path.ensures c.as_slice.ensures (sym c.in-Found.is ∙ c.in_ok-read.ensures.reading reading)
 
 pub returns-in-Absent-clause-ok : goal.returns-in-Absent-clause-ok
 returns-in-Absent-clause-ok g c honest =
