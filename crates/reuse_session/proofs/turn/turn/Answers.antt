@@ -17,9 +17,6 @@ use Rattle.reuse_session.proofs.turn.turn.Goals as goal
 absent : (g : Over) (c : After-turn_from g) → g.S.Store.honest c.read.new.self → get (g.S.Store.files c.args.store.now) (path_of c.args.change.now) ≡ None
 absent g c reading = absent_at (g.S.Store.files c.args.store.now) _ _ LONGEST_FILE c.path.ensures (sym c.in-Absent.is ∙ c.in_ok-read.ensures.reading reading)
 
-found : (g : Over) (c : After-drop-bytes-inside g) → g.S.Store.honest c.read.new.self → get (g.S.Store.files c.args.store.now) (path_of c.args.change.now) ≡ Some c.as_slice.result.now
-found g c reading = found_at (g.S.Store.files c.args.store.now) _ _ _ _ LONGEST_FILE c.path.ensures c.as_slice.ensures (sym c.in-Found.is ∙ c.in_ok-read.ensures.reading reading)
-
 pub returns-in-Absent-clause-ok : goal.returns-in-Absent-clause-ok
 returns-in-Absent-clause-ok g c honest =
     let new = g.S.Store.files c.turn_from.new.store in
@@ -44,6 +41,9 @@ returns-in-Absent-clause-clash g c honest e =
     let same = c.read.ensures.reads.files reading in
     let clash = c.turn_from.ensures.clash honest (ap (λ f. get f (path_of c.args.change.now)) same ∙ absent g c reading) e in
     (clash.0, subst (λ f. Clashes f (path_of c.args.change.now)) same clash.1)
+
+found : (g : Over) (c : After-drop-bytes-inside g) → g.S.Store.honest c.read.new.self → get (g.S.Store.files c.args.store.now) (path_of c.args.change.now) ≡ Some c.as_slice.result.now
+found g c reading = found_at (g.S.Store.files c.args.store.now) _ _ _ _ LONGEST_FILE c.path.ensures c.as_slice.ensures (sym c.in-Found.is ∙ c.in_ok-read.ensures.reading reading)
 
 pub returns-in-Found-clause-ok : goal.returns-in-Found-clause-ok
 returns-in-Found-clause-ok g c honest =
