@@ -1,6 +1,5 @@
 -- Calls that only read a store: what they tell of a fault, by what they were told.
-use Rattle.std.proofs.Common.{◌≡◌, ◌<◌, List, ℕ, Result, Ok, Err, IfErr, IsErrAnd, OnOk, refl, sym, ap, subst, arith}
-use Rattle.std.specs.Result.{IsErr}
+use Rattle.std.proofs.Common.{◌≡◌, ◌<◌, List, ℕ, Result, Ok, Err, IfErr, IsErrAnd, refl, sym, subst, arith}
 use Rattle.reuse_tree.specs.Asked.{FailsAsRead, OnlyReads}
 use Rattle.reuse_tree.specs.declared.fault.StoreFault.{StoreFault}
 use Rattle.reuse_tree.specs.declared.fault.StoreFault.TheVariants as faults

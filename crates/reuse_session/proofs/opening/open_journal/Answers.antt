@@ -6,10 +6,8 @@ use Rattle.reuse_session.specs.Opening.{IsRead, IsSettled, IsStuckAt, MovesToOpe
 use Rattle.reuse_session.specs.Session.{head_room, HasHeadText, IsSameBut, Remembers}
 use Rattle.reuse_session.specs.JournalFiles.{head_of, head_path, entry_path, HeadSays, EntrySays}
 use Rattle.reuse_session.specs.declared.reply.Refusal.{Refusal}
-use Rattle.reuse_session.specs.declared.reply.Refusal.TheVariants.{BadJournal, Moved, Fault, Interrupted}
+use Rattle.reuse_session.specs.declared.reply.Refusal.TheVariants.{BadJournal, Moved, Interrupted}
 use Rattle.reuse_tree.specs.Asked.{OnlyReads}
-use Rattle.reuse_tree.specs.declared.fault.StoreFault.TheVariants as faults
-use Rattle.reuse_tree.specs.declared.store.Store.{Ghosts}
 use Rattle.reuse_tree.proofs.AskedLemmas.{reads_more, later_reads, later_more}
 use Rattle.std.specs.FinMap as map
 use Rattle.reuse_tree.specs.Head.{listed}

@@ -1,14 +1,10 @@
-use Rattle.std.proofs.Common.{◌≡◌, ◌+◌, ◌++◌, ◌∷◌, length, get_or, take, [], List, ℕ, None, Some, Ok, Err, Result, IfErr, IsErrAnd, refl, sym, ap, subst, ◌∙◌, arith}
+use Rattle.std.proofs.Common.{◌≡◌, ◌+◌, ◌++◌, ◌∷◌, length, get_or, take, [], None, Some, Ok, IfErr, refl, sym, ap, subst, ◌∙◌}
 use Rattle.std.specs.List.{AllZip}
 use Rattle.std.proofs.lemmas.List.{take_all}
 use Rattle.std.proofs.lemmas.List.Elements.{All-nil}
 use Rattle.std.proofs.lemmas.Result.{IfOk-from_err}
-use Rattle.reuse_tree.specs.Asked.{OnlyReads}
-use Rattle.reuse_tree.specs.declared.store.Store.{Ghosts}
 use Rattle.reuse_tree.proofs.AskedLemmas.{reads_none, reads_more}
-use Rattle.reuse_session.specs.Answer.{IsReadRefusal, RefusedAsRead}
-use Rattle.reuse_session.specs.declared.reply.Refusal.{Refusal}
-use Rattle.reuse_session.specs.declared.reply.Refusal.TheVariants.{Memory, BadJournal}
+use Rattle.reuse_session.specs.Answer.{IsReadRefusal}
 use Rattle.reuse_session.specs.Opening.{IsFoundAt, IsListedIn, IsReadable, IsLeastFound, least}
 use Rattle.reuse_tree.specs.Tree.{undo_folder_of}
 use Rattle.reuse_session.proofs.Asking.{ok_no_bad, memory_no_bad, fails_otherwise, memory_fails, same_fails}

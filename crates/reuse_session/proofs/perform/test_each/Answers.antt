@@ -1,4 +1,4 @@
-use Rattle.std.proofs.Common.{◌≡◌, ◌↔◌, true, IsTrue, arith, sym, subst, ◌∙◌, List, ℕ, ◌<◌, Result, Ok, Err, IfErr, refl, ap}
+use Rattle.std.proofs.Common.{◌≡◌, ◌↔◌, true, IsTrue, arith, sym, subst, ◌∙◌, List, ℕ, ◌<◌, Result, Ok, Err, IfErr, ap}
 use Rattle.std.specs.List.{All, list_any}
 use Rattle.std.proofs.lemmas.Bool.{false≢true}
 use Rattle.std.proofs.lemmas.List.{take_all}
@@ -7,14 +7,12 @@ use Rattle.reuse_tree.specs.Change.{path_of}
 use Rattle.reuse_tree.specs.Entry.{IsEntry, makes}
 use Rattle.reuse_session.specs.Tested.{Passes}
 use Rattle.std.proofs.lemmas.Result.{err_from_is_err_and}
-use Rattle.reuse_tree.specs.Asked.{FailsAsRead, OnlyReads}
 use Rattle.reuse_tree.proofs.AskedLemmas.{reads_more}
-use Rattle.reuse_tree.specs.declared.store.Store.{Ghosts}
 use Rattle.reuse_tree.specs.declared.fault.StoreFault.{StoreFault}
 use Rattle.reuse_tree.specs.declared.fault.StoreFault.TheVariants as faults
 use Rattle.reuse_session.specs.declared.reply.Refusal.{Refusal}
 use Rattle.reuse_session.specs.declared.reply.Refusal.TheVariants as refusals
-use Rattle.reuse_session.specs.Answer.{IsTestRefusal, RefusedAsRead}
+use Rattle.reuse_session.specs.Answer.{IsTestRefusal}
 use Rattle.reuse_session.specs.Cause.{refusal_of}
 use Rattle.reuse_session.proofs.Asking.{fails_behind, fails_otherwise}
 use Rattle.reuse_session.proofs.AtChange.{reads_on, tested, passes, first_without}

@@ -1,4 +1,4 @@
-use Rattle.std.proofs.Common.{◌≡◌, ◌∙◌, Bool, cond, List, ℕ, Some, IsSome, sym, ap, subst, true, false, Ok, Err, Result, IfErr, refl, arith}
+use Rattle.std.proofs.Common.{◌≡◌, ◌∙◌, Bool, cond, List, ℕ, Some, IsSome, sym, ap, subst, true, false, Ok, Err}
 use Rattle.std.specs.FinMap.{get, keys}
 use Rattle.reuse_tree.specs.Files.{tree_of}
 use Rattle.reuse_text.specs.declared.TheConstants.{LONGEST_FILE}

@@ -1,10 +1,7 @@
-use Rattle.std.proofs.Common.{◌<◌, ℕ, List, length, Some, arith, sym, ap, subst, ◌∙◌}
-use Rattle.std.proofs.lemmas.Grind.{common_steps}
+use Rattle.std.proofs.Common.{sym, ap, subst, ◌∙◌}
 use Rattle.std.specs.FinMap.{get}
 use Rattle.reuse_text.specs.declared.TheConstants.{LONGEST_FILE}
-use Rattle.reuse_tree.specs.declared.change.Change.{Change}
-use Rattle.reuse_tree.specs.declared.way.Way.{Way}
-use Rattle.reuse_tree.specs.Entry.{IsReady, IsSmall}
+use Rattle.reuse_tree.specs.Entry.{IsReady}
 use Rattle.reuse_session.proofs.ReadingLemmas.{long_is, too_long}
 use Rattle.reuse_session.proofs.turn.can_turn.Goals as goal
 

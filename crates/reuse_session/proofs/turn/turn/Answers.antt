@@ -1,13 +1,9 @@
-use Rattle.std.proofs.Common.{◌≡◌, ◌<◌, ◌≤◌, ◌+◌, ◌⊎◌, ℕ, List, length, Some, None, OnOk, OnErr, arith, sym, ap, subst, ◌∙◌}
-use Rattle.std.proofs.lemmas.Grind.{common_steps}
+use Rattle.std.proofs.Common.{◌≡◌, ◌⊎◌, Some, None, OnOk, OnErr, sym, ap, subst, ◌∙◌}
 use Rattle.std.specs.FinMap.{get}
 use Rattle.reuse_text.specs.declared.TheConstants.{LONGEST_FILE}
-use Rattle.reuse_tree.proofs.AskedLemmas.{later_reads, later_more}
 use Rattle.reuse_tree.specs.Change.{path_of}
 use Rattle.reuse_tree.specs.Files.{Clashes}
-use Rattle.reuse_tree.specs.declared.change.Change.{Change}
-use Rattle.reuse_tree.specs.declared.way.Way.{Way}
-use Rattle.reuse_tree.specs.Entry.{IsReady, IsSmall, LeadsByOneChange}
+use Rattle.reuse_tree.specs.Entry.{IsReady, LeadsByOneChange}
 use Rattle.reuse_session.proofs.ReadingLemmas.{absent_at, found_at, long_is, too_long}
 use Rattle.reuse_session.proofs.turn.turn.Given.{Over}
 use Rattle.reuse_session.proofs.turn.turn.Goals.{After-turn_from, After-drop-bytes-inside}
