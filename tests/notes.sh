@@ -93,6 +93,13 @@ refusals() {
   notes annotate --skip-unrecognised -l MIT b.xyz c.xyz : '2 files passed over, since no comment style is known for the names; --dry-run names them'
   notes annotate --skip-unrecognised --skip-existing -l MIT b.xyz c.xyz :
   notes annotate -l MIT zz :
+  files a.py 'x\n'
+  "$program" --root "$tree" annotate -l MIT a.py > /dev/null
+  "$program" --root "$tree" undo > /dev/null
+  echo y >> "$tree/a.py"
+  notes redo : 'this file was changed since the step was taken back: take that change back and call again'
+  files a.py 'x\n' .reuse/styles.toml 'version = 1\n[styles]\n".proto" = "pascal"\n'
+  notes annotate -l MIT a.py : 'what is wrong with \.reuse/styles\.toml: bad style of \.proto'
 }
 
 dep5() {

@@ -37,6 +37,9 @@ fn advice(refusal: &Refusal, is_begun: bool, task: Task) -> Option<&'static str>
             "what the step wrote doesn't stand in this file as it did: take that change back and call again, \
             or leave the file as it is with --skip-moved",
         ),
+        Refusal::Moved(_) if task == Task::Redo => Some(
+            "this file was changed since the step was taken back: take that change back and call again",
+        ),
         Refusal::Moved(_) => Some(
             "this file was changed since: take that change back and call again, or keep it; \
             reuse-undo revert takes a step out of files that were edited below what it wrote",
@@ -72,6 +75,9 @@ fn note_refusal(rt: &impl Eprint, findings: &Findings, refusal: &Refusal) {
     }
     if let (Refusal::NoText(id), Some(folder)) = (refusal, &findings.texts) {
         let _ = eprintln!(rt; "reuse-undo: note: the text was sought in {folder}/{id}.txt");
+    }
+    if let Refusal::BadStyles(cause) = refusal {
+        let _ = eprintln!(rt; "reuse-undo: note: what is wrong with .reuse/styles.toml: {cause}");
     }
     let is_begun = findings.begun.is_some() && !findings.is_set_back;
     if let Some(advice) = advice(refusal, is_begun, findings.task) {

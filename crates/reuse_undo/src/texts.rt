@@ -51,7 +51,11 @@ fn find_text(
     }
 }
 
+// (What is no file isn't opened: a pipe would make the run wait for a writer.)
 fn read_front(rt: &impl Files, alloc: Global, path: &str) -> io::Result<Vec<u8>> {
+    if !fs::metadata(rt, path)?.is_file() {
+        return Err(io::Error::from(ErrorKind::InvalidInput));
+    }
     let mut bytes = Vec::new(alloc);
     fs::open(rt, path)?.take(MOST_READ).read_to_end(&mut bytes)?;
     Ok(bytes)
