@@ -89,18 +89,30 @@ is_ready() {
     [ ! "${done[$1]:-}" ] && [ ! "${running[$1]:-}" ] || return 1
     for it in $(below "$1"); do [ "${done[$it]:-}" ] || return 1; done
 }
-# How many jobs a check may take: the idle processors shared out, the first one more, 2 GB of free memory for each
+# How many jobs a check may take: all processors where it is alone, else half of them, where so many are idle; and 2 GB of free memory for each
 jobs_of() {
-    local idle=$1 ready=$2 room jobs
+    local idle=$1 alone=$2 most room
+    most=$((alone ? processors : processors > 1 ? processors / 2 : 1))
     room=$(awk '/^MemAvailable:/ { print int($2 / 2000000) }' /proc/meminfo)
-    jobs=$(((idle + ready - 1) / ready < room / ready ? (idle + ready - 1) / ready : room / ready))
-    echo $((jobs > 1 ? jobs : 1))
+    most=$((most < idle ? most : idle))
+    most=$((most < room ? most : room))
+    echo $((most > 1 ? most : 1))
+}
+# How much is to prove of a crate and of the longest chain of crates that stand on it, in bytes
+weight_of() {
+    local it weight most=0
+    for it in "${names[@]}"; do
+        if below "$it" | grep -qx "$1"; then
+            weight=$(weight_of "$it")
+            most=$((weight > most ? weight : most))
+        fi
+    done
+    echo $((most + $(du -cb "$top/crates/$1"/{src,proofs} | tail -n 1 | cut -f 1)))
 }
 
-# The largest first: of the crates that can begin together, it gets the most jobs.
-mapfile -t crates < <(sed -n 's/^\([a-z0-9_]*\):.*/\1/p' "$top/crates.txt" | while read -r it; do
-    echo "$(du -cb "$top/crates/$it"/{src,proofs} | tail -n 1 | cut -f 1) $it"
-done | sort -rn | cut -d ' ' -f 2)
+# Of the crates that can begin together, that with the longest chain on it goes first.
+mapfile -t names < <(sed -n 's/^\([a-z0-9_]*\):.*/\1/p' "$top/crates.txt")
+mapfile -t crates < <(for it in "${names[@]}"; do echo "$(weight_of "$it") $it"; done | sort -rn | cut -d ' ' -f 2)
 processors=$(nproc)
 say "proving ${#crates[@]} crates on $processors processors; the first time that takes about half an hour on four"
 while [ ${#done[@]} -lt ${#crates[@]} ]; do
@@ -111,10 +123,11 @@ while [ ${#done[@]} -lt ${#crates[@]} ]; do
     for at in "${!ready[@]}"; do
         it=${ready[$at]}
         [ $idle -gt 0 ] || break
-        lanes[$it]=$(jobs_of $idle $((${#ready[@]} - at)))
+        alone=$((${#ready[@]} + ${#running[@]} == 1))
+        lanes[$it]=$(jobs_of $idle $alone)
         idle=$((idle - lanes[$it]))
         beside=
-        [ ${#ready[@]} -eq 1 ] && [ ${#running[@]} -eq 0 ] || beside=yes
+        [ $alone = 1 ] || beside=yes
         prove "$it" "${lanes[$it]}" "$beside" < /dev/null > "$logs/$it" 2>&1 &
         running[$it]=$!
         told[$it]=$SECONDS
