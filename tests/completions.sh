@@ -103,6 +103,7 @@ completes an gives annotate
 completes --ro gives --root
 completes --root ../there und gives undo
 completes help re gives redo revert
+completes help log -- gives
 completes annotate --co gives --contributor --copyright --copyright-prefix --copyright-style
 completes annotate --s gives --single-line --skip-existing --skip-unrecognised --style
 completes annotate --f gives --fallback-dot-license --files-from --force-dot-license

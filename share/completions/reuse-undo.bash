@@ -94,7 +94,7 @@ _reuse_undo() {
       revert) _reuse_undo_of '--dry-run --diff --skip-moved --root --verbose --help' ;;
       log) _reuse_undo_of '--json --root --verbose --help' ;;
       show) _reuse_undo_of '--diff --json --root --verbose --help' ;;
-      *) _reuse_undo_of '--root --verbose --help' ;;
+      *) ;;
     esac
     return
   fi

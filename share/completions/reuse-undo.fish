@@ -61,9 +61,9 @@ function __reuse_undo_steps
 end
 
 complete -c reuse-undo -f
-complete -c reuse-undo -l root -x -a '(__fish_complete_directories)' -d 'The root of the source tree'
-complete -c reuse-undo -s v -l verbose -d 'Tell notes on standard error'
-complete -c reuse-undo -s h -l help -d 'Print help'
+complete -c reuse-undo -n 'not __reuse_undo_subcommand_is help' -l root -x -a '(__fish_complete_directories)' -d 'The root of the source tree'
+complete -c reuse-undo -n 'not __reuse_undo_subcommand_is help' -s v -l verbose -d 'Tell notes on standard error'
+complete -c reuse-undo -n 'not __reuse_undo_subcommand_is help' -s h -l help -d 'Print help'
 complete -c reuse-undo -n '__reuse_undo_subcommand_is ""' -s V -l version -d 'Print the version'
 
 complete -c reuse-undo -n '__reuse_undo_subcommand_is ""' -a annotate -d 'Add copyright and licensing information to files'
