@@ -6,11 +6,12 @@ ghost use Rattle.reuse_undo.specs.FileLists.{has_nul, separator_of, path_of_word
 
 use crate::line::{Action, Deed, Line, LineFault};
 use crate::place_word::place_of_word;
+use crate::reading::read_front;
 use reuse_session::{Command, PathList, Place};
 use reuse_tree::PathText;
 use std::alloc::{AllocError, Global};
 use std::fs;
-use std::io::{self, ErrorKind, Read};
+use std::io::{self, ErrorKind};
 use std::rt::Files;
 
 /// The most bytes that a list may have.
@@ -23,11 +24,20 @@ pub fn with_list<R: Files + Input>(
     line: Line,
     files_from: Option<String>,
 ) -> Result<Line, LineFault> {
+    let Some(file) = files_from else {
+        return Ok(line);
+    };
     let mut line = line;
-    if let Some(file) = files_from {
-        set_listed(&mut line.action, read_list(rt, alloc, file.as_str())?);
+    match read_list(rt, alloc, file.as_str()) {
+        Ok(listed) => {
+            set_listed(&mut line.action, listed);
+            Ok(line)
+        }
+        Err(fault) => {
+            drop(line);
+            Err(fault)
+        }
     }
-    Ok(line)
 }
 
 /// Of the files beneath folders an annotation goes through those of the list alone.
@@ -49,15 +59,11 @@ fn read_list<R: Files + Input>(rt: &R, alloc: Global, file: &str) -> Result<Path
 
 /// The bytes of a file, or of standard input for `-`, as far as one past the longest list.
 fn read_bytes<R: Files + Input>(rt: &R, alloc: Global, file: &str) -> io::Result<Vec<u8>> {
-    let mut bytes = Vec::new(alloc);
     if file == "-" {
-        rt.reader().take(LONGEST_LIST + 1).read_to_end(&mut bytes)?;
+        read_front(rt.reader(), alloc, LONGEST_LIST + 1)
     } else {
-        fs::open(rt, file)?
-            .take(LONGEST_LIST + 1)
-            .read_to_end(&mut bytes)?;
+        read_front(fs::open(rt, file)?, alloc, LONGEST_LIST + 1)
     }
-    Ok(bytes)
 }
 
 /// The paths that a list names, one a line, or, where it holds a NUL, one between two NULs. A word that names no path is passed over.

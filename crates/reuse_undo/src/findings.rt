@@ -111,12 +111,22 @@ impl Findings {
         if self.task == Task::Conversion {
             self.is_table_empty = is_table_empty(alloc, &mut folder);
         }
-        if let Some(command) = passing_over(request, outcome) {
-            let passed_over = outcome.is_ok();
-            self.unrecognised = unrecognised_names(alloc, folder, command, passed_over).unwrap_or(
-                0,
-            );
+        self.unrecognised = unrecognised_by(alloc, folder, request, outcome);
+    }
+}
+
+/// Of how many files the names aren't recognised, where the call was refused for one or passed them over. Want of memory or a fault leaves them out.
+fn unrecognised_by<S: Store + Drop>(
+    alloc: Global,
+    folder: S,
+    request: &Request,
+    outcome: &Result<usize, Fault>,
+) -> usize {
+    match passing_over(request, outcome) {
+        Some(command) => {
+            unrecognised_names(alloc, folder, command, outcome.is_ok()).unwrap_or(0)
         }
+        None => 0,
     }
 }
 

@@ -8,7 +8,7 @@ use std::alloc::{AllocError, AllocFailed};
 use thiserror::Error;
 
 /// What changes a tree.
-#[derive(Debug, Drop)]
+#[derive(Drop)]
 pub enum Deed {
     /// To run this command, which is `annotate`.
     Annotate(Command),
@@ -33,7 +33,7 @@ pub enum Deed {
 }
 
 /// What a line asks for.
-#[derive(Debug, Drop)]
+#[derive(Drop)]
 pub enum Action {
     /// To change the tree.
     Do(Deed),
@@ -67,7 +67,7 @@ impl Action {
 }
 
 /// How what is told is written.
-#[derive(Clone, Copy, Debug, PartialEq, Eq)]
+#[derive(Clone, Copy, PartialEq, Eq)]
 pub enum Telling {
     /// A line for each path or row.
     Lines,
@@ -78,7 +78,7 @@ pub enum Telling {
 }
 
 /// A command line that was read.
-#[derive(Debug, Drop)]
+#[derive(Drop)]
 pub struct Line {
     /// The folder of the tree, relative to the working folder.
     pub root: String,

@@ -21,6 +21,7 @@ mod output;
 mod place_word;
 mod prefix_name;
 mod progress;
+mod reading;
 mod request;
 mod rows;
 mod run_line;
@@ -33,7 +34,7 @@ use fault::Fault;
 use file_list::with_list;
 use findings::Findings;
 use line::{Deed, Line, LineFault, Telling};
-use lock::{RootLock, lock_root};
+use lock::lock_root;
 use notes::{note_call, note_words};
 use on_folder::run_on_folder;
 use output::Output;
@@ -85,33 +86,38 @@ struct Extras {
     progress: bool,
 }
 
-/// What a call works with. Until this is let go no other run works on the folder.
+/// What a call works with.
 #[derive(Drop)]
 struct Tools<R: Files<File = File> + AllocGlobal + Clock + Eprint + Clone + Drop> {
-    _lock: RootLock,
     folder: DiskStore<R>,
     texts: LicenceTexts,
     progress: Progress<R>,
 }
 
-/// What the line needs: the folder that it names, locked, and the texts.
+/// What the line needs: the folder that it names, and the texts.
 fn tools_for<R: Files<File = File> + AllocGlobal + Clock + Eprint + Clone + Drop>(
     rt: &R,
     alloc: Global,
     line: &Line,
     extras: Extras,
-) -> Result<Tools<R>, Fault> {
-    let lock = lock_root(rt, line.root.as_str())?;
+) -> Result<Tools<R>, AllocError> {
     let texts = texts_for(rt, alloc, line)?;
-    let root = String::from_str(alloc, line.root.as_str())?;
-    let folder = DiskStore::at(rt.clone()?, root);
     let progress = Progress::new(rt.clone()?, extras.progress);
     Ok(Tools {
-        _lock: lock,
-        folder,
+        folder: folder_at(rt, alloc, line.root.as_str())?,
         texts,
         progress,
     })
+}
+
+/// The folder at this path as a store.
+fn folder_at<R: Files<File = File> + AllocGlobal + Clone + Drop>(
+    rt: &R,
+    alloc: Global,
+    root: &str,
+) -> Result<DiskStore<R>, AllocError> {
+    let root = String::from_str(alloc, root)?;
+    Ok(DiskStore::at(rt.clone()?, root))
 }
 
 /// Carries a line out on the folder that it names, and prints its answer; how many paths that tells, and, where notes are asked for, what they tell.
@@ -121,9 +127,32 @@ fn carry_out<R: Files<File = File> + AllocGlobal + Clock + Print + Eprint + Clon
     line: Line,
     extras: Extras,
 ) -> (Result<usize, Fault>, Option<Findings>) {
+    match lock_root(rt, line.root.as_str()) {
+        Ok(lock) => {
+            let carried_out = carry_out_alone(rt, alloc, line, extras);
+            drop(lock);
+            carried_out
+        }
+        Err(fault) => {
+            drop(line);
+            (Err(fault), None)
+        }
+    }
+}
+
+/// The same, while no other run works on the folder.
+fn carry_out_alone<R: Files<File = File> + AllocGlobal + Clock + Print + Eprint + Clone + Drop>(
+    rt: &R,
+    alloc: Global,
+    line: Line,
+    extras: Extras,
+) -> (Result<usize, Fault>, Option<Findings>) {
     match tools_for(rt, alloc, &line, extras) {
         Ok(tools) => work_with(rt, alloc, tools, line, extras.notes),
-        Err(fault) => (Err(fault), None),
+        Err(error) => {
+            drop(line);
+            (Err(Fault::from(error)), None)
+        }
     }
 }
 
@@ -135,7 +164,6 @@ fn work_with<R: Files<File = File> + AllocGlobal + Clock + Print + Eprint + Clon
     notes: bool,
 ) -> (Result<usize, Fault>, Option<Findings>) {
     let Tools {
-        _lock,
         mut folder,
         texts,
         progress,
@@ -145,6 +173,7 @@ fn work_with<R: Files<File = File> + AllocGlobal + Clock + Print + Eprint + Clon
     let request = request_of(line, texts);
     let (folder, outcome) = answer(folder, &progress, alloc, &request, telling);
     let findings = found_after(alloc, findings, folder, &request, &outcome);
+    drop(request);
     (outcome, findings)
 }
 
@@ -183,9 +212,16 @@ fn found_after<R: Files<File = File> + AllocGlobal + Clone + Drop>(
     request: &Request,
     outcome: &Result<usize, Fault>,
 ) -> Option<Findings> {
-    let mut findings = findings?;
-    findings.look_after(alloc, folder, request, outcome);
-    Some(findings)
+    match findings {
+        Some(mut findings) => {
+            findings.look_after(alloc, folder, request, outcome);
+            Some(findings)
+        }
+        None => {
+            drop(folder);
+            None
+        }
+    }
 }
 
 /// Tells why the words are no line: help on standard output, all else on standard error.
@@ -210,6 +246,24 @@ fn tell_fault(rt: &impl Eprint, fault: &Fault) {
     }
 }
 
+/// Tells the fault of a line that was carried out, and the notes; the status.
+fn tell_outcome(
+    rt: &impl Eprint,
+    outcome: &Result<usize, Fault>,
+    findings: &Option<Findings>,
+) -> u8 {
+    if let Err(fault) = outcome {
+        tell_fault(rt, fault);
+    }
+    if let Some(findings) = findings {
+        note_call(rt, findings, outcome);
+    }
+    match outcome {
+        Ok(_) => 0,
+        Err(fault) => exit_status(fault),
+    }
+}
+
 /// Carries a line out, and tells its fault and notes; the status.
 fn run_noted<R: Files<File = File> + AllocGlobal + Clock + Print + Eprint + Clone + Drop>(
     rt: &R,
@@ -217,16 +271,39 @@ fn run_noted<R: Files<File = File> + AllocGlobal + Clock + Print + Eprint + Clon
     line: Line,
     extras: Extras,
 ) -> u8 {
-    let (outcome, findings) = carry_out(rt, alloc, line, extras);
-    if let Err(fault) = &outcome {
-        tell_fault(rt, fault);
+    let carried_out = carry_out(rt, alloc, line, extras);
+    let status = tell_outcome(rt, &carried_out.0, &carried_out.1);
+    drop(carried_out);
+    status
+}
+
+/// What the words say that the program was called with.
+fn said_in<R: Env + AllocGlobal>(rt: &R, alloc: Global, moment: Moment) -> Said {
+    match read_words(rt, alloc) {
+        Ok(words) => words_to_command(alloc, words.as_slice(), moment),
+        Err(fault) => Said::fault(fault),
     }
-    if let Some(findings) = &findings {
-        note_call(rt, findings, &outcome);
+}
+
+/// The line that was read, with the list of files that it names.
+fn whole_line<R: Files + Input>(rt: &R, alloc: Global, said: Said) -> Result<Line, LineFault> {
+    let Said {
+        verbose: _,
+        files_from,
+        line,
+    } = said;
+    with_list(rt, alloc, line?, files_from)
+}
+
+/// Tells why the words are no line, and what to do about that where notes are asked for; the status.
+fn tell_words(rt: &(impl Print + Eprint), fault: &LineFault, notes: bool) -> u8 {
+    let told = tell(rt, fault);
+    if notes {
+        note_words(rt, fault);
     }
-    match outcome {
-        Ok(_) => 0,
-        Err(fault) => exit_status(&fault),
+    match told {
+        Ok(()) => line_status(fault),
+        Err(_) => line_status(fault).max(1),
     }
 }
 
@@ -236,34 +313,17 @@ fn run<R: Runtime + Files<File = File> + AllocGlobal>(
     moment: Moment,
     at_terminal: bool,
 ) -> u8 {
-    let said = match read_words(rt, alloc) {
-        Ok(words) => words_to_command(alloc, words.as_slice(), moment),
-        Err(fault) => Said::fault(fault),
-    };
-    let Said {
-        verbose,
-        files_from,
-        line,
-    } = said;
+    let said = said_in(rt, alloc, moment);
     let extras = Extras {
-        notes: at_terminal || verbose,
+        notes: at_terminal || said.verbose,
         progress: at_terminal,
     };
-    let line = match line {
-        Ok(line) => with_list(rt, alloc, line, files_from),
-        Err(fault) => Err(fault),
-    };
-    match line {
+    match whole_line(rt, alloc, said) {
         Ok(line) => run_noted(rt, alloc, line, extras),
         Err(fault) => {
-            let told = tell(rt, &fault);
-            if extras.notes {
-                note_words(rt, &fault);
-            }
-            match told {
-                Ok(()) => line_status(&fault),
-                Err(_) => line_status(&fault).max(1),
-            }
+            let status = tell_words(rt, &fault, extras.notes);
+            drop(fault);
+            status
         }
     }
 }

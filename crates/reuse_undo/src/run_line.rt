@@ -40,7 +40,10 @@ pub fn run_request<S: Store + Drop, O: Sink>(
     let (store, answer, diff) = call(alloc, store, request, telling);
     match answer {
         Ok(told) => (store, finish(out, alloc, told, telling, diff)),
-        Err(refusal) => (store, Err(Fault::Refused(refusal))),
+        Err(refusal) => {
+            drop(diff);
+            (store, Err(Fault::Refused(refusal)))
+        }
     }
 }
 

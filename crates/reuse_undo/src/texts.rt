@@ -1,9 +1,10 @@
 //! The texts of licences in a folder.
+use crate::reading::read_front;
 use reuse_session::{Ids, LicenceText, LicenceTexts, is_id};
 use reuse_text::Bytes;
 use std::alloc::{AllocError, Global};
 use std::fs;
-use std::io::{self, ErrorKind, Read};
+use std::io::{self, ErrorKind};
 use std::rt::Files;
 
 /// One byte more than the text of a licence may have.
@@ -44,7 +45,7 @@ fn find_text(
         return Ok(None);
     }
     let path = format!(in alloc; "{folder}/{name}.txt")?;
-    match read_front(rt, alloc, path.as_str()) {
+    match read_file(rt, alloc, path.as_str()) {
         Ok(bytes) => Ok(Some(Bytes::from_vec(bytes))),
         Err(error) if error.kind() == ErrorKind::OutOfMemory => Err(AllocError),
         Err(_) => Ok(None),
@@ -52,11 +53,9 @@ fn find_text(
 }
 
 // (What is no file isn't opened: a pipe would make the run wait for a writer.)
-fn read_front(rt: &impl Files, alloc: Global, path: &str) -> io::Result<Vec<u8>> {
+fn read_file(rt: &impl Files, alloc: Global, path: &str) -> io::Result<Vec<u8>> {
     if !fs::metadata(rt, path)?.is_file() {
         return Err(io::Error::from(ErrorKind::InvalidInput));
     }
-    let mut bytes = Vec::new(alloc);
-    fs::open(rt, path)?.take(MOST_READ).read_to_end(&mut bytes)?;
-    Ok(bytes)
+    read_front(fs::open(rt, path)?, alloc, MOST_READ)
 }

@@ -147,7 +147,11 @@ fn preview_revert<S: Store + Drop>(
     ensures peeks { Peeks S.Store result session.old session.new }
 {
     match revert_command(alloc, session, number, skip_moved) {
-        Ok(command) => session.preview(alloc, &command),
+        Ok(command) => {
+            let fates = session.preview(alloc, &command);
+            drop(command);
+            fates
+        }
         Err(refusal) => Err(refusal),
     }
 }

@@ -48,11 +48,27 @@ pub fn foresee<S: Store + Drop>(
         Request::Call(Event::Preview(Call::Undo)) => foresee_step(alloc, session, true),
         Request::Call(Event::Preview(Call::Redo)) => foresee_step(alloc, session, false),
         Request::PreviewRevert { number, skip_moved } => {
-            let command = revert_command(alloc, session, *number, *skip_moved)?;
-            Ok(Foreseen::Run(session.changes(alloc, &command)?))
+            foresee_revert(alloc, session, *number, *skip_moved)
         }
         _ => Ok(Foreseen::Nothing),
     }
+}
+
+// What taking a step back would change.
+fn foresee_revert<S: Store + Drop>(
+    alloc: Global,
+    session: &mut Session<S>,
+    number: u32,
+    skip_moved: bool,
+) -> Result<Foreseen, Refusal>
+    requires { StandsAccepted S.Store (Request.PreviewRevert number skip_moved) session.now }
+    ensures reads { OnlyReads S.Store (store_of session.old) (store_of session.new) }
+    ensures fault { IfErr result (IsUndrawn S.Store (store_of session.old) (store_of session.new)) }
+{
+    let command = revert_command(alloc, session, number, skip_moved)?;
+    let changes = session.changes(alloc, &command);
+    drop(command);
+    Ok(Foreseen::Run(changes?))
 }
 
 // The step that an undo takes back, or that a redo makes again.

@@ -31,10 +31,34 @@ pub fn finish<O: Sink>(
     ensures undrawn { IfNoDiff result (λ refusal. (diff ≡ Err (faults.NoDiff refusal)) × (out.new ≡ out.old)) }
     ensures failed { TellsFailure (O.failed out.old) (O.failed out.new) result }
 {
-    let diff = whole_diff(alloc, &told, telling, diff)?;
-    let text = text_of(alloc, &told, telling, diff.as_slice())?;
+    match print(out, alloc, &told, telling, diff) {
+        Ok(()) => accept(told),
+        Err(fault) => {
+            drop(told);
+            Err(fault)
+        }
+    }
+}
+
+// Prints an answer, and the diff behind it.
+fn print<O: Sink>(
+    out: &mut O,
+    alloc: Global,
+    told: &Told,
+    telling: Telling,
+    diff: Result<Vec<u8>, Fault>,
+) -> Result<(), Fault>
+    requires { IsDiffOf telling told.now diff }
+    ensures printed { OnOk result (AppendsSome (O.contents out.old) (O.contents out.new) (IsToldText telling told.now)) }
+    ensures kept { OnOk result (O.failed out.new ≡ O.failed out.old) }
+    ensures told { IfErr result (λ fault. Finishes telling told.now (O.contents out.old) (O.contents out.new) (Err fault)) }
+    ensures undrawn { IfNoDiff result (λ refusal. (diff ≡ Err (faults.NoDiff refusal)) × (out.new ≡ out.old)) }
+    ensures failed { IfErr result (λ fault. TellsFailure (O.failed out.old) (O.failed out.new) (Err fault)) }
+{
+    let diff = whole_diff(alloc, told, telling, diff)?;
+    let text = text_of(alloc, told, telling, diff.as_slice())?;
     write_text(out, text.as_slice())?;
-    accept(told)
+    Ok(())
 }
 
 // What is told of an answer. No part of it is written before it is whole.
@@ -59,7 +83,10 @@ fn whole_diff(
     ensures undrawn { IfNoDiff result (λ refusal. diff ≡ Err (faults.NoDiff refusal)) }
 {
     match (telling, told) {
-        (Telling::Diff, Told::Shown(shown)) => records_of(alloc, shown.changes.as_slice()),
+        (Telling::Diff, Told::Shown(shown)) => {
+            drop(diff);
+            records_of(alloc, shown.changes.as_slice())
+        }
         _ => diff,
     }
 }

@@ -10,16 +10,16 @@ use Rattle.reuse_undo.proofs.run_line.calls.preview_revert.Goals as goal
 
 pub returns-in-Ok-clause-right : goal.returns-in-Ok-clause-right
 returns-in-Ok-clause-right g c honest held stands told =
-    let was_honest = c.preview.ensures.looks.reads.was_honest honest in
+    let was_honest = c.preview-fates.ensures.looks.reads.was_honest honest in
     let mid = c.revert_command.new.session in
     let back = subst (TakesBackStep c.args.number c.args.skip_moved held) c.in-Ok.is (c.revert_command.ensures.right was_honest held stands (subst TellsNoFault (sym c.in-Ok.is) tt)) in
     let still = still_stands g.S.Store c.revert_command.result c.args.session.now mid held c.revert_command.ensures.peeks was_honest stands in
-    inr (back.0, back.1, back.2, c.preview.ensures.answers honest held still told ∙ ap (run_fates_on held) back.3)
+    inr (back.0, back.1, back.2, c.preview-fates.ensures.answers honest held still told ∙ ap (run_fates_on held) back.3)
 
 pub returns-in-Ok-clause-peeks : goal.returns-in-Ok-clause-peeks
 returns-in-Ok-clause-peeks g c =
-    peeks_on g.S.Store c.revert_command.result c.preview.result c.args.session.now c.revert_command.new.session c.preview.new.self c.revert_command.ensures.peeks
-    (preview_peeks g.S.Store c.preview.result c.revert_command.new.session c.preview.new.self c.preview.ensures.looks c.preview.ensures.refusal)
+    peeks_on g.S.Store c.revert_command.result c.preview-fates.result c.args.session.now c.revert_command.new.session c.preview-fates.new.self c.revert_command.ensures.peeks
+    (preview_peeks g.S.Store c.preview-fates.result c.revert_command.new.session c.preview-fates.new.self c.preview-fates.ensures.looks c.preview-fates.ensures.refusal)
 
 pub returns-in-Err-clause-right : goal.returns-in-Err-clause-right
 returns-in-Err-clause-right g c honest held stands told =

@@ -25,12 +25,10 @@ written answer old new (Ok count) accepts kept = kept
 written answer old new (Err (WouldRefuse fates)) accepts kept = kept
 written answer old new (Err fault) accepts kept = absurd accepts
 
-pub returns : goal.returns
-returns g c =
-    let told_text = c.in_ok-text.ensures.text (rw c.as_slice.ensures.value c.in_ok-diff.ensures.behind) in
-    let appends = rw c.as_slice-2.ensures.value at c.in_ok-write_text.ensures.written in
+pub returns-in-Ok : goal.returns-in-Ok
+returns-in-Ok g c =
     record {
-      told = told c.args.telling c.args.told _ _ c.accept.result c.accept.ensures (c.in_ok-text.text.items, (told_text, appends));
+      told = told c.args.telling c.args.told _ _ c.accept.result c.accept.ensures c.in-Ok.ensures.printed;
       undrawn = drawn c.args.told _ c.accept.result c.accept.ensures;
-      failed = written c.args.told _ _ c.accept.result c.accept.ensures c.in_ok-write_text.ensures.kept;
+      failed = written c.args.told _ _ c.accept.result c.accept.ensures c.in-Ok.ensures.kept;
     }
