@@ -1,9 +1,9 @@
 //! An entry's text, read.
 ghost use Rattle.std.specs.Prelude.{◌≡◌, ◌≤◌, IfOk, length};
-ghost use Rattle.serde_json.specs.View.{view, items_view};
+ghost use Rattle.serde_json.specs.View.{view, items_view, members_view};
 ghost use Rattle.reuse_tree.specs.Decoded.{Gives, GivesBy, IsAnswer};
 ghost use Rattle.reuse_tree.specs.EntryText.{HavePaths, IsGoodEntry, IsJsonEntry};
-ghost use Rattle.reuse_tree.specs.EntryReading.{change_in, changes_in, command_from, drop_in, entry_in, if_known, make_in, seal_of, splice_in, whole_in};
+ghost use Rattle.reuse_tree.specs.EntryReading.{change_in, changes_in, command_from, drop_in, entry_in, if_known, make_in, seal_of, splice_bytes_in, splice_end_in, splice_in, whole_in};
 ghost use Rattle.reuse_tree.specs.JsonReading.{read_items};
 ghost use Rattle.reuse_tree.specs.Json.{IsJson};
 ghost use Rattle.reuse_tree.specs.declared.journal.entry.Entry.{Entry};
@@ -15,7 +15,7 @@ use crate::journal::entry::{Changes, Entry};
 use crate::journal::entry_checks::are_sound;
 use crate::journal::fault::DecodeFault;
 use crate::journal::fields::{
-    bytes_of, expect_text, field, fields, finish, is_second_format, moment_of, next_digest,
+    Fields, bytes_of, expect_text, field, fields, finish, is_second_format, moment_of, next_digest,
     number_of, parse, path_of, text_of,
 };
 use crate::journal::written_entry::{knows, read_written};
@@ -188,7 +188,7 @@ fn whole_of(
     Ok((path, bytes, digest))
 }
 
-#[tactic(auto, unfolding(crate::specs::EntryReading::splice_in, crate::specs::EntryReading::splice_bytes_in, crate::specs::EntryReading::splice_end_in))]
+#[tactic(auto, unfolding(crate::specs::EntryReading::splice_in))]
 fn splice_of(alloc: Global, value: &Value, sealed: bool) -> Result<Change, DecodeFault>
     ensures { Gives result (splice_in sealed (view value.now)) }
 {
@@ -196,10 +196,37 @@ fn splice_of(alloc: Global, value: &Value, sealed: bool) -> Result<Change, Decod
     let after = next_digest(alloc, &mut members, "after", sealed)?;
     let at = number_of(field(&mut members, "at")?)? as usize;
     let before = next_digest(alloc, &mut members, "before", sealed)?;
-    let seal = seal_of(before, after);
+    splice_bytes_of(alloc, members, at, seal_of(before, after))
+}
+
+// Of a splice: from the kind on.
+#[tactic(auto, unfolding(crate::specs::EntryReading::splice_bytes_in))]
+fn splice_bytes_of(
+    alloc: Global,
+    mut members: Fields<'_>,
+    at: usize,
+    seal: Option<Seal>,
+) -> Result<Change, DecodeFault>
+    ensures { Gives result (splice_bytes_in at seal (members_view members.entry)) }
+{
     expect_text(field(&mut members, "kind")?, "splice")?;
     let new = bytes_of(alloc, field(&mut members, "new")?)?;
     let old = bytes_of(alloc, field(&mut members, "old")?)?;
+    splice_end_of(alloc, members, at, new, old, seal)
+}
+
+// Of a splice: from the path on.
+#[tactic(auto, unfolding(crate::specs::EntryReading::splice_end_in))]
+fn splice_end_of(
+    alloc: Global,
+    mut members: Fields<'_>,
+    at: usize,
+    new: Bytes,
+    old: Bytes,
+    seal: Option<Seal>,
+) -> Result<Change, DecodeFault>
+    ensures { Gives result (splice_end_in at new old seal (members_view members.entry)) }
+{
     let path = path_of(alloc, field(&mut members, "path")?)?;
     let rest = number_of(field(&mut members, "rest")?)? as usize;
     finish(members)?;
