@@ -1,10 +1,10 @@
 //! An entry's text, read.
-ghost use Rattle.std.specs.Prelude.{◌≡◌, ◌≤◌, IfOk, length};
+ghost use Rattle.std.specs.Prelude.{◌≡◌, ◌≤◌, IfOk, codes, length};
 ghost use Rattle.serde_json.specs.View.{view, items_view, members_view};
 ghost use Rattle.reuse_tree.specs.Decoded.{Gives, GivesBy, IsAnswer};
 ghost use Rattle.reuse_tree.specs.EntryText.{HavePaths, IsGoodEntry, IsJsonEntry};
-ghost use Rattle.reuse_tree.specs.EntryReading.{change_in, changes_in, command_from, drop_in, entry_in, if_known, make_in, seal_of, splice_bytes_in, splice_end_in, splice_in, whole_in};
-ghost use Rattle.reuse_tree.specs.JsonReading.{read_items};
+ghost use Rattle.reuse_tree.specs.EntryReading.{change_in, changes_in, command_from, command_in, drop_in, entry_in, if_known, make_in, seal_of, splice_bytes_in, splice_end_in, splice_in, whole_in};
+ghost use Rattle.reuse_tree.specs.JsonReading.{field_in, read_items};
 ghost use Rattle.reuse_tree.specs.Json.{IsJson};
 ghost use Rattle.reuse_tree.specs.declared.journal.entry.Entry.{Entry};
 
@@ -15,8 +15,8 @@ use crate::journal::entry::{Changes, Entry};
 use crate::journal::entry_checks::are_sound;
 use crate::journal::fault::DecodeFault;
 use crate::journal::fields::{
-    Fields, bytes_of, expect_text, field, fields, finish, is_second_format, moment_of, next_digest,
-    number_of, parse, path_of, text_of,
+    Fields, expect_next, field, fields, finish, moment_of, next_bytes, next_digest, next_format,
+    next_number, next_path, parse, text_of,
 };
 use crate::journal::written_entry::{knows, read_written};
 use crate::path::PathText;
@@ -71,8 +71,8 @@ fn entry_of(alloc: Global, value: &Value) -> Result<Entry, DecodeFault>
 {
     let mut members = fields(value)?;
     let changes = field(&mut members, "changes")?;
-    let command = command_of(text_of(field(&mut members, "command")?)?)?;
-    let sealed = is_second_format(field(&mut members, "format")?)?;
+    let command = next_command(&mut members)?;
+    let sealed = next_format(&mut members, "format")?;
     expect_known(sealed, command)?;
     let when = moment_of(field(&mut members, "when")?)?;
     finish(members)?;
@@ -82,6 +82,12 @@ fn entry_of(alloc: Global, value: &Value) -> Result<Entry, DecodeFault>
         command,
         when,
     })
+}
+
+fn next_command(members: &mut Fields<'_>) -> Result<CommandName, DecodeFault>
+    ensures { GivesBy (λ command. (command, members_view members.new)) result (field_in command_in (codes "command") (members_view members.old)) }
+{
+    command_of(text_of(field(members, "command")?)?)
 }
 
 fn command_of(name: &str) -> Result<CommandName, DecodeFault>
@@ -181,9 +187,9 @@ fn whole_of(
 {
     let mut members = fields(value)?;
     let digest = next_digest(alloc, &mut members, key, sealed)?;
-    expect_text(field(&mut members, "kind")?, kind)?;
-    let bytes = bytes_of(alloc, field(&mut members, name)?)?;
-    let path = path_of(alloc, field(&mut members, "path")?)?;
+    expect_next(&mut members, "kind", kind)?;
+    let bytes = next_bytes(alloc, &mut members, name)?;
+    let path = next_path(alloc, &mut members, "path")?;
     finish(members)?;
     Ok((path, bytes, digest))
 }
@@ -194,7 +200,7 @@ fn splice_of(alloc: Global, value: &Value, sealed: bool) -> Result<Change, Decod
 {
     let mut members = fields(value)?;
     let after = next_digest(alloc, &mut members, "after", sealed)?;
-    let at = number_of(field(&mut members, "at")?)? as usize;
+    let at = next_number(&mut members, "at")? as usize;
     let before = next_digest(alloc, &mut members, "before", sealed)?;
     splice_bytes_of(alloc, members, at, seal_of(before, after))
 }
@@ -209,9 +215,9 @@ fn splice_bytes_of(
 ) -> Result<Change, DecodeFault>
     ensures { Gives result (splice_bytes_in at seal (members_view members.entry)) }
 {
-    expect_text(field(&mut members, "kind")?, "splice")?;
-    let new = bytes_of(alloc, field(&mut members, "new")?)?;
-    let old = bytes_of(alloc, field(&mut members, "old")?)?;
+    expect_next(&mut members, "kind", "splice")?;
+    let new = next_bytes(alloc, &mut members, "new")?;
+    let old = next_bytes(alloc, &mut members, "old")?;
     splice_end_of(alloc, members, at, new, old, seal)
 }
 
@@ -227,8 +233,8 @@ fn splice_end_of(
 ) -> Result<Change, DecodeFault>
     ensures { Gives result (splice_end_in at new old seal (members_view members.entry)) }
 {
-    let path = path_of(alloc, field(&mut members, "path")?)?;
-    let rest = number_of(field(&mut members, "rest")?)? as usize;
+    let path = next_path(alloc, &mut members, "path")?;
+    let rest = next_number(&mut members, "rest")? as usize;
     finish(members)?;
     Ok(Change::splice(path, at, old, new, rest, seal))
 }

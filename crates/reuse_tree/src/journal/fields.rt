@@ -5,7 +5,7 @@ ghost use Rattle.serde_json.specs.Find.{as_object, as_str};
 ghost use Rattle.serde_json.specs.View.{view, items_view, members_view};
 ghost use Rattle.reuse_tree.specs.Decoded.{Gives, GivesBy};
 ghost use Rattle.reuse_tree.specs.EntryReading.{digest_in, first_digest, hex_in, if_text, moment_in, path_in};
-ghost use Rattle.reuse_tree.specs.JsonReading.{first_member, if_none_left, format_in, number_in, small_in, smalls_in, read_items};
+ghost use Rattle.reuse_tree.specs.JsonReading.{field_in, first_member, if_none_left, format_in, number_in, small_in, smalls_in, read_items};
 ghost use Rattle.reuse_tree.specs.Json.{IsJson};
 
 use crate::digest::Digest;
@@ -90,6 +90,13 @@ pub(crate) fn expect_text(value: &Value, text: &str) -> Result<(), DecodeFault>
     }
 }
 
+/// Tests that the next member has this key, and this text as its value.
+pub(crate) fn expect_next(fields: &mut Fields<'_>, key: &str, text: &str) -> Result<(), DecodeFault>
+    ensures { GivesBy (λ found. (found, members_view fields.new)) result (field_in (if_text text.now) key.now (members_view fields.old)) }
+{
+    expect_text(field(fields, key)?, text)
+}
+
 /// The bytes of a text of hexadecimal digits.
 pub(crate) fn bytes_of(alloc: Global, value: &Value) -> Result<Bytes, DecodeFault>
     ensures { Gives result (hex_in (view value.now)) }
@@ -99,6 +106,17 @@ pub(crate) fn bytes_of(alloc: Global, value: &Value) -> Result<Bytes, DecodeFaul
         Err(FromHexError::OutOfMemory) => Err(DecodeFault::Memory),
         Err(_) => Err(DecodeFault::NotGood),
     }
+}
+
+/// The bytes of the next member, which has to have this key.
+pub(crate) fn next_bytes(
+    alloc: Global,
+    fields: &mut Fields<'_>,
+    key: &str,
+) -> Result<Bytes, DecodeFault>
+    ensures { GivesBy (λ bytes. (bytes, members_view fields.new)) result (field_in hex_in key.now (members_view fields.old)) }
+{
+    bytes_of(alloc, field(fields, key)?)
 }
 
 /// A digest.
@@ -137,6 +155,17 @@ pub(crate) fn path_of(alloc: Global, value: &Value) -> Result<PathText, DecodeFa
     }
 }
 
+/// The path of the next member, which has to have this key.
+pub(crate) fn next_path(
+    alloc: Global,
+    fields: &mut Fields<'_>,
+    key: &str,
+) -> Result<PathText, DecodeFault>
+    ensures { GivesBy (λ path. (path, members_view fields.new)) result (field_in path_in key.now (members_view fields.old)) }
+{
+    path_of(alloc, field(fields, key)?)
+}
+
 /// A moment.
 pub(crate) fn moment_of(value: &Value) -> Result<Moment, DecodeFault>
     ensures { Gives result (moment_in (view value.now)) }
@@ -151,6 +180,13 @@ pub(crate) fn number_of(value: &Value) -> Result<u64, DecodeFault>
     value.as_u64().ok_or(DecodeFault::NotGood)
 }
 
+/// The number of the next member, which has to have this key.
+pub(crate) fn next_number(fields: &mut Fields<'_>, key: &str) -> Result<u64, DecodeFault>
+    ensures { GivesBy (λ number. (number, members_view fields.new)) result (field_in number_in key.now (members_view fields.old)) }
+{
+    number_of(field(fields, key)?)
+}
+
 /// A number of 32 bits.
 pub(crate) fn small_of(value: &Value) -> Result<u32, DecodeFault>
     ensures { Gives result (small_in (view value.now)) }
@@ -163,6 +199,13 @@ pub(crate) fn small_of(value: &Value) -> Result<u32, DecodeFault>
     }
 }
 
+/// The number of 32 bits of the next member, which has to have this key.
+pub(crate) fn next_small(fields: &mut Fields<'_>, key: &str) -> Result<u32, DecodeFault>
+    ensures { GivesBy (λ number. (number, members_view fields.new)) result (field_in small_in key.now (members_view fields.old)) }
+{
+    small_of(field(fields, key)?)
+}
+
 /// Whether the format is the second, in which entries are sealed, and not the first.
 pub(crate) fn is_second_format(value: &Value) -> Result<bool, DecodeFault>
     ensures { Gives result (format_in (view value.now)) }
@@ -172,6 +215,13 @@ pub(crate) fn is_second_format(value: &Value) -> Result<bool, DecodeFault>
         2 => Ok(true),
         _ => Err(DecodeFault::NotGood),
     }
+}
+
+/// Whether the format, which the next member has to tell under this key, is the second.
+pub(crate) fn next_format(fields: &mut Fields<'_>, key: &str) -> Result<bool, DecodeFault>
+    ensures { GivesBy (λ second. (second, members_view fields.new)) result (field_in format_in key.now (members_view fields.old)) }
+{
+    is_second_format(field(fields, key)?)
 }
 
 /// A list of numbers of 32 bits.
@@ -186,6 +236,17 @@ pub(crate) fn numbers_of(alloc: Global, value: &Value) -> Result<EntryNumbers, D
         }
         _ => Err(DecodeFault::NotGood),
     }
+}
+
+/// The list of numbers of the next member, which has to have this key.
+pub(crate) fn next_numbers(
+    alloc: Global,
+    fields: &mut Fields<'_>,
+    key: &str,
+) -> Result<EntryNumbers, DecodeFault>
+    ensures { GivesBy (λ numbers. (numbers, members_view fields.new)) result (field_in smalls_in key.now (members_view fields.old)) }
+{
+    numbers_of(alloc, field(fields, key)?)
 }
 
 fn numbers_in(alloc: Global, values: &[Value]) -> Result<Vec<u32>, DecodeFault>

@@ -9,7 +9,7 @@ ghost use Rattle.reuse_tree.specs.declared.journal.head.Head.{Head};
 
 use crate::journal::fault::DecodeFault;
 use crate::journal::fields::{
-    field, fields, finish, is_second_format, numbers_of, parse, small_of, text_of,
+    field, fields, finish, next_format, next_numbers, next_small, parse, text_of,
 };
 use crate::journal::head::{Head, Pending, PendingWay};
 use reuse_text::LONGEST_FILE;
@@ -96,11 +96,11 @@ fn head_of(alloc: Global, value: &Value) -> Result<Head, DecodeFault>
     ensures { Gives result (head_in (view value.now)) }
 {
     let mut members = fields(value)?;
-    let done = numbers_of(alloc, field(&mut members, "done")?)?;
-    let _second = is_second_format(field(&mut members, "format")?)?;
-    let next = small_of(field(&mut members, "next")?)?;
+    let done = next_numbers(alloc, &mut members, "done")?;
+    let _second = next_format(&mut members, "format")?;
+    let next = next_small(&mut members, "next")?;
     let pending = pending_of(field(&mut members, "pending")?)?;
-    let undone = numbers_of(alloc, field(&mut members, "undone")?)?;
+    let undone = next_numbers(alloc, &mut members, "undone")?;
     finish(members)?;
     Ok(Head {
         done,
@@ -124,7 +124,7 @@ fn some_pending_of(value: &Value) -> Result<Pending, DecodeFault>
     ensures { Gives result (some_pending_in (view value.now)) }
 {
     let mut members = fields(value)?;
-    let entry = small_of(field(&mut members, "entry")?)?;
+    let entry = next_small(&mut members, "entry")?;
     let way = way_of(text_of(field(&mut members, "way")?)?)?;
     finish(members)?;
     Ok(Pending { entry, way })
