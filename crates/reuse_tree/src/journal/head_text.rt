@@ -35,15 +35,12 @@ pub fn encode_head(alloc: Global, head: &Head) -> Result<Vec<u8>, AllocError>
 fn head_json(alloc: Global, head: &Head) -> Result<Value, AllocError>
     ensures { IfOk result (λ v. view v ≡ head_value true head.now) }
 {
-    let done = numbers_value(alloc, head.done.as_slice())?;
-    let undone = numbers_value(alloc, head.undone.as_slice())?;
-    let pending = pending_value(alloc, head.pending)?;
     json!(in alloc; {
-        "done": done,
+        "done": numbers_value(alloc, head.done.as_slice())?,
         "format": 2u32,
         "next": head.next,
-        "pending": pending,
-        "undone": undone
+        "pending": pending_value(alloc, head.pending)?,
+        "undone": numbers_value(alloc, head.undone.as_slice())?
     })
 }
 
