@@ -1,3 +1,4 @@
+pub mod FaultyCalls
 pub mod FileMaps
 pub mod GoodFiles
 pub mod Contents
@@ -21,6 +22,7 @@ pub mod JsonPrinting
 pub mod ListingLemmas
 pub mod PlainTexts
 pub mod SmallDigits
+pub mod StoppedReading
 pub mod WrittenEntries
 pub mod WrittenTexts
 mod ClashLemmas

@@ -1,6 +1,6 @@
-use Rattle.std.proofs.Common.{◌++◌, ◌∙◌, codes, decimal, refl}
+use Rattle.std.proofs.Common.{◌++◌, ◌∙◌, codes, decimal, refl, subst, sym}
 use Rattle.json.specs.Print.{quoted}
-use Rattle.reuse_tree.specs.EntryText.{digest_text, hex_text}
+use Rattle.reuse_tree.specs.EntryText.{digest_text, hex_text, AreDigestBytes, IsChangeInMemory}
 use Rattle.reuse_tree.proofs.WrittenTexts.{four_steps}
 use Rattle.reuse_tree.proofs.journal.written_entry.read_splice.Goals as goal
 
@@ -19,3 +19,13 @@ returns-clause-text c =
     ∙ four_steps bytes (quoted c.in_ok-path.path) (codes ",\"rest\":") (decimal c.in_ok-rest.rest) (codes "}") c.expect-4.new.self c.path.new.self c.expect-5.new.self c.number-2.new.self c.expect-6.new.self
     c.in_ok-path.ensures.text c.in_ok-expect-5.ensures c.in_ok-rest.ensures c.in_ok-expect-6.ensures in
     rw (c.splice.ensures, c.in_ok-seal.ensures.before, c.in_ok-seal.ensures.after) read
+
+pub returns-clause-change : goal.returns-clause-change
+returns-clause-change c = subst IsChangeInMemory (sym c.splice.ensures) (record {
+  path = c.in_ok-path.ensures.path;
+  utf8 = c.in_ok-path.ensures.utf8;
+  removed = c.in_ok-old.ensures.bytes;
+  written = c.in_ok-new.ensures.bytes;
+  before = subst AreDigestBytes (sym c.in_ok-seal.ensures.before) c.in_ok-before.ensures.digest;
+  after = subst AreDigestBytes (sym c.in_ok-seal.ensures.after) c.requires;
+})
