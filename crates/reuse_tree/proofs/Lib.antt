@@ -1,6 +1,7 @@
 pub mod FaultyCalls
 pub mod FileMaps
 pub mod GoodFiles
+pub mod ChangeStates
 pub mod Contents
 pub mod Cuts
 pub mod Turning
