@@ -3,9 +3,9 @@ use Rattle.std.proofs.Common.{◌≡◌, ◌≢◌, ℕ, ◌+◌, List, Bool, tr
 use Rattle.std.proofs.lemmas.Bool.{false≢true}
 use Rattle.std.specs.Prelude.{IfErr, OnOk}
 use Rattle.std.specs.FinMap.{remove}
-use Rattle.reuse_tree.specs.Asked.{IsLater, IsPut, IsRemoval}
+use Rattle.reuse_tree.specs.Asked.{FailsAsRead, IsLater, IsPut, IsRemoval, OnlyReads}
 use Rattle.reuse_tree.specs.Calls.{failures_of, written_of, moves_of}
-use Rattle.reuse_tree.specs.FaultyStore.{left_after, with_faults, WritesWithFaults}
+use Rattle.reuse_tree.specs.FaultyStore.{left_after, with_faults, ReadsWithFaults, WritesWithFaults}
 use Rattle.reuse_tree.specs.Files.{Files}
 use Rattle.reuse_tree.specs.Store.{counted, Puts, PutFails, RemoveFails}
 use Rattle.reuse_tree.specs.declared.fault.StoreFault.{StoreFault}
@@ -47,6 +47,21 @@ module _ {S : Type 0} {n : ℕ} (inside : Ghosts S) (old : FaultyStore S n) (inn
     moves = omega (arith, put.moves);
   }
 
+  pub reads_passed : OnlyReads inside old.inner inner → OnlyReads (with_faults inside) old passed
+  reads_passed reads = record {
+    was_honest = reads.was_honest;
+    files = reads.files;
+    failures = omega (arith, reads.failures);
+    written = omega (arith, reads.written);
+    moves = omega (arith, reads.moves);
+  }
+
+  pub fails_passed : {T : Type 0} (answer : Result T StoreFault) → FailsAsRead inside old.inner inner answer → FailsAsRead (with_faults inside) old passed answer
+  fails_passed answer fails = record { device = λ device. omega (arith, fails.device device); clash = fails.clash }
+
+  pub asked_inside : {T : Type 0} (stays : Bool) (answer : Result T StoreFault) → left ≡ left_after stays old.left → old.left ≢ Some 0 → effect ≡ old.takes_effect → ReadsWithFaults stays old passed answer
+  asked_inside stays answer goes_on early same = record { counted = goes_on; effect = same; passed = λ _. refl; burnt = λ due. absurd (early due) }
+
   -- the call is not one that fails here
   pub made_inside : (stays : Bool) (Passes : S → S → Result (Unit {0}) StoreFault → Type 0) (answer : Result (Unit {0}) StoreFault) → left ≡ left_after stays old.left → old.left ≢ Some 0 → effect ≡ old.takes_effect
       → WritesWithFaults stays Passes old passed answer
@@ -80,6 +95,19 @@ no_clash : {A : Type 0} → Device ≡ Clash → A
 no_clash is = cc
 
 module _ {S : Type 0} {n : ℕ} (inside : Ghosts S) (old new : FaultyStore S n) (failures : failures_of new.failed.calls ≡ failures_of old.failed.calls + 1) where
+  -- it only reads
+  pub reads_failed : new.inner ≡ old.inner → written_of new.failed.calls ≡ written_of old.failed.calls → moves_of new.failed.calls ≡ moves_of old.failed.calls → OnlyReads (with_faults inside) old new
+  reads_failed same written moves = record {
+    was_honest = λ honest. subst inside.honest same honest;
+    files = λ _. ap inside.files same;
+    failures = omega (arith, failures, ap inside.failures same);
+    written = omega (arith, written, ap inside.written same);
+    moves = omega (arith, moves, ap inside.moves same);
+  }
+
+  pub fails_failed : {T : Type 0} → new.inner ≡ old.inner → FailsAsRead {A = T} (with_faults inside) old new (Err Device)
+  fails_failed same = record { device = λ _. omega (arith, failures, ap inside.failures same); clash = λ _ is. cc }
+
   -- it took effect, and is counted inside
   pub later_taken : IsLater inside old.inner new.inner → written_of new.failed.calls ≡ written_of old.failed.calls → moves_of new.failed.calls ≡ moves_of old.failed.calls → IsLater (with_faults inside) old new
   later_taken later written moves = record {
