@@ -5,9 +5,6 @@ use Rattle.reuse_tree.specs.declared.change.ChangeState.TheVariants.{Before, Aft
 before≢after : Before ≡ After → ⊥
 before≢after is = cc
 
-before≢neither : Before ≡ Neither → ⊥
-before≢neither is = cc
-
 pub after≢before : After ≡ Before → ⊥
 after≢before is = cc
 
@@ -29,9 +26,6 @@ neither_before not_before = (λ is. absurd (neither≢before is), λ before. abs
 module _ {A B : Type 0} where
   pub before_after : B → (Before ≡ After) ↔ (A × ¬ B)
   before_after before = (λ is. absurd (before≢after is), λ ends. absurd (ends.1 before))
-
-  pub before_neither : B → (Before ≡ Neither) ↔ (¬ A × ¬ B)
-  before_neither before = (λ is. absurd (before≢neither is), λ ends. absurd (ends.1 before))
 
   pub after_after : A → ¬ B → (After ≡ After) ↔ (A × ¬ B)
   after_after after not_before = (λ _. (after, not_before), λ _. refl)

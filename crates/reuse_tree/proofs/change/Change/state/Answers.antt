@@ -1,6 +1,6 @@
 use Rattle.std.proofs.Common.{refl}
 use Rattle.std.proofs.lemmas.Bool.{false≢true}
-use Rattle.reuse_tree.proofs.ChangeStates.{after≢before, neither≢after, neither≢before, before_after, before_neither, after_before, after_after, after_neither, neither_before, neither_after, neither_neither}
+use Rattle.reuse_tree.proofs.ChangeStates.{after≢before, neither≢after, neither≢before, before_after, after_before, after_after, after_neither, neither_before, neither_after, neither_neither}
 use Rattle.reuse_tree.proofs.Turning.{before_too, not_both}
 use Rattle.reuse_tree.proofs.change.Change.state.Goals as goal
 
@@ -14,9 +14,6 @@ returns-in-Before-clause-before c = (λ _. c.if-is_sealed_before.ensures.0 refl,
 
 pub returns-in-Before-clause-after : goal.returns-in-Before-clause-after
 returns-in-Before-clause-after c = before_after (c.if-is_sealed_before.ensures.0 refl)
-
-pub returns-in-Before-clause-neither : goal.returns-in-Before-clause-neither
-returns-in-Before-clause-neither c = before_neither (c.if-is_sealed_before.ensures.0 refl)
 
 pub returns-in-Before-clause-apart : goal.returns-in-Before-clause-apart
 returns-in-Before-clause-apart c = not_both _ _

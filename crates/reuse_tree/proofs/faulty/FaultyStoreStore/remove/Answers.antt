@@ -3,7 +3,7 @@ use Rattle.std.proofs.lemmas.Bool.{false≢true}
 use Rattle.reuse_tree.specs.Asked.{IsLater, IsRemoval}
 use Rattle.reuse_tree.specs.Calls.{failures_of, moves_of, written_of}
 use Rattle.reuse_tree.specs.declared.record.CallRecord.{CallRecord}
-use Rattle.reuse_tree.proofs.FaultyCalls.{later_failed, later_passed, later_taken, made_failed, made_inside, made_taken, removal_failed, removal_passed, removal_taken}
+use Rattle.reuse_tree.proofs.FaultyCalls.{later_failed, later_passed, later_taken, made_failed, made_inside, removal_failed, removal_passed, removal_taken}
 use Rattle.reuse_tree.proofs.faulty.FaultyStoreStore.remove.Goals as goal
 
 pub returns-then-not-is_due-clause-removes : goal.returns-then-not-is_due-clause-removes
@@ -35,16 +35,6 @@ returns-then-self-clause-later g c =
     let old = c.args.self.now in
     let failed = c.fail_with_effect in
     later_taken g.S.Store old failed.new.self failed.ensures.failures (subst (λ inner. IsLater g.S.Store old.inner inner) (sym failed.ensures.kept.0) c.remove-then-self.ensures.later) failed.ensures.counts.0 failed.ensures.counts.1
-
-pub returns-then-self-clause-makes : goal.returns-then-self-clause-makes
-returns-then-self-clause-makes g c =
-    let old = c.args.self.now in
-    let inside = c.remove-then-self in
-    let failed = c.fail_with_effect in
-    rw failed.ensures.answer (
-    made_taken old failed.new.self _ _ (failed.ensures.kept.1 ∙ c.is_due.ensures.counted) (c.is_due.ensures.due.0 c.if-not-is_due.false) failed.ensures.kept.2 c.if-self.true inside.result
-    (subst (λ inner. IsRemoval g.S.Store c.args.path.now old.inner inner inside.result) (sym failed.ensures.kept.0) inside.ensures.removes)
-    )
 
 pub returns-clause-removes : goal.returns-clause-removes
 returns-clause-removes g c =
