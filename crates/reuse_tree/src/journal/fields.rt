@@ -79,8 +79,8 @@ pub(crate) fn text_of(value: &Value) -> Result<&str, DecodeFault>
     value.as_str().ok_or(DecodeFault::NotGood)
 }
 
-/// Tests that a value is this text.
-pub(crate) fn expect_text(value: &Value, text: &str) -> Result<(), DecodeFault>
+// Tests that a value is this text.
+fn expect_text(value: &Value, text: &str) -> Result<(), DecodeFault>
     ensures { Gives result (if_text text.now (view value.now)) }
 {
     if text_of(value)? == text {
@@ -97,8 +97,8 @@ pub(crate) fn expect_next(fields: &mut Fields<'_>, key: &str, text: &str) -> Res
     expect_text(field(fields, key)?, text)
 }
 
-/// The bytes of a text of hexadecimal digits.
-pub(crate) fn bytes_of(alloc: Global, value: &Value) -> Result<Bytes, DecodeFault>
+// The bytes of a text of hexadecimal digits.
+fn bytes_of(alloc: Global, value: &Value) -> Result<Bytes, DecodeFault>
     ensures { Gives result (hex_in (view value.now)) }
 {
     match hex::decode(alloc, text_of(value)?) {
@@ -119,8 +119,8 @@ pub(crate) fn next_bytes(
     bytes_of(alloc, field(fields, key)?)
 }
 
-/// A digest.
-pub(crate) fn digest_of(alloc: Global, value: &Value) -> Result<Digest, DecodeFault>
+// A digest.
+fn digest_of(alloc: Global, value: &Value) -> Result<Digest, DecodeFault>
     ensures { Gives result (digest_in (view value.now)) }
 {
     let bytes = bytes_of(alloc, value)?;
@@ -144,8 +144,8 @@ pub(crate) fn next_digest<'a>(
     }
 }
 
-/// A path.
-pub(crate) fn path_of(alloc: Global, value: &Value) -> Result<PathText, DecodeFault>
+// A path.
+fn path_of(alloc: Global, value: &Value) -> Result<PathText, DecodeFault>
     ensures { Gives result (path_in (view value.now)) }
 {
     match PathText::new(alloc, text_of(value)?) {
@@ -173,8 +173,8 @@ pub(crate) fn moment_of(value: &Value) -> Result<Moment, DecodeFault>
     Moment::new(number_of(value)?).ok_or(DecodeFault::NotGood)
 }
 
-/// A number of 64 bits.
-pub(crate) fn number_of(value: &Value) -> Result<u64, DecodeFault>
+// A number of 64 bits.
+fn number_of(value: &Value) -> Result<u64, DecodeFault>
     ensures { Gives result (number_in (view value.now)) }
 {
     value.as_u64().ok_or(DecodeFault::NotGood)
@@ -187,8 +187,8 @@ pub(crate) fn next_number(fields: &mut Fields<'_>, key: &str) -> Result<u64, Dec
     number_of(field(fields, key)?)
 }
 
-/// A number of 32 bits.
-pub(crate) fn small_of(value: &Value) -> Result<u32, DecodeFault>
+// A number of 32 bits.
+fn small_of(value: &Value) -> Result<u32, DecodeFault>
     ensures { Gives result (small_in (view value.now)) }
 {
     let number = number_of(value)?;
@@ -206,8 +206,8 @@ pub(crate) fn next_small(fields: &mut Fields<'_>, key: &str) -> Result<u32, Deco
     small_of(field(fields, key)?)
 }
 
-/// Whether the format is the second, in which entries are sealed, and not the first.
-pub(crate) fn is_second_format(value: &Value) -> Result<bool, DecodeFault>
+// Whether the format is the second, in which entries are sealed, and not the first.
+fn is_second_format(value: &Value) -> Result<bool, DecodeFault>
     ensures { Gives result (format_in (view value.now)) }
 {
     match number_of(value)? {
@@ -224,9 +224,9 @@ pub(crate) fn next_format(fields: &mut Fields<'_>, key: &str) -> Result<bool, De
     is_second_format(field(fields, key)?)
 }
 
-/// A list of numbers of 32 bits.
+// A list of numbers of 32 bits.
 #[tactic(auto, unfolding(crate::specs::JsonReading::smalls_in))]
-pub(crate) fn numbers_of(alloc: Global, value: &Value) -> Result<EntryNumbers, DecodeFault>
+fn numbers_of(alloc: Global, value: &Value) -> Result<EntryNumbers, DecodeFault>
     ensures { Gives result (smalls_in (view value.now)) }
 {
     match value {
