@@ -2,6 +2,7 @@ pub mod CarriedOut
 pub mod Dates
 pub mod FileLists
 pub mod FolderFault
+pub mod FolderPlaces
 pub mod Honesty
 pub mod Within
 pub mod KeptOut

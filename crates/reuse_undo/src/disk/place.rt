@@ -75,6 +75,10 @@ pub enum Place {
 }
 
 impl From<Found> for Place {
+    ghost use Rattle.reuse_undo.specs.FolderPlaces.{place_of_found};
+
+    ghost from_gives = { λ found place. place ≡ place_of_found found };
+
     fn from(found: Found) -> Place {
         match found {
             Found::Nothing => Place::Nothing,

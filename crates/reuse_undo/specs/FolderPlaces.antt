@@ -1,0 +1,12 @@
+-- What a path of a folder is.
+use Rattle.reuse_undo.specs.declared.disk.place.Found.{Found}
+use Rattle.reuse_undo.specs.declared.disk.place.Found.TheVariants as found
+use Rattle.reuse_undo.specs.declared.disk.place.Place.{Place}
+use Rattle.reuse_undo.specs.declared.disk.place.Place.TheVariants.{Nothing, File, Folder, Other}
+
+-- by what stands there, where each part above it is a folder
+abbrev pub place_of_found : Found → Place
+place_of_found found.Nothing = Nothing
+place_of_found (found.File status) = File status
+place_of_found found.Folder = Folder
+place_of_found found.Other = Other
