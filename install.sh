@@ -115,8 +115,10 @@ mapfile -t names < <(sed -n 's/^\([a-z0-9_]*\):.*/\1/p' "$top/crates.txt")
 mapfile -t crates < <(for it in "${names[@]}"; do echo "$(weight_of "$it") $it"; done | sort -rn | cut -d ' ' -f 2)
 processors=$(nproc)
 say "proving ${#crates[@]} crates on $processors processors; the first time that takes about half an hour on four"
+# (half as many jobs again as there are processors, since a check of several ends with a job alone)
+lanes_at_most=$((processors + processors / 2))
 while [ ${#done[@]} -lt ${#crates[@]} ]; do
-    idle=$processors
+    idle=$lanes_at_most
     for it in "${!running[@]}"; do idle=$((idle - lanes[$it])); done
     ready=()
     for it in "${crates[@]}"; do ! is_ready "$it" || ready+=("$it"); done
