@@ -89,6 +89,8 @@ undo
 # Lists in lines, with and without an end, and words that name no file beneath a PATH
 chooses a.py src/b.py by --files-from - . <<< $'a.py\nsrc/b.py'
 chooses a.py 'two words.py' by --files-from - . < <(printf 'two words.py\na.py')
+chooses a.py 'two words.py' src/b.py by --files-from - . < <(printf 'two words.py\r\na.py\r\nsrc/b.py\r')
+chooses src/b.py by --files-from - . < <(printf 'a.py\r\0src/b.py\0')
 chooses a.py src/b.py by --files-from - . < <(printf '%s\n' ./a.py src/./b.py/ '' . .. ../a.py /a.py src//b.py src none.py link.py linked/b.py LICENSE $'\xff.py' .reuse/undo/head.json)
 chooses $'line\nend.py' by --files-from - . < <(printf 'line\nend.py\0')
 chooses by --files-from - . < <(printf 'line\nend.py\n')

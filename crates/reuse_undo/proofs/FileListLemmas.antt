@@ -22,12 +22,12 @@ pub unnamed : (word : List ℕ) → ¬ IsUtf8 word → None ≡ path_of_word wor
 unnamed word h = sym (ap (λ b. cond b (path_at (place_of_word word)) None) (not_utf8 word h))
 
 -- the paths of one word more
-pub one_word_more : (words : List (Bor (List ℕ))) (word : Bor (List ℕ)) (old new : List (List ℕ)) → old ≡ filter_map path_of_word (map (λ (w : Bor (List ℕ)). w.now) words)
-    → new ≡ old ++ option_to_list (path_of_word word.now) → new ≡ filter_map path_of_word (map (λ (w : Bor (List ℕ)). w.now) (words ++ word ∷ []))
-one_word_more words word old new so is =
+pub one_word_more : (named : List ℕ → Option (List ℕ)) (words : List (Bor (List ℕ))) (word : Bor (List ℕ)) (old new : List (List ℕ)) → old ≡ filter_map named (map (λ (w : Bor (List ℕ)). w.now) words)
+    → new ≡ old ++ option_to_list (named word.now) → new ≡ filter_map named (map (λ (w : Bor (List ℕ)). w.now) (words ++ word ∷ []))
+one_word_more named words word old new so is =
     let front = map (λ (w : Bor (List ℕ)). w.now) words in
-    is ∙ ap (λ ys. ys ++ option_to_list (path_of_word word.now)) so ∙ ap (λ ys. filter_map path_of_word front ++ ys) (of_one (path_of_word word.now))
-    ∙ sym (filter_map-append path_of_word front (word.now ∷ [])) ∙ ap (filter_map path_of_word) (sym (map-append (λ (w : Bor (List ℕ)). w.now) words (word ∷ [])))
+    is ∙ ap (λ ys. ys ++ option_to_list (named word.now)) so ∙ ap (λ ys. filter_map named front ++ ys) (of_one (named word.now))
+    ∙ sym (filter_map-append named front (word.now ∷ [])) ∙ ap (filter_map named) (sym (map-append (λ (w : Bor (List ℕ)). w.now) words (word ∷ [])))
   where
     of_one : (o : Option (List ℕ)) → option_to_list o ≡ cons_option o []
     of_one None = refl

@@ -1,6 +1,6 @@
 -- Which paths a list of files names.
-use Rattle.std.specs.Prelude.{ℕ, Bool, List, Option, None, Some, filter_map, ◌==◌, if◌then◌else◌}
-use Rattle.std.specs.List.{list_any, slice_split}
+use Rattle.std.specs.Prelude.{ℕ, ◌-◌, Bool, List, [], ◌∷◌, Option, None, Some, filter_map, length, nat_eq, ◌==◌, if◌then◌else◌, take}
+use Rattle.std.specs.List.{ends_with, list_any, slice_split}
 use Rattle.std.specs.Str.{is_utf8}
 use Rattle.reuse_session.specs.Command.{path_in}
 use Rattle.reuse_session.specs.declared.command.Place.{Place}
@@ -25,6 +25,14 @@ path_at (Some place) = path_in place
 abbrev pub path_of_word : List ℕ → Option (List ℕ)
 path_of_word word = if is_utf8 word then path_at (place_of_word word) else None
 
+-- a line without the carriage return of its end
+abbrev pub without_return : List ℕ → List ℕ
+without_return line = if ends_with nat_eq line (13 ∷ []) then take (length line - 1) line else line
+
+-- the path that a word names in a list with this separator: a line may end in CR LF
+abbrev pub path_listed : ℕ → List ℕ → Option (List ℕ)
+path_listed separator word = if separator == 10 then path_of_word (without_return word) else path_of_word word
+
 -- the paths that a list names
 abbrev pub listed_paths : List ℕ → List (List ℕ)
-listed_paths list = filter_map path_of_word (words_of list)
+listed_paths list = filter_map (path_listed (separator_of list)) (words_of list)

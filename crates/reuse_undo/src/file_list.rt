@@ -2,7 +2,7 @@
 ghost use Rattle.std.specs.Prelude.{◌≡◌, ◌++◌, IfOk, OnOk};
 ghost use Rattle.std.specs.Option.{option_to_list};
 ghost use Rattle.reuse_notice.specs.Sets.{set_of};
-ghost use Rattle.reuse_undo.specs.FileLists.{has_nul, separator_of, path_of_word, listed_paths};
+ghost use Rattle.reuse_undo.specs.FileLists.{has_nul, separator_of, path_of_word, path_listed, listed_paths, without_return};
 
 use crate::line::{Action, Deed, Line, LineFault};
 use crate::place_word::place_of_word;
@@ -66,14 +66,15 @@ fn read_bytes<R: Files + Input>(rt: &R, alloc: Global, file: &str) -> io::Result
     }
 }
 
-/// The paths that a list names, one a line, or, where it holds a NUL, one between two NULs. A word that names no path is passed over.
+/// The paths that a list names, one a line, which ends in LF or CR LF, or, where it holds a NUL, one between two NULs. A word that names no
+/// path is passed over.
 pub fn paths_of_list(alloc: Global, list: &[u8]) -> Result<PathList, AllocError>
     ensures { IfOk result (λ paths. paths ≡ set_of (listed_paths list.now)) }
 {
     let separator = separator_of(list);
     let mut paths = Vec::new(alloc);
     for word in list.split(|byte| *byte == separator) {
-        push_listed(alloc, &mut paths, word)?;
+        push_listed(alloc, &mut paths, separator, word)?;
     }
     Ok(PathList::new(paths))
 }
@@ -91,14 +92,40 @@ fn has_nul(list: &[u8]) -> bool
     list.iter().any(|byte| *byte == 0)
 }
 
-// Adds the path that a word names, if it names one.
-fn push_listed(alloc: Global, paths: &mut Vec<PathText>, word: &[u8]) -> Result<(), AllocError>
-    ensures { OnOk result (paths.new.items ≡ paths.old.items ++ option_to_list (path_of_word word.now)) }
+// Adds the path that a word names in a list with this separator, if it names one.
+fn push_listed(
+    alloc: Global,
+    paths: &mut Vec<PathText>,
+    separator: u8,
+    word: &[u8],
+) -> Result<(), AllocError>
+    ensures { OnOk result (paths.new.items ≡ paths.old.items ++ option_to_list (path_listed separator word.now)) }
 {
-    if let Some(path) = path_of_word(alloc, word)? {
+    if let Some(path) = path_listed(alloc, separator, word)? {
         paths.push(path)?;
     }
     Ok(())
+}
+
+// The path that a word names in a list with this separator, if it names one.
+fn path_listed(alloc: Global, separator: u8, word: &[u8]) -> Result<Option<PathText>, AllocError>
+    ensures { IfOk result (λ path. path ≡ path_listed separator word.now) }
+{
+    if separator == b'\n' {
+        path_of_word(alloc, without_return(word))
+    } else {
+        path_of_word(alloc, word)
+    }
+}
+
+// A line without the carriage return of its end.
+fn without_return(line: &[u8]) -> &[u8]
+    ensures { result.now ≡ without_return line.now }
+{
+    match line.strip_suffix(b"\r") {
+        Some(front) => front,
+        None => line,
+    }
 }
 
 // The path that a word names, if it names one.
