@@ -1,4 +1,3 @@
-pub mod FaultyCalls
 pub mod FileMaps
 pub mod GoodFiles
 pub mod ChangeStates
