@@ -1,13 +1,13 @@
 //! Plans a download: a file for each licence's text.
 ghost use Rattle.std.specs.Prelude.{◌≡◌, ◌<◌, ◌≤◌, IfOk, IfErr, map, None, unwrap_or, []};
 ghost use Rattle.std.specs.Option.{option_copied};
-ghost use Rattle.reuse_session.specs.Reading.{keys, tree_of, Files, IsOfPlan, ReadsAlone};
 ghost use Rattle.reuse_notice.specs.Sets.{set_of};
-ghost use Rattle.reuse_session.specs.Refused.{IsNoFault, IsRefused};
-ghost use Rattle.reuse_session.specs.Licence.{licence_path};
-ghost use Rattle.reuse_session.specs.Downloads.{text_for, refusal_of_found, id_refusal, ids_refusal, download_edits};
 ghost use Rattle.reuse_session.specs.DownloadPlan.{made_at};
+ghost use Rattle.reuse_session.specs.Downloads.{text_for, refusal_of_found, id_refusal, ids_refusal, download_edits};
+ghost use Rattle.reuse_session.specs.Licence.{licence_path};
 ghost use Rattle.reuse_session.specs.Plan.{AnswersEdits};
+ghost use Rattle.reuse_session.specs.Reading.{keys, tree_of, Files, IsOfPlan, ReadsAlone};
+ghost use Rattle.reuse_session.specs.Refused.{IsNoFault, IsRefused};
 
 use crate::licence::LicenceText;
 use crate::licence_file::{licence_id, licence_path, text_for};

@@ -1,20 +1,20 @@
 //! Plans a revert: takes the changes of a step back on whatever the tree is now.
 ghost use Rattle.std.specs.Prelude.{◌≡◌, ◌≢◌, ◌↔◌, ◌+◌, ◌++◌, ◌≤◌, ℕ, IfOk, IfErr, OnOk, IsSome, IsTrue, List, Ok, Option, Some, None, false, true, length};
-ghost use Rattle.std.specs.Option.{option_to_list};
-ghost use Rattle.reuse_session.specs.Reading.{get, keys, reading_of, tree_of, Files, IsOfPlan, ReadsAlone};
 ghost use Rattle.std.specs.List.{list_any};
+ghost use Rattle.std.specs.Option.{option_to_list};
 ghost use Rattle.std.specs.Str.{bytes_eq};
 ghost use Rattle.reuse_tree.specs.Change.{path_of, IsProper};
-ghost use Rattle.reuse_tree.specs.declared.change.Change.TheVariants.{Make, Splice};
-ghost use Rattle.reuse_tree.specs.declared.fault.StoreFault.{StoreFault};
-ghost use Rattle.reuse_session.specs.Answer.{IsTestRefusal};
 ghost use Rattle.reuse_tree.specs.Entry.{makes, IsEntry, IsSmall};
 ghost use Rattle.reuse_tree.specs.EntryText.{HavePaths};
+ghost use Rattle.reuse_tree.specs.Tree.{is_of_tree};
+ghost use Rattle.reuse_tree.specs.declared.change.Change.TheVariants.{Make, Splice};
+ghost use Rattle.reuse_tree.specs.declared.fault.StoreFault.{StoreFault};
+ghost use Rattle.reuse_tree.specs.declared.way.Way.TheVariants.{Undo};
+ghost use Rattle.reuse_session.specs.Answer.{IsTestRefusal};
 ghost use Rattle.reuse_session.specs.Plan.{AnswersEdits, MakesEdit};
 ghost use Rattle.reuse_session.specs.Previews.{IsLookRefusal};
+ghost use Rattle.reuse_session.specs.Reading.{get, keys, reading_of, tree_of, Files, IsOfPlan, ReadsAlone};
 ghost use Rattle.reuse_session.specs.Reverting.{has_digest, is_as_left, revert_edits, stands_as_written, stands_at, taken_back, taken_back_on};
-ghost use Rattle.reuse_tree.specs.Tree.{is_of_tree};
-ghost use Rattle.reuse_tree.specs.declared.way.Way.TheVariants.{Undo};
 
 use crate::entry_changes::EntryChanges;
 use crate::perform::makes_any;

@@ -1,15 +1,15 @@
 //! What a revert would do.
 ghost use Rattle.std.specs.Prelude.{◌≡◌, IfOk, IfErr, OnOk, map, true};
-ghost use Rattle.reuse_session.specs.Reading.{keys, tree_of, ReadsAlone};
 ghost use Rattle.std.specs.List.{list_any};
 ghost use Rattle.reuse_tree.specs.Change.{path_of, IsProper};
 ghost use Rattle.reuse_tree.specs.Entry.{makes, IsEntry, IsSmall};
+ghost use Rattle.reuse_tree.specs.Tree.{is_of_tree};
+ghost use Rattle.reuse_tree.specs.declared.way.Way.TheVariants.{Undo};
 ghost use Rattle.reuse_session.specs.FatePlan.{back_at, Adds, Plans};
 ghost use Rattle.reuse_session.specs.Fates.{revert_fate};
 ghost use Rattle.reuse_session.specs.Previews.{IsLookRefusal};
+ghost use Rattle.reuse_session.specs.Reading.{keys, tree_of, ReadsAlone};
 ghost use Rattle.reuse_session.specs.Reverting.{revert_edits};
-ghost use Rattle.reuse_tree.specs.Tree.{is_of_tree};
-ghost use Rattle.reuse_tree.specs.declared.way.Way.TheVariants.{Undo};
 
 use crate::entry_changes::EntryChanges;
 use crate::plan_revert::{paths_to_heed, take_back};

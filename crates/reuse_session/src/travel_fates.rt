@@ -1,12 +1,12 @@
 //! What an undo or a redo would do, path by path.
 ghost use Rattle.std.specs.Prelude.{◌≡◌, IfOk, IfErr, true};
 ghost use Rattle.std.specs.FinMap as map;
-ghost use Rattle.reuse_session.specs.Reading.{tree_of, OnlyReads, ReadsAlone, RefusedAsRead};
 ghost use Rattle.reuse_tree.specs.Change.{path_of, IsProper};
 ghost use Rattle.reuse_tree.specs.Entry.{makes, IsEntry, IsSmall};
+ghost use Rattle.reuse_tree.specs.Tree.{is_of_tree};
 ghost use Rattle.reuse_session.specs.Fates.{IsFateOf, AreFatesOf};
 ghost use Rattle.reuse_session.specs.Previews.{IsLookRefusal};
-ghost use Rattle.reuse_tree.specs.Tree.{is_of_tree};
+ghost use Rattle.reuse_session.specs.Reading.{tree_of, OnlyReads, ReadsAlone, RefusedAsRead};
 
 use crate::fate::{Fate, Fates};
 use crate::perform::{can_be_made, paths_to_heed};

@@ -5,11 +5,11 @@ ghost use Rattle.reuse_session.specs.Answer.{HasCause};
 ghost use Rattle.reuse_session.specs.Journal.{State};
 ghost use Rattle.reuse_session.specs.Session.{store_of};
 ghost use Rattle.reuse_session.specs.Standing.{IsStanding};
-ghost use Rattle.reuse_undo.specs.WriterFaults.{IsOfDiff, IsUndrawn};
-ghost use Rattle.reuse_undo.specs.Requests.{IsLook};
 ghost use Rattle.reuse_undo.specs.CarriedOut.{CarriesOut};
+ghost use Rattle.reuse_undo.specs.Requests.{IsLook};
 ghost use Rattle.reuse_undo.specs.RunLine.{HasCallClash, RequestLeaves, IfNoDiff, StandsAccepted};
 ghost use Rattle.reuse_undo.specs.Told.{IsDiffOf, IsNoDiff, IsWanted};
+ghost use Rattle.reuse_undo.specs.WriterFaults.{IsOfDiff, IsUndrawn};
 
 mod calls;
 mod drawn;

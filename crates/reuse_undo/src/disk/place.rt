@@ -74,13 +74,14 @@ pub enum Place {
     Other,
 }
 
-impl From<Found> for Place {
+impl Found {
     ghost use Rattle.reuse_undo.specs.FolderPlaces.{place_of_found};
 
-    ghost from_gives = { λ found place. place ≡ place_of_found found };
-
-    fn from(found: Found) -> Place {
-        match found {
+    /// What a path is at which this stands.
+    pub fn as_place(self) -> Place
+        ensures { result ≡ place_of_found self }
+    {
+        match self {
             Found::Nothing => Place::Nothing,
             Found::File(status) => Place::File(status),
             Found::Folder => Place::Folder,
