@@ -114,7 +114,7 @@ impl<R: Files<File = File> + AllocGlobal + Clone + Drop> RootFolder<R> {
         }
         match full.look(&self.rt)? {
             Found::Nothing => self.nothing(),
-            found => Ok(found.as_place()),
+            found => Ok(found.into_place()),
         }
     }
 

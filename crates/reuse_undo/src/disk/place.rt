@@ -78,7 +78,7 @@ impl Found {
     ghost use Rattle.reuse_undo.specs.FolderPlaces.{place_of_found};
 
     /// What a path is at which this stands.
-    pub fn as_place(self) -> Place
+    pub fn into_place(self) -> Place
         ensures { result ≡ place_of_found self }
     {
         match self {
