@@ -37,7 +37,7 @@ mkdir -p "$prefix/bin"
 
 logs=$(mktemp -d)
 start=$SECONDS
-declare -A running=() lanes=() done=() told=()
+declare -A running=() lanes=() proved=() told=()
 # (each check has a process group of its own, so that all of it ends with this script)
 set -m
 trap '{ for it in "${!running[@]}"; do kill -- "-${running[$it]}" || true; done; wait; take_back; } 2> /dev/null; rm -rf "$logs"' EXIT
@@ -46,8 +46,8 @@ trap 'echo "interrupted; run it again to go on" >&2; exit 130' INT TERM
 say() {
     printf '%3d:%02d  %s\n' $(((SECONDS - start) / 60)) $(((SECONDS - start) % 60)) "$*"
 }
-# Proves a crate by so many jobs, and builds it. A crate beside others is proved in a copy of the repository, since one check at a time works over a
-# library; what it leaves goes back into the repository.
+# Proves a crate by so many jobs, and builds it, in one go: a check first would have all that was proved be read twice. A crate beside others is proved
+# in a copy of the repository, since one check at a time works over a library; what it leaves goes back into the repository.
 prove() {
     local crate=$1 jobs=$2 at=$top
     if [ "$3" ]; then
@@ -55,7 +55,6 @@ prove() {
         copy_for "$crate" "$at"
     fi
     cd "$at/crates/$crate"
-    rt check --jobs "$jobs"
     if [ -e src/main.rt ]; then rt run --jobs "$jobs" -- --version; else rt lib --jobs "$jobs"; fi
     [ "$at" = "$top" ] || take_back_one "$crate"
 }
@@ -86,8 +85,8 @@ below() {
 }
 is_ready() {
     local it
-    [ ! "${done[$1]:-}" ] && [ ! "${running[$1]:-}" ] || return 1
-    for it in $(below "$1"); do [ "${done[$it]:-}" ] || return 1; done
+    [ ! "${proved[$1]:-}" ] && [ ! "${running[$1]:-}" ] || return 1
+    for it in $(below "$1"); do [ "${proved[$it]:-}" ] || return 1; done
 }
 # How many jobs a check may take: all processors where it is alone, else half of them, where so many are idle; and 2 GB of free memory for each
 jobs_of() {
@@ -117,7 +116,7 @@ processors=$(nproc)
 say "proving ${#crates[@]} crates on $processors processors; the first time that takes about half an hour on four"
 # (half as many jobs again as there are processors, since a check of several ends with a job alone)
 lanes_at_most=$((processors + processors / 2))
-while [ ${#done[@]} -lt ${#crates[@]} ]; do
+while [ ${#proved[@]} -lt ${#crates[@]} ]; do
     idle=$lanes_at_most
     for it in "${!running[@]}"; do idle=$((idle - lanes[$it])); done
     ready=()
@@ -140,11 +139,11 @@ while [ ${#done[@]} -lt ${#crates[@]} ]; do
         if ! kill -0 "${running[$it]}" 2> /dev/null; then
             wait "${running[$it]}" || { unset "running[$it]"; tail -n 30 "$logs/$it"; say "$it: NOT proved"; exit 1; }
             unset "running[$it]"
-            done[$it]=yes
-            say "$it: proved and built, ${#done[@]} of ${#crates[@]} crates"
+            proved[$it]=yes
+            say "$it: proved and built, ${#proved[@]} of ${#crates[@]} crates"
         elif [ $((SECONDS - told[$it])) -ge 60 ]; then
             told[$it]=$SECONDS
-            count=$(sed -nE 's/^(so far: )?checked .*, ([0-9]+ of [0-9]+)$/\2 functions/p' "$logs/$it" | tail -n 1)
+            count=$(sed -nE 's/^so far: ([0-9]+ of [0-9]+) functions checked.*$/\1 functions/p' "$logs/$it" | tail -n 1)
             say "$it: ${count:-at work}"
         fi
     done
