@@ -128,7 +128,8 @@ faults() {
   notes annotate -l MIT a.py : "can't write \.reuse/undo/000001\.json: a link, .*"
   "$program" -v --root "$room/absent" log 2> "$room/error" || found=$?
   [[ $found == 1 ]] || fail "a root that is absent: status $found"
-  printf '%s\n' 'reuse-undo: store fault' "reuse-undo: note: can't read .reuse: No such file or directory (os error 2)" |
+  printf '%s\n' 'reuse-undo: store fault' "reuse-undo: note: can't read .reuse: No such file or directory (os error 2)" \
+    "reuse-undo: note: there is no folder $room/absent" |
     cmp -s - "$room/error" || fail "a root that is absent: $(cat "$room/error")"
   files a.py 'x\n' b.py ''
   head -c 100000 /dev/zero | tr '\0' x > "$tree/b.py"

@@ -10,7 +10,8 @@ use reuse_session::{Command, Event, Fate, Head, Refusal, Scope, Session, Unknown
 use reuse_text::{Bytes, LONGEST_FILE};
 use reuse_tree::{PathText, Reading, Store};
 use std::alloc::Global;
-use std::fs::File;
+use std::fs::{self, File};
+use std::io::ErrorKind;
 use std::rt::Files;
 
 const HEAD: &str = ".reuse/undo/head.json";
@@ -68,6 +69,8 @@ pub struct Findings {
     pub unrecognised: usize,
     /// The call of the store that failed.
     pub failure: Option<Failure>,
+    /// The root, where it was no folder.
+    pub missing_root: Option<String>,
 }
 
 impl Findings {
@@ -88,6 +91,7 @@ impl Findings {
             task: Task::of(&line.action),
             texts,
             above: journal_above(rt, alloc, line.root.as_str()),
+            missing_root: missing_root(rt, alloc, line.root.as_str()),
             begun: begun_step(alloc, store),
             is_set_back: false,
             is_table_empty: false,
@@ -112,6 +116,19 @@ impl Findings {
             self.is_table_empty = is_table_empty(alloc, &mut folder);
         }
         self.unrecognised = unrecognised_by(alloc, folder, request, outcome);
+    }
+}
+
+/// The root, where it is known to be no folder.
+fn missing_root(rt: &impl Files, alloc: Global, root: &str) -> Option<String> {
+    let is_missing = match fs::metadata(rt, root) {
+        Ok(found) => !found.is_dir(),
+        Err(error) => matches!(error.kind(), ErrorKind::NotFound | ErrorKind::NotADirectory),
+    };
+    if is_missing {
+        String::from_str(alloc, root).ok()
+    } else {
+        None
     }
 }
 

@@ -120,40 +120,47 @@ fn folder_at<R: Files<File = File> + AllocGlobal + Clone + Drop>(
     Ok(DiskStore::at(rt.clone()?, root))
 }
 
-/// Carries a line out on the folder that it names, and prints its answer; how many paths that tells, and, where notes are asked for, what they tell.
+/// What comes of a line that is carried out.
+#[derive(Drop)]
+struct CarriedOut {
+    /// How many paths the answer tells.
+    outcome: Result<usize, Fault>,
+    /// What notes tell, where they are asked for.
+    findings: Option<Findings>,
+}
+
+impl CarriedOut {
+    fn fault(fault: Fault) -> CarriedOut {
+        CarriedOut {
+            outcome: Err(fault),
+            findings: None,
+        }
+    }
+}
+
+/// Carries a line out on the folder that it names, while no other run works there, and prints its answer.
 fn carry_out<R: Files<File = File> + AllocGlobal + Clock + Print + Eprint + Clone + Drop>(
     rt: &R,
     alloc: Global,
     line: Line,
     extras: Extras,
-) -> (Result<usize, Fault>, Option<Findings>) {
-    match lock_root(rt, line.root.as_str()) {
-        Ok(lock) => {
-            let carried_out = carry_out_alone(rt, alloc, line, extras);
-            drop(lock);
-            carried_out
-        }
+) -> CarriedOut {
+    let lock = match lock_root(rt, line.root.as_str()) {
+        Ok(lock) => lock,
         Err(fault) => {
             drop(line);
-            (Err(fault), None)
+            return CarriedOut::fault(fault);
         }
-    }
-}
-
-/// The same, while no other run works on the folder.
-fn carry_out_alone<R: Files<File = File> + AllocGlobal + Clock + Print + Eprint + Clone + Drop>(
-    rt: &R,
-    alloc: Global,
-    line: Line,
-    extras: Extras,
-) -> (Result<usize, Fault>, Option<Findings>) {
-    match tools_for(rt, alloc, &line, extras) {
+    };
+    let carried_out = match tools_for(rt, alloc, &line, extras) {
         Ok(tools) => work_with(rt, alloc, tools, line, extras.notes),
         Err(error) => {
             drop(line);
-            (Err(Fault::from(error)), None)
+            CarriedOut::fault(Fault::from(error))
         }
-    }
+    };
+    drop(lock);
+    carried_out
 }
 
 fn work_with<R: Files<File = File> + AllocGlobal + Clock + Print + Eprint + Clone + Drop>(
@@ -162,7 +169,7 @@ fn work_with<R: Files<File = File> + AllocGlobal + Clock + Print + Eprint + Clon
     tools: Tools<R>,
     line: Line,
     notes: bool,
-) -> (Result<usize, Fault>, Option<Findings>) {
+) -> CarriedOut {
     let Tools {
         mut folder,
         texts,
@@ -174,7 +181,7 @@ fn work_with<R: Files<File = File> + AllocGlobal + Clock + Print + Eprint + Clon
     let (folder, outcome) = answer(folder, &progress, alloc, &request, telling);
     let findings = found_after(alloc, findings, folder, &request, &outcome);
     drop(request);
-    (outcome, findings)
+    CarriedOut { outcome, findings }
 }
 
 /// Carries out what is asked for, and prints the answer.
@@ -247,34 +254,18 @@ fn tell_fault(rt: &impl Eprint, fault: &Fault) {
 }
 
 /// Tells the fault of a line that was carried out, and the notes; the status.
-fn tell_outcome(
-    rt: &impl Eprint,
-    outcome: &Result<usize, Fault>,
-    findings: &Option<Findings>,
-) -> u8 {
+fn tell_outcome(rt: &impl Eprint, carried_out: &CarriedOut) -> u8 {
+    let outcome = &carried_out.outcome;
     if let Err(fault) = outcome {
         tell_fault(rt, fault);
     }
-    if let Some(findings) = findings {
+    if let Some(findings) = &carried_out.findings {
         note_call(rt, findings, outcome);
     }
     match outcome {
         Ok(_) => 0,
         Err(fault) => exit_status(fault),
     }
-}
-
-/// Carries a line out, and tells its fault and notes; the status.
-fn run_noted<R: Files<File = File> + AllocGlobal + Clock + Print + Eprint + Clone + Drop>(
-    rt: &R,
-    alloc: Global,
-    line: Line,
-    extras: Extras,
-) -> u8 {
-    let carried_out = carry_out(rt, alloc, line, extras);
-    let status = tell_outcome(rt, &carried_out.0, &carried_out.1);
-    drop(carried_out);
-    status
 }
 
 /// What the words say that the program was called with.
@@ -319,7 +310,12 @@ fn run<R: Runtime + Files<File = File> + AllocGlobal>(
         progress: at_terminal,
     };
     match whole_line(rt, alloc, said) {
-        Ok(line) => run_noted(rt, alloc, line, extras),
+        Ok(line) => {
+            let carried_out = carry_out(rt, alloc, line, extras);
+            let status = tell_outcome(rt, &carried_out);
+            drop(carried_out);
+            status
+        }
         Err(fault) => {
             let status = tell_words(rt, &fault, extras.notes);
             drop(fault);

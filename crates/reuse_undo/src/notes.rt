@@ -73,6 +73,9 @@ fn note_refusal(rt: &impl Eprint, findings: &Findings, refusal: &Refusal) {
     ) {
         note(rt, failure);
     }
+    if let (Refusal::Fault(_), Some(root)) = (refusal, &findings.missing_root) {
+        let _ = eprintln!(rt; "reuse-undo: note: there is no folder {root}");
+    }
     if let (Refusal::NoText(id), Some(folder)) = (refusal, &findings.texts) {
         let _ = eprintln!(rt; "reuse-undo: note: the text was sought in {folder}/{id}.txt");
     }
