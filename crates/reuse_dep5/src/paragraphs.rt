@@ -1,5 +1,5 @@
 //! The paragraphs of a dep5: the header, `Files` paragraphs and stand-alone licences.
-ghost use Rattle.std.specs.Prelude.{◌≡◌, [], ◌||◌, IfOk, option_to_list};
+ghost use Rattle.std.specs.Prelude.{◌≡◌, ◌||◌, IfOk, option_to_list};
 ghost use Rattle.reuse_dep5.specs.SourceText.{is_nil};
 ghost use Rattle.reuse_dep5.specs.Fields.{text_of, value_of};
 ghost use Rattle.reuse_dep5.specs.Answers.{IsAnswer};

@@ -1,9 +1,9 @@
 //! What a command adds to the licensing information of a file.
-ghost use Rattle.std.specs.Prelude.{◌≡◌, ◌≤◌, ◌<◌, ◌++◌, ◌∷◌, IfOk, IfErr, IfSome, OnOk, None, Some, All, IsUtf8, map, find, filter_map, fold, min, max};
+ghost use Rattle.std.specs.Prelude.{◌≡◌, ◌≤◌, ◌<◌, ◌++◌, IfOk, IfErr, IfSome, OnOk, None, Some, All, IsUtf8, map, find, filter_map, fold, min, max};
 ghost use Rattle.std.specs.Option.{option_map, option_to_list};
 ghost use Rattle.std.specs.List.{list_any};
-ghost use Rattle.reuse_notice.specs.Tags.{year_of, drop_front, drop_end};
-ghost use Rattle.reuse_notice.specs.Adding.{is_space, without_spaces, holds, is_bad_text, is_bad_year, is_control, bad_expression, bad_licence, four_digits, chosen_years, notice_written};
+ghost use Rattle.reuse_notice.specs.Tags.{year_of};
+ghost use Rattle.reuse_notice.specs.Adding.{without_spaces, holds, is_bad_text, is_bad_year, is_control, bad_expression, bad_licence, four_digits, chosen_years, notice_written};
 ghost use Rattle.reuse_notice.specs.Keeping.{HaveFourDigits};
 ghost use Rattle.reuse_notice.specs.Texts.{texts_of};
 

@@ -1,7 +1,7 @@
 //! Lines, byte order mark, line ending and kind of text files, and an edit of one range of bytes.
 #![tactic(auto)]
 
-ghost use Rattle.std.specs.Prelude.{◌≡◌, ◌≢◌, ◌+◌, ◌-◌, ◌^◌, ◌<◌, ◌≤◌, ◌↔◌, IsTrue, IfOk, All, List, ℕ, [], length, take, drop, ◌∷◌, ◌==◌};
+ghost use Rattle.std.specs.Prelude.{◌≡◌, ◌+◌, ◌-◌, ◌^◌, ◌<◌, ◌≤◌, ◌↔◌, IsTrue, IfOk, All, List, ℕ, length, take, drop, ◌∷◌, ◌==◌};
 ghost use Rattle.std.specs.List.{after_last};
 ghost use Rattle.reuse_text.specs.Text.{IsText, TextLine, AreLines, text_of, lines_of, after_mark, mark_len_of, kind_of, ending_bytes, file_lines, StandsIn, spliced};
 
