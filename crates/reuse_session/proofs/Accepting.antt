@@ -23,7 +23,7 @@ use Rattle.reuse_session.proofs.Downloading.{IsMade, none_due}
 use Rattle.reuse_session.proofs.LicenceLemmas.{id_of_path}
 use Rattle.reuse_session.proofs.Outcomes.{ok_edits, edits_of_tree, edits_unless, held, tree_comes}
 use Rattle.reuse_session.proofs.TablePut.{both, by_file}
-use Rattle.reuse_session.proofs.Testing.{clashes_keys}
+use Rattle.reuse_tree.proofs.Testing.{clashes_keys}
 use Rattle.reuse_session.proofs.TextsPut.{made_at_id}
 
 -- ---- paths

@@ -31,7 +31,7 @@ use Rattle.reuse_session.specs.declared.command.Scope.{Scope}
 use Rattle.reuse_session.specs.Plan.{IsPlan, IsRefusalOf, CarriesOutEdit, MakesEdit, MakesEach, MakesEdits}
 use Rattle.reuse_tree.proofs.ListingLemmas.{under_from_test}
 use Rattle.reuse_session.proofs.Outcomes.{ok_edits, no_edit, some_edit}
-use Rattle.reuse_session.proofs.TreeLemmas.{among_keys}
+use Rattle.reuse_tree.proofs.TreeLemmas.{among_keys}
 use Rattle.reuse_session.proofs.Planning.{paths_at, each_push, AreEdits, same_many, plan_of_edits}
 use Rattle.reuse_tree.specs.Entry.{entry_size}
 use Rattle.reuse_session.proofs.Results.{none_from_test}

@@ -26,9 +26,9 @@ use Rattle.reuse_session.specs.declared.reply.Refusal.{Refusal}
 use Rattle.reuse_session.specs.declared.reply.Refusal.TheVariants as refusals
 use Rattle.reuse_session.specs.Refused.{dep5_refusal}
 use Rattle.reuse_session.specs.Plan.{IsRefusalOf, MakesEdits}
-use Rattle.reuse_session.proofs.ReadingLemmas.{absent_is, long_is}
-use Rattle.reuse_session.proofs.Testing.{clashes_keys}
-use Rattle.reuse_session.proofs.TreeLemmas.{among_keys}
+use Rattle.reuse_tree.proofs.ReadingLemmas.{absent_is, long_is}
+use Rattle.reuse_tree.proofs.Testing.{clashes_keys}
+use Rattle.reuse_tree.proofs.TreeLemmas.{among_keys}
 use Rattle.reuse_session.proofs.Outcomes.{ok_edits}
 use Rattle.reuse_session.proofs.Planning.{AreEdits}
 use Rattle.reuse_session.proofs.Results.{err_or, same_Ok, none_from_test}

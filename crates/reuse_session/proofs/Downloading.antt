@@ -24,9 +24,9 @@ use Rattle.reuse_session.specs.Plan.{CarriesOutEdit, MakesEach, MakesEdits, IsRe
 use Rattle.reuse_session.specs.declared.licence.LicenceText.{LicenceText}
 use Rattle.reuse_session.specs.declared.reply.Refusal.{Refusal}
 use Rattle.reuse_session.specs.declared.reply.Refusal.TheVariants as refusals
-use Rattle.reuse_session.proofs.Testing.{clashes_keys}
+use Rattle.reuse_tree.proofs.Testing.{clashes_keys}
 use Rattle.reuse_session.proofs.LicenceLemmas.{id_of_path, id_bytes, path_is_good, path_of_tree, paths_apart}
-use Rattle.reuse_session.proofs.TreeLemmas.{among_keys}
+use Rattle.reuse_tree.proofs.TreeLemmas.{among_keys}
 use Rattle.reuse_session.proofs.Outcomes.{edits_unless}
 use Rattle.reuse_session.proofs.Planning.{paths_at, IsFit, AreEdits}
 use Rattle.reuse_session.proofs.Results.{none_from_test}

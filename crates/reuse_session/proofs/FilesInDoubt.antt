@@ -18,7 +18,7 @@ use Rattle.reuse_session.specs.declared.reply.Refusal.{Refusal}
 use Rattle.reuse_session.proofs.JournalLemmas.{entry_good}
 use Rattle.reuse_session.proofs.OpeningLemmas.{same_journal, none_bad}
 use Rattle.reuse_session.proofs.Settling.{none_in_files, is_tree}
-use Rattle.reuse_session.proofs.Walk.{none_outside}
+use Rattle.reuse_tree.proofs.Walk.{none_outside}
 
 no_folder_file : (files tree : Files) (path : List ℕ) → lies_under path journal_folder ≡ false → get (tree_of files) path ≡ get tree path → get tree path ≡ None → get files path ≡ None
 no_folder_file files tree path outside same none = none_in_files files path outside (same ∙ none)

@@ -46,10 +46,10 @@ use Rattle.reuse_session.proofs.Converting.{conversion_fits}
 use Rattle.reuse_session.proofs.Downloading.{download_fits}
 use Rattle.reuse_session.proofs.EditOrder.{AreDistinct, AreFit}
 use Rattle.reuse_tree.proofs.ListingLemmas.{under_from_test, test_from_under}
-use Rattle.reuse_session.proofs.NeighbourLemmas.{good_neighbour}
+use Rattle.reuse_tree.proofs.NeighbourLemmas.{good_neighbour}
 use Rattle.reuse_session.proofs.Planning.{paths_at, IsFit, AreEdits, not_itself}
 use Rattle.reuse_session.proofs.RevertFitting.{revert_fits}
-use Rattle.reuse_session.proofs.Testing.{clashes_keys}
+use Rattle.reuse_tree.proofs.Testing.{clashes_keys}
 use Rattle.reuse_session.proofs.Outcomes.{no_edit, some_edit, same_edit, unskipped}
 use Rattle.std.proofs.Math.Seq.{take-append_seam}
 use Rattle.reuse_session.proofs.Results.{err_or}

@@ -11,7 +11,7 @@ use Rattle.reuse_tree.specs.declared.journal.entry.Entry.{Entry}
 use Rattle.reuse_tree.specs.declared.journal.head.Head.{Head}
 use Rattle.reuse_session.proofs.JournalLemmas.{entry_in_folder, entry_path_is_not_head}
 use Rattle.reuse_session.proofs.JournalReading.{file_in_folder}
-use Rattle.reuse_session.proofs.OfTree.{get-folder}
+use Rattle.reuse_tree.proofs.OfTree.{get-folder}
 
 -- where the files stay, so does the folder
 pub folder_stays : (files new : Files) (path : List ℕ) → new ≡ files → IsSameBut path (undo_folder_of files) (undo_folder_of new)

@@ -19,8 +19,8 @@ use Rattle.reuse_tree.specs.Tree.{changed_paths}
 use Rattle.reuse_session.specs.Machine.{Label, Kept, Snapshots, Step, taken, ran, ran_by, is_full, undone, redone, row_of, rows_before, rows_behind, rows_of}
 use Rattle.reuse_session.specs.Journal.{Recorded, State, Undoes, Redoes, rows_in}
 use Rattle.reuse_session.specs.Session.{LeadUpTo, LeadOn, HoldsSnapshots}
-use Rattle.reuse_session.proofs.Differ.{changed_by_entry, changed_by_none}
-use Rattle.reuse_session.proofs.Walk.{leads_once, leads_back, can_lead, none_stuck}
+use Rattle.reuse_tree.proofs.Differ.{changed_by_entry, changed_by_none}
+use Rattle.reuse_tree.proofs.Walk.{leads_once, leads_back, can_lead, none_stuck}
 
 -- as many trees are kept as steps
 length_up_to : (tree : Files) (steps : List Recorded) (past : List Kept) → LeadUpTo tree steps past → length steps ≡ length past

@@ -11,9 +11,9 @@ use Rattle.reuse_session.specs.JournalFiles.{head_path, IsFree, IsKeptIn, HeadSa
 use Rattle.reuse_session.specs.Standing.{IsStanding}
 use Rattle.reuse_session.specs.Stops.{HoldState}
 use Rattle.reuse_tree.specs.Tree.{undo_folder_of}
-use Rattle.reuse_session.proofs.Results.{none_is_some}
-use Rattle.reuse_session.proofs.TreeLemmas.{tree_file}
-use Rattle.reuse_session.proofs.OfTree.{get-folder}
+use Rattle.reuse_tree.proofs.TurnLemmas.{none_is_some}
+use Rattle.reuse_tree.proofs.TreeLemmas.{tree_file}
+use Rattle.reuse_tree.proofs.OfTree.{get-folder}
 
 abbrev no_steps : Journal
 no_steps = record { done = []; undone = []; used = 0 }

@@ -7,9 +7,9 @@ use Rattle.reuse_tree.specs.declared.change.Change.{Change}
 use Rattle.reuse_tree.specs.Entry.{touches, IsEntry}
 use Rattle.reuse_session.specs.JournalFiles.{head_path}
 use Rattle.reuse_tree.specs.Tree.{is_of_tree, undo_folder_of, Sets}
-use Rattle.reuse_session.proofs.Differ.{touching}
-use Rattle.reuse_session.proofs.TreeLemmas.{tree_file}
-use Rattle.reuse_session.proofs.OfTree.{get-folder, apart_from_journal}
+use Rattle.reuse_tree.proofs.Differ.{touching}
+use Rattle.reuse_tree.proofs.TreeLemmas.{tree_file}
+use Rattle.reuse_tree.proofs.OfTree.{get-folder, apart_from_journal}
 use Rattle.reuse_session.proofs.JournalLemmas.{head_in_folder, sets_in_folder}
 use Rattle.std.proofs.Math.Bool.{or_comm}
 

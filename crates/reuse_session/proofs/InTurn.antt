@@ -23,7 +23,7 @@ use Rattle.reuse_tree.specs.Entry.{touches, paths_of, IsEntry, TurnsBy, LeadsBy,
 use Rattle.reuse_session.specs.InTurn.{LeadsInTurn}
 use Rattle.reuse_session.specs.Outcome.{with_file}
 use Rattle.reuse_session.proofs.Planning.{with_same, with_other}
-use Rattle.reuse_session.proofs.Walk.{of_no_change}
+use Rattle.reuse_tree.proofs.Walk.{of_no_change}
 
 -- ---- one change before others of other paths
 

@@ -20,11 +20,11 @@ use Rattle.reuse_tree.specs.declared.journal.head.Pending.{Pending}
 use Rattle.reuse_tree.specs.declared.journal.head.PendingWay.{PendingWay}
 use Rattle.reuse_tree.specs.declared.journal.head.PendingWay.TheVariants.{Do, Undo, Redo}
 use Rattle.reuse_tree.specs.declared.journal.head.Head.{Head}
-use Rattle.reuse_session.proofs.TreeLemmas.{tree_file}
+use Rattle.reuse_tree.proofs.TreeLemmas.{tree_file}
 use Rattle.reuse_tree.proofs.ListingLemmas.{under_from_test, test_from_under}
 use Rattle.reuse_tree.proofs.EntryParts.{one_entry}
 use Rattle.reuse_session.proofs.HeadMoves.{each_listed}
-use Rattle.reuse_session.proofs.OfTree.{fronts, slash_inside, above_journal, get-folder}
+use Rattle.reuse_tree.proofs.OfTree.{fronts, slash_inside, above_journal, get-folder}
 
 -- ---- their paths
 

@@ -22,9 +22,9 @@ use Rattle.reuse_session.specs.declared.reply.Refusal.{Refusal}
 use Rattle.reuse_session.specs.declared.reply.Refusal.TheVariants.{BadJournal, Moved, Memory, Interrupted, Fault}
 use Rattle.reuse_session.proofs.FilesInDoubt.{standing_bad, under_way_bad}
 use Rattle.reuse_session.proofs.JournalLemmas.{same_entry, entry_good}
-use Rattle.reuse_session.proofs.MadeLemmas.{back_at_start, settles_from}
+use Rattle.reuse_tree.proofs.MadeLemmas.{back_at_start, settles_from}
 use Rattle.reuse_session.proofs.OpeningLemmas.{same_head, same_step, same_journal, no_file_there, none_bad}
-use Rattle.reuse_session.proofs.Walk.{none_without}
+use Rattle.reuse_tree.proofs.Walk.{none_without}
 
 -- ---- one path is the first at fault
 

@@ -5,8 +5,8 @@ use Rattle.reuse_tree.specs.declared.fault.StoreFault.TheVariants as faults
 use Rattle.reuse_tree.specs.declared.store.Store.{Ghosts}
 use Rattle.reuse_tree.specs.Asked.{OnlyReads}
 use Rattle.reuse_session.specs.Answer.{IsEarly, IsStop, HasCause}
-use Rattle.reuse_session.specs.declared.reply.Cause.{Cause}
-use Rattle.reuse_session.specs.declared.reply.Cause.TheVariants as causes
+use Rattle.reuse_tree.specs.declared.cause.Cause.{Cause}
+use Rattle.reuse_tree.specs.declared.cause.Cause.TheVariants as causes
 use Rattle.reuse_session.specs.declared.reply.Refusal.{Refusal}
 use Rattle.reuse_session.specs.declared.reply.Refusal.TheVariants.{Fault, Interrupted}
 

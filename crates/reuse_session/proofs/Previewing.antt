@@ -19,14 +19,14 @@ use Rattle.reuse_tree.specs.declared.way.Way.{Way}
 use Rattle.reuse_tree.specs.declared.way.Way.TheVariants as way
 use Rattle.reuse_session.specs.declared.fate.Fate.{Fate}
 use Rattle.reuse_session.specs.declared.fate.Fate.TheVariants as fate
-use Rattle.reuse_session.specs.declared.reply.Cause.{Cause}
+use Rattle.reuse_tree.specs.declared.cause.Cause.{Cause}
 use Rattle.reuse_session.specs.declared.reply.Refusal.{Refusal}
 use Rattle.reuse_session.specs.declared.reply.Refusal.TheVariants as refusals
 use Rattle.reuse_session.specs.declared.session.Session.{Session}
 use Rattle.reuse_session.proofs.Following.{back_from, on_from}
-use Rattle.reuse_session.proofs.Differ.{changed_by_entry}
+use Rattle.reuse_tree.proofs.Differ.{changed_by_entry}
 use Rattle.reuse_session.proofs.Driving.{stands_still}
-use Rattle.reuse_session.proofs.Walk.{can_lead}
+use Rattle.reuse_tree.proofs.Walk.{can_lead}
 
 -- ---- the fates of changes
 

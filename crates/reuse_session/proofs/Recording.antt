@@ -43,7 +43,7 @@ use Rattle.reuse_session.proofs.Running.{full_alike, count_recorded, size_record
 use Rattle.reuse_session.proofs.KnownCommands.{recorded_known}
 use Rattle.reuse_session.proofs.StepAnswers.{still_stands, stands_beside, kept_put, fault_clash, clash_of, head_clash_before}
 use Rattle.reuse_session.proofs.Stepping.{step_of, second_of, run_step, is_run, remembers_run, sound_between, sound_second}
-use Rattle.reuse_session.proofs.Walk.{can_lead}
+use Rattle.reuse_tree.proofs.Walk.{can_lead}
 
 -- the step of a run from the standing, and what is answered of it
 pub record Recording {S : Type 0} (files : S → Files) (command : Command) (when : ℕ) (session : Session S) (changes made : List Change) (pending : Pending) (moved : Memory) (held : State) : Type 0 where

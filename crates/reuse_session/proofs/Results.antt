@@ -1,5 +1,5 @@
 -- What a result or an option is, from a test or an equation.
-use Rattle.std.proofs.Common.{◌≡◌, Bool, true, false, cond, Option, Some, None, IsSome, is_some, Result, Ok, Err, refl, sym, ap, ◌∙◌}
+use Rattle.std.proofs.Common.{◌≡◌, Bool, true, false, cond, Option, Some, None, is_some, Result, Ok, Err, refl, sym}
 use Rattle.std.proofs.lemmas.Bool.{false≢true}
 use Rattle.reuse_session.specs.declared.reply.Refusal.{Refusal}
 
@@ -14,9 +14,6 @@ err_or false r rest x e = (refl, e)
 pub none_from_test : {A : Type 0} (o : Option A) → is_some o ≡ false → o ≡ None
 none_from_test None e = refl
 none_from_test (Some x) e = absurd (false≢true (sym e))
-
-pub none_is_some : {A : Type 0} (o : Option A) → o ≡ None → IsSome o → ⊥
-none_is_some o none some = false≢true (sym (ap is_some none) ∙ some)
 
 pub none_unless_some : {A : Type 0} (o : Option A) → ((x : A) → o ≡ Some x → ⊥) → o ≡ None
 none_unless_some None never = refl

@@ -29,7 +29,7 @@ use Rattle.reuse_session.specs.declared.reply.Reply.{Reply}
 use Rattle.reuse_session.specs.declared.reply.Reply.TheVariants.{Changed, NothingChanged}
 use Rattle.reuse_session.specs.declared.reply.Reverted.{Reverted}
 use Rattle.reuse_session.specs.declared.session.Session.{Session}
-use Rattle.reuse_session.proofs.DifferingPaths.{changed_ascend}
+use Rattle.reuse_tree.proofs.DifferingPaths.{changed_ascend}
 use Rattle.reuse_session.proofs.JournalLemmas.{same_entry}
 use Rattle.reuse_session.proofs.OnlyReading.{still_caused}
 use Rattle.reuse_session.proofs.RunFollowing.{follows_exact}

@@ -25,7 +25,7 @@ use Rattle.reuse_session.specs.Reverting.{stands_as_written, is_short, put_back,
 use Rattle.reuse_tree.specs.Tree.{is_of_tree}
 use Rattle.reuse_tree.specs.declared.way.Way.TheVariants.{Undo}
 use Rattle.reuse_session.proofs.Planning.{paths_at, IsFit, AreEdits}
-use Rattle.reuse_session.proofs.Testing.{clashes_keys}
+use Rattle.reuse_tree.proofs.Testing.{clashes_keys}
 
 -- ---- one change
 

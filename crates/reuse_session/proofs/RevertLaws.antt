@@ -34,8 +34,8 @@ use Rattle.reuse_session.specs.declared.reply.Refusal.TheVariants.{TooMany}
 use Rattle.reuse_session.proofs.Planning.{paths_at, EachHas, edited_other, edited_has}
 use Rattle.reuse_session.proofs.RevertFitting.{backs, still_ascend, still_among}
 use Rattle.reuse_session.proofs.RevertPlanning.{and_first, and_second, within, spliced_len, where_free}
-use Rattle.reuse_session.proofs.Testing.{clashes_keys}
-use Rattle.reuse_session.proofs.Walk.{can_lead, leads_back}
+use Rattle.reuse_tree.proofs.Testing.{clashes_keys}
+use Rattle.reuse_tree.proofs.Walk.{can_lead, leads_back}
 use Rattle.reuse_session.proofs.Outcomes.{few_held}
 
 -- ---- the old bytes come back, whatever follows them

@@ -21,7 +21,7 @@ use Rattle.reuse_session.proofs.Planning.{paths_at, EachHas, edited_other, edite
 use Rattle.reuse_session.proofs.RevertFitting.{backs, back_on, edits_are, still_ascend, still_among}
 use Rattle.reuse_session.proofs.RevertLaws.{takes_to, not_both}
 use Rattle.reuse_session.proofs.RevertPlanning.{where_free}
-use Rattle.reuse_session.proofs.Testing.{clashes_keys}
+use Rattle.reuse_tree.proofs.Testing.{clashes_keys}
 use Rattle.reuse_session.proofs.Outcomes.{edits_of_tree}
 
 -- ---- what can be taken back

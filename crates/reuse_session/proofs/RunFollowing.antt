@@ -19,9 +19,9 @@ use Rattle.reuse_session.specs.declared.reply.Reply.TheVariants.{Changed, Nothin
 use Rattle.reuse_session.specs.declared.reply.Refusal.{Refusal}
 use Rattle.reuse_session.specs.declared.reply.Refusal.TheVariants.{JournalFull, Memory, Fault, Interrupted}
 use Rattle.reuse_session.specs.declared.session.Session.{Session}
-use Rattle.reuse_session.proofs.Differ.{changed_by_entry}
+use Rattle.reuse_tree.proofs.Differ.{changed_by_entry}
 use Rattle.reuse_session.proofs.Following.{journal_full, run_refused, run_nothing, run_follows}
-use Rattle.reuse_session.proofs.Walk.{leads_once}
+use Rattle.reuse_tree.proofs.Walk.{leads_once}
 
 -- no change leads from files to the same
 stays_by_none : (files : Files) → LeadsAll [] files files

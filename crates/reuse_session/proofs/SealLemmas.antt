@@ -12,7 +12,8 @@ use Rattle.reuse_tree.specs.declared.change.Change.{Change}
 use Rattle.reuse_tree.proofs.Sealed.{same_after, same_before}
 use Rattle.reuse_tree.specs.Entry.{IsReady, CanBeMade, AreAllSealed}
 use Rattle.reuse_session.specs.Journal.{State}
-use Rattle.reuse_session.specs.Seals.{IsReadyByRange, tree_for, IsAsLeft, IsUntouched, IsToldApart}
+use Rattle.reuse_session.specs.Seals.{tree_for, IsAsLeft, IsUntouched, IsToldApart}
+use Rattle.reuse_tree.specs.Turn.{IsReadyByRange}
 use Rattle.reuse_session.specs.Session.{IsRun}
 use Rattle.reuse_session.specs.declared.command.Command.{Command}
 use Rattle.reuse_tree.specs.declared.way.Way.{Way}

@@ -20,17 +20,17 @@ use Rattle.reuse_tree.specs.declared.way.Way.{Way}
 use Rattle.reuse_tree.specs.declared.journal.entry.Entry.{Entry}
 use Rattle.reuse_tree.specs.declared.journal.head.Pending.{Pending}
 use Rattle.reuse_tree.specs.declared.journal.head.PendingWay.{PendingWay}
-use Rattle.reuse_session.specs.declared.reply.Cause.{Cause}
+use Rattle.reuse_tree.specs.declared.cause.Cause.{Cause}
 use Rattle.reuse_session.specs.declared.reply.Refusal.{Refusal}
 use Rattle.reuse_session.specs.declared.reply.Refusal.TheVariants as refusals
-use Rattle.reuse_session.proofs.TreeLemmas.{tree_file, tree_are_files}
+use Rattle.reuse_tree.proofs.TreeLemmas.{tree_file, tree_are_files}
 use Rattle.reuse_session.proofs.HeadMoves.{sound_unpended}
 use Rattle.reuse_session.proofs.JournalLemmas.{head_in_folder, same_entry, entry_good, sound_head, keeps_again}
-use Rattle.reuse_session.proofs.MadeLemmas.{back_at_start}
+use Rattle.reuse_tree.proofs.MadeLemmas.{back_at_start}
 use Rattle.reuse_session.proofs.MemoryLemmas.{listing_of}
-use Rattle.reuse_session.proofs.OfTree.{get-folder}
+use Rattle.reuse_tree.proofs.OfTree.{get-folder}
 use Rattle.reuse_session.proofs.OpeningLemmas.{recorded, same_journal}
-use Rattle.reuse_session.proofs.Walk.{none_outside}
+use Rattle.reuse_tree.proofs.Walk.{none_outside}
 
 -- ---- the folders above the journal
 

@@ -12,10 +12,10 @@ use Rattle.reuse_session.specs.Standing.{IsTree, IsStanding, IsStep, InDoubt}
 use Rattle.reuse_tree.specs.Tree.{undo_folder_of}
 use Rattle.reuse_tree.specs.declared.journal.head.PendingWay.{PendingWay}
 use Rattle.reuse_tree.specs.declared.change.Change.{Change}
-use Rattle.reuse_session.proofs.TreeLemmas.{tree_are_files}
-use Rattle.reuse_session.proofs.Walk.{leads_once, none_outside}
+use Rattle.reuse_tree.proofs.TreeLemmas.{tree_are_files}
+use Rattle.reuse_tree.proofs.Walk.{leads_once, none_outside}
 use Rattle.reuse_session.proofs.JournalLemmas.{entry_in_folder, same_but_in_folder, keeps_beside, keeps_pending, keeps_settled, kept_stays}
-use Rattle.reuse_session.proofs.MadeLemmas.{reach_ready}
+use Rattle.reuse_tree.proofs.MadeLemmas.{reach_ready}
 
 -- the entry's file of the next number changes no standing
 pub after_entry : (files after : Files) (held : State) → IsStanding files held → held.journal.used < 999_999 → IsSameBut (entry_path (held.journal.used + 1)) files after → IsStanding after held

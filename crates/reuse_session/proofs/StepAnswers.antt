@@ -19,14 +19,14 @@ use Rattle.reuse_tree.specs.Tree.{undo_folder_of}
 use Rattle.reuse_session.specs.declared.session.Session.{Session}
 use Rattle.reuse_tree.specs.declared.way.Way.{Way}
 use Rattle.reuse_tree.specs.declared.way.Way.TheVariants.{Do, Undo}
-use Rattle.reuse_session.specs.declared.reply.Cause.TheVariants as causes
+use Rattle.reuse_tree.specs.declared.cause.Cause.TheVariants as causes
 use Rattle.reuse_session.specs.declared.reply.Reply.{Reply}
 use Rattle.reuse_session.specs.declared.reply.Refusal.{Refusal}
 use Rattle.reuse_session.specs.declared.reply.Refusal.TheVariants.{Memory as OutOfMemory, Fault, Interrupted, BadJournal, JournalFull}
 use Rattle.reuse_session.proofs.OnlyReading.{is_refused}
 use Rattle.reuse_session.proofs.HeadMoves.{below}
 use Rattle.reuse_session.proofs.JournalLemmas.{clash_beneath, entry_in_folder, like, paths_apart}
-use Rattle.reuse_session.proofs.OfTree.{get-folder}
+use Rattle.reuse_tree.proofs.OfTree.{get-folder}
 use Rattle.reuse_session.proofs.Standings.{after_entry}
 use Rattle.reuse_session.proofs.Stepping.{last_number}
 

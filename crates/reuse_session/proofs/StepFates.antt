@@ -16,7 +16,7 @@ use Rattle.reuse_session.specs.declared.fate.Fate.TheVariants as fate
 use Rattle.reuse_session.specs.declared.reply.Refusal.{Refusal}
 use Rattle.reuse_session.specs.declared.reply.Refusal.TheVariants as refusals
 use Rattle.reuse_session.specs.declared.reply.Reply.{Reply}
-use Rattle.reuse_session.proofs.Walk.{none_stuck}
+use Rattle.reuse_tree.proofs.Walk.{none_stuck}
 use Rattle.reuse_session.proofs.OneOpening.{without_once}
 use Rattle.reuse_session.proofs.Previewing.{all_change}
 

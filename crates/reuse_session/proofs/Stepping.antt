@@ -23,8 +23,8 @@ use Rattle.reuse_session.specs.declared.history.ListedEntry.{ListedEntry}
 use Rattle.reuse_tree.specs.declared.journal.head.Pending.{Pending}
 use Rattle.reuse_tree.specs.declared.journal.head.PendingWay.TheVariants.{Do}
 use Rattle.reuse_session.specs.Answer.{HasClash}
-use Rattle.reuse_session.specs.declared.reply.Cause.{Cause}
-use Rattle.reuse_session.specs.declared.reply.Cause.TheVariants as causes
+use Rattle.reuse_tree.specs.declared.cause.Cause.{Cause}
+use Rattle.reuse_tree.specs.declared.cause.Cause.TheVariants as causes
 use Rattle.reuse_session.specs.declared.reply.Refusal.TheVariants.{Interrupted}
 use Rattle.reuse_session.proofs.HeadMoves.{sound_pending, sound_moved}
 use Rattle.reuse_session.proofs.JournalLemmas.{sound_head}

@@ -22,12 +22,12 @@ use Rattle.reuse_session.specs.Standing.{IsTree, IsUnderWay}
 use Rattle.reuse_tree.specs.Tree.{is_of_tree, undo_folder_of}
 use Rattle.reuse_tree.specs.declared.journal.entry.Entry.{Entry}
 use Rattle.reuse_tree.specs.declared.journal.head.Pending.{Pending}
-use Rattle.reuse_session.proofs.TreeLemmas.{tree_are_files}
+use Rattle.reuse_tree.proofs.TreeLemmas.{tree_are_files}
 use Rattle.reuse_session.proofs.JournalLemmas.{entry_good}
-use Rattle.reuse_session.proofs.MadeLemmas.{at_place, back_none, back_more, ready_once, step_with, still_free, stood, with_file}
+use Rattle.reuse_tree.proofs.MadeLemmas.{at_place, back_none, back_more, ready_once, step_with, still_free, stood, with_file}
 use Rattle.reuse_session.proofs.OpeningLemmas.{recorded}
 use Rattle.reuse_session.proofs.Settling.{none_in_tree}
-use Rattle.reuse_session.proofs.Walk.{none_outside}
+use Rattle.reuse_tree.proofs.Walk.{none_outside}
 
 -- where a change leaves a file, it makes it or one was there
 there_or_made : (way : Way) (c : Change) (old new : Option (List ℕ)) → TurnsBy way c old new → IsSome new → (makes way c ≡ true) ⊎ IsSome old

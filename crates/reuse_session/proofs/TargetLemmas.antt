@@ -19,7 +19,7 @@ use Rattle.reuse_session.specs.declared.reply.Refusal.{Refusal}
 use Rattle.reuse_session.specs.declared.reply.Refusal.TheVariants.{TooLong}
 use Rattle.reuse_tree.specs.Listing.{is_among}
 use Rattle.reuse_session.specs.Annotate.{neighbour_of, goes_beside, goes_beside_unread, target_by_style, target_by_bytes}
-use Rattle.reuse_session.proofs.TreeLemmas.{among_keys}
+use Rattle.reuse_tree.proofs.TreeLemmas.{among_keys}
 
 over : (n : ℕ) → LONGEST_FILE < n → nat_lt LONGEST_FILE n ≡ true
 over n h = grind (arith, nat_tests)

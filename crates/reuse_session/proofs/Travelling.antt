@@ -27,7 +27,7 @@ use Rattle.reuse_session.specs.declared.reply.Refusal.TheVariants.{Moved}
 use Rattle.reuse_session.specs.declared.session.Session.{Session}
 use Rattle.reuse_session.proofs.FolderLemmas.{folder_stays}
 use Rattle.reuse_session.proofs.JournalLemmas.{same_entry, sound_head, free_stays}
-use Rattle.reuse_session.proofs.MadeLemmas.{can_reach}
+use Rattle.reuse_tree.proofs.MadeLemmas.{can_reach}
 use Rattle.reuse_session.proofs.MemoryLemmas.{next_step, none_ahead}
 use Rattle.reuse_tree.specs.Asked.{OnlyReads}
 use Rattle.reuse_tree.proofs.AskedLemmas.{reads_more}

@@ -1,12 +1,8 @@
 -- What carrying a step out leaves, and rolling it back. The heads are given by their texts.
-use Rattle.std.specs.Prelude.{◌≡◌, ◌⊎◌, ℕ, ◌<◌, Bool, true, false, List, Some}
-use Rattle.std.specs.FinMap.{get}
+use Rattle.std.specs.Prelude.{◌≡◌, ◌⊎◌, ℕ, List, Some}
 use Rattle.reuse_tree.specs.Files.{Files, tree_of}
-use Rattle.reuse_tree.specs.Asked.{OnlyReads}
-use Rattle.reuse_tree.specs.Change.{path_of}
-use Rattle.reuse_tree.specs.declared.store.Store.{Ghosts}
 use Rattle.reuse_tree.specs.declared.change.Change.{Change}
-use Rattle.reuse_tree.specs.Entry.{opposite, LeadsBy, SomeMade, ArePartlyMade, IsReady, LeadsByOneChange}
+use Rattle.reuse_tree.specs.Entry.{LeadsBy, SomeMade, ArePartlyMade}
 use Rattle.reuse_session.specs.JournalFiles.{head_path}
 use Rattle.reuse_tree.specs.Tree.{Sets, undo_folder_of}
 use Rattle.reuse_tree.specs.declared.way.Way.{Way}
@@ -25,10 +21,6 @@ pub record IsStopped (way : Way) (changes : List Change) (head : List ℕ) (befo
   pub tree : SomeMade way changes (tree_of before) (tree_of after)
   pub sets : SetsHead head before after
 
--- the change was not made, or is taken back
-abbrev pub IsSetBack : Way → Change → Files → Files → Type 0
-IsSetBack way change before after = (IsReady way change (get before (path_of change)) × (after ≡ before)) ⊎ LeadsByOneChange (opposite way) change before after
-
 -- the files were those now with some of the changes made, none of which is made now, and this is the head
 pub record IsRolledBack (way : Way) (changes : List Change) (head : List ℕ) (before after : Files) : Type 0 where
   pub partly : ArePartlyMade way changes (tree_of after) (tree_of before)
@@ -39,8 +31,3 @@ abbrev pub StopsRollingBack : Way → List Change → List ℕ → Files → Fil
 StopsRollingBack way changes head start before after =
     (SomeMade way changes start (tree_of after) × (undo_folder_of after ≡ undo_folder_of before))
     ⊎ ((tree_of after ≡ start) × SetsHead head before after)
-
--- a call notes that puts and removals have started exactly where it asks for one, if that wasn't noted before
-pub record NotesMoves {S : Type 0} (store : Ghosts S) (noted notes : Bool) (old new : S) : Type 0 where
-  pub still : notes ≡ false → (noted ≡ false) × OnlyReads store old new
-  pub begun : noted ≡ false → notes ≡ true → store.moves old < store.moves new

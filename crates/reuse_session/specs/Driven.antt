@@ -12,7 +12,7 @@ use Rattle.reuse_session.specs.Stops.{Point, open_at, AreLeft}
 use Rattle.reuse_session.specs.declared.events.Event.{Event}
 use Rattle.reuse_session.specs.declared.events.Event.TheVariants as asked
 use Rattle.reuse_session.specs.declared.fate.Call.{Call}
-use Rattle.reuse_session.specs.declared.reply.Cause.{Cause}
+use Rattle.reuse_tree.specs.declared.cause.Cause.{Cause}
 use Rattle.reuse_session.specs.declared.reply.Refusal.{Refusal}
 use Rattle.reuse_session.specs.declared.reply.Refusal.TheVariants.{Interrupted}
 use Rattle.reuse_session.specs.declared.reply.Reply.{Reply}

@@ -1,20 +1,16 @@
 -- What the seals of a step tell of its files.
-use Rattle.std.specs.Prelude.{◌≡◌, ℕ, true, List, Option}
+use Rattle.std.specs.Prelude.{◌≡◌, true}
 use Rattle.std.specs.Option.{option_map}
 use Rattle.std.specs.FinMap.{get}
 use Rattle.sha2.specs.Sha256.{sha256}
 use Rattle.reuse_tree.specs.Files.{Files, Clashes}
-use Rattle.reuse_tree.specs.Change.{path_of, IsBeforeByRange, IsAfterByRange}
+use Rattle.reuse_tree.specs.Change.{path_of}
+use Rattle.reuse_tree.specs.Turn.{IsReadyByRange}
 use Rattle.reuse_tree.specs.declared.change.Change.{Change}
 use Rattle.reuse_tree.specs.Entry.{makes}
 use Rattle.reuse_session.specs.Journal.{State}
 use Rattle.reuse_tree.specs.declared.way.Way.{Way}
 use Rattle.reuse_tree.specs.declared.way.Way.TheVariants.{Do, Undo}
-
--- by range and length alone, the change can be gone through this way where its path holds this
-abbrev pub IsReadyByRange : Way → Change → Option (List ℕ) → Type 0
-IsReadyByRange Do change file = IsBeforeByRange change file
-IsReadyByRange Undo change file = IsAfterByRange change file
 
 -- the tree from which a run's step is gone through this way: that before the run, or that after it
 abbrev pub tree_for : Way → State → State → Files

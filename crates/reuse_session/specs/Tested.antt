@@ -3,8 +3,8 @@ use Rattle.reuse_tree.specs.Files.{Files}
 use Rattle.reuse_tree.specs.declared.change.Change.{Change}
 use Rattle.reuse_tree.specs.Entry.{opposite, CanBeMade, CanBeSetBack}
 use Rattle.reuse_tree.specs.declared.way.Way.{Way}
-use Rattle.reuse_session.specs.declared.perform.Aim.{Aim}
-use Rattle.reuse_session.specs.declared.perform.Aim.TheVariants.{Go, SetBack}
+use Rattle.reuse_session.specs.declared.prepare.Aim.{Aim}
+use Rattle.reuse_session.specs.declared.prepare.Aim.TheVariants.{Go, SetBack}
 
 -- on the tree, the change is as the aim needs it
 abbrev pub Passes : Aim → Way → Files → Change → Type 0

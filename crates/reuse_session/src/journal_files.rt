@@ -1,7 +1,7 @@
 //! The files of the journal: reads and puts its head and its entries.
-ghost use Rattle.std.specs.Prelude.{◌≡◌, ◌≢◌, ◌⊎◌, ◌<◌, ◌≤◌, ◌+◌, ℕ, List, Option, Some, true, IfOk, IfErr, OnOk, OnErr, IsErrOf, length, IsSome};
+ghost use Rattle.std.specs.Prelude.{◌≡◌, ◌≢◌, ◌⊎◌, ◌<◌, ◌≤◌, ◌+◌, ℕ, List, Option, Some, true, IfOk, IfErr, OnOk, OnErr, IsErrOf, length};
 ghost use Rattle.std.specs.FinMap as map;
-ghost use Rattle.reuse_tree.specs.Files.{Clashes, tree_of};
+ghost use Rattle.reuse_tree.specs.Files.{Clashes};
 ghost use Rattle.reuse_tree.specs.Store.{reading_of};
 ghost use Rattle.reuse_tree.specs.declared.fault.StoreFault.{StoreFault};
 ghost use Rattle.reuse_tree.specs.declared.fault.StoreFault.TheVariants as faults;
@@ -18,11 +18,11 @@ ghost use Rattle.reuse_tree.specs.declared.journal.entry.Entry.{Entry};
 ghost use Rattle.reuse_tree.specs.Asked.{OnlyReads, IsLater};
 
 use crate::known_path::known_path;
-use crate::reply::{Cause, Refusal};
+use crate::reply::Refusal;
 use reuse_text::LONGEST_FILE;
 use reuse_tree::{
-    DecodeFault, Entry, EntryNumbers, Head, PathText, Reading, Store, StoreFault, decode_entry,
-    decode_head, encode_entry,
+    Cause, DecodeFault, Entry, EntryNumbers, Head, PathText, Reading, Store, StoreFault,
+    decode_entry, decode_head, encode_entry,
 };
 use std::alloc::{AllocError, Global};
 use std::marker::Model;

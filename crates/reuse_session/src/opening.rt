@@ -12,8 +12,8 @@ ghost use Rattle.reuse_session.specs.Opening.{least, listed_entry, named, IsRead
 ghost use Rattle.reuse_session.specs.Session.{head_room, listed_count, HasHeadText, IsSameBut, Remembers};
 ghost use Rattle.reuse_session.specs.Standing.{IsStanding, IsUnderWay, InDoubt};
 ghost use Rattle.reuse_tree.specs.Tree.{undo_folder_of};
-ghost use Rattle.reuse_session.specs.declared.reply.Cause.{Cause};
-ghost use Rattle.reuse_session.specs.declared.reply.Cause.TheVariants as causes;
+ghost use Rattle.reuse_tree.specs.declared.cause.Cause.{Cause};
+ghost use Rattle.reuse_tree.specs.declared.cause.Cause.TheVariants as causes;
 ghost use Rattle.reuse_tree.specs.Asked.{OnlyReads, IsLater};
 
 use crate::history::{History, ListedEntry};

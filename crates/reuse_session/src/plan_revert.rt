@@ -16,13 +16,12 @@ ghost use Rattle.reuse_session.specs.Previews.{IsLookRefusal};
 ghost use Rattle.reuse_session.specs.Reading.{get, keys, reading_of, tree_of, Files, IsOfPlan, ReadsAlone};
 ghost use Rattle.reuse_session.specs.Reverting.{has_digest, is_as_left, revert_edits, stands_as_written, stands_at, taken_back, taken_back_on};
 
-use crate::entry_changes::EntryChanges;
-use crate::perform::makes_any;
 use crate::reply::Refusal;
 use crate::tree_paths::tree_paths;
-use crate::turn::makes;
 use reuse_text::{Bytes, LONGEST_FILE};
-use reuse_tree::{Change, Digest, PathText, Reading, Seal, Store, Way, is_clash};
+use reuse_tree::perform::makes_any;
+use reuse_tree::turn::makes;
+use reuse_tree::{Change, Digest, EntryChanges, PathText, Reading, Seal, Store, Way, is_clash};
 use std::alloc::{AllocError, Global};
 
 /// The changes of a revert, or its first refusal.

@@ -1,5 +1,5 @@
 //! The choice of where the licensing information of a file goes.
-ghost use Rattle.std.specs.Prelude.{◌≡◌, ◌≤◌, ◌++◌, IfOk, IfErr, length};
+ghost use Rattle.std.specs.Prelude.{◌≡◌, ◌≤◌, IfOk, IfErr, length};
 ghost use Rattle.std.specs.FinMap.{keys};
 ghost use Rattle.reuse_header.specs.Names.{kind_in, lookup};
 ghost use Rattle.reuse_tree.specs.Files.{Files};

@@ -1,5 +1,5 @@
 //! What annotate does at a path, as far as that is known without a listing of the tree.
-ghost use Rattle.std.specs.Prelude.{◌≡◌, ℕ, List, true, false, length, nat_lt, IfErr, None, Some};
+ghost use Rattle.std.specs.Prelude.{◌≡◌, ℕ, List, true, false, length, nat_lt, None, Some};
 ghost use Rattle.reuse_session.specs.Reading.{get, reading_of, tree_of, IsOfPlan, ReadsAlone};
 ghost use Rattle.reuse_session.specs.Annotate.{neighbour_of};
 ghost use Rattle.reuse_session.specs.AnnotationPlan.{AnswersPath};

@@ -1,5 +1,5 @@
 //! What a revert would do.
-ghost use Rattle.std.specs.Prelude.{◌≡◌, IfOk, IfErr, OnOk, map, true};
+ghost use Rattle.std.specs.Prelude.{◌≡◌, IfOk, OnOk, map, true};
 ghost use Rattle.std.specs.List.{list_any};
 ghost use Rattle.reuse_tree.specs.Change.{path_of, IsProper};
 ghost use Rattle.reuse_tree.specs.Entry.{makes, IsEntry, IsSmall};
@@ -11,11 +11,10 @@ ghost use Rattle.reuse_session.specs.Previews.{IsLookRefusal};
 ghost use Rattle.reuse_session.specs.Reading.{keys, tree_of, ReadsAlone};
 ghost use Rattle.reuse_session.specs.Reverting.{revert_edits};
 
-use crate::entry_changes::EntryChanges;
 use crate::plan_revert::{paths_to_heed, take_back};
 use crate::planned::Planned;
 use crate::reply::Refusal;
-use reuse_tree::{Change, PathText, Store};
+use reuse_tree::{Change, EntryChanges, PathText, Store};
 use std::alloc::Global;
 
 // What is found of a revert of these changes.

@@ -1,26 +1,23 @@
 //! Rolls a pending step back: its files are as they were before it, and the head tells it no more.
-ghost use Rattle.std.specs.Prelude.{◌≡◌, ◌≢◌, ◌⊎◌, ◌<◌, ◌≤◌, ◌+◌, ℕ, List, IfErr, OnOk, OnErr, IfOk, IsErrOf, IsTrue, ◌↔◌, length, true, false};
-ghost use Rattle.std.specs.Option.{option_copied};
-ghost use Rattle.std.specs.FinMap as map;
+ghost use Rattle.std.specs.Prelude.{◌≡◌, ◌≢◌, ◌<◌, ◌≤◌, ◌+◌, ℕ, List, IfErr, OnOk, OnErr, IsErrOf, length, true, false};
 ghost use Rattle.std.specs.List.{All};
-ghost use Rattle.reuse_tree.specs.Change.{path_of, IsProper};
 ghost use Rattle.reuse_tree.specs.Files.{Files, AreFiles, Clashes, tree_of};
-ghost use Rattle.reuse_session.specs.Answer.{told_of, HasCause, IsEarly, IsNoClash, IsTestRefusal, IsRollBackRefusal, RefusedAsRead};
-ghost use Rattle.reuse_session.specs.Carried.{IsSetBack, IsRolledBack, NotesMoves, StopsRollingBack};
-ghost use Rattle.reuse_tree.specs.Entry.{makes, opposite, IsEntry, IsReady, IsSmall, ArePartlyMade, LeadsByOneChange, CanBeSetBack, IsFirstWithout};
+ghost use Rattle.reuse_session.specs.Answer.{told_of, HasCause, IsEarly, IsNoClash, IsRollBackRefusal};
+ghost use Rattle.reuse_session.specs.Carried.{IsRolledBack, StopsRollingBack};
+ghost use Rattle.reuse_tree.specs.Turn.{NotesMoves};
+ghost use Rattle.reuse_tree.specs.Entry.{IsEntry, ArePartlyMade, CanBeSetBack, IsFirstWithout};
 ghost use Rattle.reuse_session.specs.Session.{IsSameBut};
-ghost use Rattle.reuse_tree.specs.Tree.{is_of_tree, undo_folder_of};
+ghost use Rattle.reuse_tree.specs.Tree.{undo_folder_of};
 ghost use Rattle.reuse_session.specs.JournalFiles.{head_path};
-ghost use Rattle.reuse_session.specs.declared.reply.Cause.{Cause};
+ghost use Rattle.reuse_tree.specs.declared.cause.Cause.{Cause};
 ghost use Rattle.reuse_session.specs.declared.reply.Refusal.TheVariants as refusals;
-ghost use Rattle.reuse_tree.specs.Asked.{OnlyReads, IsLater, FailsAsRead};
+ghost use Rattle.reuse_tree.specs.Asked.{OnlyReads, IsLater};
 
 use crate::journal_files::{HeadPath, put_head};
-use crate::perform::{Aim, opposite, test_each};
-use crate::reply::{Cause, Refusal};
-use crate::turn::{is_ready, put_turned, turned};
-use reuse_text::LONGEST_FILE;
-use reuse_tree::{Change, PathText, Reading, Store, StoreFault, Way};
+use crate::prepare::{Aim, test_each};
+use crate::reply::Refusal;
+use reuse_tree::turn::set_back;
+use reuse_tree::{Cause, Change, Store, StoreFault, Way};
 use std::alloc::Global;
 
 /// Tests that each change of a step that is pending this way is made or not, and can be taken back where it is made. Then
@@ -74,72 +71,6 @@ fn told(started: bool, cause: Cause) -> Refusal
         (false, Cause::Memory) => Refusal::Memory,
         (_, cause) => Refusal::Interrupted(cause),
     }
-}
-
-// Takes the change back, where it is made, by one read and one put or removal. It notes that these have started before it calls one.
-fn set_back<S: Store>(
-    alloc: Global,
-    store: &mut S,
-    change: &Change,
-    way: Way,
-    started: &mut bool,
-) -> Result<(), Cause>
-    ensures ok { S.honest store.new → IsProper change.now → IsSmall change.now
-        → OnOk result (IsSetBack way change.now (S.files store.old) (S.files store.new)) }
-    ensures err { S.honest store.new → IsProper change.now → IsSmall change.now → OnErr result ((S.files store.new ≡ S.files store.old)
-        ⊎ LeadsByOneChange (opposite way) change.now (S.files store.old) (S.files store.new)) }
-    ensures moved { S.honest store.new → IsProper change.now → IsSmall change.now → result ≡ Err Cause.Moved
-        → ¬ (IsReady (opposite way) change.now (map.get (S.files store.old) (path_of change.now))) × ¬ (IsReady way change.now (map.get (S.files store.old) (path_of change.now))) }
-    ensures clash { S.honest store.new → IsProper change.now → IsSmall change.now → result ≡ Err Cause.Clash
-        → ¬ (IsReady way change.now (map.get (S.files store.old) (path_of change.now))) × (makes (opposite way) change.now ≡ true) × Clashes (S.files store.old) (path_of change.now) }
-    ensures notes { NotesMoves S.Store started.old started.new store.old store.new }
-    ensures device { IsErrOf result Cause.Device → S.failures store.old < S.failures store.new }
-    ensures written { is_of_tree (path_of change.now) ≡ true → S.written store.new ≡ S.written store.old }
-    ensures moves { S.moves store.new ≤ S.moves store.old + 1 }
-    ensures later { IsLater S.Store store.old store.new }
-{
-    match store.read(alloc, change.path(), LONGEST_FILE)? {
-        Reading::Absent => set_back_from(alloc, store, change, way, None, started),
-        Reading::Found(bytes) => {
-            set_back_from(alloc, store, change, way, Some(bytes.as_slice()), started)
-        }
-        Reading::TooLong => Err(Cause::Moved),
-    }
-}
-
-// Takes the change back, where it is made and its path holds this.
-fn set_back_from<S: Store>(
-    alloc: Global,
-    store: &mut S,
-    change: &Change,
-    way: Way,
-    file: Option<&[u8]>,
-    started: &mut bool,
-) -> Result<(), Cause>
-    ensures ok { S.honest store.new → map.get (S.files store.old) (path_of change.now) ≡ option_copied file.entry
-        → OnOk result (IsSetBack way change.now (S.files store.old) (S.files store.new)) }
-    ensures err { S.honest store.new → map.get (S.files store.old) (path_of change.now) ≡ option_copied file.entry
-        → OnErr result ((S.files store.new ≡ S.files store.old) ⊎ LeadsByOneChange (opposite way) change.now (S.files store.old) (S.files store.new)) }
-    ensures moved { IsProper change.now → result ≡ Err Cause.Moved
-        → ¬ (IsReady (opposite way) change.now (option_copied file.entry)) × ¬ (IsReady way change.now (option_copied file.entry)) }
-    ensures clash { S.honest store.new → IsProper change.now → map.get (S.files store.old) (path_of change.now) ≡ option_copied file.entry → result ≡ Err Cause.Clash
-        → ¬ (IsReady way change.now (option_copied file.entry)) × (makes (opposite way) change.now ≡ true) × Clashes (S.files store.old) (path_of change.now) }
-    ensures notes { NotesMoves S.Store started.old started.new store.old store.new }
-    ensures device { IsErrOf result Cause.Device → S.failures store.old < S.failures store.new }
-    ensures written { is_of_tree (path_of change.now) ≡ true → S.written store.new ≡ S.written store.old }
-    ensures moves { S.moves store.new ≤ S.moves store.old + 1 }
-    ensures later { IsLater S.Store store.old store.new }
-{
-    if is_ready(change, way, file) {
-        return Ok(());
-    }
-    let back = opposite(way);
-    if !is_ready(change, back, file) {
-        return Err(Cause::Moved);
-    }
-    let after = turned(change, back, file)?;
-    *started = true;
-    put_turned(alloc, store, change, after)
 }
 
 // Takes back each change that is made, and puts the head. It notes that puts and removals have started before it calls one.

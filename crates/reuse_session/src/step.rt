@@ -8,9 +8,8 @@ ghost use Rattle.reuse_session.specs.JournalFiles.{head_path};
 ghost use Rattle.reuse_tree.specs.Asked.{IsLater};
 
 use crate::journal_files::{HeadPath, put_head};
-use crate::perform::perform;
-use crate::reply::Cause;
-use reuse_tree::{Change, Store, Way};
+use reuse_tree::perform::perform;
+use reuse_tree::{Cause, Change, Store, Way};
 use std::alloc::Global;
 
 /// Puts the head that tells the step as pending, makes its changes this way, and puts the head that lists it. Its caller has tested that

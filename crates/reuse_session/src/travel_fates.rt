@@ -9,8 +9,8 @@ ghost use Rattle.reuse_session.specs.Previews.{IsLookRefusal};
 ghost use Rattle.reuse_session.specs.Reading.{tree_of, OnlyReads, ReadsAlone, RefusedAsRead};
 
 use crate::fate::{Fate, Fates};
-use crate::perform::{can_be_made, paths_to_heed};
 use crate::reply::Refusal;
+use reuse_tree::perform::{can_be_made, paths_to_heed};
 use reuse_tree::{Change, PathText, Store, Way};
 use std::alloc::Global;
 

@@ -26,3 +26,15 @@ pub mod StoppedReading
 pub mod WrittenEntries
 pub mod WrittenTexts
 mod ClashLemmas
+pub mod AtChange
+pub mod Differ
+pub mod DifferingPaths
+pub mod NeighbourLemmas
+pub mod OfTree
+pub mod ReadingLemmas
+pub mod Testing
+pub mod TreeLemmas
+pub mod Walk
+pub mod TurnLemmas
+pub mod MadeLemmas
+pub mod NotedMoves

@@ -23,3 +23,4 @@ pub mod Decoded
 pub mod Tree
 pub mod Listing
 pub mod Clash
+pub mod Turn

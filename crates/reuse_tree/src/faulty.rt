@@ -92,7 +92,7 @@ fn is_due(left: &mut Option<u64>, stays: bool) -> bool
 }
 
 impl<S: Store + Drop, const STAYS: bool> Store for FaultyStore<S, STAYS> {
-    ghost use Rattle.std.specs.Prelude.{◌≢◌, ◌++◌, MatchResult, IfOk};
+    ghost use Rattle.std.specs.Prelude.{◌≢◌, MatchResult, IfOk};
     ghost use Rattle.std.specs.FinMap as map;
     ghost use Rattle.reuse_tree.specs.Store.{reading_of};
     ghost use Rattle.reuse_tree.specs.Asked.{OnlyReads, IsLater, FailsAsRead, IsPut, IsRemoval};

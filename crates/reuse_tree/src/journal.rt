@@ -1,5 +1,6 @@
 //! The texts of the journal: its head and its entries as JSON, and back.
 mod entry;
+mod entry_changes;
 mod entry_checks;
 mod entry_reading;
 mod entry_size;
@@ -16,6 +17,7 @@ mod written_entry;
 mod written_text;
 
 pub use entry::{Changes, Entry};
+pub use entry_changes::EntryChanges;
 pub use entry_reading::decode_entry;
 pub use entry_size::is_too_many;
 pub use entry_writing::encode_entry;

@@ -1,6 +1,7 @@
 //! Paths, changes of one file, the store that holds a tree of files, and the texts of the journal.
 #![tactic(auto)]
 
+mod cause;
 mod change;
 mod clash;
 mod command_name;
@@ -16,11 +17,14 @@ mod memory;
 mod moment;
 mod parts;
 mod path;
+pub mod perform;
 mod record;
 mod store;
+pub mod turn;
 mod watched;
 mod way;
 
+pub use cause::Cause;
 pub use change::{Change, ChangeState};
 pub use clash::is_clash;
 pub use command_name::CommandName;
@@ -29,8 +33,8 @@ pub use fault::StoreFault;
 pub use faulty::{FaultyStore, FuseStore, OnceStore};
 pub use items::Items;
 pub use journal::{
-    Changes, DecodeFault, Entry, EntryNumbers, Head, Pending, PendingWay, decode_entry,
-    decode_head, encode_entry, encode_head, is_too_many,
+    Changes, DecodeFault, Entry, EntryChanges, EntryNumbers, Head, Pending, PendingWay,
+    decode_entry, decode_head, encode_entry, encode_head, is_too_many,
 };
 pub use listing::{is_among, is_folder, paths_beneath};
 pub use memory::MemoryStore;

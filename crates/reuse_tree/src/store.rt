@@ -1,5 +1,6 @@
 //! A store of files, as the code above asks it, path by path.
-ghost use Rattle.std.specs.Prelude.{◌≡◌, ◌≢◌, ℕ, ◌++◌, MatchResult, IfOk};
+ghost use Rattle.std.specs.Prelude.{◌≡◌, ◌≢◌, ℕ, ◌<◌, List, length, Option, Some, MatchOption, MatchResult, IfOk};
+ghost use Rattle.std.specs.Option.{option_copied};
 ghost use Rattle.std.specs.FinMap as map;
 ghost use Rattle.reuse_tree.specs.Files.{Files, AreFiles};
 ghost use Rattle.reuse_tree.specs.Parts.{joined};
@@ -17,6 +18,22 @@ pub enum Reading {
     Found(Bytes),
     /// The file is longer than the limit.
     TooLong,
+}
+
+impl Reading {
+    ghost use Rattle.reuse_tree.specs.Store.{reading_of};
+
+    /// What the path holds, or none where that is a file longer than the limit.
+    pub fn file(&self) -> Option<Option<&[u8]>>
+        ensures { (file : Option (List ℕ)) → (limit : ℕ) → self.now ≡ reading_of file limit
+            → MatchOption result ((bytes : List ℕ) × (file ≡ Some bytes) × (limit < length bytes)) (λ held. option_copied held ≡ file) }
+    {
+        match self {
+            Reading::Absent => Some(None),
+            Reading::Found(bytes) => Some(Some(bytes.as_slice())),
+            Reading::TooLong => None,
+        }
+    }
 }
 
 /// Files by their paths. What is said of `files` and of a clash holds where the store is honest after

@@ -1,64 +1,33 @@
 -- Calls of a session that only look, and answers as they are told.
-use Rattle.std.proofs.Common.{◌≡◌, ◌≢◌, ◌⊎◌, inl, inr, ⊎_elim, ◌∙◌, ◌+◌, ◌<◌, ℕ, Bool, true, false, cond, List, [], Option, Some, Result, Ok, Err, IfErr, IfOk, refl, sym, ap, subst, arith, length}
-use Rattle.std.specs.FinMap.{get}
+use Rattle.std.proofs.Common.{◌≡◌, ◌≢◌, ◌∙◌, ◌<◌, ℕ, Bool, true, false, Result, Ok, Err, IfErr, refl, sym, ap, subst, arith}
 use Rattle.std.specs.List.{Contains}
 use Rattle.std.proofs.lemmas.Bool.{false≢true}
 use Rattle.reuse_tree.specs.Asked.{OnlyReads}
-use Rattle.reuse_tree.specs.Files.{Files, Clashes}
+use Rattle.reuse_tree.specs.Files.{Files}
 use Rattle.reuse_tree.proofs.AskedLemmas.{reads_more}
 use Rattle.reuse_tree.specs.declared.fault.StoreFault.{StoreFault}
 use Rattle.reuse_tree.specs.declared.fault.StoreFault.TheVariants as stores
 use Rattle.reuse_tree.specs.declared.store.Store.{Ghosts}
-use Rattle.reuse_session.specs.Answer.{TellsNoFault, IsEarly, IsStop, IsFailure, HasCause, HasClash, IsNoClash, IsBrokenOrMemory, RefusedAsRead}
-use Rattle.reuse_session.specs.Fates.{fates_of}
-use Rattle.reuse_session.specs.Journal.{State, Recorded, rows_in}
-use Rattle.reuse_session.specs.JournalFiles.{head_path, entry_in, entry_path, number_of, EntrySays}
-use Rattle.reuse_session.specs.Machine.{Snapshots, step, as_reply, fates_in, is_full, run_fates}
-use Rattle.reuse_session.specs.Calls.{IsCall, LeavesRun, folder_of}
-use Rattle.reuse_session.specs.Opening.{OpensOn, StopsOpening}
-use Rattle.reuse_session.specs.Previews.{run_fates_on, OnlyLooks, IsPreviewRefusal}
-use Rattle.reuse_session.specs.RevertCalls.{Reverts, TakesBack, LeavesRevert, as_run}
-use Rattle.reuse_session.specs.Session.{store_of, is_broken, memory_of, HoldsSnapshots, StandsOn, IsKept}
-use Rattle.reuse_session.specs.Showing.{lists, IsUnused, Shows, ShowsIn, ShowsAt, steps_in}
-use Rattle.reuse_session.specs.Session.{StopsAfterRun}
+use Rattle.reuse_session.specs.Answer.{TellsNoFault, IsEarly, IsStop, HasCause, IsNoClash, RefusedAsRead}
+use Rattle.reuse_session.specs.Journal.{State}
+use Rattle.reuse_session.specs.Machine.{step}
+use Rattle.reuse_session.specs.Calls.{IsCall}
+use Rattle.reuse_session.specs.Previews.{OnlyLooks, IsPreviewRefusal}
+use Rattle.reuse_session.specs.Session.{store_of, is_broken, StandsOn, IsKept}
+use Rattle.reuse_session.specs.Showing.{Shows, steps_in}
 use Rattle.reuse_tree.specs.Tree.{undo_folder_of}
-use Rattle.reuse_session.specs.Standing.{IsStanding, InDoubt}
-use Rattle.reuse_session.specs.Stops.{Point, open_at, closed, Reopens, HoldState, AreLeft}
+use Rattle.reuse_session.specs.Standing.{IsStanding}
 use Rattle.reuse_session.specs.declared.command.Command.{Command}
 use Rattle.reuse_session.specs.declared.command.Command.TheVariants.{Revert}
-use Rattle.reuse_session.specs.declared.events.Event.{Event}
-use Rattle.reuse_session.specs.declared.events.Event.TheVariants as events
-use Rattle.reuse_session.specs.declared.fate.Call.{Call}
-use Rattle.reuse_session.specs.declared.fate.Call.TheVariants as calls
-use Rattle.reuse_session.specs.declared.fate.Fate.{Fate}
-use Rattle.reuse_tree.specs.declared.journal.entry.Entry.{Entry}
-use Rattle.reuse_session.specs.declared.reply.Cause.{Cause}
-use Rattle.reuse_session.specs.declared.reply.Cause.TheVariants as causes
-use Rattle.reuse_session.specs.declared.reply.Reply.{Reply}
-use Rattle.reuse_session.specs.declared.reply.Reply.TheVariants as replies
-use Rattle.reuse_session.specs.declared.reply.Reverted.{Reverted}
-use Rattle.reuse_session.specs.declared.reply.Row.{Row}
+use Rattle.reuse_tree.specs.declared.cause.Cause.TheVariants as causes
 use Rattle.reuse_session.specs.declared.reply.Shown.{Shown}
 use Rattle.reuse_session.specs.declared.reply.Refusal.{Refusal}
-use Rattle.reuse_session.specs.declared.reply.Refusal.TheVariants.{Broken, JournalFull, Fault as StoreFailed, Memory, Interrupted, NoSuchStep}
+use Rattle.reuse_session.specs.declared.reply.Refusal.TheVariants.{Fault as StoreFailed, Memory, Interrupted, NoSuchStep}
 use Rattle.reuse_session.specs.declared.session.Session.{Session}
-use Rattle.reuse_session.proofs.Driving.{run_left, undo_left, redo_left, stays_closed, stays_open, stands_still, none_under_way}
-use Rattle.reuse_session.proofs.Following.{undo_follows, redo_follows, log_follows}
-use Rattle.reuse_session.proofs.RunFollowing.{runs_as_machine}
-use Rattle.reuse_session.proofs.Following.{is_full_alike}
-use Rattle.reuse_session.proofs.Previewing.{undo_foretold, redo_foretold}
-use Rattle.reuse_session.proofs.StepsByNumber.{done_step, led_to_tree, says_step, shows_at, unkept}
-use Rattle.reuse_session.proofs.JournalLemmas.{same_entry}
-use Rattle.reuse_undo.specs.declared.fault.Fault.{Fault}
-use Rattle.reuse_undo.specs.declared.fault.Fault.TheVariants as faults
-use Rattle.reuse_undo.specs.declared.line.Telling.{Telling}
-use Rattle.reuse_undo.specs.declared.request.Request.{Request}
-use Rattle.reuse_undo.specs.declared.request.Request.TheVariants as requests
+use Rattle.reuse_session.proofs.Driving.{stands_still}
 use Rattle.reuse_undo.specs.declared.request.Told.{Told}
 use Rattle.reuse_undo.specs.Peeks.{Peeks}
-use Rattle.reuse_undo.specs.RowLines.{AppendsSome}
-use Rattle.reuse_undo.specs.RunLine.{Looks, Previews, CallLeadsTo, IsStopped, StepLeaves, CallLeaves, as_told, RevertsOn, PreviewsRevert, Meets, TakesBackStep, HasCallClash, IsUnopened, IsMade, RequestLeaves, StepsBy, StepsBack, StepsBackBy, ForetellsBack, FollowsMachine, TellsAnswer, IfRefused}
-use Rattle.reuse_undo.specs.Told.{IsToldText, Finishes}
+use Rattle.reuse_undo.specs.RunLine.{Looks, as_told, TakesBackStep}
 use Rattle.reuse_undo.proofs.NumberLemmas.{undone_is_unused}
 
 -- a refusal as an answer

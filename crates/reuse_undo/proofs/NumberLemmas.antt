@@ -1,5 +1,5 @@
 -- A number that an undone step has is that of no step that is done.
-use Rattle.std.proofs.Common.{◌≡◌, ◌≢◌, ℕ, ◌+◌, ◌-◌, ◌<◌, ◌∷◌, [], ◌++◌, List, length, map, Option, Some, None, reverse, get_or, sym, ap, subst, ◌∙◌, arith}
+use Rattle.std.proofs.Common.{◌≡◌, ◌≢◌, ℕ, ◌+◌, ◌-◌, ◌<◌, ◌++◌, List, length, map, Option, Some, None, reverse, get_or, sym, ap, subst, ◌∙◌, arith}
 use Rattle.std.specs.List.{AllPairs, Contains}
 use Rattle.std.proofs.lemmas.List.{get_or-reverse, get_or-map, get_or_append_left, get_or-append-add, length-reverse, length-map, length-append}
 use Rattle.reuse_tree.specs.Files.{Files}

@@ -25,7 +25,7 @@ use Rattle.reuse_session.specs.declared.fate.Call.{Call}
 use Rattle.reuse_session.specs.declared.fate.Call.TheVariants as calls
 use Rattle.reuse_session.specs.declared.fate.Fate.{Fate}
 use Rattle.reuse_tree.specs.declared.journal.head.PendingWay.TheVariants as ways
-use Rattle.reuse_session.specs.declared.reply.Cause.{Cause}
+use Rattle.reuse_tree.specs.declared.cause.Cause.{Cause}
 use Rattle.reuse_session.specs.declared.reply.Reply.{Reply}
 use Rattle.reuse_session.specs.declared.reply.Reply.TheVariants as replies
 use Rattle.reuse_session.specs.declared.reply.Reverted.{Reverted}

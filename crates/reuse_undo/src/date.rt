@@ -1,5 +1,5 @@
 //! The date of a moment in UTC.
-ghost use Rattle.std.specs.Prelude.{◌≡◌, ◌≤◌};
+ghost use Rattle.std.specs.Prelude.{◌≤◌};
 ghost use Rattle.reuse_undo.specs.Dates.{IsDateOf, IsYearOf};
 
 use jiff::Timestamp;

@@ -5,12 +5,11 @@ ghost use Rattle.reuse_tree.specs.Listing.{ArePaths, is_among};
 ghost use Rattle.reuse_session.specs.RevertCalls.{as_run, left_of};
 
 use crate::command::Command;
-use crate::entry_changes::EntryChanges;
 use crate::journal_files::read_entry;
-use crate::perform::paths_of;
+use crate::prepare::paths_of;
 use crate::reply::{Paths, Refusal, Reply, Reverted};
 use crate::session::Session;
-use reuse_tree::{Moment, PathText, Store, is_among};
+use reuse_tree::{EntryChanges, Moment, PathText, Store, is_among};
 use std::alloc::Global;
 
 impl<S: Store + Drop> Session<S> {

@@ -1,11 +1,10 @@
 //! A session shows what a step changed.
 ghost use Rattle.std.specs.Prelude.{◌≡◌, ◌↔◌, ◌||◌, true, false, IfOk};
 
-use crate::entry_changes::EntryChanges;
 use crate::journal_files::read_entry;
 use crate::reply::{Refusal, Shown};
 use crate::session::Session;
-use reuse_tree::Store;
+use reuse_tree::{EntryChanges, Store};
 use std::alloc::Global;
 
 impl<S: Store + Drop> Session<S> {

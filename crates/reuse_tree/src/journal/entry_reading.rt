@@ -5,7 +5,6 @@ ghost use Rattle.reuse_tree.specs.Decoded.{Gives, GivesBy, IsAnswer};
 ghost use Rattle.reuse_tree.specs.EntryText.{HavePaths, IsGoodEntry, IsJsonEntry};
 ghost use Rattle.reuse_tree.specs.EntryReading.{change_in, changes_in, command_from, command_in, drop_in, entry_in, if_known, make_in, seal_of, splice_bytes_in, splice_end_in, splice_in, whole_in};
 ghost use Rattle.reuse_tree.specs.JsonReading.{field_in, read_items};
-ghost use Rattle.reuse_tree.specs.Json.{IsJson};
 ghost use Rattle.reuse_tree.specs.declared.journal.entry.Entry.{Entry};
 
 use crate::change::Change;

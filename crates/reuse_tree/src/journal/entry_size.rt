@@ -1,5 +1,5 @@
 //! Whether changes are more than an entry holds.
-ghost use Rattle.std.specs.Prelude.{◌≡◌, ◌+◌, ◌-◌, ◌*◌, ◌<◌, ◌≤◌, ◌||◌, length, nat_lt, SomeIff};
+ghost use Rattle.std.specs.Prelude.{◌≡◌, ◌-◌, ◌*◌, ◌<◌, ◌≤◌, ◌||◌, length, nat_lt, SomeIff};
 ghost use Rattle.reuse_tree.specs.Entry.{change_size, entry_size, fixed_size, removed_by, written_by};
 ghost use Rattle.reuse_tree.specs.Change.{is_sealed};
 

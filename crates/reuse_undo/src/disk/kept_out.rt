@@ -1,7 +1,7 @@
 //! Which paths of a folder are no part of the tree, whatever stands there.
 ghost use Rattle.std.specs.Prelude.{◌≡◌, ◌<◌, ◌∷◌, [], length, ◌&&◌, ◌||◌, IfSome};
 ghost use Rattle.std.specs.Option.{option_map_or};
-ghost use Rattle.std.specs.Str.{bytes_eq, str_eq_ignore_ascii_case};
+ghost use Rattle.std.specs.Str.{str_eq_ignore_ascii_case};
 ghost use Rattle.reuse_tree.specs.Path.{lies_under};
 ghost use Rattle.reuse_undo.specs.Places.{between_slashes};
 ghost use Rattle.reuse_undo.specs.KeptOut.{is_control_folder, is_name_kept_out, begins_journal, is_foreign, is_kept_out, is_folder_kept_out};

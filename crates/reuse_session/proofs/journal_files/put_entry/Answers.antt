@@ -1,7 +1,7 @@
 use Rattle.std.proofs.Common.{◌+◌, arith, Some, ap, sym, length, ◌∙◌}
 use Rattle.std.specs.FinMap.{get}
 use Rattle.reuse_session.proofs.JournalReading.{put_says, put_beside, failed_beside, counted_most, counted_entry}
-use Rattle.reuse_session.proofs.Turning.{put_sets}
+use Rattle.reuse_tree.proofs.TurnLemmas.{put_sets}
 use Rattle.reuse_session.proofs.journal_files.put_entry.Goals as goal
 
 pub returns-clause-ok : goal.returns-clause-ok

@@ -3,7 +3,7 @@ use Rattle.std.proofs.lemmas.Result.{err_from_is_err_and}
 use Rattle.reuse_tree.specs.Tree.{Sets}
 use Rattle.reuse_session.specs.JournalFiles.{head_path}
 use Rattle.reuse_session.proofs.JournalReading.{counted_head}
-use Rattle.reuse_session.proofs.Turning.{put_sets, put_doubt}
+use Rattle.reuse_tree.proofs.TurnLemmas.{put_sets, put_doubt}
 use Rattle.reuse_session.proofs.journal_files.put_head.Goals as goal
 
 pub returns-in_err-put-clause-err : goal.returns-in_err-put-clause-err

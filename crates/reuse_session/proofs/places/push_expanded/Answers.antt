@@ -5,7 +5,7 @@ use Rattle.reuse_tree.specs.Path.{lies_under}
 use Rattle.reuse_tree.specs.Listing.{ArePaths}
 use Rattle.reuse_session.specs.Worked.{expanded}
 use Rattle.reuse_session.specs.declared.command.Place.{Place}
-use Rattle.reuse_session.proofs.TreeLemmas.{keys_ascend}
+use Rattle.reuse_tree.proofs.TreeLemmas.{keys_ascend}
 use Rattle.reuse_session.proofs.PlaceLemmas.{not_zero, stands_alone, stands_for}
 use Rattle.reuse_session.proofs.places.push_expanded.Goals as goal
 

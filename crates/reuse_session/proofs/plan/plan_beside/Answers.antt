@@ -12,7 +12,7 @@ use Rattle.reuse_tree.proofs.AskedLemmas.{reads_none}
 use Rattle.reuse_session.specs.declared.reply.Refusal.TheVariants as refusals
 use Rattle.reuse_session.specs.Answer.{IsOfPlan}
 use Rattle.reuse_session.proofs.Asking.{no_fault, short, failed, plan_faults}
-use Rattle.reuse_session.proofs.TreeLemmas.{keys_ascend, of_store}
+use Rattle.reuse_tree.proofs.TreeLemmas.{keys_ascend, of_store}
 use Rattle.reuse_session.proofs.Annotating.{is_absent, some_file}
 use Rattle.reuse_session.proofs.EditLemmas.{some_bytes, beside_is}
 use Rattle.reuse_session.proofs.plan.plan_beside.Goals as goal

@@ -10,7 +10,7 @@ use Rattle.reuse_session.specs.Plan.{AnswersEdit, MakesEdit, IsRefusalOf}
 use Rattle.reuse_session.specs.Unlisted.{IfKnown}
 use Rattle.reuse_session.proofs.Annotating.{SoFar, after_path, at_refusal, at_end}
 use Rattle.reuse_session.proofs.Asking.{told, short, refused_later}
-use Rattle.reuse_session.proofs.AtChange.{left_here}
+use Rattle.reuse_tree.proofs.AtChange.{left_here}
 use Rattle.reuse_session.proofs.plan.plan_each.Given.{Over}
 use Rattle.reuse_session.proofs.plan.plan_each.Goals.{After-plan_unlisted}
 use Rattle.reuse_session.proofs.plan.plan_each.Goals as goal

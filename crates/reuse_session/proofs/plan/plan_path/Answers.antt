@@ -13,7 +13,7 @@ use Rattle.std.proofs.lemmas.Result.{err_from_is_err_and}
 use Rattle.reuse_tree.proofs.AskedLemmas.{reads_none}
 use Rattle.reuse_session.specs.Answer.{IsOfPlan}
 use Rattle.reuse_session.proofs.Asking.{no_fault, short, failed, later, plan_faults}
-use Rattle.reuse_session.proofs.TreeLemmas.{keys_ascend, read_there}
+use Rattle.reuse_tree.proofs.TreeLemmas.{keys_ascend, read_there}
 use Rattle.reuse_session.proofs.Annotating.{some_file}
 use Rattle.reuse_session.proofs.EditLemmas.{some_bytes, uncovered_is, covered_is}
 use Rattle.reuse_session.proofs.plan.plan_path.Given.{Over}

@@ -5,7 +5,7 @@ use Rattle.reuse_tree.proofs.AskedLemmas.{reads_more}
 use Rattle.reuse_session.specs.AnnotationPlan.{annotated_by}
 use Rattle.reuse_session.specs.Plan.{MakesEdit, IsRefusalOf}
 use Rattle.reuse_session.proofs.Annotating.{SoFar, after_path, at_refusal}
-use Rattle.reuse_session.proofs.AtChange.{left_here}
+use Rattle.reuse_tree.proofs.AtChange.{left_here}
 use Rattle.reuse_session.proofs.plan.plan_paths.Given.{Over}
 use Rattle.reuse_session.proofs.plan.plan_paths.Goals.{After-plan_path}
 use Rattle.reuse_session.proofs.plan.plan_paths.Goals as goal

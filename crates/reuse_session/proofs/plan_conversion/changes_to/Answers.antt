@@ -5,7 +5,7 @@ use Rattle.reuse_session.specs.Conversion.{conversion_edits}
 use Rattle.reuse_tree.specs.Listing.{ArePaths}
 use Rattle.reuse_session.specs.Plan.{MakesEdits}
 use Rattle.reuse_session.specs.declared.reply.Refusal.TheVariants as refusals
-use Rattle.reuse_session.proofs.TreeLemmas.{keys_ascend}
+use Rattle.reuse_tree.proofs.TreeLemmas.{keys_ascend}
 use Rattle.reuse_session.proofs.Converting.{clash_answer, made_answer}
 use Rattle.reuse_session.proofs.plan_conversion.changes_to.Goals as goal
 

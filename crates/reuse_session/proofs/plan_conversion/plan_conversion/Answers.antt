@@ -4,7 +4,7 @@ use Rattle.reuse_tree.specs.Files.{tree_of}
 use Rattle.reuse_tree.specs.Store.{reading_of}
 use Rattle.reuse_text.specs.declared.TheConstants.{LONGEST_FILE}
 use Rattle.reuse_session.specs.Conversion.{dep5_path}
-use Rattle.reuse_session.proofs.TreeLemmas.{tree_file}
+use Rattle.reuse_tree.proofs.TreeLemmas.{tree_file}
 use Rattle.reuse_session.proofs.plan_conversion.plan_conversion.Goals as goal
 
 pub returns-clause-edits : goal.returns-clause-edits

@@ -6,7 +6,7 @@ use Rattle.reuse_session.specs.Conversion.{conversion_edits}
 use Rattle.reuse_tree.specs.Listing.{ArePaths, is_among}
 use Rattle.reuse_session.specs.Plan.{IsRefusalOf}
 use Rattle.reuse_session.specs.declared.reply.Refusal.TheVariants as refusals
-use Rattle.reuse_session.proofs.TreeLemmas.{keys_ascend}
+use Rattle.reuse_tree.proofs.TreeLemmas.{keys_ascend}
 use Rattle.reuse_session.proofs.Converting.{exists_answer, dep5_answer}
 use Rattle.reuse_session.proofs.plan_conversion.replacement.Goals as goal
 

@@ -4,7 +4,7 @@ use Rattle.std.specs.Option.{option_copied}
 use Rattle.reuse_tree.specs.Files.{Files}
 use Rattle.reuse_text.specs.declared.TheConstants.{LONGEST_FILE}
 use Rattle.reuse_tree.specs.Listing.{ArePaths, is_among}
-use Rattle.reuse_session.proofs.TreeLemmas.{keys_ascend}
+use Rattle.reuse_tree.proofs.TreeLemmas.{keys_ascend}
 use Rattle.reuse_session.proofs.Downloading.{exists_answer, clash_answer, made_answer}
 use Rattle.reuse_session.proofs.plan_download.path_for.Goals.{After-is_among}
 use Rattle.reuse_session.proofs.plan_download.path_for.Goals as goal

@@ -5,7 +5,7 @@ use Rattle.reuse_tree.specs.Files.{tree_of}
 use Rattle.reuse_tree.proofs.AskedLemmas.{reads_more}
 use Rattle.reuse_session.specs.AnnotationPlan.{annotated_by, told_by}
 use Rattle.reuse_session.specs.FatePlan.{Adds}
-use Rattle.reuse_session.proofs.AtChange.{left_here}
+use Rattle.reuse_tree.proofs.AtChange.{left_here}
 use Rattle.reuse_session.proofs.FatePlans.{FatesSoFar, after_adds, at_last}
 use Rattle.reuse_session.proofs.plan_fates.plan_paths.Goals as goal
 

@@ -2,7 +2,7 @@ use Rattle.std.proofs.Common.{◌∙◌, sym, ap, subst, true, false, Err}
 use Rattle.reuse_session.specs.declared.reply.Refusal.TheVariants as refusals
 use Rattle.reuse_session.specs.declared.command.Place.TheVariants as place
 use Rattle.reuse_tree.specs.Listing.{ArePaths}
-use Rattle.reuse_session.proofs.TreeLemmas.{keys_ascend}
+use Rattle.reuse_tree.proofs.TreeLemmas.{keys_ascend}
 use Rattle.reuse_session.proofs.Annotating.{absent_answer}
 use Rattle.reuse_session.proofs.plan_place.plan_absent.Goals as goal
 

@@ -6,7 +6,7 @@ use Rattle.reuse_tree.specs.Clash.{is_clash_of}
 use Rattle.reuse_tree.specs.Listing.{ArePaths}
 use Rattle.reuse_session.specs.Plan.{AnswersEdit}
 use Rattle.reuse_session.specs.declared.reply.Refusal.TheVariants as refusals
-use Rattle.reuse_session.proofs.TreeLemmas.{keys_ascend}
+use Rattle.reuse_tree.proofs.TreeLemmas.{keys_ascend}
 use Rattle.reuse_session.proofs.EditLemmas.{fits_by, new_clashes, new_is}
 use Rattle.reuse_session.proofs.plan_place.plan_new_neighbour.Goals as goal
 

@@ -7,7 +7,7 @@ use Rattle.reuse_text.specs.declared.TheConstants.{LONGEST_FILE}
 use Rattle.reuse_tree.specs.Entry.{IsSmall}
 use Rattle.reuse_session.specs.Plan.{MakesEdit}
 use Rattle.reuse_session.specs.Reverting.{taken_back}
-use Rattle.reuse_session.proofs.ReadingLemmas.{absent_is, found_is, given_as}
+use Rattle.reuse_tree.proofs.ReadingLemmas.{absent_is, found_is, given_as}
 use Rattle.reuse_session.proofs.RevertPlanning.{found, make_makes}
 use Rattle.reuse_session.proofs.plan_revert.change_back.Goals as goal
 

@@ -7,7 +7,7 @@ use Rattle.reuse_tree.specs.Entry.{makes, IsEntry}
 use Rattle.reuse_session.specs.Plan.{MakesEdit}
 use Rattle.reuse_session.specs.Reverting.{taken_back_on}
 use Rattle.reuse_tree.specs.declared.way.Way.TheVariants.{Undo}
-use Rattle.reuse_session.proofs.AtChange.{left_here, tested_from}
+use Rattle.reuse_tree.proofs.AtChange.{left_here, tested_from}
 use Rattle.reuse_session.proofs.RevertPlanning.{found, SoFar, after_back, back_refused}
 use Rattle.reuse_session.proofs.plan_revert.take_all_back.Given.{Over}
 use Rattle.reuse_session.proofs.plan_revert.take_all_back.Goals.{In-Ok}

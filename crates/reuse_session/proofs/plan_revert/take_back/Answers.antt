@@ -9,9 +9,9 @@ use Rattle.reuse_tree.specs.Entry.{makes}
 use Rattle.reuse_tree.specs.Listing.{ArePaths}
 use Rattle.reuse_session.specs.Plan.{MakesEdit}
 use Rattle.reuse_tree.specs.declared.way.Way.TheVariants.{Undo}
-use Rattle.reuse_session.proofs.OfTree.{tree_at}
+use Rattle.reuse_tree.proofs.OfTree.{tree_at}
 use Rattle.reuse_session.proofs.RevertPlanning.{found, stuck_by_clash, where_free}
-use Rattle.reuse_session.proofs.TreeLemmas.{keys_ascend}
+use Rattle.reuse_tree.proofs.TreeLemmas.{keys_ascend}
 use Rattle.reuse_session.proofs.plan_revert.take_back.Goals as goal
 use Rattle.reuse_session.proofs.plan_revert.take_back.Goals.{else-makes-via-then-makes+in_ok-is_clash+else-branch, else-makes-via-else-makes}
 

@@ -4,7 +4,7 @@ use Rattle.reuse_tree.specs.Files.{tree_of}
 use Rattle.reuse_tree.specs.Store.{reading_of}
 use Rattle.reuse_text.specs.declared.TheConstants.{LONGEST_FILE}
 use Rattle.reuse_session.specs.TreeStyles.{styles_path}
-use Rattle.reuse_session.proofs.TreeLemmas.{tree_file}
+use Rattle.reuse_tree.proofs.TreeLemmas.{tree_file}
 use Rattle.reuse_session.proofs.plan_styles.read_styles.Goals as goal
 
 pub returns-clause-styles : goal.returns-clause-styles

@@ -2,7 +2,7 @@ use Rattle.std.proofs.Common.{◌≡◌, ◌∙◌, ◌||◌, sym, ap, subst}
 use Rattle.reuse_session.specs.Annotate.{neighbour_of, goes_beside_unread}
 use Rattle.reuse_session.specs.AnnotationPlan.{own_of}
 use Rattle.reuse_tree.specs.Listing.{ArePaths, is_among}
-use Rattle.reuse_session.proofs.TreeLemmas.{keys_ascend}
+use Rattle.reuse_tree.proofs.TreeLemmas.{keys_ascend}
 use Rattle.reuse_session.proofs.TargetLemmas.{beside_by}
 use Rattle.reuse_session.proofs.plan_target.goes_beside.Goals as goal
 use Rattle.reuse_session.proofs.plan_target.goes_beside.Goals.{then-is_among, else-is_among}

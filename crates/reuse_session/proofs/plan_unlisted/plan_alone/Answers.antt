@@ -8,8 +8,8 @@ use Rattle.reuse_session.specs.Plan.{IsRefusalOf, MakesEdit}
 use Rattle.reuse_session.specs.Steps.{StepsTo}
 use Rattle.reuse_session.proofs.Annotating.{covered_of_tree}
 use Rattle.reuse_session.proofs.EditLemmas.{some_bytes, covered_is}
-use Rattle.reuse_session.proofs.OfTree.{tree_at}
-use Rattle.reuse_session.proofs.ReadingLemmas.{there_is}
+use Rattle.reuse_tree.proofs.OfTree.{tree_at}
+use Rattle.reuse_tree.proofs.ReadingLemmas.{there_is}
 use Rattle.reuse_session.proofs.TargetLemmas.{unread_by}
 use Rattle.reuse_session.proofs.plan_unlisted.plan_alone.Goals as goal
 

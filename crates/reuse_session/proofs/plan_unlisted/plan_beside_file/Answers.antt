@@ -6,8 +6,8 @@ use Rattle.reuse_session.specs.AnnotationPlan.{own_of, annotated_by, neighbour_b
 use Rattle.reuse_session.specs.Plan.{AnswersEdit}
 use Rattle.reuse_session.proofs.Annotating.{covered_of_tree}
 use Rattle.reuse_session.proofs.EditLemmas.{some_bytes, beside_is, covered_is}
-use Rattle.reuse_session.proofs.OfTree.{tree_at}
-use Rattle.reuse_session.proofs.ReadingLemmas.{there_is}
+use Rattle.reuse_tree.proofs.OfTree.{tree_at}
+use Rattle.reuse_tree.proofs.ReadingLemmas.{there_is}
 use Rattle.reuse_session.proofs.TargetLemmas.{beside_there}
 use Rattle.reuse_session.proofs.plan_unlisted.plan_beside_file.Given.{Over}
 use Rattle.reuse_session.proofs.plan_unlisted.plan_beside_file.Goals.{After-plan_neighbour}

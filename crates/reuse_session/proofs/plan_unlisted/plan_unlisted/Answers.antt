@@ -14,8 +14,8 @@ use Rattle.reuse_session.specs.Answer.{IsOfPlan}
 use Rattle.reuse_session.proofs.Asking.{no_fault, short, failed, later, plan_faults}
 use Rattle.reuse_session.proofs.EditLemmas.{some_bytes}
 use Rattle.reuse_session.proofs.Fitting.{neighbour_of_tree}
-use Rattle.reuse_session.proofs.OfTree.{tree_at}
-use Rattle.reuse_session.proofs.ReadingLemmas.{absent_is, there_is}
+use Rattle.reuse_tree.proofs.OfTree.{tree_at}
+use Rattle.reuse_tree.proofs.ReadingLemmas.{absent_is, there_is}
 use Rattle.reuse_session.proofs.plan_unlisted.plan_unlisted.Given.{Over}
 use Rattle.reuse_session.proofs.plan_unlisted.plan_unlisted.Goals.{In_ok-reading}
 use Rattle.reuse_session.proofs.plan_unlisted.plan_unlisted.Goals as goal

@@ -5,7 +5,7 @@ use Rattle.reuse_tree.proofs.AskedLemmas.{reads_more}
 use Rattle.reuse_session.specs.FatePlan.{back_at, Adds}
 use Rattle.reuse_session.specs.Fates.{revert_fate}
 use Rattle.reuse_tree.specs.declared.way.Way.TheVariants.{Undo}
-use Rattle.reuse_session.proofs.AtChange.{left_here, tested_from}
+use Rattle.reuse_tree.proofs.AtChange.{left_here, tested_from}
 use Rattle.reuse_session.proofs.RevertFates.{RevertSoFar, after_adds, at_last}
 use Rattle.reuse_session.proofs.revert_fates.plan_each.Goals as goal
 

@@ -7,12 +7,12 @@ use Rattle.reuse_session.specs.Answer.{told_of, HasCause, IsEarly, IsNoClash, Is
 use Rattle.reuse_session.specs.Carried.{StopsRollingBack}
 use Rattle.reuse_tree.specs.Entry.{ArePartlyMade, CanBeSetBack}
 use Rattle.reuse_session.specs.JournalFiles.{head_path}
-use Rattle.reuse_session.specs.declared.reply.Cause.{Cause}
-use Rattle.reuse_session.specs.declared.reply.Cause.TheVariants as causes
+use Rattle.reuse_tree.specs.declared.cause.Cause.{Cause}
+use Rattle.reuse_tree.specs.declared.cause.Cause.TheVariants as causes
 use Rattle.reuse_session.specs.declared.reply.Refusal.{Refusal}
 use Rattle.reuse_session.specs.declared.reply.Refusal.TheVariants.{Moved, Interrupted}
-use Rattle.reuse_session.proofs.Walk.{none_without}
-use Rattle.reuse_session.proofs.MadeLemmas.{settles_from}
+use Rattle.reuse_tree.proofs.Walk.{none_without}
+use Rattle.reuse_tree.proofs.MadeLemmas.{settles_from}
 use Rattle.reuse_session.proofs.roll_back.roll_back.Goals as goal
 
 told_no_clash : (started : Bool) (cause : Cause) → cause ≢ causes.Moved → cause ≢ causes.Clash → IsNoClash (told_of started cause)

@@ -5,16 +5,16 @@ use Rattle.std.proofs.lemmas.Result.{err_from_is_err_and, on_ok_weaker, on_err_w
 use Rattle.reuse_tree.specs.Files.{Files, tree_of}
 use Rattle.reuse_tree.specs.Change.{path_of}
 use Rattle.reuse_tree.specs.declared.change.Change.{Change}
-use Rattle.reuse_session.proofs.NotedMoves.{notes_none, notes_more, notes_last}
+use Rattle.reuse_tree.proofs.NotedMoves.{notes_none, notes_more, notes_last}
 use Rattle.reuse_tree.specs.declared.way.Way.{Way}
 use Rattle.reuse_session.specs.Carried.{IsRolledBack, StopsRollingBack}
 use Rattle.reuse_tree.specs.Tree.{undo_folder_of, Sets}
 use Rattle.reuse_tree.specs.Entry.{IsEntry, IsReady, CanBeSetBack, SomeMade, ArePartlyMade, LeadsByOneChange, opposite}
 use Rattle.reuse_session.specs.JournalFiles.{head_path}
 use Rattle.reuse_session.specs.Session.{IsSameBut}
-use Rattle.reuse_session.proofs.AtChange.{IsOfEntry, at_change, folder_at_stop, of_entry, walked, stays_none, stays_on}
-use Rattle.reuse_session.proofs.OfTree.{tree_at, step_of_tree, clash_in_tree}
-use Rattle.reuse_session.proofs.MadeLemmas.{back_none, back_more, still_made, still_free, set_back_of_tree, folder_stays_back, made_from_start, back_at_start}
+use Rattle.reuse_tree.proofs.AtChange.{IsOfEntry, at_change, folder_at_stop, of_entry, walked, stays_none, stays_on}
+use Rattle.reuse_tree.proofs.OfTree.{tree_at, step_of_tree, clash_in_tree}
+use Rattle.reuse_tree.proofs.MadeLemmas.{back_none, back_more, still_made, still_free, set_back_of_tree, folder_stays_back, made_from_start, back_at_start}
 use Rattle.reuse_session.proofs.HeadPuts.{head_sets, head_keeps_tree, head_clashed}
 use Rattle.reuse_session.proofs.roll_back.set_all_back.Given.{Over}
 use Rattle.reuse_session.proofs.roll_back.set_all_back.Goals.{After-change-item, After-set_back, After-put_head}

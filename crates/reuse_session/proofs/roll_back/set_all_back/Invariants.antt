@@ -1,8 +1,8 @@
 use Rattle.std.proofs.Common.{take}
 use Rattle.reuse_tree.specs.Files.{tree_of}
-use Rattle.reuse_session.specs.Carried.{NotesMoves}
+use Rattle.reuse_tree.specs.Turn.{NotesMoves}
 use Rattle.reuse_tree.specs.Entry.{IsEntry, ArePartlyMade}
-use Rattle.reuse_session.proofs.AtChange.{StaysBeside}
+use Rattle.reuse_tree.proofs.AtChange.{StaysBeside}
 use Rattle.reuse_session.proofs.roll_back.set_all_back.Given as goal
 
 -- the changes so far are taken back or weren't made, and the folder of the journal stays

@@ -6,8 +6,8 @@ use Rattle.reuse_text.specs.declared.TheConstants.{LONGEST_FILE}
 use Rattle.reuse_session.specs.AnnotationPlan.{place_by}
 use Rattle.reuse_session.specs.Fates.{is_skipped_at}
 use Rattle.reuse_session.proofs.Annotating.{covered_of_tree}
-use Rattle.reuse_session.proofs.OfTree.{tree_at}
-use Rattle.reuse_session.proofs.ReadingLemmas.{found_is}
+use Rattle.reuse_tree.proofs.OfTree.{tree_at}
+use Rattle.reuse_tree.proofs.ReadingLemmas.{found_is}
 use Rattle.reuse_session.proofs.Skipping.{left_at, left_beside, skipped_is, no_neighbour, unread_alone}
 use Rattle.reuse_session.proofs.skipped.is_skipped.Goals as goal
 

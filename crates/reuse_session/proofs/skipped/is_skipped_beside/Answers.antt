@@ -5,8 +5,8 @@ use Rattle.reuse_text.specs.declared.TheConstants.{LONGEST_FILE}
 use Rattle.reuse_session.specs.Annotate.{neighbour_of, neighbour_is_tagged}
 use Rattle.reuse_session.specs.Fates.{has_tagged}
 use Rattle.reuse_session.proofs.Fitting.{neighbour_of_tree}
-use Rattle.reuse_session.proofs.OfTree.{tree_at}
-use Rattle.reuse_session.proofs.ReadingLemmas.{found_is}
+use Rattle.reuse_tree.proofs.OfTree.{tree_at}
+use Rattle.reuse_tree.proofs.ReadingLemmas.{found_is}
 use Rattle.reuse_session.proofs.Skipping.{unread_beside}
 use Rattle.reuse_session.proofs.skipped.is_skipped_beside.Goals as goal
 

@@ -5,12 +5,12 @@ use Rattle.std.proofs.lemmas.Result.{err_from_is_err_and, on_ok_weaker, on_err_w
 use Rattle.reuse_tree.specs.Files.{Files, AreFiles, Clashes, tree_of}
 use Rattle.reuse_tree.specs.declared.change.Change.{Change}
 use Rattle.reuse_tree.specs.declared.way.Way.{Way}
-use Rattle.reuse_session.specs.declared.reply.Cause.TheVariants.{Clash, Moved}
+use Rattle.reuse_tree.specs.declared.cause.Cause.TheVariants.{Clash, Moved}
 use Rattle.reuse_session.specs.Carried.{IsCarriedOut, IsStopped}
 use Rattle.reuse_tree.specs.Tree.{undo_folder_of, Sets}
 use Rattle.reuse_tree.specs.Entry.{LeadsBy, SomeMade, CanBeMade, CanGo, IsEntry}
 use Rattle.reuse_session.specs.JournalFiles.{head_path}
-use Rattle.reuse_session.proofs.MadeLemmas.{made_none, made_all, made_of_front}
+use Rattle.reuse_tree.proofs.MadeLemmas.{made_none, made_all, made_of_front}
 use Rattle.reuse_session.proofs.HeadPuts.{head_sets, head_keeps_tree, head_is_free, sets_again}
 use Rattle.reuse_session.proofs.OnlyReading.{passed_on}
 use Rattle.reuse_session.proofs.step.carry_out.Given.{Over}

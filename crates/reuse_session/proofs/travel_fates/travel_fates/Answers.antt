@@ -2,7 +2,7 @@ use Rattle.std.proofs.Common.{take, ◌+◌, ◌++◌, ◌∷◌, [], arith, ap,
 use Rattle.std.proofs.lemmas.List.{take_more}
 use Rattle.reuse_tree.specs.Files.{tree_of}
 use Rattle.reuse_session.specs.Fates.{IsFateOf, AreFatesOf}
-use Rattle.reuse_session.proofs.AtChange.{reads_on, tested, walked}
+use Rattle.reuse_tree.proofs.AtChange.{reads_on, tested, walked}
 use Rattle.reuse_session.proofs.Previewing.{fate_push}
 use Rattle.reuse_session.proofs.travel_fates.travel_fates.Goals as goal
 

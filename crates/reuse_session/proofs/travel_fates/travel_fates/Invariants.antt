@@ -2,7 +2,7 @@ use Rattle.std.proofs.Common.{take}
 use Rattle.reuse_tree.specs.Files.{tree_of}
 use Rattle.reuse_tree.specs.Entry.{IsEntry}
 use Rattle.reuse_session.specs.Fates.{AreFatesOf}
-use Rattle.reuse_session.proofs.AtChange.{ReadsBeside}
+use Rattle.reuse_tree.proofs.AtChange.{ReadsBeside}
 use Rattle.reuse_session.proofs.travel_fates.travel_fates.Given as goal
 
 -- the files stay, and the fates so far are those of the changes so far

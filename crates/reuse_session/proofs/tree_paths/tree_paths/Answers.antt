@@ -1,7 +1,7 @@
 use Rattle.std.proofs.Common.{◌∙◌, ap, not, filter, rules}
 use Rattle.std.proofs.lemmas.Fn.{filter_same}
 use Rattle.reuse_tree.specs.Path.{lies_under, journal_folder}
-use Rattle.reuse_session.proofs.TreeLemmas.{tree_keys}
+use Rattle.reuse_tree.proofs.TreeLemmas.{tree_keys}
 use Rattle.reuse_session.proofs.tree_paths.tree_paths.Goals as goal
 
 pub returns-clause-paths : goal.returns-clause-paths

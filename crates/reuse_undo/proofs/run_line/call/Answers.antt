@@ -1,4 +1,4 @@
-use Rattle.std.proofs.Common.{◌<◌, inl, IfErr, refl, sym, subst, arith, ◌∙◌}
+use Rattle.std.proofs.Common.{◌<◌, inl, IfErr, refl, sym, subst, arith}
 use Rattle.reuse_session.specs.Session.{store_of}
 use Rattle.reuse_undo.specs.RunLine.{RequestLeaves, HasCallClash}
 use Rattle.reuse_tree.proofs.AskedLemmas.{reads_more}

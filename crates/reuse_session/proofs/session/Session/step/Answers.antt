@@ -14,8 +14,8 @@ use Rattle.reuse_session.specs.Answer.{HasCause}
 use Rattle.reuse_session.specs.History.{head_listing}
 use Rattle.reuse_session.specs.JournalFiles.{head_path}
 use Rattle.reuse_session.specs.Session.{store_of, memory_of, head_room, listed_count}
-use Rattle.reuse_session.specs.declared.reply.Cause.{Cause}
-use Rattle.reuse_session.specs.declared.reply.Cause.TheVariants as causes
+use Rattle.reuse_tree.specs.declared.cause.Cause.{Cause}
+use Rattle.reuse_tree.specs.declared.cause.Cause.TheVariants as causes
 use Rattle.reuse_session.specs.declared.reply.Refusal.{Refusal}
 use Rattle.reuse_session.specs.declared.reply.Refusal.TheVariants.{Memory, Interrupted}
 use Rattle.reuse_tree.specs.declared.way.Way.{Way}

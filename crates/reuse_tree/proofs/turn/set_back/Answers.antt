@@ -1,0 +1,57 @@
+use Rattle.std.proofs.Common.{◌≡◌, ◌⊎◌, true, OnOk, OnErr, ap, sym, subst, ◌∙◌}
+use Rattle.std.specs.FinMap.{get}
+use Rattle.std.specs.Option.{option_copied}
+use Rattle.reuse_tree.specs.Change.{path_of}
+use Rattle.reuse_tree.specs.Files.{Clashes}
+use Rattle.reuse_tree.specs.declared.way.Way.{Way}
+use Rattle.reuse_tree.specs.Entry.{makes, IsReady, LeadsByOneChange, opposite}
+use Rattle.reuse_text.specs.declared.TheConstants.{LONGEST_FILE}
+use Rattle.reuse_tree.specs.Turn.{IsSetBack}
+use Rattle.reuse_tree.proofs.ReadingLemmas.{read_first, too_long}
+use Rattle.reuse_tree.proofs.turn.set_back.Given.{Over}
+use Rattle.reuse_tree.proofs.turn.set_back.Goals.{After-set_back_from}
+use Rattle.reuse_tree.proofs.turn.set_back.Goals as goal
+
+-- what the path of the change held
+held : (g : Over) (c : After-set_back_from g) → g.S.Store.honest c.read.new.self → get (g.S.Store.files c.args.store.now) (path_of c.args.change.now) ≡ option_copied c.in-Some.file
+held g c reading = ap (get (g.S.Store.files c.args.store.now)) (sym c.path.ensures) ∙ sym (c.in-Some.ensures _ LONGEST_FILE (c.in_ok-reading.ensures.reading reading))
+
+-- a way in which what was there isn't ready
+never : (g : Over) (c : After-set_back_from g) → g.S.Store.honest c.set_back_from.new.store → (way : Way) → (IsReady way c.args.change.now (option_copied c.in-Some.file) → ⊥)
+    → IsReady way c.args.change.now (get (g.S.Store.files c.args.store.now) (path_of c.args.change.now)) → ⊥
+never g c honest way stuck ready = stuck (subst (IsReady way c.args.change.now) (held g c (c.set_back_from.ensures.later.was_honest honest)) ready)
+
+pub returns-in-Some-clause-ok : goal.returns-in-Some-clause-ok
+returns-in-Some-clause-ok g c honest proper small =
+    let reading = c.set_back_from.ensures.later.was_honest honest in
+    read_first (path_of c.args.change.now) (λ f. OnOk c.set_back_from.result (IsSetBack c.args.way c.args.change.now f (g.S.Store.files c.set_back_from.new.store)))
+    (c.read.ensures.reads.files reading) (held g (goal.at.returns-in-Some-clause-ok g c).After-set_back_from reading) (c.set_back_from.ensures.ok honest)
+
+pub returns-in-Some-clause-err : goal.returns-in-Some-clause-err
+returns-in-Some-clause-err g c honest proper small =
+    let reading = c.set_back_from.ensures.later.was_honest honest in
+    let new = g.S.Store.files c.set_back_from.new.store in
+    read_first (path_of c.args.change.now) (λ f. OnErr c.set_back_from.result ((new ≡ f) ⊎ LeadsByOneChange (opposite c.args.way) c.args.change.now f new))
+    (c.read.ensures.reads.files reading) (held g (goal.at.returns-in-Some-clause-err g c).After-set_back_from reading) (c.set_back_from.ensures.err honest)
+
+pub returns-in-Some-clause-moved : goal.returns-in-Some-clause-moved
+returns-in-Some-clause-moved g c honest proper small e =
+    let at = (goal.at.returns-in-Some-clause-moved g c).After-set_back_from in
+    let stuck = c.set_back_from.ensures.moved proper e in
+    (never g at honest (opposite c.args.way) stuck.0, never g at honest c.args.way stuck.1)
+
+pub returns-in-Some-clause-clash : goal.returns-in-Some-clause-clash
+returns-in-Some-clause-clash g c honest proper small e =
+    let at = (goal.at.returns-in-Some-clause-clash g c).After-set_back_from in
+    let reading = c.set_back_from.ensures.later.was_honest honest in
+    let clash = read_first (path_of c.args.change.now) (λ f. ¬ (IsReady c.args.way c.args.change.now (option_copied c.in-Some.file)) × (makes (opposite c.args.way) c.args.change.now ≡ true) × Clashes f (path_of c.args.change.now))
+    (c.read.ensures.reads.files reading) (held g at reading) (λ here. c.set_back_from.ensures.clash honest proper here e) in
+    (never g at honest c.args.way clash.0, clash.1, clash.2)
+
+pub returns-clause-moved : goal.returns-clause-moved
+returns-clause-moved g c honest proper small e =
+    let file = c.in-None.ensures _ LONGEST_FILE (c.in_ok-reading.ensures.reading honest) in
+    let there = ap (get (g.S.Store.files c.args.store.now)) (sym c.path.ensures) ∙ file.1 in
+    let never = λ (way : Way) (ready : IsReady way c.args.change.now (get (g.S.Store.files c.args.store.now) (path_of c.args.change.now))).
+    too_long way c.args.change.now file.0 small file.2 (subst (IsReady way c.args.change.now) there ready) in
+    (never (opposite c.args.way), never c.args.way)
