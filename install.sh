@@ -113,7 +113,7 @@ weight_of() {
 mapfile -t names < <(sed -n 's/^\([a-z0-9_]*\):.*/\1/p' "$top/crates.txt")
 mapfile -t crates < <(for it in "${names[@]}"; do echo "$(weight_of "$it") $it"; done | sort -rn | cut -d ' ' -f 2)
 processors=$(nproc)
-say "proving ${#crates[@]} crates on $processors processors; the first time that takes about half an hour on four"
+say "proving ${#crates[@]} crates on $processors processors; the first time that takes about twenty minutes on four"
 # (half as many jobs again as there are processors, since a check of several ends with a job alone)
 lanes_at_most=$((processors + processors / 2))
 while [ ${#proved[@]} -lt ${#crates[@]} ]; do
