@@ -1,5 +1,5 @@
 //! Makes the changes of an entry in a store, one after the other.
-ghost use Rattle.std.specs.Prelude.{◌≡◌, ◌≢◌, ◌↔◌, ◌+◌, ◌<◌, ◌≤◌, ℕ, length, take, IsTrue, IfOk, OnOk, IsErrOf, OnErr, true};
+ghost use Rattle.std.specs.Prelude.{◌≡◌, ◌≢◌, ◌↔◌, ◌+◌, ◌<◌, ◌≤◌, ℕ, [], length, take, IsTrue, IfOk, OnOk, IsErrOf, OnErr, true, false};
 ghost use Rattle.std.specs.FinMap as map;
 ghost use Rattle.std.specs.List.{All, list_any};
 ghost use Rattle.reuse_tree.specs.Files.{tree_of};
@@ -55,6 +55,7 @@ pub fn paths_to_heed<S: Store>(
     way: Way,
 ) -> Result<Vec<PathText>, StoreFault>
     ensures paths { S.honest store.new → list_any (makes way) changes.now ≡ true → IfOk result (λ paths. paths.items ≡ map.keys (S.files store.old)) }
+    ensures none { list_any (makes way) changes.now ≡ false → IfOk result (λ paths. paths.items ≡ []) }
     ensures fails { FailsAsRead S.Store store.old store.new result }
     ensures reads { OnlyReads S.Store store.old store.new }
 {
