@@ -6,12 +6,13 @@ use Rattle.reuse_tree.specs.Asked.{OnlyReads, IsLater}
 module _ {S : Type 0} (store : Ghosts S) where
   -- nothing was asked
   pub reads_none : (old : S) → OnlyReads store old old
-  reads_none old = record { was_honest = λ honest. honest; files = λ honest. refl; failures = omega arith; written = refl; moves = refl }
+  reads_none old = record { was_honest = λ honest. honest; files = λ honest. refl; may = λ left is. is; failures = omega arith; written = refl; moves = refl }
 
   pub reads_more : (old mid new : S) → OnlyReads store old mid → OnlyReads store mid new → OnlyReads store old new
   reads_more old mid new before last = record {
     was_honest = λ honest. before.was_honest (last.was_honest honest);
     files = λ honest. last.files honest ∙ before.files (last.was_honest honest);
+    may = λ left is. before.may left (last.may left is);
     failures = omega (arith, before.failures, last.failures);
     written = last.written ∙ before.written;
     moves = last.moves ∙ before.moves;

@@ -38,3 +38,4 @@ pub mod Walk
 pub mod TurnLemmas
 pub mod MadeLemmas
 pub mod NotedMoves
+pub mod Lasting

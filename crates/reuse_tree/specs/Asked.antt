@@ -1,12 +1,15 @@
 -- What was asked of a store above its trait, over the record of the trait's members.
-use Rattle.std.specs.Prelude.{List, ℕ, Result}
+use Rattle.std.specs.Prelude.{◌≡◌, List, ℕ, Option, Result}
+use Rattle.reuse_tree.specs.declared.change.Change.{Change}
 use Rattle.reuse_tree.specs.declared.fault.StoreFault.{StoreFault}
+use Rattle.reuse_tree.specs.Files.{Files}
+use Rattle.reuse_tree.specs.Lasting.{WithOrWithout}
 use Rattle.reuse_tree.specs.declared.store.Store.{Ghosts}
 use Rattle.reuse_tree.specs.StoreLaws as laws
 
--- nothing but listings and readings
+-- nothing but listings, readings and barriers
 abbrev pub OnlyReads : {S : Type 0} → Ghosts S → S → S → Type 0
-OnlyReads store old new = laws.OnlyReads store.files store.failures store.written store.moves store.honest old new
+OnlyReads store old new = laws.OnlyReads store.files store.may_be store.failures store.written store.moves store.honest old new
 
 -- any calls
 abbrev pub IsLater : {S : Type 0} → Ghosts S → S → S → Type 0
@@ -18,8 +21,24 @@ FailsAsRead store old new answer = laws.FailsAsRead store.failures store.honest 
 
 -- one put
 abbrev pub IsPut : {S : Type 0} → Ghosts S → List ℕ → List ℕ → S → S → Result (Unit {0}) StoreFault → Type 0
-IsPut store path bytes old new answer = laws.IsPut store.files store.failures store.written store.moves store.honest path bytes old new answer
+IsPut store path bytes old new answer = laws.IsPut store.files store.may_be store.failures store.written store.moves store.honest path bytes old new answer
 
 -- one removal
 abbrev pub IsRemoval : {S : Type 0} → Ghosts S → List ℕ → S → S → Result (Unit {0}) StoreFault → Type 0
-IsRemoval store path old new answer = laws.IsRemoval store.files store.failures store.written store.moves store.honest path old new answer
+IsRemoval store path old new answer = laws.IsRemoval store.files store.may_be store.failures store.written store.moves store.honest path old new answer
+
+-- one barrier
+abbrev pub IsBarrier : {S : Type 0} → Ghosts S → List Change → S → S → Result (Unit {0}) StoreFault → Type 0
+IsBarrier store changes old new answer = laws.IsBarrier store.files store.may_be store.honest changes old new answer
+
+-- what a loss of power may leave is this
+abbrev pub Leaves : {S : Type 0} → Ghosts S → S → (Files → Type 0) → Type 0
+Leaves store new IsOne = (left : Files) → store.may_be new left → IsOne left
+
+-- it is what is there
+abbrev pub IsSynced : {S : Type 0} → Ghosts S → S → Type 0
+IsSynced store new = Leaves store new (λ left. left ≡ store.files new)
+
+-- at most the path holds something else of what might be left before, and then one such file
+abbrev pub MaySet : {S : Type 0} → Ghosts S → List ℕ → (Option (List ℕ) → Type 0) → S → S → Type 0
+MaySet store path IsOne old new = Leaves store new (WithOrWithout (store.may_be old) path IsOne)

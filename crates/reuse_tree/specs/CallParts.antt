@@ -1,8 +1,11 @@
 -- How a record of calls is told of one.
 use Rattle.std.specs.Prelude.{ℕ, Bool, List, Ok, Err}
-use Rattle.reuse_tree.specs.Calls.Call.{ListCall, ReadCall, PutCall, RemoveCall}
+use Rattle.reuse_tree.specs.Calls.Call.{ListCall, ReadCall, PutCall, RemoveCall, SyncCall}
 use Rattle.reuse_tree.specs.Calls.{Call}
+use Rattle.reuse_tree.specs.declared.change.Change.{Change}
 use Rattle.reuse_tree.specs.declared.store.Reading.TheVariants.{Absent, Found, TooLong}
+use Rattle.reuse_tree.specs.declared.record.BarrierKind.{BarrierKind}
+use Rattle.reuse_tree.specs.declared.record.BarrierKind.TheVariants.{Synced, SyncFailed}
 use Rattle.reuse_tree.specs.declared.record.CallKind.{CallKind}
 use Rattle.reuse_tree.specs.declared.record.CallKind.TheVariants.{Listed, ListFailed, ReadAbsent, ReadFound, ReadTooLong, ReadFailed, Put, PutFailed, Removed, RemoveFailed}
 
@@ -18,3 +21,8 @@ call_of Put path bytes limit paths took = PutCall path bytes (Ok tt) took
 call_of (PutFailed fault) path bytes limit paths took = PutCall path bytes (Err fault) took
 call_of Removed path bytes limit paths took = RemoveCall path (Ok tt) took
 call_of (RemoveFailed fault) path bytes limit paths took = RemoveCall path (Err fault) took
+
+-- a barrier by its kind
+abbrev pub barrier_of : BarrierKind → List Change → Call
+barrier_of Synced changes = SyncCall changes (Ok tt)
+barrier_of (SyncFailed fault) changes = SyncCall changes (Err fault)

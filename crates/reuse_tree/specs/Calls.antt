@@ -2,6 +2,7 @@
 use Rattle.std.specs.Prelude.{ℕ, zero, suc, ◌+◌, Bool, false, List, [], ◌∷◌, length, Result, Ok, Err}
 use Rattle.reuse_tree.specs.Files.{Files}
 use Rattle.reuse_tree.specs.Store.{counted}
+use Rattle.reuse_tree.specs.declared.change.Change.{Change}
 use Rattle.reuse_tree.specs.declared.fault.StoreFault.{StoreFault}
 use Rattle.reuse_tree.specs.declared.fault.StoreFault.TheVariants.{Device, Clash, Memory}
 use Rattle.reuse_tree.specs.declared.store.Reading.{Reading}
@@ -12,11 +13,14 @@ pub data Call : Type 0 where
   ReadCall : (path : List ℕ) (limit : ℕ) (answer : Result Reading StoreFault) → Call
   PutCall : (path bytes : List ℕ) (answer : Result (Unit {0}) StoreFault) (took : Bool) → Call
   RemoveCall : (path : List ℕ) (answer : Result (Unit {0}) StoreFault) (took : Bool) → Call
+  SyncCall : (changes : List Change) (answer : Result (Unit {0}) StoreFault) → Call
 
--- what nobody can know of a store at its start: its files, and of each call that is to come whether it takes effect
--- if it is a put or a removal that fails; a call behind the end of the list doesn't
+-- what nobody can know of a store at its start: its files; what else a loss of power might leave then, since it has lost nothing that
+-- others wrote; and of each call that is to come whether it takes effect if it is a put or a removal that fails; a call behind the end
+-- of the list doesn't
 pub record Start : Type 0 where
   pub files : Files
+  pub doubts : List Files
   pub fates : List Bool
 
 abbrev fate_at : List Bool → ℕ → Bool
@@ -42,6 +46,7 @@ failures_of (ListCall answer ∷ calls) = failures_of calls + failure_of answer
 failures_of (ReadCall path limit answer ∷ calls) = failures_of calls + failure_of answer
 failures_of (PutCall path bytes answer took ∷ calls) = failures_of calls + failure_of answer
 failures_of (RemoveCall path answer took ∷ calls) = failures_of calls + failure_of answer
+failures_of (SyncCall changes answer ∷ calls) = failures_of calls + failure_of answer
 
 -- how many bytes were handed to `put` for paths under `.reuse/undo/`
 abbrev pub written_of : List Call → ℕ
@@ -50,6 +55,7 @@ written_of (ListCall answer ∷ calls) = written_of calls
 written_of (ReadCall path limit answer ∷ calls) = written_of calls
 written_of (PutCall path bytes answer took ∷ calls) = written_of calls + counted path bytes
 written_of (RemoveCall path answer took ∷ calls) = written_of calls
+written_of (SyncCall changes answer ∷ calls) = written_of calls
 
 -- how many puts and removals there were
 abbrev pub moves_of : List Call → ℕ
@@ -58,3 +64,4 @@ moves_of (ListCall answer ∷ calls) = moves_of calls
 moves_of (ReadCall path limit answer ∷ calls) = moves_of calls
 moves_of (PutCall path bytes answer took ∷ calls) = moves_of calls + 1
 moves_of (RemoveCall path answer took ∷ calls) = moves_of calls + 1
+moves_of (SyncCall changes answer ∷ calls) = moves_of calls

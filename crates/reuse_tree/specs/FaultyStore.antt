@@ -10,6 +10,7 @@ use Rattle.reuse_tree.specs.declared.faulty.FaultyStore.{FaultyStore}
 abbrev pub with_faults : {S : Type 0} {n : ℕ} → Ghosts S → Ghosts (FaultyStore S n)
 with_faults inside = record {
   files = λ store. inside.files store.inner;
+  may_be = λ store. inside.may_be store.inner;
   failures = λ store. inside.failures store.inner + failures_of store.failed.calls;
   written = λ store. inside.written store.inner + written_of store.failed.calls;
   moves = λ store. inside.moves store.inner + moves_of store.failed.calls;

@@ -4,6 +4,7 @@ pub mod Parts
 pub mod Digest
 pub mod Change
 pub mod Store
+pub mod Lasting
 pub mod StoreLaws
 pub mod Asked
 pub mod Calls

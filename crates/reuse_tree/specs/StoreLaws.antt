@@ -1,15 +1,20 @@
--- What the calls of a store answer and leave, over the members of its trait: what each path holds, the three counts, and honesty.
-use Rattle.std.specs.Prelude.{◌≡◌, ◌≢◌, ℕ, ◌+◌, ◌<◌, ◌≤◌, List, Result, Err, MatchResult, IfErr, OnOk, IsErrOf}
-use Rattle.std.specs.FinMap.{remove}
+-- What the calls of a store answer and leave, over the members of its trait: what each path holds, what a loss of power may leave, the
+-- three counts, and honesty.
+use Rattle.std.specs.Prelude.{◌≡◌, ◌≢◌, ◌⊎◌, ℕ, ◌+◌, ◌<◌, ◌≤◌, List, Result, Err, MatchResult, IfErr, OnOk, IsErrOf}
+use Rattle.std.specs.FinMap.{insert, remove}
 use Rattle.reuse_tree.specs.Files.{Files, Clashes}
+use Rattle.reuse_tree.specs.Lasting.{IsCertain}
 use Rattle.reuse_tree.specs.Store.{counted, Puts, PutFails, RemoveFails}
+use Rattle.reuse_tree.specs.declared.change.Change.{Change}
 use Rattle.reuse_tree.specs.declared.fault.StoreFault.{StoreFault}
 use Rattle.reuse_tree.specs.declared.fault.StoreFault.TheVariants.{Device, Clash}
 
--- nothing but listings and readings were asked for: no file changed, and nothing was written or moved
-pub record OnlyReads {S : Type 0} (files_of : S → Files) (failures_of written_of moves_of : S → ℕ) (IsHonest : S → Type 0) (old new : S) : Type 0 where
+-- nothing but listings and readings were asked for, or barriers: no file changed, nothing was written or moved, and a loss of power may
+-- leave no more than before
+pub record OnlyReads {S : Type 0} (files_of : S → Files) (MayBe : S → Files → Type 0) (failures_of written_of moves_of : S → ℕ) (IsHonest : S → Type 0) (old new : S) : Type 0 where
   pub was_honest : IsHonest new → IsHonest old
   pub files : IsHonest new → files_of new ≡ files_of old
+  pub may : (left : Files) → MayBe new left → MayBe old left
   pub failures : failures_of old ≤ failures_of new
   pub written : written_of new ≡ written_of old
   pub moves : moves_of new ≡ moves_of old
@@ -26,22 +31,29 @@ pub record FailsAsRead {S A : Type 0} (failures_of : S → ℕ) (IsHonest : S �
   pub device : IsErrOf answer Device → failures_of old < failures_of new
   pub clash : IsHonest new → answer ≢ Err Clash
 
--- the path was to be made these bytes, and this was answered
-pub record IsPut {S : Type 0} (files_of : S → Files) (failures_of written_of moves_of : S → ℕ) (IsHonest : S → Type 0) (path bytes : List ℕ) (old new : S) (answer : Result (Unit {0}) StoreFault) : Type 0 where
+-- the path was to be made these bytes, and this was answered; a loss of power may leave what it might leave before, with that or without
+pub record IsPut {S : Type 0} (files_of : S → Files) (MayBe : S → Files → Type 0) (failures_of written_of moves_of : S → ℕ) (IsHonest : S → Type 0) (path bytes : List ℕ) (old new : S) (answer : Result (Unit {0}) StoreFault) : Type 0 where
   pub kept :
       IsHonest old
       → MatchResult answer (λ done. ¬ (Clashes (files_of old) path) → IsHonest new) (λ fault. fault ≡ Clash → Clashes (files_of old) path → IsHonest new)
   pub ok : IsHonest new → OnOk answer (Puts path bytes (files_of old) (files_of new))
   pub err : IsHonest new → IfErr answer (λ fault. PutFails fault path bytes (files_of old) (files_of new))
+  pub may : (left : Files) → MayBe new left → MayBe old left ⊎ ((kept : Files) × MayBe old kept × (left ≡ insert kept path bytes))
   pub device : IsErrOf answer Device → failures_of old < failures_of new
   pub written : written_of new ≡ written_of old + counted path bytes
   pub moves : moves_of new ≡ moves_of old + 1
 
--- the path's file was to be removed, and this was answered
-pub record IsRemoval {S : Type 0} (files_of : S → Files) (failures_of written_of moves_of : S → ℕ) (IsHonest : S → Type 0) (path : List ℕ) (old new : S) (answer : Result (Unit {0}) StoreFault) : Type 0 where
+-- the path's file was to be removed, and this was answered; a loss of power may leave what it might leave before, with that or without
+pub record IsRemoval {S : Type 0} (files_of : S → Files) (MayBe : S → Files → Type 0) (failures_of written_of moves_of : S → ℕ) (IsHonest : S → Type 0) (path : List ℕ) (old new : S) (answer : Result (Unit {0}) StoreFault) : Type 0 where
   pub kept : IsHonest old → OnOk answer (IsHonest new)
   pub ok : IsHonest new → OnOk answer (files_of new ≡ remove (files_of old) path)
   pub err : IsHonest new → IfErr answer (λ fault. RemoveFails fault path (files_of old) (files_of new))
+  pub may : (left : Files) → MayBe new left → MayBe old left ⊎ ((kept : Files) × MayBe old kept × (left ≡ remove kept path))
   pub device : IsErrOf answer Device → failures_of old < failures_of new
   pub written : written_of new ≡ written_of old
   pub moves : moves_of new ≡ moves_of old + 1
+
+-- a barrier was asked for over the paths of these changes, and this was answered: where it succeeded they are certain, and the journal
+pub record IsBarrier {S : Type 0} (files_of : S → Files) (MayBe : S → Files → Type 0) (IsHonest : S → Type 0) (changes : List Change) (old new : S) (answer : Result (Unit {0}) StoreFault) : Type 0 where
+  pub kept : IsHonest old → answer ≢ Err Clash → IsHonest new
+  pub ok : OnOk answer ((left : Files) → MayBe new left → (kept : Files) × MayBe old kept × IsCertain changes (files_of new) kept left)

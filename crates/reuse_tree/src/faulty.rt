@@ -3,7 +3,7 @@ ghost use Rattle.std.specs.Prelude.{◌≡◌, ◌≤◌, ◌+◌, ◌↔◌, Is
 ghost use Rattle.reuse_tree.specs.FaultyStore.{left_after};
 ghost use Rattle.reuse_tree.specs.Parts.{joined};
 
-use crate::{CallRecord, Parts, PathText, Reading, Store, StoreFault};
+use crate::{CallRecord, Change, Parts, PathText, Reading, Store, StoreFault};
 use std::alloc::Global;
 
 /// A store that passes some calls on to the one inside, and then fails the next with `Device`: each from there on where faults stay, and else
@@ -95,10 +95,12 @@ impl<S: Store + Drop, const STAYS: bool> Store for FaultyStore<S, STAYS> {
     ghost use Rattle.std.specs.Prelude.{◌≢◌, MatchResult, IfOk};
     ghost use Rattle.std.specs.FinMap as map;
     ghost use Rattle.reuse_tree.specs.Store.{reading_of};
-    ghost use Rattle.reuse_tree.specs.Asked.{OnlyReads, IsLater, FailsAsRead, IsPut, IsRemoval};
+    ghost use Rattle.reuse_tree.specs.Asked.{OnlyReads, IsLater, FailsAsRead, IsPut, IsRemoval, IsBarrier};
     ghost use Rattle.reuse_tree.specs.FaultyStore.{with_faults, ReadsWithFaults, WritesWithFaults};
 
     ghost files = { (with_faults S.Store).files };
+
+    ghost may_be = { (with_faults S.Store).may_be };
 
     ghost failures = { (with_faults S.Store).failures };
 
@@ -179,6 +181,22 @@ impl<S: Store + Drop, const STAYS: bool> Store for FaultyStore<S, STAYS> {
         self.failed.note_remove(path, &answer);
         answer
     }
+
+    fn sync(&mut self, alloc: Global, changes: &[Change]) -> Result<(), StoreFault>
+        ensures barrier { IsBarrier (with_faults S.Store) changes.now self.old self.new result }
+        ensures fails { FailsAsRead (with_faults S.Store) self.old self.new result }
+        ensures reads { OnlyReads (with_faults S.Store) self.old self.new }
+        ensures asks { ReadsWithFaults STAYS self.old self.new result }
+    {
+        if !is_due(&mut self.left, STAYS) {
+            return self.inner.sync(alloc, changes);
+        }
+        let answer = Err(StoreFault::Device);
+        self.failed.note_sync(changes, &answer);
+        answer
+    }
+
+    ghost files_may_be = { λ store. S.files_may_be store.inner };
 
     ghost are_files = { λ store honest. S.are_files store.inner honest };
 }

@@ -1,12 +1,12 @@
 //! A store in memory.
-ghost use Rattle.std.specs.Prelude.{◌≡◌, ⊤};
+ghost use Rattle.std.specs.Prelude.{◌≡◌, ◌≢◌, ⊤, refl, IfErr, OnOk};
 ghost use Rattle.std.specs.FinMap as map;
 
 use crate::file_map::FileMap;
-use crate::{CallRecord, Parts, PathText, Reading, Store, StoreFault};
+use crate::{CallRecord, Change, Parts, PathText, Reading, Store, StoreFault};
 use std::alloc::Global;
 
-/// Files in memory, which nobody else writes. It never fails but for memory.
+/// Files in memory, which nobody else writes. It never fails but for memory, and knows no loss of power.
 #[derive(Drop)]
 pub struct MemoryStore {
     // Made with the first file, so that no memory is taken before.
@@ -16,6 +16,8 @@ pub struct MemoryStore {
 
 impl MemoryStore {
     ghost use Rattle.reuse_tree.specs.FileMap.{files_in};
+    ghost use Rattle.reuse_tree.specs.Parts.{joined};
+    ghost use Rattle.reuse_tree.specs.Store.{Puts, PutFails};
 
     /// No files, and nothing written.
     pub fn new() -> MemoryStore
@@ -28,6 +30,24 @@ impl MemoryStore {
         MemoryStore {
             files: None,
             calls: CallRecord::new(),
+        }
+    }
+
+    // Makes the path's file these parts joined. No call is noted.
+    fn make(&mut self, alloc: Global, path: &PathText, parts: Parts) -> Result<(), StoreFault>
+        ensures ok { OnOk result (Puts path.now (joined parts.entry) (files_in self.old.files) (files_in self.new.files)) }
+        ensures err { IfErr result (λ fault. PutFails fault path.now (joined parts.entry) (files_in self.old.files) (files_in self.new.files)) }
+        ensures no_device { result ≢ Err StoreFault.Device }
+        ensures calls { self.new.calls ≡ self.old.calls }
+    {
+        match &mut self.files {
+            Some(files) => files.put_parts(alloc, path, parts),
+            None => {
+                let mut files = FileMap::new(alloc);
+                let answer = files.put_parts(alloc, path, parts);
+                self.files = Some(files);
+                answer
+            }
         }
     }
 
@@ -47,6 +67,8 @@ impl Store for MemoryStore {
     ghost use Rattle.reuse_tree.specs.Calls.{written_of, moves_of};
 
     ghost files = { λ store. files_in store.files };
+
+    ghost may_be = { λ store left. left ≡ files_in store.files };
 
     ghost failures = { λ _. 0 };
 
@@ -81,15 +103,7 @@ impl Store for MemoryStore {
         path: &PathText,
         parts: Parts,
     ) -> Result<(), StoreFault> {
-        let answer = match &mut self.files {
-            Some(files) => files.put_parts(alloc, path, parts),
-            None => {
-                let mut files = FileMap::new(alloc);
-                let answer = files.put_parts(alloc, path, parts);
-                self.files = Some(files);
-                answer
-            }
-        };
+        let answer = self.make(alloc, path, parts);
         self.calls.note_put_parts(path, parts, &answer);
         answer
     }
@@ -100,6 +114,12 @@ impl Store for MemoryStore {
         self.calls.note_remove(path, &answer);
         answer
     }
+
+    fn sync(&mut self, _alloc: Global, _changes: &[Change]) -> Result<(), StoreFault> {
+        Ok(())
+    }
+
+    ghost files_may_be = { λ store. refl };
 
     ghost are_files = { λ store _. files_in_are_files store.files };
 }

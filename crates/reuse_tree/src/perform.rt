@@ -6,13 +6,15 @@ ghost use Rattle.reuse_tree.specs.Files.{tree_of};
 ghost use Rattle.reuse_tree.specs.Change.{path_of, IsProper};
 ghost use Rattle.reuse_tree.specs.Tree.{is_of_tree, undo_folder_of};
 ghost use Rattle.reuse_tree.specs.Entry.{makes, IsSmall, IsEntry, LeadsBy, CanBeMade, CanGo};
-ghost use Rattle.reuse_tree.specs.Asked.{OnlyReads, IsLater, FailsAsRead};
+ghost use Rattle.reuse_tree.specs.Asked.{OnlyReads, IsLater, FailsAsRead, IsSynced, Leaves};
+ghost use Rattle.reuse_tree.specs.Lasting.{IsMidway};
 
 use crate::turn::{can_turn, makes, turn};
 use crate::{Cause, Change, PathText, Store, StoreFault, Way, is_clash};
 use std::alloc::Global;
 
-/// Makes the changes of an entry in order, this way. Its caller has tested that each can be made.
+/// Makes the changes of an entry in order, this way, and behind them a barrier over their paths. Its caller has tested that each can be
+/// made.
 pub fn perform<S: Store>(
     alloc: Global,
     store: &mut S,
@@ -25,6 +27,9 @@ pub fn perform<S: Store>(
     // Where the walk stops, the first so many changes are made and no other.
     ensures midway { S.honest store.new → IsEntry changes.now
         → OnErr result ((count : ℕ) × LeadsBy way (take count changes.now) (tree_of (S.files store.old)) (tree_of (S.files store.new))) }
+    // What a loss of power may leave is what was there with some of the changes made, if nothing else might be left before.
+    ensures left { S.honest store.new → IsEntry changes.now → IsSynced S.Store store.old → Leaves S.Store store.new (IsMidway way changes.now (tree_of (S.files store.old)) (undo_folder_of (S.files store.old))) }
+    ensures lasting { S.honest store.new → IsEntry changes.now → IsSynced S.Store store.old → OnOk result (IsSynced S.Store store.new) }
     // Where each change can be made, nothing but the device and memory stops it.
     ensures cause { S.honest store.new → IsEntry changes.now → All (CanBeMade way (tree_of (S.files store.old))) changes.now
         → (result ≢ Err Cause.Moved) × (result ≢ Err Cause.Clash) }
@@ -37,7 +42,7 @@ pub fn perform<S: Store>(
     for change in changes {
         turn(alloc, store, change, way)?;
     }
-    Ok(())
+    Ok(store.sync(alloc, changes)?)
 }
 
 /// Whether one of the changes makes a file this way.

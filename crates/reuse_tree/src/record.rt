@@ -7,10 +7,10 @@ ghost use Rattle.reuse_tree.specs.Files.{Files};
 ghost use Rattle.reuse_tree.specs.Parts.{joined};
 ghost use Rattle.std.specs.Result.{result_map_both};
 ghost use Rattle.reuse_tree.specs.Calls.{Call, Start, took_effect};
-ghost use Rattle.reuse_tree.specs.Calls.Call.{ListCall, ReadCall, PutCall, RemoveCall};
-ghost use Rattle.reuse_tree.specs.CallParts.{call_of};
+ghost use Rattle.reuse_tree.specs.Calls.Call.{ListCall, ReadCall, PutCall, RemoveCall, SyncCall};
+ghost use Rattle.reuse_tree.specs.CallParts.{call_of, barrier_of};
 
-use crate::{Parts, PathText, Reading, StoreFault};
+use crate::{Change, Parts, PathText, Reading, StoreFault};
 use std::marker::{Model, PhantomData};
 
 // Which call was made, and how it was answered.
@@ -28,13 +28,21 @@ enum CallKind {
     RemoveFailed(StoreFault),
 }
 
-/// The files that a store had at the start, which of the calls that fail take effect, and the calls
-/// since then with their answers, the newest first. It takes no bytes, and nothing runs. No code can know
-/// the first two: they are given as ghost values, and the contract holds at every one.
+// How a barrier was answered.
+#[derive(Clone, Copy)]
+enum BarrierKind {
+    Synced,
+    SyncFailed(StoreFault),
+}
+
+/// The files that a store had at the start, what else a loss of power might leave then, which of the
+/// calls that fail take effect, and the calls since then with their answers, the newest first. It takes no bytes, and nothing runs. No
+/// code can know the first three: they are given as ghost values, and the contract holds at every one.
 #[derive(Drop)]
 pub struct CallRecord {
     marker: PhantomData<u8>,
     pub ghost start: { Files } by { map.code (coded_list coded_ℕ) (coded_list coded_ℕ) },
+    pub ghost doubts: { List Files } by { coded_list (map.code (coded_list coded_ℕ) (coded_list coded_ℕ)) },
     pub ghost fates: { List Bool } by { coded_list coded_bool },
     pub ghost calls: { List Call },
 }
@@ -47,7 +55,7 @@ impl CallRecord {
     /// A record of no calls, with any files at the start and any fates of the calls that will fail.
     pub fn new() -> CallRecord
         ghost start: { Start }
-        ensures { (result.start ≡ start.files) × (result.fates ≡ start.fates) × (result.calls ≡ []) }
+        ensures { (result.start ≡ start.files) × (result.doubts ≡ start.doubts) × (result.fates ≡ start.fates) × (result.calls ≡ []) }
     {
         CallRecord {
             marker: PhantomData,
@@ -116,6 +124,21 @@ impl CallRecord {
             Err(fault) => self.note(&CallKind::RemoveFailed(*fault), path, b"", b"", b"", 0, &[]),
         }
     }
+
+    /// Notes a barrier and its answer.
+    pub fn note_sync(&mut self, changes: &[Change], answer: &Result<(), StoreFault>)
+        ensures { self.new ≡ record self.old { calls = SyncCall changes.now answer.now ∷ self.old.calls } }
+    {
+        match answer {
+            Ok(()) => self.note_barrier(&BarrierKind::Synced, changes),
+            Err(fault) => self.note_barrier(&BarrierKind::SyncFailed(*fault), changes),
+        }
+    }
+
+    // Notes a barrier by its kind.
+    fn note_barrier(&mut self, _kind: &BarrierKind, _changes: &[Change])
+        ensures { self.new ≡ record self.old { calls = barrier_of _kind.now _changes.now ∷ self.old.calls } }
+    {}
 
     // Notes a call by the parts that its kind has. Its bytes are the three parts joined.
     fn note(

@@ -5,7 +5,7 @@ ghost use Rattle.std.specs.FinMap as map;
 ghost use Rattle.reuse_tree.specs.Files.{Files, AreFiles};
 ghost use Rattle.reuse_tree.specs.Parts.{joined};
 
-use crate::{Parts, PathText, StoreFault};
+use crate::{Change, Parts, PathText, StoreFault};
 use reuse_text::Bytes;
 use std::alloc::Global;
 
@@ -37,13 +37,16 @@ impl Reading {
 }
 
 /// Files by their paths. What is said of `files` and of a clash holds where the store is honest after
-/// the call; what is said of `failures`, `written` and `moves` holds always.
+/// the call; what is said of `may_be`, `failures`, `written` and `moves` holds always.
 pub trait Store {
     ghost use Rattle.reuse_tree.specs.Store.{reading_of};
-    ghost use Rattle.reuse_tree.specs.StoreLaws.{OnlyReads, IsLater, FailsAsRead, IsPut, IsRemoval};
+    ghost use Rattle.reuse_tree.specs.StoreLaws.{OnlyReads, IsLater, FailsAsRead, IsPut, IsRemoval, IsBarrier};
 
     /// What each path holds.
     ghost files: { Self → Files };
+
+    /// What a loss of power at this moment may leave.
+    ghost may_be: { Self → Files → Type 0 };
 
     /// How often the device has failed. It never falls.
     ghost failures: { Self → ℕ };
@@ -64,23 +67,23 @@ pub trait Store {
         ensures kept { honest self.old → MatchResult result (λ paths. paths.items ≡ map.keys (files self.old) → honest self.new) (λ fault. fault ≢ StoreFault.Clash → honest self.new) }
         ensures paths { honest self.new → IfOk result (λ paths. paths.items ≡ map.keys (files self.old)) }
         ensures fails { FailsAsRead failures honest self.old self.new result }
-        ensures reads { OnlyReads files failures written moves honest self.old self.new };
+        ensures reads { OnlyReads files may_be failures written moves honest self.old self.new };
 
     /// What the path holds, if it is no longer than the limit in bytes.
     fn read(&mut self, alloc: Global, path: &PathText, limit: usize) -> Result<Reading, StoreFault>
         ensures kept { honest self.old → MatchResult result (λ reading. reading ≡ reading_of (map.get (files self.old) path.now) limit → honest self.new) (λ fault. fault ≢ StoreFault.Clash → honest self.new) }
         ensures reading { honest self.new → IfOk result (λ reading. reading ≡ reading_of (map.get (files self.old) path.now) limit) }
         ensures fails { FailsAsRead failures honest self.old self.new result }
-        ensures reads { OnlyReads files failures written moves honest self.old self.new };
+        ensures reads { OnlyReads files may_be failures written moves honest self.old self.new };
 
     /// Makes the path's file these parts joined, and folders as needed.
     fn put_parts(&mut self, alloc: Global, path: &PathText, parts: Parts) -> Result<(), StoreFault>
-        ensures puts { IsPut files failures written moves honest path.now (joined parts.entry) self.old self.new result }
+        ensures puts { IsPut files may_be failures written moves honest path.now (joined parts.entry) self.old self.new result }
         ensures later { IsLater failures written moves honest self.old self.new };
 
     /// Makes the path's file these bytes, and folders as needed.
     fn put(&mut self, alloc: Global, path: &PathText, bytes: &[u8]) -> Result<(), StoreFault>
-        ensures puts { IsPut files failures written moves honest path.now bytes.now self.old self.new result }
+        ensures puts { IsPut files may_be failures written moves honest path.now bytes.now self.old self.new result }
         ensures later { IsLater failures written moves honest self.old self.new }
     {
         self.put_parts(alloc, path, Parts::whole(bytes))
@@ -88,8 +91,17 @@ pub trait Store {
 
     /// Removes the path's file, if there is one.
     fn remove(&mut self, alloc: Global, path: &PathText) -> Result<(), StoreFault>
-        ensures removes { IsRemoval files failures written moves honest path.now self.old self.new result }
+        ensures removes { IsRemoval files may_be failures written moves honest path.now self.old self.new result }
         ensures later { IsLater failures written moves honest self.old self.new };
+
+    /// A barrier: makes lasting what the files of the journal hold now, and what the paths of these changes hold, whoever wrote them.
+    fn sync(&mut self, alloc: Global, changes: &[Change]) -> Result<(), StoreFault>
+        ensures barrier { IsBarrier files may_be honest changes.now self.old self.new result }
+        ensures fails { FailsAsRead failures honest self.old self.new result }
+        ensures reads { OnlyReads files may_be failures written moves honest self.old self.new };
+
+    /// What is there now may be left.
+    ghost files_may_be: { (store : Self) → may_be store (files store) };
 
     /// Paths are good, and none is a folder of another.
     ghost are_files: { (store : Self) → honest store → AreFiles (files store) };

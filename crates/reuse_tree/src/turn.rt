@@ -7,7 +7,7 @@ ghost use Rattle.reuse_tree.specs.Change.{path_of, IsProper};
 ghost use Rattle.reuse_tree.specs.Turn.{held_in, IsReadyByRange, IsSetBack, NotesMoves};
 ghost use Rattle.reuse_tree.specs.Tree.{is_of_tree, Sets};
 ghost use Rattle.reuse_tree.specs.Entry.{makes, opposite, IsSmall, IsReady, LeadsByOneChange, TurnsBy};
-ghost use Rattle.reuse_tree.specs.Asked.{OnlyReads, IsLater, FailsAsRead};
+ghost use Rattle.reuse_tree.specs.Asked.{OnlyReads, IsLater, FailsAsRead, MaySet};
 
 use crate::{Cause, Change, ChangeState, Parts, Store, StoreFault, Way};
 use reuse_text::LONGEST_FILE;
@@ -108,6 +108,8 @@ fn put_turned<S: Store>(
     ensures moved { result ≢ Err Cause.Moved }
     ensures clash { S.honest store.new → result ≡ Err Cause.Clash → Clashes (S.files store.old) (path_of change.now) × IsSome (held_in after.entry) }
     ensures device { IsErrOf result Cause.Device → S.failures store.old < S.failures store.new }
+    // After a loss of power the path holds what it might before, or this.
+    ensures left { MaySet S.Store (path_of change.now) (λ file. file ≡ held_in after.entry) store.old store.new }
     ensures written { is_of_tree (path_of change.now) ≡ true → S.written store.new ≡ S.written store.old }
     ensures moves { S.moves store.new ≡ S.moves store.old + 1 }
     ensures later { IsLater S.Store store.old store.new }
@@ -137,6 +139,8 @@ fn turn_from<S: Store>(
     ensures clash { S.honest store.new → map.get (S.files store.old) (path_of change.now) ≡ option_copied file.entry
         → result ≡ Err Cause.Clash → (makes way change.now ≡ true) × Clashes (S.files store.old) (path_of change.now) }
     ensures device { IsErrOf result Cause.Device → S.failures store.old < S.failures store.new }
+    ensures left { S.honest store.new → map.get (S.files store.old) (path_of change.now) ≡ option_copied file.entry
+        → MaySet S.Store (path_of change.now) (TurnsBy way change.now (map.get (S.files store.old) (path_of change.now))) store.old store.new }
     ensures written { is_of_tree (path_of change.now) ≡ true → S.written store.new ≡ S.written store.old }
     ensures moves { S.moves store.new ≤ S.moves store.old + 1 }
     ensures later { IsLater S.Store store.old store.new }
@@ -161,6 +165,8 @@ pub(crate) fn turn<S: Store>(
         → ¬ (IsReady way change.now (map.get (S.files store.old) (path_of change.now))) }
     ensures clash { S.honest store.new → result ≡ Err Cause.Clash → (makes way change.now ≡ true) × Clashes (S.files store.old) (path_of change.now) }
     ensures device { IsErrOf result Cause.Device → S.failures store.old < S.failures store.new }
+    // After a loss of power its path holds what it might before, or what the change makes.
+    ensures left { S.honest store.new → MaySet S.Store (path_of change.now) (TurnsBy way change.now (map.get (S.files store.old) (path_of change.now))) store.old store.new }
     ensures written { is_of_tree (path_of change.now) ≡ true → S.written store.new ≡ S.written store.old }
     ensures moves { S.moves store.new ≤ S.moves store.old + 1 }
     ensures later { IsLater S.Store store.old store.new }
@@ -188,6 +194,9 @@ pub fn set_back<S: Store>(
         → ¬ (IsReady (opposite way) change.now (map.get (S.files store.old) (path_of change.now))) × ¬ (IsReady way change.now (map.get (S.files store.old) (path_of change.now))) }
     ensures clash { S.honest store.new → IsProper change.now → IsSmall change.now → result ≡ Err Cause.Clash
         → ¬ (IsReady way change.now (map.get (S.files store.old) (path_of change.now))) × (makes (opposite way) change.now ≡ true) × Clashes (S.files store.old) (path_of change.now) }
+    // After a loss of power its path holds what it might before, or what it did before the change.
+    ensures left { S.honest store.new → IsProper change.now → IsSmall change.now
+        → MaySet S.Store (path_of change.now) (TurnsBy (opposite way) change.now (map.get (S.files store.old) (path_of change.now))) store.old store.new }
     ensures notes { NotesMoves S.Store started.old started.new store.old store.new }
     ensures device { IsErrOf result Cause.Device → S.failures store.old < S.failures store.new }
     ensures written { is_of_tree (path_of change.now) ≡ true → S.written store.new ≡ S.written store.old }
@@ -218,6 +227,8 @@ fn set_back_from<S: Store>(
         → ¬ (IsReady (opposite way) change.now (option_copied file.entry)) × ¬ (IsReady way change.now (option_copied file.entry)) }
     ensures clash { S.honest store.new → IsProper change.now → map.get (S.files store.old) (path_of change.now) ≡ option_copied file.entry → result ≡ Err Cause.Clash
         → ¬ (IsReady way change.now (option_copied file.entry)) × (makes (opposite way) change.now ≡ true) × Clashes (S.files store.old) (path_of change.now) }
+    ensures left { map.get (S.files store.old) (path_of change.now) ≡ option_copied file.entry
+        → MaySet S.Store (path_of change.now) (TurnsBy (opposite way) change.now (map.get (S.files store.old) (path_of change.now))) store.old store.new }
     ensures notes { NotesMoves S.Store started.old started.new store.old store.new }
     ensures device { IsErrOf result Cause.Device → S.failures store.old < S.failures store.new }
     ensures written { is_of_tree (path_of change.now) ≡ true → S.written store.new ≡ S.written store.old }

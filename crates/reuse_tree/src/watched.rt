@@ -1,6 +1,7 @@
 //! A store whose calls are watched.
 ghost use Rattle.std.specs.Prelude.{◌≡◌};
 
+use crate::change::Change;
 use crate::fault::StoreFault;
 use crate::parts::Parts;
 use crate::path::PathText;
@@ -18,6 +19,8 @@ pub enum Asked {
     Write,
     /// That a file is removed.
     Remove,
+    /// A barrier.
+    Sync,
 }
 
 /// What is done beside the calls of a store.
@@ -54,6 +57,8 @@ impl<'a, S: Store + Drop, W: Watcher> WatchedStore<'a, S, W> {
 
 impl<S: Store + Drop, W: Watcher> Store for WatchedStore<'_, S, W> {
     ghost files = { λ store. S.files store.inner };
+
+    ghost may_be = { λ store. S.may_be store.inner };
 
     ghost failures = { λ store. S.failures store.inner };
 
@@ -100,6 +105,15 @@ impl<S: Store + Drop, W: Watcher> Store for WatchedStore<'_, S, W> {
         self.watcher.after(alloc, None);
         Ok(())
     }
+
+    fn sync(&mut self, alloc: Global, changes: &[Change]) -> Result<(), StoreFault> {
+        self.watcher.before(alloc, Asked::Sync);
+        self.inner.sync(alloc, changes)?;
+        self.watcher.after(alloc, None);
+        Ok(())
+    }
+
+    ghost files_may_be = { λ store. S.files_may_be store.inner };
 
     ghost are_files = { λ store honest. S.are_files store.inner honest };
 }

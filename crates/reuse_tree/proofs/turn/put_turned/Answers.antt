@@ -4,6 +4,7 @@ use Rattle.reuse_tree.specs.Change.{path_of}
 use Rattle.reuse_tree.specs.Parts.{joined}
 use Rattle.reuse_tree.specs.Turn.{held_in}
 use Rattle.reuse_tree.specs.Tree.{is_of_tree, Sets}
+use Rattle.reuse_tree.proofs.Lasting.{may_set_by_put, may_set_by_removal, set_weaker}
 use Rattle.reuse_tree.proofs.TurnLemmas.{counts_none, put_sets, removal_sets, put_doubt, removal_doubt, sets_as}
 use Rattle.reuse_tree.proofs.turn.put_turned.Goals as goal
 
@@ -43,3 +44,23 @@ returns-in_err-put_parts-in-Some-clause-written g c of_tree =
 pub returns-in_ok-put_parts-in-Some-clause-written : goal.returns-in_ok-put_parts-in-Some-clause-written
 returns-in_ok-put_parts-in-Some-clause-written g c of_tree =
     counts_none c.path-path.result.now (joined c.in-Some.parts) _ _ (ap is_of_tree c.path-path.ensures ∙ of_tree) c.put_parts.ensures.puts.written
+
+pub returns-in_err-put_parts-in-Some-clause-left : goal.returns-in_err-put_parts-in-Some-clause-left
+returns-in_err-put_parts-in-Some-clause-left g c left is =
+    set_weaker (path_of c.args.change.now) c.path-path.result.now left c.path-path.ensures (λ kept m. m) (λ file e. e ∙ sym (ap held_in c.in-Some.is))
+    (may_set_by_put g.S.Store c.args.store.now c.put_parts.new.self _ c.path-path.result.now (joined c.in-Some.parts) c.in_err-put_parts-in-Some.ensures.puts left is)
+
+pub returns-in_err-remove-in-None-clause-left : goal.returns-in_err-remove-in-None-clause-left
+returns-in_err-remove-in-None-clause-left g c left is =
+    set_weaker (path_of c.args.change.now) c.path-path.result.now left c.path-path.ensures (λ kept m. m) (λ file e. e ∙ sym (ap held_in c.in-None.is))
+    (may_set_by_removal g.S.Store c.args.store.now c.remove.new.self _ c.path-path.result.now c.in_err-remove-in-None.ensures.removes left is)
+
+pub returns-in_ok-put_parts-in-Some-clause-left : goal.returns-in_ok-put_parts-in-Some-clause-left
+returns-in_ok-put_parts-in-Some-clause-left g c left is =
+    set_weaker (path_of c.args.change.now) c.path-path.result.now left c.path-path.ensures (λ kept m. m) (λ file e. e ∙ sym (ap held_in c.in-Some.is))
+    (may_set_by_put g.S.Store c.args.store.now c.put_parts.new.self _ c.path-path.result.now (joined c.in-Some.parts) c.in_ok-put_parts-in-Some.ensures.puts left is)
+
+pub returns-in_ok-remove-in-None-clause-left : goal.returns-in_ok-remove-in-None-clause-left
+returns-in_ok-remove-in-None-clause-left g c left is =
+    set_weaker (path_of c.args.change.now) c.path-path.result.now left c.path-path.ensures (λ kept m. m) (λ file e. e ∙ sym (ap held_in c.in-None.is))
+    (may_set_by_removal g.S.Store c.args.store.now c.remove.new.self _ c.path-path.result.now c.in_ok-remove-in-None.ensures.removes left is)

@@ -1,10 +1,12 @@
-use Rattle.std.proofs.Common.{◌≡◌, ◌⊎◌, true, OnOk, OnErr, ap, sym, subst, ◌∙◌}
+use Rattle.std.proofs.Common.{◌≡◌, ◌⊎◌, inl, true, OnOk, OnErr, refl, ap, sym, subst, ◌∙◌}
 use Rattle.std.specs.FinMap.{get}
 use Rattle.std.specs.Option.{option_copied}
 use Rattle.reuse_tree.specs.Change.{path_of}
 use Rattle.reuse_tree.specs.Files.{Clashes}
 use Rattle.reuse_tree.specs.declared.way.Way.{Way}
-use Rattle.reuse_tree.specs.Entry.{makes, IsReady, LeadsByOneChange, opposite}
+use Rattle.reuse_tree.specs.Asked.{MaySet}
+use Rattle.reuse_tree.specs.Entry.{makes, IsReady, LeadsByOneChange, TurnsBy, opposite}
+use Rattle.reuse_tree.proofs.Lasting.{set_weaker}
 use Rattle.reuse_text.specs.declared.TheConstants.{LONGEST_FILE}
 use Rattle.reuse_tree.specs.Turn.{IsSetBack}
 use Rattle.reuse_tree.proofs.ReadingLemmas.{read_first, too_long}
@@ -55,3 +57,14 @@ returns-clause-moved g c honest proper small e =
     let never = λ (way : Way) (ready : IsReady way c.args.change.now (get (g.S.Store.files c.args.store.now) (path_of c.args.change.now))).
     too_long way c.args.change.now file.0 small file.2 (subst (IsReady way c.args.change.now) there ready) in
     (never (opposite c.args.way), never c.args.way)
+
+pub returns-in-Some-clause-left : goal.returns-in-Some-clause-left
+returns-in-Some-clause-left g c honest proper small left is =
+    let reading = c.set_back_from.ensures.later.was_honest honest in
+    let path = path_of c.args.change.now in
+    let set = read_first path (λ f. MaySet g.S.Store path (TurnsBy (opposite c.args.way) c.args.change.now (get f path)) c.read.new.self c.set_back_from.new.store)
+    (c.read.ensures.reads.files reading) (held g (goal.at.returns-in-Some-clause-left g c).After-set_back_from reading) c.set_back_from.ensures.left in
+    set_weaker path path left refl (λ kept m. c.read.ensures.reads.may kept m) (λ file t. t) (set left is)
+
+pub returns-clause-left : goal.returns-clause-left
+returns-clause-left g c honest proper small left is = inl (c.read.ensures.reads.may left is)

@@ -7,6 +7,7 @@ use Rattle.reuse_tree.proofs.AskedLemmas.{later_none}
 use Rattle.reuse_tree.specs.Entry.{TurnsBy, opposite}
 use Rattle.reuse_tree.specs.Turn.{held_in}
 use Rattle.reuse_tree.proofs.NotedMoves.{notes_last}
+use Rattle.reuse_tree.proofs.Lasting.{set_weaker}
 use Rattle.reuse_tree.proofs.TurnLemmas.{step_by, makes_where_clash}
 use Rattle.reuse_tree.proofs.turn.set_back_from.Given.{Over}
 use Rattle.reuse_tree.proofs.turn.set_back_from.Goals.{After-put_turned}
@@ -43,3 +44,9 @@ pub returns-clause-notes : goal.returns-clause-notes
 returns-clause-notes g c =
     let lt = c.put_turned.ensures.moves in
     notes_last g.S.Store c.args.started.now c.args.started.now c.args.store.now c.args.store.now c.put_turned.new.store (later_none g.S.Store c.args.store.now) (omega (arith, lt))
+
+pub returns-clause-left : goal.returns-clause-left
+returns-clause-left g c here left is =
+    let back = turns g (goal.at.returns-clause-left g c).After-put_turned here in
+    set_weaker (path_of c.args.change.now) (path_of c.args.change.now) left refl (λ kept m. m)
+    (λ file e. subst (TurnsBy (opposite c.args.way) c.args.change.now (get (g.S.Store.files c.args.store.now) (path_of c.args.change.now))) (sym e) back) (c.put_turned.ensures.left left is)

@@ -1,10 +1,12 @@
-use Rattle.std.proofs.Common.{◌≡◌, ◌⊎◌, true, OnOk, OnErr, sym, ap, subst, ◌∙◌}
+use Rattle.std.proofs.Common.{◌≡◌, ◌⊎◌, inl, true, OnOk, OnErr, refl, sym, ap, subst, ◌∙◌}
 use Rattle.std.specs.FinMap.{get}
 use Rattle.std.specs.Option.{option_copied}
 use Rattle.reuse_text.specs.declared.TheConstants.{LONGEST_FILE}
 use Rattle.reuse_tree.specs.Change.{path_of}
 use Rattle.reuse_tree.specs.Files.{Clashes}
-use Rattle.reuse_tree.specs.Entry.{makes, IsReady, LeadsByOneChange}
+use Rattle.reuse_tree.specs.Asked.{MaySet}
+use Rattle.reuse_tree.specs.Entry.{makes, IsReady, LeadsByOneChange, TurnsBy}
+use Rattle.reuse_tree.proofs.Lasting.{set_weaker}
 use Rattle.reuse_tree.proofs.ReadingLemmas.{read_first, too_long}
 use Rattle.reuse_tree.proofs.turn.turn.Given.{Over}
 use Rattle.reuse_tree.proofs.turn.turn.Goals.{After-turn_from}
@@ -43,3 +45,14 @@ returns-clause-moved g c honest proper small e ready =
     let file = c.in-None.ensures _ LONGEST_FILE (c.in_ok-reading.ensures.reading honest) in
     let there = ap (get (g.S.Store.files c.args.store.now)) (sym c.path.ensures) ∙ file.1 in
     too_long c.args.way c.args.change.now file.0 small file.2 (subst (IsReady c.args.way c.args.change.now) there ready)
+
+pub returns-in-Some-clause-left : goal.returns-in-Some-clause-left
+returns-in-Some-clause-left g c honest left is =
+    let reading = c.turn_from.ensures.later.was_honest honest in
+    let path = path_of c.args.change.now in
+    let set = read_first path (λ f. MaySet g.S.Store path (TurnsBy c.args.way c.args.change.now (get f path)) c.read.new.self c.turn_from.new.store)
+    (c.read.ensures.reads.files reading) (held g (goal.at.returns-in-Some-clause-left g c).After-turn_from reading) (c.turn_from.ensures.left honest) in
+    set_weaker path path left refl (λ kept m. c.read.ensures.reads.may kept m) (λ file t. t) (set left is)
+
+pub returns-clause-left : goal.returns-clause-left
+returns-clause-left g c honest left is = inl (c.read.ensures.reads.may left is)

@@ -1,10 +1,11 @@
-use Rattle.std.proofs.Common.{◌≡◌, inl, inr, ⊎_elim, sym, subst}
+use Rattle.std.proofs.Common.{◌≡◌, inl, inr, ⊎_elim, refl, sym, subst}
 use Rattle.std.specs.FinMap.{get}
 use Rattle.std.specs.Option.{option_copied}
 use Rattle.std.proofs.lemmas.Result.{on_ok_weaker, on_err_weaker}
 use Rattle.reuse_tree.specs.Change.{path_of}
 use Rattle.reuse_tree.specs.Entry.{IsReady, TurnsBy}
 use Rattle.reuse_tree.specs.Turn.{held_in}
+use Rattle.reuse_tree.proofs.Lasting.{set_weaker}
 use Rattle.reuse_tree.proofs.TurnLemmas.{step_by, makes_where_clash}
 use Rattle.reuse_tree.proofs.turn.turn_from.Given.{Over}
 use Rattle.reuse_tree.proofs.turn.turn_from.Goals.{After-put_turned}
@@ -35,3 +36,9 @@ returns-clause-clash g c honest here e =
       makes_where_clash (g.S.Store.files c.args.store.now) are c.args.way c.args.change.now (held_in c.in_ok-after.after) (turns g (goal.at.returns-clause-clash g c).After-put_turned honest here) clash.1 clash.0,
       clash.0,
     )
+
+pub returns-clause-left : goal.returns-clause-left
+returns-clause-left g c honest here left is =
+    let made = turns g (goal.at.returns-clause-left g c).After-put_turned honest here in
+    set_weaker (path_of c.args.change.now) (path_of c.args.change.now) left refl (λ kept m. m)
+    (λ file e. subst (TurnsBy c.args.way c.args.change.now (get (g.S.Store.files c.args.store.now) (path_of c.args.change.now))) (sym e) made) (c.put_turned.ensures.left left is)
