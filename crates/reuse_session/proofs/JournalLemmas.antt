@@ -201,23 +201,27 @@ sound_file (Some text) head good = good.sound
 pub sound_head : (folder : Files) (journal : Journal) (p : Option Pending) → KeepsJournal folder journal p → IsSoundHead (head_of journal p)
 sound_head folder journal p keeps = sound_file (get folder head_path) (head_of journal p) keeps.head
 
--- the file of an entry of the next number changes nothing
-pub keeps_beside : (folder after : Files) (journal : Journal) → KeepsJournal folder journal None → journal.used < 999_999
-    → IsSameBut (entry_path (journal.used + 1)) folder after → KeepsJournal after journal None
-keeps_beside folder after journal keeps room same = record {
-  head = subst (λ file. HeadSays file (head_of journal None)) (sym (same head_path (λ is. entry_path_is_not_head (journal.used + 1) (sym is)))) keeps.head;
-  done = λ k d within. stays _ (low.0 k d within) (keeps.done k d within);
-  undone = λ k d within. stays _ (low.1 k d within) (keeps.undone k d within);
+-- an entry stays where one of a higher number is put
+pub kept_beside : (folder after : Files) (step : Recorded) (n : ℕ) {low : ℕ} → (1 ≤ number_of step) × (number_of step < low) → low ≤ n → n < 1_000_000 → IsSameBut (entry_path n) folder after → IsKeptIn folder step → IsKeptIn after step
+kept_beside folder after step n {low} bounds most room same kept =
+    let other : entry_path (number_of step) ≢ entry_path n =
+    λ is. let e : number_of step ≡ n = entry_path_once (number_of step) n (omega (arith, bounds.1)) room is in absurd (omega (arith, bounds.1)) in
+    subst (λ file. EntrySays file (entry_in step)) (sym (same (entry_path (number_of step)) other)) kept
+
+-- the file of an entry of a number that isn't used changes nothing
+pub keeps_beside_any : (folder after : Files) (journal : Journal) (p : Option Pending) (n : ℕ) → KeepsJournal folder journal p → journal.used < n → n < 1_000_000 → IsSameBut (entry_path n) folder after → KeepsJournal after journal p
+keeps_beside_any folder after journal p n keeps unused room same = record {
+  head = subst (λ file. HeadSays file (head_of journal p)) (sym (same head_path (λ is. entry_path_is_not_head n (sym is)))) keeps.head;
+  done = λ k d within. kept_beside folder after _ n (low.0 k d within) (omega arith) room same (keeps.done k d within);
+  undone = λ k d within. kept_beside folder after _ n (low.1 k d within) (omega arith) room same (keeps.undone k d within);
 }
   where
     low : All (λ step. (1 ≤ number_of step) × (number_of step < journal.used + 1)) journal.done × All (λ step. (1 ≤ number_of step) × (number_of step < journal.used + 1)) journal.undone
-    low = each_listed (λ n. (1 ≤ n) × (n < journal.used + 1)) journal None (sound_head folder journal None keeps).given_out
+    low = each_listed (λ n. (1 ≤ n) × (n < journal.used + 1)) journal p (sound_head folder journal p keeps).given_out
 
-    stays : (step : Recorded) → (1 ≤ number_of step) × (number_of step < journal.used + 1) → IsKeptIn folder step → IsKeptIn after step
-    stays step bounds kept =
-        let other : entry_path (number_of step) ≢ entry_path (journal.used + 1) =
-        λ is. let n : number_of step ≡ journal.used + 1 = entry_path_once (number_of step) (journal.used + 1) (omega arith) (omega arith) is in absurd (omega arith) in
-        subst (λ file. EntrySays file (entry_in step)) (sym (same (entry_path (number_of step)) other)) kept
+pub keeps_beside : (folder after : Files) (journal : Journal) → KeepsJournal folder journal None → journal.used < 999_999
+    → IsSameBut (entry_path (journal.used + 1)) folder after → KeepsJournal after journal None
+keeps_beside folder after journal keeps room same = keeps_beside_any folder after journal None (journal.used + 1) keeps (omega arith) (omega arith) same
 
 pub kept_stays : (folder after : Files) (step : Recorded) (text : List ℕ) → IsKeptIn folder step → Sets head_path (Some text) folder after → IsKeptIn after step
 kept_stays folder after step text kept sets =
@@ -238,15 +242,19 @@ keeps_pending folder after journal p text keeps sets good = record {
   undone = all_stay folder after journal.undone text keeps.undone sets;
 }
 
--- the head after a step
-pub keeps_settled : (folder after : Files) (old new : Journal) (p : Option Pending) (way : PendingWay) (step : Recorded) (text : List ℕ)
-    → KeepsJournal folder old p → IsKeptIn folder step → Moves way step old new → Sets head_path (Some text) folder after
-    → IsGoodHead text (head_of new None) → KeepsJournal after new None
-keeps_settled folder after old new p way step text keeps kept moves sets good = record {
-  head = new_head folder after (head_of new None) text sets good;
-  done = all_stay folder after new.done text (lists way moves).0 sets;
-  undone = all_stay folder after new.undone text (lists way moves).1 sets;
+-- the entries that a head lists, beside another head
+pub keeps_with_head : (folder after : Files) (journal : Journal) (p : Option Pending) (text : List ℕ) → All (IsKeptIn folder) journal.done × All (IsKeptIn folder) journal.undone
+    → Sets head_path (Some text) folder after → IsGoodHead text (head_of journal p) → KeepsJournal after journal p
+keeps_with_head folder after journal p text kept sets good = record {
+  head = new_head folder after (head_of journal p) text sets good;
+  done = all_stay folder after journal.done text kept.0 sets;
+  undone = all_stay folder after journal.undone text kept.1 sets;
 }
+
+-- the entries of the journal after a step are those before it, and the step's
+pub kept_moved : (folder : Files) (old new : Journal) (p : Option Pending) (way : PendingWay) (step : Recorded) → KeepsJournal folder old p → IsKeptIn folder step → Moves way step old new
+    → All (IsKeptIn folder) new.done × All (IsKeptIn folder) new.undone
+kept_moved folder old new p way step keeps kept moves = lists way moves
   where
     of_journal : (journal : Journal) → new ≡ journal → All (IsKeptIn folder) journal.done → All (IsKeptIn folder) journal.undone
         → All (IsKeptIn folder) new.done × All (IsKeptIn folder) new.undone
@@ -260,6 +268,13 @@ keeps_settled folder after old new p way step text keeps kept moves sets good = 
     lists Do moves = of_journal _ moves.1 (All-cons (IsKeptIn folder) step old.done kept keeps.done) (All-nil (IsKeptIn folder))
     lists Undo (steps, was, is) = of_journal _ is (tail_of old.done steps was keeps.done) (All-cons (IsKeptIn folder) step old.undone kept keeps.undone)
     lists Redo (steps, was, is) = of_journal _ is (All-cons (IsKeptIn folder) step old.done kept keeps.done) (tail_of old.undone steps was keeps.undone)
+
+-- the head after a step
+pub keeps_settled : (folder after : Files) (old new : Journal) (p : Option Pending) (way : PendingWay) (step : Recorded) (text : List ℕ)
+    → KeepsJournal folder old p → IsKeptIn folder step → Moves way step old new → Sets head_path (Some text) folder after
+    → IsGoodHead text (head_of new None) → KeepsJournal after new None
+keeps_settled folder after old new p way step text keeps kept moves sets good =
+    keeps_with_head folder after new None text (kept_moved folder old new p way step keeps kept moves) sets good
 
 -- the head as it was before the step
 pub keeps_again : (folder after : Files) (journal : Journal) (p : Pending) (text : List ℕ) → KeepsJournal folder journal (Some p)

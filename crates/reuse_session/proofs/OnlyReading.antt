@@ -4,7 +4,7 @@ use Rattle.std.proofs.lemmas.Result.{err_from_is_err_and}
 use Rattle.reuse_tree.specs.declared.fault.StoreFault.TheVariants as faults
 use Rattle.reuse_tree.specs.declared.store.Store.{Ghosts}
 use Rattle.reuse_tree.specs.Asked.{OnlyReads}
-use Rattle.reuse_session.specs.Answer.{IsEarly, IsStop, HasCause}
+use Rattle.reuse_session.specs.Answer.{IsEarly, IsOfPlan, IsReadRefusal, IsStop, IsTestRefusal, HasCause}
 use Rattle.reuse_tree.specs.declared.cause.Cause.{Cause}
 use Rattle.reuse_tree.specs.declared.cause.Cause.TheVariants as causes
 use Rattle.reuse_session.specs.declared.reply.Refusal.{Refusal}
@@ -13,6 +13,19 @@ use Rattle.reuse_session.specs.declared.reply.Refusal.TheVariants.{Fault, Interr
 pub early_is_no_stop : (refusal : Refusal) → IsEarly refusal → IsStop refusal → ⊥
 early_is_no_stop (Interrupted cause) early stop = early
 early_is_no_stop refusal early stop = stop
+
+-- a reading's refusal comes early, and that of a plan and of a test
+pub read_early : (refusal : Refusal) → IsReadRefusal refusal → IsEarly refusal
+read_early (Interrupted cause) is = is
+read_early refusal is = tt
+
+pub planned_early : (refusal : Refusal) → IsOfPlan refusal → IsEarly refusal
+planned_early (Interrupted cause) is = is
+planned_early refusal is = tt
+
+pub tested_early : (refusal : Refusal) → IsTestRefusal refusal → IsEarly refusal
+tested_early (Interrupted cause) is = is
+tested_early refusal is = tt
 
 -- what the exit of a `?` returns is the refusal
 pub is_refused : {A : Type 0} {refusal : Refusal} (result : Result A Refusal) → IsErrAnd result (λ given. given ≡ refusal) → result ≡ Err refusal

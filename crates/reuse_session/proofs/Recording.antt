@@ -53,7 +53,7 @@ pub record Recording {S : Type 0} (files : S → Files) (command : Command) (whe
   pub run : IsRun command when held second
   pub runs : Runs command when held (Ok (Changed (paths_of changes))) second
 
-put_early : (refusal : Refusal) → IsPutRefusal refusal → IsEarly refusal
+pub put_early : (refusal : Refusal) → IsPutRefusal refusal → IsEarly refusal
 put_early (Interrupted cause) is = absurd is
 put_early refusal is = tt
 
@@ -85,7 +85,7 @@ module _ {S : Type 0} {store : Ghosts S} {old : Session S} {command : Command} {
     pub others : store.honest put → IsSameBut (next_path old) (files_of store old) (store.files put)
     others honest = subst (λ n. IsSameBut (entry_path (n + 1)) (files_of store old) (store.files put)) p.is_number (p.beside honest)
 
-    still : store.honest put → (held : State) → StandsOn store.files old held → StandsOn store.files (record old { store = put }) held
+    pub still : store.honest put → (held : State) → StandsOn store.files old held → StandsOn store.files (record old { store = put }) held
     still honest held stands = stands_beside store.files old put held (below (length (memory_of old).done) (memory_of old).used p.room).1 (others honest) stands
 
     -- what the entry takes is what the command's changes count for
@@ -100,7 +100,7 @@ module _ {S : Type 0} {store : Ghosts S} {old : Session S} {command : Command} {
         subst (λ t. store.written put ≤ store.written (store_of old) + recorded_size (edits_of command t)) stands.standing.tree (size_here honest)
 
     -- the entry is sealed, and so is of a format that knows each command
-    known : store.honest put → knows (is_any_sealed entry.changes) entry.command ≡ true
+    pub known : store.honest put → knows (is_any_sealed entry.changes) entry.command ≡ true
     known honest =
         subst (λ (e : Entry). knows (is_any_sealed e.changes) e.command ≡ true) (sym p.is_entry)
         (recorded_known (tree_of (files_of store old)) (edits_of command (tree_of (files_of store old))) changes (name_of command) (here honest).entry (here honest).recorded)

@@ -9,7 +9,7 @@ use Rattle.reuse_tree.specs.declared.change.Change.{Change}
 use Rattle.reuse_tree.specs.declared.fault.StoreFault.TheVariants as faults
 use Rattle.reuse_tree.specs.declared.store.Store.{Ghosts}
 use Rattle.reuse_tree.proofs.AskedLemmas.{later_more, later_reads}
-use Rattle.reuse_session.specs.Answer.{IsEarly, IsReadRefusal, IsRunAnswer, RefusedAsRead, TellsNoFault}
+use Rattle.reuse_session.specs.Answer.{IsEarly, IsRunAnswer, RefusedAsRead, TellsNoFault}
 use Rattle.reuse_session.specs.Calls.{folder_of, IsCall, LeavesRun}
 use Rattle.reuse_tree.specs.Entry.{paths_of}
 use Rattle.reuse_session.specs.Journal.{Recorded, State}
@@ -24,7 +24,7 @@ use Rattle.reuse_session.specs.declared.command.Command.{Command}
 use Rattle.reuse_session.specs.declared.command.Command.TheVariants.{Revert}
 use Rattle.reuse_tree.specs.declared.journal.entry.Entry.{Entry}
 use Rattle.reuse_session.specs.declared.reply.Refusal.{Refusal}
-use Rattle.reuse_session.specs.declared.reply.Refusal.TheVariants.{Fault, Interrupted, NoSuchStep}
+use Rattle.reuse_session.specs.declared.reply.Refusal.TheVariants.{Fault, NoSuchStep}
 use Rattle.reuse_session.specs.declared.reply.Reply.{Reply}
 use Rattle.reuse_session.specs.declared.reply.Reply.TheVariants.{Changed, NothingChanged}
 use Rattle.reuse_session.specs.declared.reply.Reverted.{Reverted}
@@ -149,11 +149,6 @@ absent_follows files session state stands_at number skip when none =
 abbrev pub IsNoFaultOfStore : Refusal → Type 0
 IsNoFaultOfStore (Fault fault) = ⊥
 IsNoFaultOfStore refusal = Unit {0}
-
--- a reading's refusal comes early
-pub read_early : (refusal : Refusal) → IsReadRefusal refusal → IsEarly refusal
-read_early (Interrupted cause) is = is
-read_early refusal is = tt
 
 -- a refusal before the run
 pub unrun_leaves : {S : Type 0} (store : Ghosts S) (number : ℕ) (skip : Bool) (when : ℕ) (refusal : Refusal) (old new : Session S) → IsEarly refusal → OnlyReads store (store_of old) (store_of new)

@@ -15,6 +15,7 @@ use Rattle.reuse_session.specs.JournalFiles.{head_path, entry_path, head_of, num
 use Rattle.reuse_session.specs.Opening.{IsReadable, IsRead, IsSettled, IsStuckAt}
 use Rattle.reuse_session.specs.Session.{Remembers}
 use Rattle.reuse_session.specs.Standing.{IsTree, IsStanding, IsUnderWay}
+use Rattle.reuse_tree.specs.Lasting.{IsMidway}
 use Rattle.reuse_tree.specs.Tree.{is_of_tree, undo_folder_of}
 use Rattle.reuse_tree.specs.declared.way.Way.{Way}
 use Rattle.reuse_tree.specs.declared.journal.entry.Entry.{Entry}
@@ -65,6 +66,15 @@ head_fits files journal pending are keeps clash = are.apart head_path here clash
     here : IsSome (get files head_path)
     here = sym (ap is_some (get-folder files head_path ∙ ap (λ b. cond b (get files head_path) None) head_in_folder)) ∙ has_file (get (undo_folder_of files) head_path) keeps.head
 
+-- a step is still under way where some of its changes are made, beside the files of the journal as they were
+pub under_way_still : (way : PendingWay) (step : Recorded) (first : State) (before after : Files) → IsUnderWay way step first before → IsMidway (way_of way) step.changes first.tree (undo_folder_of before) after → IsUnderWay way step first after
+under_way_still way step first before after under midway = record {
+  good = under.good;
+  journal = subst (λ folder. KeepsJournal folder first.journal (Some (record { entry = number_of step; way = way }))) (sym midway.folder) under.journal;
+  kept = subst (λ folder. IsKeptIn folder step) (sym midway.folder) under.kept;
+  partly = record { made = midway.tree; ready = under.partly.ready };
+}
+
 module _ (before : Files) (pending : Pending) (memory : Memory) (journal : Journal) (read : IsRead before (Some pending) memory journal) (entry : Entry) (says : EntrySays (get (undo_folder_of before) (entry_path pending.entry)) entry) where
   pub is_entry : IsEntry entry.changes
   is_entry = entry_good (get (undo_folder_of before) (entry_path pending.entry)) entry says
@@ -101,7 +111,7 @@ module _ (before : Files) (pending : Pending) (memory : Memory) (journal : Journ
     its_journal = (same_journal (undo_folder_of before) journal first.journal (Some pending) (Some (record { entry = number_of step; way = pending.way })) read.keeps under.journal).0
 
     -- files whose tree is that from before the step, under the head that tells of none, are the standing
-    stands : (after : Files) (text : List ℕ) → IsGoodHead text (head_of journal None) → tree_of after ≡ first.tree → SetsHead text before after → IsStanding after first
+    pub stands : (after : Files) (text : List ℕ) → IsGoodHead text (head_of journal None) → tree_of after ≡ first.tree → SetsHead text before after → IsStanding after first
     stands after text good tree sets = record {
       tree = tree;
       good = under.good;
@@ -121,12 +131,8 @@ module _ (before : Files) (pending : Pending) (memory : Memory) (journal : Journ
     settles (Err (refusals.Interrupted cause)) after text good done stopped early moved refusal = (
       tt,
       ⊎_elim
-          (λ (still : SomeMade (way_of pending.way) entry.changes first.tree (tree_of after) × (undo_folder_of after ≡ undo_folder_of before)). inr (record {
-            good = under.good;
-            journal = subst (λ folder. KeepsJournal folder first.journal (Some (record { entry = number_of step; way = pending.way }))) (sym still.1) under.journal;
-            kept = subst (λ folder. IsKeptIn folder step) (sym still.1) under.kept;
-            partly = record { made = subst (λ changes. SomeMade (way_of pending.way) changes first.tree (tree_of after)) (sym of_step) still.0; ready = under.partly.ready };
-          }))
+          (λ (still : SomeMade (way_of pending.way) entry.changes first.tree (tree_of after) × (undo_folder_of after ≡ undo_folder_of before)).
+          inr (under_way_still pending.way step first before after under (record { tree = subst (λ changes. SomeMade (way_of pending.way) changes first.tree (tree_of after)) (sym of_step) still.0; folder = still.1 })))
           (λ (back : (tree_of after ≡ first.tree) × SetsHead text before after). inl (stands after text good back.0 back.1))
           (stopped cause refl),
     )

@@ -8,7 +8,7 @@ use Rattle.reuse_tree.specs.Head.{way_of, IsGoodHead}
 use Rattle.reuse_session.specs.Journal.{Recorded, State}
 use Rattle.reuse_session.specs.JournalFiles.{entry_path, head_of, number_of, IsKeptIn}
 use Rattle.reuse_session.specs.Session.{IsSameBut}
-use Rattle.reuse_session.specs.Standing.{IsTree, IsStanding, IsStep, InDoubt}
+use Rattle.reuse_session.specs.Standing.{IsTree, IsStanding, IsStep, IsUnderWay, InDoubt}
 use Rattle.reuse_tree.specs.Tree.{undo_folder_of}
 use Rattle.reuse_tree.specs.declared.journal.head.PendingWay.{PendingWay}
 use Rattle.reuse_tree.specs.declared.change.Change.{Change}
@@ -33,6 +33,19 @@ still_tree way changes before after good leads tree are = record {
   are_files = are;
   no_reuse = leads.others (codes ".reuse") (none_outside changes (codes ".reuse") good refl) ∙ tree.no_reuse;
   no_undo = leads.others journal_folder (none_outside changes journal_folder good refl) ∙ tree.no_undo;
+}
+
+-- where the pending head is put and some changes are made, the step is under way
+pub under_way : (files after : Files) (way : PendingWay) (step : Recorded) (first second : State) → IsStanding files first → IsKeptIn (undo_folder_of files) step → IsStep way step first second → (pending : List ℕ)
+    → IsGoodHead pending (head_of first.journal (Some (record { entry = number_of step; way = way }))) → IsStopped (way_of way) step.changes pending files after → IsUnderWay way step first after
+under_way files after way step first second standing kept is_step pending head out = record {
+  good = standing.good;
+  journal = keeps_pending (undo_folder_of files) (undo_folder_of after) first.journal (record { entry = number_of step; way = way }) pending standing.journal out.sets head;
+  kept = kept_stays (undo_folder_of files) (undo_folder_of after) step pending kept out.sets;
+  partly = record {
+    made = subst (λ tree. SomeMade (way_of way) step.changes tree (tree_of after)) standing.tree out.tree;
+    ready = reach_ready (way_of way) step.changes first.tree second.tree is_step.leads;
+  };
 }
 
 module _ (files after : Files) (way : PendingWay) (step : Recorded) (first second : State) (standing : IsStanding files first) (kept : IsKeptIn (undo_folder_of files) step) (is_step : IsStep way step first second) (good : IsEntry step.changes) (are : AreFiles after) where
@@ -60,15 +73,7 @@ module _ (files after : Files) (way : PendingWay) (step : Recorded) (first secon
         way,
         step,
         is_step,
-        record {
-          good = standing.good;
-          journal = keeps_pending (undo_folder_of files) (undo_folder_of after) first.journal (record { entry = number_of step; way = way }) pending standing.journal out.sets pending_head;
-          kept = kept_stays (undo_folder_of files) (undo_folder_of after) step pending kept out.sets;
-          partly = record {
-            made = subst (λ tree. SomeMade (way_of way) step.changes tree (tree_of after)) standing.tree out.tree;
-            ready = reach_ready (way_of way) step.changes first.tree second.tree is_step.leads;
-          };
-        },
+        under_way files after way step first second standing kept is_step pending pending_head out,
       )))
       (λ (out : IsCarriedOut (way_of way) step.changes settled files after). inr (inl (carried settled out settled_head)))
       rest)

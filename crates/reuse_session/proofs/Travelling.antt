@@ -63,7 +63,7 @@ pub record Next (way : Way) (folder : Files) (entry : ListedEntry) (moved : Memo
   pub kept : IsKeptIn folder step
   pub remembers : Remembers moved (moved_on way step steps held.journal)
 
-first_of_all : (P : Recorded → Type 0) (steps rest : List Recorded) (step : Recorded) → steps ≡ step ∷ rest → All P steps → P step
+pub first_of_all : (P : Recorded → Type 0) (steps rest : List Recorded) (step : Recorded) → steps ≡ step ∷ rest → All P steps → P step
 first_of_all P steps rest step e all = (subst (All P) e all) 0 step (omega arith)
 
 pub next_of : (way : Way) {S : Type 0} (files : S → Files) (session : Session S) (held : State) (entry : ListedEntry) (front : List ListedEntry) (moved : Memory) → StandsOn files session held

@@ -13,7 +13,7 @@ use Rattle.reuse_session.specs.Journal.{Recorded, State}
 use Rattle.reuse_session.specs.JournalFiles.{entry_path, number_of, EntrySays}
 use Rattle.reuse_tree.specs.Listing.{is_among}
 use Rattle.reuse_session.specs.Machine.{Kept, Snapshots, ran_by}
-use Rattle.reuse_session.specs.Session.{store_of, StandsAt, Follows, Runs}
+use Rattle.reuse_session.specs.Session.{store_of, StandsAt, Follows, IsRun, Runs}
 use Rattle.reuse_session.specs.Showing.{IsUnused, LedTo}
 use Rattle.reuse_session.specs.declared.command.Command.TheVariants.{Revert}
 use Rattle.reuse_tree.specs.declared.journal.entry.Entry.{Entry}
@@ -32,6 +32,10 @@ changed_or_none (path ∷ paths) = Changed (path ∷ paths)
 abbrev pub as_run : Result Reverted Refusal → Result Reply Refusal
 as_run (Ok reverted) = Ok (changed_or_none reverted.changed)
 as_run (Err refusal) = Err refusal
+
+-- the standing is that after a run which takes some changes back
+abbrev pub IsAfterRevert : Bool → ℕ → State → State → Type 0
+IsAfterRevert skip_moved when held next = (changes : List Change) × IsRun (Revert changes skip_moved) when held next
 
 -- the paths that are none of those that changed
 abbrev pub left_of : List (List ℕ) → List (List ℕ) → List (List ℕ)

@@ -1,8 +1,10 @@
 -- Runs with stops: what a driven session answers and leaves, whichever calls of the store fail.
 use Rattle.std.specs.Prelude.{◌≡◌, ◌⊎◌, ◌≤◌, ◌<◌, ℕ, Bool, true, false, List, [], ◌∷◌, Option, Some, None, Result, Ok, Err, IfErr}
 use Rattle.reuse_tree.specs.Files.{Files}
+use Rattle.reuse_tree.specs.declared.store.Store.{Ghosts}
 use Rattle.reuse_session.specs.Answer.{HasCause}
 use Rattle.reuse_session.specs.Journal.{State}
+use Rattle.reuse_session.specs.Losses.{AreSafeOn, AreInDoubt}
 use Rattle.reuse_session.specs.Machine.{Snapshots, Step, step}
 use Rattle.reuse_session.specs.Session.{HoldsSnapshots}
 use Rattle.reuse_session.specs.Standing.{IsStanding, InDoubt}
@@ -92,3 +94,10 @@ HoldState files state = (held : State) × IsStanding files held × HoldsSnapshot
 abbrev pub AreLeft : Files → Snapshots → Option Snapshots → Type 0
 AreLeft files state None = HoldState files state
 AreLeft files state (Some next) = (first : State) × (second : State) × HoldsSnapshots first state × HoldsSnapshots second next × InDoubt first second files
+
+-- What a loss of power may leave then: the files hold the state, and all that may be left is safe on its standing; or they, and all that
+-- may be left, are in doubt between it and the next.
+abbrev pub MayBeFound : {S : Type 0} → Ghosts S → S → Snapshots → Option Snapshots → Type 0
+MayBeFound store new state None = (earlier : State) × (held : State) × HoldsSnapshots held state × IsStanding (store.files new) held × AreSafeOn store earlier held new
+MayBeFound store new state (Some next) =
+    (earlier : State) × (first : State) × (second : State) × HoldsSnapshots first state × HoldsSnapshots second next × AreInDoubt store earlier first second new

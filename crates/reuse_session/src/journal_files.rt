@@ -1,7 +1,7 @@
 //! The files of the journal: reads and puts its head and its entries.
 ghost use Rattle.std.specs.Prelude.{◌≡◌, ◌≢◌, ◌⊎◌, ◌<◌, ◌≤◌, ◌+◌, ℕ, List, Option, Some, true, IfOk, IfErr, OnOk, OnErr, IsErrOf, length};
 ghost use Rattle.std.specs.FinMap as map;
-ghost use Rattle.reuse_tree.specs.Files.{Clashes};
+ghost use Rattle.reuse_tree.specs.Files.{Clashes, tree_of};
 ghost use Rattle.reuse_tree.specs.Store.{reading_of};
 ghost use Rattle.reuse_tree.specs.declared.fault.StoreFault.{StoreFault};
 ghost use Rattle.reuse_tree.specs.declared.fault.StoreFault.TheVariants as faults;
@@ -15,7 +15,8 @@ ghost use Rattle.reuse_tree.specs.Tree.{Sets, undo_folder_of};
 ghost use Rattle.reuse_session.specs.JournalFiles.{digit, head_path, entry_path, HeadSays, EntrySays};
 ghost use Rattle.reuse_tree.specs.declared.journal.head.Head.{Head};
 ghost use Rattle.reuse_tree.specs.declared.journal.entry.Entry.{Entry};
-ghost use Rattle.reuse_tree.specs.Asked.{OnlyReads, IsLater};
+ghost use Rattle.reuse_tree.specs.Asked.{OnlyReads, IsLater, IsSynced, MaySet};
+ghost use Rattle.reuse_session.specs.Losses.{HaveTree};
 
 use crate::known_path::known_path;
 use crate::reply::Refusal;
@@ -168,7 +169,7 @@ fn bad_text(path: PathText, fault: DecodeFault) -> Refusal
     }
 }
 
-/// Puts the entry's file.
+/// Puts the entry's file, and behind it a barrier.
 pub fn put_entry<S: Store>(
     alloc: Global,
     store: &mut S,
@@ -181,6 +182,10 @@ pub fn put_entry<S: Store>(
     ensures counted { OnOk result (S.written store.new ≡ S.written store.old + length (entry_text entry.now)) }
     // No other path holds something else, whatever it answers.
     ensures others { S.honest store.new → IsSameBut (entry_path number) (S.files store.old) (S.files store.new) }
+    // A loss of power may leave what it might before, with the entry or without; and behind the barrier what is there, if the tree was certain.
+    ensures left { IsEntry entry.now.changes → knows (is_any_sealed entry.now.changes) entry.now.command ≡ true
+        → MaySet S.Store (entry_path number) (λ file. EntrySays file entry.now) store.old store.new }
+    ensures lasting { S.honest store.new → HaveTree S.Store store.old (tree_of (S.files store.old)) → OnOk result (IsSynced S.Store store.new) }
     ensures refusal { IfErr result IsPutRefusal }
     ensures clash { S.honest store.new → result ≡ Err (Refusal.Fault faults.Clash) → Clashes (S.files store.old) (entry_path number) }
     ensures device { result ≡ Err (Refusal.Fault faults.Device) → S.failures store.old < S.failures store.new }
@@ -191,10 +196,11 @@ pub fn put_entry<S: Store>(
     let path = entry_path(alloc, number)?;
     let text = encode_entry(alloc, entry)?;
     store.put(alloc, &path, text.as_slice())?;
+    store.sync(alloc, &[])?;
     Ok(())
 }
 
-/// Puts this text of a head.
+/// Puts this text of a head, and behind it a barrier.
 pub fn put_head<S: Store>(
     alloc: Global,
     store: &mut S,
@@ -206,6 +212,9 @@ pub fn put_head<S: Store>(
         ⊎ Sets head_path (Some text.now) (S.files store.old) (S.files store.new)) }
     ensures clash { S.honest store.new → result ≡ Err Cause.Clash → Clashes (S.files store.old) head_path }
     ensures moved { result ≢ Err Cause.Moved }
+    // A loss of power may leave what it might before, with this head or without; and behind the barrier what is there, if the tree was certain.
+    ensures left { MaySet S.Store head_path (λ file. file ≡ Some text.now) store.old store.new }
+    ensures lasting { S.honest store.new → HaveTree S.Store store.old (tree_of (S.files store.old)) → OnOk result (IsSynced S.Store store.new) }
     ensures device { IsErrOf result Cause.Device → S.failures store.old < S.failures store.new }
     ensures written { S.written store.new ≤ S.written store.old + length text.now }
     ensures counted { S.written store.old + length text.now ≤ S.written store.new }
@@ -213,5 +222,5 @@ pub fn put_head<S: Store>(
     ensures later { IsLater S.Store store.old store.new }
 {
     store.put(alloc, &head.path, text)?;
-    Ok(())
+    Ok(store.sync(alloc, &[])?)
 }

@@ -11,6 +11,7 @@ ghost use Rattle.reuse_session.specs.JournalFiles.{head_path, entry_path, number
 ghost use Rattle.reuse_session.specs.Opening.{least, listed_entry, named, IsReadable, IsListedIn, IsFoundAt, IsLeastFound, NoFileAbove, IsFirstUnreadable, IsFirstBad, IsRead, IsSettled, IsStuckAt, MovesToOpen, MovesFor, OpensOn, StopsOpening};
 ghost use Rattle.reuse_session.specs.Session.{head_room, listed_count, HasHeadText, IsSameBut, Remembers};
 ghost use Rattle.reuse_session.specs.Standing.{IsStanding, IsUnderWay, InDoubt};
+ghost use Rattle.reuse_session.specs.Losses.{AreSafeOn, AreInDoubt};
 ghost use Rattle.reuse_tree.specs.Tree.{undo_folder_of};
 ghost use Rattle.reuse_tree.specs.declared.cause.Cause.{Cause};
 ghost use Rattle.reuse_tree.specs.declared.cause.Cause.TheVariants as causes;
@@ -35,6 +36,11 @@ pub fn open_journal<S: Store>(alloc: Global, store: &mut S) -> Result<History, R
     ensures settles { S.honest store.new → (first second : State) → InDoubt first second (S.files store.old)
         → MatchResult result (λ memory. (IsStanding (S.files store.new) first × Remembers memory first.journal) ⊎ (IsStanding (S.files store.new) second × Remembers memory second.journal))
         (λ refusal. IsFailure refusal × InDoubt first second (S.files store.new)) }
+    // Where all that a loss of power may leave is in doubt too, it is safe on that standing then, or still in doubt.
+    ensures survives { S.honest store.new → (earlier held next : State) → AreInDoubt S.Store earlier held next store.old
+        → MatchResult result (λ memory. (IsStanding (S.files store.new) held × Remembers memory held.journal × AreSafeOn S.Store earlier held store.new)
+        ⊎ (IsStanding (S.files store.new) next × Remembers memory next.journal × AreSafeOn S.Store held next store.new))
+        (λ refusal. AreInDoubt S.Store earlier held next store.new) }
     // Where a step was rolled back the head is the very text of what is remembered.
     ensures texts { S.honest store.new → IfOk result (λ memory. (S.files store.new ≡ S.files store.old) ⊎ HasHeadText memory (S.files store.new)) }
     // At most one head is put.
@@ -93,6 +99,9 @@ fn settle<S: Store>(
         → (step : Recorded) → (first : State) → number_of step ≡ pending.entry → IsUnderWay pending.way step first (S.files store.old)
         → MatchResult result (λ done. IsStanding (S.files store.new) first)
         (λ refusal. IsFailure refusal × (IsStanding (S.files store.new) first ⊎ IsUnderWay pending.way step first (S.files store.new))) }
+    ensures survives { S.honest store.new → (journal : Journal) → IsRead (S.files store.old) (Some pending) history.now journal
+        → (earlier held next : State) → AreInDoubt S.Store earlier held next store.old
+        → MatchResult result (λ done. IsStanding (S.files store.new) held × AreSafeOn S.Store earlier held store.new) (λ refusal. AreInDoubt S.Store earlier held next store.new) }
     ensures interrupted { S.honest store.new → (journal : Journal) → IsRead (S.files store.old) (Some pending) history.now journal
         → (cause : Cause) → result ≡ Err (Refusal.Interrupted cause) → StopsOpening (S.files store.old) (S.files store.new) }
     ensures early { IfErr result (λ refusal. IsEarly refusal → OnlyReads S.Store store.old store.new) }

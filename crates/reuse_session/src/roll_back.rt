@@ -5,13 +5,15 @@ ghost use Rattle.reuse_tree.specs.Files.{Files, AreFiles, Clashes, tree_of};
 ghost use Rattle.reuse_session.specs.Answer.{told_of, HasCause, IsEarly, IsNoClash, IsRollBackRefusal};
 ghost use Rattle.reuse_session.specs.Carried.{IsRolledBack, StopsRollingBack};
 ghost use Rattle.reuse_tree.specs.Turn.{NotesMoves};
-ghost use Rattle.reuse_tree.specs.Entry.{IsEntry, ArePartlyMade, CanBeSetBack, IsFirstWithout};
+ghost use Rattle.reuse_tree.specs.Entry.{IsEntry, SomeMade, ArePartlyMade, CanBeSetBack, IsFirstWithout};
 ghost use Rattle.reuse_session.specs.Session.{IsSameBut};
 ghost use Rattle.reuse_tree.specs.Tree.{undo_folder_of};
 ghost use Rattle.reuse_session.specs.JournalFiles.{head_path};
 ghost use Rattle.reuse_tree.specs.declared.cause.Cause.{Cause};
 ghost use Rattle.reuse_session.specs.declared.reply.Refusal.TheVariants as refusals;
-ghost use Rattle.reuse_tree.specs.Asked.{OnlyReads, IsLater};
+ghost use Rattle.reuse_tree.specs.Asked.{OnlyReads, IsLater, IsSynced, Leaves};
+ghost use Rattle.reuse_tree.specs.Lasting.{IsMidway};
+ghost use Rattle.reuse_session.specs.Losses.{StopsBackWithDoubt};
 
 use crate::journal_files::{HeadPath, put_head};
 use crate::prepare::{Aim, test_each};
@@ -22,6 +24,9 @@ use std::alloc::Global;
 
 /// Tests that each change of a step that is pending this way is made or not, and can be taken back where it is made. Then
 /// takes back those that are made, and puts the head. It is refused as `Moved` at the first path where that can't be.
+///
+/// A barrier stands before the first change that is taken back, so that the pending head is lasting then; one stands behind the last
+/// change, before the head is put; and one behind the head.
 pub fn roll_back<S: Store>(
     alloc: Global,
     store: &mut S,
@@ -39,6 +44,13 @@ pub fn roll_back<S: Store>(
     // It is never refused on the way from a tree.
     ensures settles { S.honest store.new → IsEntry changes.now → (start : Files) → AreFiles start → ArePartlyMade way changes.now start (tree_of (S.files store.old))
         → (path : List ℕ) → result ≢ Err (Refusal.Moved path) }
+    // A loss of power leaves what is there once it is done. Where it stops, some of the changes are still made, or the last head is put or not.
+    // That holds if each tree that might be left before is the start with some of the changes made.
+    ensures lasting { S.honest store.new → IsEntry changes.now → (start : Files) → ArePartlyMade way changes.now start (tree_of (S.files store.old))
+        → Leaves S.Store store.old (λ kept. SomeMade way changes.now start (tree_of kept)) → OnOk result (IsSynced S.Store store.new) }
+    ensures left { S.honest store.new → IsEntry changes.now → (start : Files) → ArePartlyMade way changes.now start (tree_of (S.files store.old))
+        → Leaves S.Store store.old (λ kept. SomeMade way changes.now start (tree_of kept))
+        → (cause : Cause) → result ≡ Err (refusals.Interrupted cause) → StopsBackWithDoubt S.Store way changes.now settled.now start (S.files store.old) store.new }
     ensures refusal { IfErr result IsRollBackRefusal }
     ensures clash { S.honest store.new → IsEntry changes.now → ¬ (Clashes (S.files store.old) head_path) → IfErr result IsNoClash }
     // It stops only where each change isn't made or can be taken back.
@@ -54,6 +66,7 @@ pub fn roll_back<S: Store>(
     ensures later { IsLater S.Store store.old store.new }
 {
     test_each(alloc, store, changes, way, Aim::SetBack)?;
+    store.sync(alloc, &[])?;
     let mut started = false;
     match set_all_back(alloc, store, head, changes, way, settled, &mut started) {
         Ok(()) => Ok(()),
@@ -73,7 +86,8 @@ fn told(started: bool, cause: Cause) -> Refusal
     }
 }
 
-// Takes back each change that is made, and puts the head. It notes that puts and removals have started before it calls one.
+// Takes back each change that is made, and behind a barrier puts the head. It notes that puts and removals have started before it calls
+// one.
 fn set_all_back<S: Store>(
     alloc: Global,
     store: &mut S,
@@ -86,6 +100,11 @@ fn set_all_back<S: Store>(
     ensures done { S.honest store.new → IsEntry changes.now → OnOk result (IsRolledBack way changes.now settled.now (S.files store.old) (S.files store.new)) }
     ensures stopped { S.honest store.new → IsEntry changes.now → (start : Files) → ArePartlyMade way changes.now start (tree_of (S.files store.old))
         → OnErr result (StopsRollingBack way changes.now settled.now start (S.files store.old) (S.files store.new)) }
+    ensures lasting { S.honest store.new → IsEntry changes.now → (start : Files) → ArePartlyMade way changes.now start (tree_of (S.files store.old))
+        → Leaves S.Store store.old (IsMidway way changes.now start (undo_folder_of (S.files store.old))) → OnOk result (IsSynced S.Store store.new) }
+    ensures left { S.honest store.new → IsEntry changes.now → (start : Files) → ArePartlyMade way changes.now start (tree_of (S.files store.old))
+        → Leaves S.Store store.old (IsMidway way changes.now start (undo_folder_of (S.files store.old)))
+        → OnErr result (StopsBackWithDoubt S.Store way changes.now settled.now start (S.files store.old) store.new) }
     ensures cause { S.honest store.new → IsEntry changes.now → All (CanBeSetBack way (tree_of (S.files store.old))) changes.now
         → ¬ (Clashes (S.files store.old) head_path) → (result ≢ Err Cause.Moved) × (result ≢ Err Cause.Clash) }
     ensures folder { S.honest store.new → IsEntry changes.now → IsSameBut head_path (undo_folder_of (S.files store.old)) (undo_folder_of (S.files store.new)) }
@@ -98,6 +117,7 @@ fn set_all_back<S: Store>(
     for change in changes {
         set_back(alloc, store, change, way, started)?;
     }
+    store.sync(alloc, changes)?;
     *started = true;
     put_head(alloc, store, head, settled)
 }

@@ -5,15 +5,16 @@ ghost use Rattle.reuse_tree.specs.Files.{Clashes, tree_of};
 ghost use Rattle.reuse_tree.specs.Entry.{IsEntry, CanBeMade, CanGo};
 ghost use Rattle.reuse_session.specs.Carried.{IsCarriedOut, IsStopped};
 ghost use Rattle.reuse_session.specs.JournalFiles.{head_path};
-ghost use Rattle.reuse_tree.specs.Asked.{IsLater};
+ghost use Rattle.reuse_tree.specs.Asked.{IsLater, IsSynced};
+ghost use Rattle.reuse_session.specs.Losses.{HaveTree, StopsWithDoubt};
 
 use crate::journal_files::{HeadPath, put_head};
 use reuse_tree::perform::perform;
 use reuse_tree::{Cause, Change, Store, Way};
 use std::alloc::Global;
 
-/// Puts the head that tells the step as pending, makes its changes this way, and puts the head that lists it. Its caller has tested that
-/// each can be made.
+/// Puts the head that tells the step as pending, makes its changes this way, and puts the head that lists it, with a barrier behind each
+/// of the three. Its caller has tested that each change can be made.
 pub fn carry_out<S: Store>(
     alloc: Global,
     store: &mut S,
@@ -28,6 +29,11 @@ pub fn carry_out<S: Store>(
     ensures stopped { S.honest store.new → IsEntry changes.now → OnErr result ((S.files store.new ≡ S.files store.old)
         ⊎ IsStopped way changes.now pending.now (S.files store.old) (S.files store.new)
         ⊎ IsCarriedOut way changes.now settled.now (S.files store.old) (S.files store.new)) }
+    // After a loss of power, if nothing but the journal was in doubt before: what is there, once it is done; and where it stops, what was
+    // there with the pending head, or with some changes too, or with all and the last head.
+    ensures lasting { S.honest store.new → IsEntry changes.now → HaveTree S.Store store.old (tree_of (S.files store.old)) → OnOk result (IsSynced S.Store store.new) }
+    ensures doubt { S.honest store.new → IsEntry changes.now → HaveTree S.Store store.old (tree_of (S.files store.old))
+        → OnErr result (StopsWithDoubt S.Store way changes.now pending.now settled.now store.old store.new) }
     // Where each change can be made, no file has moved, and a clash is that of the head.
     ensures moved { S.honest store.new → IsEntry changes.now → All (CanBeMade way (tree_of (S.files store.old))) changes.now
         → result ≢ Err Cause.Moved }

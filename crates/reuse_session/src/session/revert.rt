@@ -17,8 +17,9 @@ impl<S: Store + Drop> Session<S> {
     ghost use Rattle.reuse_session.specs.Answer.{TellsNoFault, IsNoStep};
     ghost use Rattle.reuse_session.specs.Calls.{IsCall};
     ghost use Rattle.reuse_session.specs.Journal.{State};
+    ghost use Rattle.reuse_session.specs.Losses.{SurvivesCall};
     ghost use Rattle.reuse_session.specs.Machine.{Snapshots};
-    ghost use Rattle.reuse_session.specs.RevertCalls.{as_run, Reverts, RevertFollows, LeavesRevert};
+    ghost use Rattle.reuse_session.specs.RevertCalls.{as_run, IsAfterRevert, Reverts, RevertFollows, LeavesRevert};
     ghost use Rattle.reuse_session.specs.Session.{store_of, is_broken, memory_of, StandsOn, StandsAt};
     ghost use Rattle.reuse_session.specs.Showing.{lists};
 
@@ -48,6 +49,9 @@ impl<S: Store + Drop> Session<S> {
 
         // Where no step is made and none was begun, it only reads.
         ensures idle { IsNoStep (as_run result) → OnlyReads S.Store (store_of self.old) (store_of self.new) }
+
+        // What is left after a loss of power, at any moment of the call, as of a run that takes some changes back.
+        ensures survives { SurvivesCall S.Store (IsAfterRevert skip_moved when) (as_run result) self.old self.new }
 
         // What any call leaves, and what a revert leaves of the files, whatever it answers.
         ensures call { IsCall S.Store result self.old self.new }

@@ -1,4 +1,4 @@
-use Rattle.std.proofs.Common.{◌≡◌, ◌<◌, ◌≤◌, ◌+◌, length, arith, ◌⊎◌, inl, inr, ⊎_elim, None, Some, Result, Ok, Err, IfErr, refl, sym, ap, subst, ◌∙◌}
+use Rattle.std.proofs.Common.{◌≡◌, ◌<◌, ◌≤◌, ◌+◌, length, arith, ◌⊎◌, inl, inr, ⊎_elim, None, Some, Result, Ok, Err, IfErr, MatchResult, refl, sym, ap, subst, ◌∙◌}
 use Rattle.std.proofs.lemmas.Result.{IfOk-from_err, IfErr-at_err}
 use Rattle.reuse_session.specs.Answer.{HasCause, IsEarly, IsNoClash, IsOpenRefusal, IsReadRefusal, RefusedAsRead}
 use Rattle.reuse_session.specs.History.{Memory}
@@ -7,6 +7,8 @@ use Rattle.reuse_session.specs.Session.{head_room, HasHeadText, IsSameBut, Remem
 use Rattle.reuse_session.specs.JournalFiles.{head_of, head_path, entry_path, HeadSays, EntrySays}
 use Rattle.reuse_session.specs.declared.reply.Refusal.{Refusal}
 use Rattle.reuse_session.specs.declared.reply.Refusal.TheVariants.{BadJournal, Moved, Interrupted}
+use Rattle.reuse_session.specs.Losses.{AreSafeOn, AreInDoubt}
+use Rattle.reuse_tree.specs.declared.store.Store.{Ghosts}
 use Rattle.reuse_tree.specs.Asked.{OnlyReads}
 use Rattle.reuse_tree.proofs.AskedLemmas.{reads_more, later_reads, later_more}
 use Rattle.std.specs.FinMap as map
@@ -18,6 +20,7 @@ use Rattle.reuse_session.specs.Standing.{IsStanding, InDoubt}
 use Rattle.reuse_tree.specs.Tree.{undo_folder_of}
 use Rattle.reuse_session.proofs.OpeningLemmas.{as_many_listed}
 use Rattle.reuse_session.proofs.FilesInDoubt.{IsPending, doubt_bad, none_pending, read_pending, read_opens, read_settles, settled_opens, still_in_doubt, left_in_doubt}
+use Rattle.reuse_session.proofs.OpeningDoubt.{doubt_stays, files_in_doubt, reads_standing, refused_in_doubt}
 use Rattle.reuse_session.proofs.Asking.{opening_too, reading_cause, reading_no_clash}
 use Rattle.reuse_session.proofs.OnlyReading.{is_refused, passed_on, still_caused}
 use Rattle.reuse_session.proofs.Settling.{read_failure}
@@ -28,6 +31,12 @@ use Rattle.reuse_session.proofs.opening.open_journal.Goals as goal
 -- an answer tells no refusal
 no_refusal : {A : Type 0} (x : A) (refusal : Refusal) → ◌≡◌ {A = Result A Refusal} (Ok x) (Err refusal) → ⊥
 no_refusal x refusal e = absurd (cc)
+
+-- one of the standings is remembered, and all that may be left is safe on it
+abbrev OpensSafely : {S : Type 0} → Ghosts S → (earlier held next : State) → S → Memory → Type 0
+OpensSafely store earlier held next new memory =
+    (IsStanding (store.files new) held × Remembers memory held.journal × AreSafeOn store earlier held new)
+    ⊎ (IsStanding (store.files new) next × Remembers memory next.journal × AreSafeOn store held next new)
 
 pub returns-in_err-pending : goal.returns-in_err-pending
 returns-in_err-pending g c =
@@ -52,6 +61,7 @@ returns-in_err-pending g c =
           let failure = read_failure refusal kind (λ path e. doubt_bad first second (store.files old) doubt path (c.read_journal.ensures.bad h path (was ∙ ap (λ x. Err x) e))) in
           let memories = λ (memory : Memory). (IsStanding (store.files new) first × Remembers memory first.journal) ⊎ (IsStanding (store.files new) second × Remembers memory second.journal) in
           left_in_doubt result refusal refusal memories first second (store.files new) is refl failure (subst (InDoubt first second) (sym (reads.files h)) doubt);
+      survives = λ h earlier held next doubt. refused_in_doubt store earlier held next old new reads h result refusal (OpensSafely store earlier held next new) is doubt;
       texts = λ h. IfOk-from_err result (λ memory. (store.files new ≡ store.files old) ⊎ HasHeadText memory (store.files new)) c.from_residual.ensures.0;
       written = λ h head says. omega (arith, reads.written);
       moves = λ h. inl reads.moves;
@@ -81,6 +91,7 @@ returns-in-None g c =
       moved = λ h path e. absurd (no_refusal memory (Moved path) e);
       interrupted = λ h cause e. absurd (no_refusal memory (Interrupted cause) e);
       settles = λ h first second doubt. read_settles (store.files old) (store.files new) memory (read h).0 (read h).1 (reads.files h) first second doubt;
+      survives = λ h earlier held next doubt. reads_standing store earlier held next old new reads h memory (read h).0 (read h).1 doubt;
       texts = λ h. inl (reads.files h);
       written = λ h head says. omega (arith, reads.written);
       moves = λ h. inl reads.moves;
@@ -114,6 +125,10 @@ module _ (g : Over) (c : After-settle g) (honest : g.S.Store.honest c.settle.new
       → IsPending first second (g.S.Store.files c.read_journal.new.store) c.in-Some.pending c.in_ok-pending.history
   pending_in_doubt first second doubt =
       read_pending first second _ c.in-Some.pending c.in_ok-pending.history read_before.0 read_after (subst (InDoubt first second) (sym same_files) doubt)
+
+  -- reading the journal left what may be left in doubt
+  mid_in_doubt : (earlier held next : State) → AreInDoubt g.S.Store earlier held next c.args.store.now → AreInDoubt g.S.Store earlier held next c.read_journal.new.store
+  mid_in_doubt earlier held next = doubt_stays g.S.Store earlier held next c.args.store.now c.read_journal.new.store c.read_journal.ensures.reads (c.settle.ensures.later.was_honest honest)
 
   -- a standing has nothing pending
   never_standing : (held : State) → IsStanding (g.S.Store.files c.args.store.now) held → ⊥
@@ -175,6 +190,9 @@ returns-in_err-settle-in-Some g c =
           let memories = λ (memory : Memory). (IsStanding (store.files new) first × Remembers memory first.journal) ⊎ (IsStanding (store.files new) second × Remembers memory second.journal) in
           left_in_doubt result refusal refusal memories first second (store.files new) is refl left.0
           (still_in_doubt first second (store.files mid) (store.files new) c.in-Some.pending c.in_ok-pending.history step left.1);
+      survives = λ h earlier held next doubt.
+          let left = told.survives h _ (read_after g s h) earlier held next (mid_in_doubt g s h earlier held next doubt) in
+          subst (λ r. MatchResult r (OpensSafely store earlier held next new) (λ refusal. AreInDoubt store earlier held next new)) (sym is) left;
       texts = λ h. IfOk-from_err result (λ memory. (store.files new ≡ store.files old) ⊎ HasHeadText memory (store.files new)) c.from_residual-in_err-settle-in-Some.ensures.0;
       written = head_written g s;
       moves = moves_to_open g s;
@@ -209,6 +227,10 @@ returns-in_ok-settle-in-Some g c =
       settles = λ h first second doubt.
           let step = pending_in_doubt g s h first second doubt in
           inl (done.settles h _ (read_after g s h) step.step first step.number step.under, step.remembers);
+      survives = λ h earlier held next doubt.
+          let step = pending_in_doubt g s h held next (files_in_doubt store earlier held next old doubt) in
+          let left = done.survives h _ (read_after g s h) earlier held next (mid_in_doubt g s h earlier held next doubt) in
+          inl (left.0, step.remembers, left.1);
       texts = λ h. inr (done.texts h (read_before g s h).0 (read_after g s h));
       written = head_written g s;
       moves = moves_to_open g s;

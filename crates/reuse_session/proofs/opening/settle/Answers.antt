@@ -2,15 +2,16 @@ use Rattle.std.proofs.Common.{◌≡◌, ◌⊎◌, inr, MatchResult, List, refl
 use Rattle.std.specs.FinMap.{get}
 use Rattle.std.specs.List.{All}
 use Rattle.std.proofs.lemmas.Result.{err_from_is_err_and, IfErr-weaker, on_ok_weaker}
-use Rattle.reuse_tree.specs.Asked.{OnlyReads}
+use Rattle.reuse_tree.specs.Asked.{OnlyReads, Leaves}
 use Rattle.reuse_tree.proofs.AskedLemmas.{reads_more}
 use Rattle.reuse_tree.specs.Files.{AreFiles, Clashes, Files, tree_of}
 use Rattle.reuse_session.specs.Answer.{IsEarly, IsFailure}
 use Rattle.reuse_session.specs.Carried.{IsRolledBack, StopsRollingBack}
-use Rattle.reuse_tree.specs.Entry.{IsEntry, ArePartlyMade, CanBeSetBack, IsFirstWithout}
+use Rattle.reuse_tree.specs.Entry.{IsEntry, SomeMade, ArePartlyMade, CanBeSetBack, IsFirstWithout}
 use Rattle.reuse_tree.specs.Head.{way_of, IsGoodHead}
 use Rattle.reuse_session.specs.History.{head_listing}
 use Rattle.reuse_session.specs.JournalFiles.{head_path, entry_path, head_of, number_of, EntrySays}
+use Rattle.reuse_session.specs.Losses.{AreSafeOn, AreInDoubt, StopsBackWithDoubt}
 use Rattle.reuse_session.specs.Opening.{IsRead}
 use Rattle.reuse_session.specs.Session.{IsSameBut}
 use Rattle.reuse_session.specs.Standing.{IsStanding, IsUnderWay}
@@ -19,7 +20,9 @@ use Rattle.reuse_tree.specs.declared.change.Change.{Change}
 use Rattle.reuse_tree.specs.declared.way.Way.{Way}
 use Rattle.reuse_session.specs.declared.reply.Refusal.TheVariants.{Memory}
 use Rattle.reuse_session.specs.Journal.{Journal, Recorded, State}
-use Rattle.reuse_session.proofs.Settling.{is_entry, is_settled, is_stuck, partly_made, settles, settled_good, settled_sound, head_fits, at_same, pending_readable, stays_under_way, read_failure}
+use Rattle.reuse_session.proofs.Settling.{is_entry, is_settled, is_stuck, of_step as its_changes, partly_made, settles, stands, settled_good, settled_sound, head_fits, at_same, pending_readable, stays_under_way, read_failure}
+use Rattle.reuse_session.proofs.FilesInDoubt.{read_pending}
+use Rattle.reuse_session.proofs.OpeningDoubt.{doubt_stays, each_in_doubt, files_in_doubt, refused_in_doubt, some_made, stops_in_doubt, survives}
 use Rattle.reuse_session.proofs.OpeningLemmas.{recorded}
 use Rattle.reuse_session.proofs.TakenBack.{was_under_way}
 use Rattle.reuse_session.proofs.JournalReading.{file_in_folder}
@@ -27,6 +30,11 @@ use Rattle.reuse_session.proofs.OnlyReading.{early_files, passed_on}
 use Rattle.reuse_session.proofs.opening.settle.Given.{Over}
 use Rattle.reuse_session.proofs.opening.settle.Goals.{After-roll_back}
 use Rattle.reuse_session.proofs.opening.settle.Goals as goal
+
+pub returns-in_err-entry-clause-survives : goal.returns-in_err-entry-clause-survives
+returns-in_err-entry-clause-survives g c honest journal read earlier held next doubt =
+    let p = err_from_is_err_and c.from_residual.result c.from_residual.ensures.1 in
+    refused_in_doubt g.S.Store earlier held next c.args.store.now c.read_entry.new.store c.read_entry.ensures.reads honest c.from_residual.result p.0 _ p.1 doubt
 
 pub returns-in_err-entry-clause-settles : goal.returns-in_err-entry-clause-settles
 returns-in_err-entry-clause-settles g c honest journal read step first number under =
@@ -42,11 +50,21 @@ returns-in_err-entry-clause-no_bad g c honest journal read path e =
     let readable = pending_readable (g.S.Store.files c.args.store.now) c.args.pending c.args.history.now journal read in
     (c.read_entry.ensures.bad honest path (passed_on c.from_residual.result c.read_entry.result c.from_residual.ensures.1 c.in_err-entry.was e)).1 readable.0 readable.1
 
+pub returns-in_err-settled-clause-survives : goal.returns-in_err-settled-clause-survives
+returns-in_err-settled-clause-survives g c honest journal read earlier held next doubt =
+    let p = err_from_is_err_and c.from_residual-in_err-settled.result c.from_residual-in_err-settled.ensures.1 in
+    refused_in_doubt g.S.Store earlier held next c.args.store.now c.read_entry.new.store c.read_entry.ensures.reads honest c.from_residual-in_err-settled.result p.0 _ p.1 doubt
+
 pub returns-in_err-settled-clause-settles : goal.returns-in_err-settled-clause-settles
 returns-in_err-settled-clause-settles g c honest journal read step first number under =
     let files = g.S.Store.files in
     let p = err_from_is_err_and c.from_residual-in_err-settled.result c.from_residual-in_err-settled.ensures.1 in
     stays_under_way c.from_residual-in_err-settled.result p.0 Memory c.args.pending.way step first (files c.args.store.now) (files c.read_entry.new.store) p.1 p.2 tt (c.read_entry.ensures.reads.files honest) under
+
+pub returns-in_err-head-clause-survives : goal.returns-in_err-head-clause-survives
+returns-in_err-head-clause-survives g c honest journal read earlier held next doubt =
+    let p = err_from_is_err_and c.from_residual-in_err-head.result c.from_residual-in_err-head.ensures.1 in
+    refused_in_doubt g.S.Store earlier held next c.args.store.now c.read_entry.new.store c.read_entry.ensures.reads honest c.from_residual-in_err-head.result p.0 _ p.1 doubt
 
 pub returns-in_err-head-clause-settles : goal.returns-in_err-head-clause-settles
 returns-in_err-head-clause-settles g c honest journal read step first number under =
@@ -97,6 +115,39 @@ module _ (g : Over) (c : After-roll_back g) (honest : g.S.Store.honest c.roll_ba
       (subst (λ f. IfErr result (λ refusal. IsEarly refusal → new ≡ f)) same (early_files g.S.Store c.read_entry.new.store c.roll_back.new.store result c.roll_back.ensures.early honest))
       (λ path e. c.roll_back.ensures.settles honest good first.tree under.good.are_files partly path e)
       c.roll_back.ensures.refusal
+
+  -- what may be left is safe on the standing from before the step, or is still in doubt
+  survived : (earlier held next : State) → AreInDoubt g.S.Store earlier held next c.args.store.now
+      → MatchResult c.roll_back.result (λ done. IsStanding (g.S.Store.files c.roll_back.new.store) held × AreSafeOn g.S.Store earlier held c.roll_back.new.store) (λ refusal. AreInDoubt g.S.Store earlier held next c.roll_back.new.store)
+  survived earlier held next doubt =
+      let store = g.S.Store in
+      let old = c.args.store.now in
+      let mid = c.read_entry.new.store in
+      let new = c.roll_back.new.store in
+      let files = store.files old in
+      let pending = c.args.pending in
+      let memory = c.args.history.now in
+      let entry = c.in_ok-entry.entry in
+      let text = c.as_slice-2.result.now in
+      let result = c.roll_back.result in
+      let at = read_pending held next files pending memory journal read (files_in_doubt store earlier held next old doubt) in
+      let changes = its_changes files pending memory journal read entry says at.step held at.number at.under in
+      let partly = given_to (λ f w cs. ArePartlyMade w cs held.tree (tree_of f)) (partly_made files pending memory journal read entry says at.step held at.number at.under) in
+      let each = each_in_doubt store earlier held next old pending memory journal read doubt in
+      let sure : Leaves store mid (λ kept. SomeMade c.way.result c.as_slice.result.now held.tree (tree_of kept)) =
+      λ kept is. given_to (λ f w cs. SomeMade w cs held.tree (tree_of kept)) (subst (λ cs. SomeMade (way_of pending.way) cs held.tree (tree_of kept)) changes
+      (some_made store earlier held next pending.way at.step at.leads kept (each kept (c.read_entry.ensures.reads.may kept is)))) in
+      survives store earlier held next result new (λ refusal. IsFailure refusal × (IsStanding (store.files new) held ⊎ IsUnderWay pending.way at.step held (store.files new)))
+      (stands_or_stays at.step held at.number at.under) (c.roll_back.ensures.lasting honest good held.tree partly sure)
+      (IfErr-weaker result (λ refusal. IsEarly refusal → OnlyReads store mid new) (λ refusal. IsEarly refusal → AreInDoubt store earlier held next new)
+      (λ refusal reads early. doubt_stays store earlier held next old new (reads_more store old mid new c.read_entry.ensures.reads (reads early)) honest doubt) c.roll_back.ensures.early)
+      (λ cause e. stops_in_doubt store earlier held next pending.way at.step at.leads files at.under text
+      (λ after tree sets. stands files pending memory journal read entry says at.step held at.number at.under after text good_text tree sets) new
+      (subst (λ cs. StopsBackWithDoubt store (way_of pending.way) cs text held.tree files new) (sym changes)
+      (of_step (λ f w cs. StopsBackWithDoubt store w cs text held.tree f new) (c.roll_back.ensures.left honest good held.tree partly sure cause e))))
+
+pub returns-clause-survives : goal.returns-clause-survives
+returns-clause-survives g c honest journal read = survived g (goal.at.returns-clause-survives g c).After-roll_back honest journal read
 
 pub returns-clause-done : goal.returns-clause-done
 returns-clause-done g c honest journal read =

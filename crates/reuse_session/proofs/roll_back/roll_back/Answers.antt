@@ -1,11 +1,15 @@
-use Rattle.std.proofs.Common.{◌≡◌, ◌≢◌, ◌<◌, ◌≤◌, ℕ, Bool, true, false, List, Result, Err, OnErr, arith, refl, sym, ap, subst, ◌∙◌}
+use Rattle.std.proofs.Common.{◌≡◌, ◌≢◌, ◌<◌, ◌≤◌, ℕ, Bool, true, false, List, Result, Err, OnErr, OnOk, arith, refl, sym, ap, subst, ◌∙◌}
 use Rattle.std.specs.List.{All}
 use Rattle.std.proofs.lemmas.Result.{err_from_is_err_and}
 use Rattle.reuse_tree.proofs.AskedLemmas.{reads_more}
-use Rattle.reuse_tree.specs.Files.{Clashes, tree_of}
+use Rattle.reuse_tree.specs.Asked.{OnlyReads, IsSynced, Leaves}
+use Rattle.reuse_tree.specs.Files.{Files, Clashes, tree_of}
+use Rattle.reuse_tree.specs.Lasting.{IsMidway}
+use Rattle.reuse_tree.specs.Tree.{undo_folder_of}
 use Rattle.reuse_session.specs.Answer.{told_of, HasCause, IsEarly, IsNoClash, IsRollBackRefusal}
 use Rattle.reuse_session.specs.Carried.{StopsRollingBack}
-use Rattle.reuse_tree.specs.Entry.{ArePartlyMade, CanBeSetBack}
+use Rattle.reuse_session.specs.Losses.{StopsBackWithDoubt}
+use Rattle.reuse_tree.specs.Entry.{ArePartlyMade, CanBeSetBack, SomeMade}
 use Rattle.reuse_session.specs.JournalFiles.{head_path}
 use Rattle.reuse_tree.specs.declared.cause.Cause.{Cause}
 use Rattle.reuse_tree.specs.declared.cause.Cause.TheVariants as causes
@@ -13,6 +17,9 @@ use Rattle.reuse_session.specs.declared.reply.Refusal.{Refusal}
 use Rattle.reuse_session.specs.declared.reply.Refusal.TheVariants.{Moved, Interrupted}
 use Rattle.reuse_tree.proofs.Walk.{none_without}
 use Rattle.reuse_tree.proofs.MadeLemmas.{settles_from}
+use Rattle.reuse_session.proofs.LeftByRollBacks.{certain_midway}
+use Rattle.reuse_session.proofs.roll_back.roll_back.Given.{Over}
+use Rattle.reuse_session.proofs.roll_back.roll_back.Goals.{After-sync, In_ok-sync}
 use Rattle.reuse_session.proofs.roll_back.roll_back.Goals as goal
 
 told_no_clash : (started : Bool) (cause : Cause) → cause ≢ causes.Moved → cause ≢ causes.Clash → IsNoClash (told_of started cause)
@@ -64,12 +71,17 @@ told_late false causes.Memory stop is e other = absurd (cc)
 past : {old mid new : ℕ} → old ≤ mid → mid < new → old < new
 past a b = omega arith
 
+-- nothing was moved up to the first barrier
+read_so_far : (g : Over) (c : After-sync g) → OnlyReads g.S.Store c.args.store.now c.sync.new.self
+read_so_far g c = reads_more g.S.Store c.args.store.now c.test_each.new.store c.sync.new.self c.test_each.ensures.reads c.sync.ensures.reads
+
 -- once each change was tested, none has moved and none clashes
 pub returns-in-Err-clause-clash : goal.returns-in-Err-clause-clash
 returns-in-Err-clause-clash g c honest good free =
     let files = g.S.Store.files in
-    let tested = c.set_all_back.ensures.later.was_honest honest in
-    let same = c.test_each.ensures.reads.files tested in
+    let before = c.set_all_back.ensures.later.was_honest honest in
+    let tested = c.sync.ensures.reads.was_honest before in
+    let same = c.sync.ensures.reads.files before ∙ c.test_each.ensures.reads.files tested in
     let can = subst (λ f. All (CanBeSetBack c.args.way (tree_of f)) c.args.changes.now) (sym same) (c.in_ok-test_each.ensures.ready tested good) in
     let none = c.set_all_back.ensures.cause honest good can (λ clash. free (subst (λ f. Clashes f head_path) same clash)) in
     subst IsNoClash (sym c.told.ensures)
@@ -88,14 +100,48 @@ returns-in_err-test_each-clause-settles g c honest good start are partly path e 
     (settles_from c.args.way start tree c.args.changes.now good are partly)
     (c.test_each.ensures.moved honest good path moved)
 
+-- what is known behind the first barrier
+module _ (g : Over) (c : After-sync g) (honest : g.S.Store.honest c.sync.new.self) where
+  same_files : g.S.Store.files c.sync.new.self ≡ g.S.Store.files c.args.store.now
+  same_files = c.sync.ensures.reads.files honest ∙ c.test_each.ensures.reads.files (c.sync.ensures.reads.was_honest honest)
+
+  still_partly : (start : Files) → ArePartlyMade c.args.way c.args.changes.now start (tree_of (g.S.Store.files c.args.store.now)) → ArePartlyMade c.args.way c.args.changes.now start (tree_of (g.S.Store.files c.sync.new.self))
+  still_partly start = subst (λ files. ArePartlyMade c.args.way c.args.changes.now start (tree_of files)) (sym same_files)
+
+-- the head that is there is certain then, and each path of the tree is left as it is or as it might be
+midway : (g : Over) (c : In_ok-sync g) (start : Files) → SomeMade c.args.way c.args.changes.now start (tree_of (g.S.Store.files c.sync.new.self)) → Leaves g.S.Store c.args.store.now (λ kept. SomeMade c.args.way c.args.changes.now start (tree_of kept))
+    → Leaves g.S.Store c.sync.new.self (IsMidway c.args.way c.args.changes.now start (undo_folder_of (g.S.Store.files c.sync.new.self)))
+midway g c start now sure left is =
+    let got = c.in_ok-sync.ensures.barrier.ok left is in
+    certain_midway c.args.way c.args.changes.now start (g.S.Store.files c.sync.new.self) got.0 left now (sure got.0 (c.test_each.ensures.reads.may got.0 got.1)) got.2
+
 pub returns-in-Err-clause-stopped : goal.returns-in-Err-clause-stopped
 returns-in-Err-clause-stopped g c honest good start partly cause e =
     let store = g.S.Store in
-    let same = c.test_each.ensures.reads.files (c.set_all_back.ensures.later.was_honest honest) in
+    let at = (goal.at.returns-in-Err-clause-stopped g c).After-sync in
+    let before = c.set_all_back.ensures.later.was_honest honest in
     let after = store.files c.set_all_back.new.store in
-    let stopped = c.set_all_back.ensures.stopped honest good start (subst (λ files. ArePartlyMade c.args.way c.args.changes.now start (tree_of files)) (sym same) partly) in
-    subst (λ files. StopsRollingBack c.args.way c.args.changes.now c.args.settled.now start files after) same
-    (subst (λ r. OnErr r (StopsRollingBack c.args.way c.args.changes.now c.args.settled.now start (store.files c.test_each.new.store) after)) c.in-Err.is stopped)
+    let stopped = c.set_all_back.ensures.stopped honest good start (still_partly g at before start partly) in
+    subst (λ files. StopsRollingBack c.args.way c.args.changes.now c.args.settled.now start files after) (same_files g at before)
+    (subst (λ r. OnErr r (StopsRollingBack c.args.way c.args.changes.now c.args.settled.now start (store.files c.sync.new.self) after)) c.in-Err.is stopped)
+
+pub returns-in-Err-clause-left : goal.returns-in-Err-clause-left
+returns-in-Err-clause-left g c honest good start partly sure cause e =
+    let store = g.S.Store in
+    let at = goal.at.returns-in-Err-clause-left g c in
+    let before = c.set_all_back.ensures.later.was_honest honest in
+    let new = c.set_all_back.new.store in
+    let now = still_partly g at.After-sync before start partly in
+    let left = c.set_all_back.ensures.left honest good start now (midway g at.In_ok-sync start now.made sure) in
+    subst (λ files. StopsBackWithDoubt store c.args.way c.args.changes.now c.args.settled.now start files new) (same_files g at.After-sync before)
+    (subst (λ r. OnErr r (StopsBackWithDoubt store c.args.way c.args.changes.now c.args.settled.now start (store.files c.sync.new.self) new)) c.in-Err.is left)
+
+pub returns-in-Ok-clause-lasting : goal.returns-in-Ok-clause-lasting
+returns-in-Ok-clause-lasting g c honest good start partly sure =
+    let at = goal.at.returns-in-Ok-clause-lasting g c in
+    let now = still_partly g at.After-sync (c.set_all_back.ensures.later.was_honest honest) start partly in
+    let lasting = c.set_all_back.ensures.lasting honest good start now (midway g at.In_ok-sync start now.made sure) in
+    subst (λ r. OnOk r (IsSynced g.S.Store c.set_all_back.new.store)) c.in-Ok.is lasting
 
 pub returns-in-Err-clause-refusal : goal.returns-in-Err-clause-refusal
 returns-in-Err-clause-refusal g c = subst IsRollBackRefusal (sym c.told.ensures) (told_refusal c.set_all_back.new.started c.in-Err.cause)
@@ -107,20 +153,20 @@ pub returns-in-Err-clause-settles : goal.returns-in-Err-clause-settles
 returns-in-Err-clause-settles g c honest good start are partly path e = never_moved c.set_all_back.new.started c.in-Err.cause path (ap (λ r. Err r) c.told.ensures) e
 
 pub returns-in-Err-clause-tested : goal.returns-in-Err-clause-tested
-returns-in-Err-clause-tested g c honest good cause e = c.in_ok-test_each.ensures.ready (c.set_all_back.ensures.later.was_honest honest) good
+returns-in-Err-clause-tested g c honest good cause e = c.in_ok-test_each.ensures.ready (c.sync.ensures.reads.was_honest (c.set_all_back.ensures.later.was_honest honest)) good
 
 pub returns-in-Err-clause-early : goal.returns-in-Err-clause-early
 returns-in-Err-clause-early g c early =
     let unstarted = told_early c.set_all_back.new.started c.in-Err.cause (subst IsEarly c.told.ensures early) in
-    reads_more g.S.Store c.args.store.now c.test_each.new.store c.set_all_back.new.store c.test_each.ensures.reads (c.set_all_back.ensures.notes.still unstarted).1
+    reads_more g.S.Store c.args.store.now c.sync.new.self c.set_all_back.new.store (read_so_far g (goal.at.returns-in-Err-clause-early g c).After-sync) (c.set_all_back.ensures.notes.still unstarted).1
 
 pub returns-in-Err-clause-late : goal.returns-in-Err-clause-late
 returns-in-Err-clause-late g c stop e other =
-    subst (λ n. n < g.S.Store.moves c.set_all_back.new.store) c.test_each.ensures.reads.moves
+    subst (λ n. n < g.S.Store.moves c.set_all_back.new.store) (read_so_far g (goal.at.returns-in-Err-clause-late g c).After-sync).moves
     (c.set_all_back.ensures.notes.begun refl (told_late c.set_all_back.new.started c.in-Err.cause stop (ap (λ r. Err r) c.told.ensures) e other))
 
 pub returns-in-Err-clause-fault : goal.returns-in-Err-clause-fault
 returns-in-Err-clause-fault g c =
     let Rose = g.S.Store.failures c.args.store.now < g.S.Store.failures c.set_all_back.new.store in
     subst (HasCause Rose) (sym c.told.ensures)
-    (told_cause Rose c.set_all_back.new.started c.in-Err.cause (λ e. past c.test_each.ensures.reads.failures (c.set_all_back.ensures.device (c.in-Err.is ∙ ap (λ x. Err x) e))))
+    (told_cause Rose c.set_all_back.new.started c.in-Err.cause (λ e. past (read_so_far g (goal.at.returns-in-Err-clause-fault g c).After-sync).failures (c.set_all_back.ensures.device (c.in-Err.is ∙ ap (λ x. Err x) e))))

@@ -1,5 +1,8 @@
 use Rattle.std.proofs.Common.{take}
-use Rattle.reuse_tree.specs.Files.{tree_of}
+use Rattle.reuse_tree.specs.Asked.{Leaves}
+use Rattle.reuse_tree.specs.Files.{Files, tree_of}
+use Rattle.reuse_tree.specs.Lasting.{IsMidway}
+use Rattle.reuse_tree.specs.Tree.{undo_folder_of}
 use Rattle.reuse_tree.specs.Turn.{NotesMoves}
 use Rattle.reuse_tree.specs.Entry.{IsEntry, ArePartlyMade}
 use Rattle.reuse_tree.proofs.AtChange.{StaysBeside}
@@ -12,5 +15,7 @@ invariant-loop-change g l =
     record {
       notes : NotesMoves g.S.Store l.fn.started l.started l.fn.store l.store;
       walk : StaysBeside store l.fn.store l.store l.changes l.change-index;
+      left : store.honest l.store → IsEntry l.changes → (start : Files) → ArePartlyMade l.way l.changes start (tree_of (store.files l.fn.store))
+          → Leaves store l.fn.store (IsMidway l.way l.changes start (undo_folder_of (store.files l.fn.store))) → Leaves store l.store (IsMidway l.way l.changes start (undo_folder_of (store.files l.fn.store)));
       back : store.honest l.store → IsEntry l.changes → ArePartlyMade l.way (take l.change-index l.changes) (tree_of (store.files l.store)) (tree_of (store.files l.fn.store));
     }

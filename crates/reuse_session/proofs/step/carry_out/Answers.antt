@@ -6,7 +6,10 @@ use Rattle.reuse_tree.specs.Files.{Files, AreFiles, Clashes, tree_of}
 use Rattle.reuse_tree.specs.declared.change.Change.{Change}
 use Rattle.reuse_tree.specs.declared.way.Way.{Way}
 use Rattle.reuse_tree.specs.declared.cause.Cause.TheVariants.{Clash, Moved}
+use Rattle.reuse_tree.specs.Asked.{IsSynced}
+use Rattle.reuse_tree.specs.Lasting.{WithOrWithout}
 use Rattle.reuse_session.specs.Carried.{IsCarriedOut, IsStopped}
+use Rattle.reuse_session.specs.Losses.{HaveTree, StopsWithDoubt}
 use Rattle.reuse_tree.specs.Tree.{undo_folder_of, Sets}
 use Rattle.reuse_tree.specs.Entry.{LeadsBy, SomeMade, CanBeMade, CanGo, IsEntry}
 use Rattle.reuse_session.specs.JournalFiles.{head_path}
@@ -51,6 +54,15 @@ module _ {way : Way} {changes : List Change} {pending : List ℕ} {old started n
   -- the head that is there is put again
   free : AreFiles now → Clashes now head_path → ⊥
   free are clash = head_is_free now pending are (ap (λ files. get files head_path) done.folder ∙ (head_sets old started (Some pending) done.first).here) clash
+
+-- what may be left with a head or without
+with_head : {MightBe : Files → Type 0} {head : List ℕ} {left : Files} → WithOrWithout MightBe head_path (λ file. file ≡ Some head) left → MightBe left ⊎ ((kept : Files) × MightBe kept × Sets head_path (Some head) kept left)
+with_head (inl was) = inl was
+with_head {MightBe} {head} {left} (inr made) = inr (made.0, made.1, subst (λ file. Sets head_path file made.0 left) made.3 made.4)
+
+head_or_not : {MightBe : Files → Type 0} {head : List ℕ} (done left : Files) → ((kept : Files) → MightBe kept → kept ≡ done) → WithOrWithout MightBe head_path (λ file. file ≡ Some head) left → (left ≡ done) ⊎ Sets head_path (Some head) done left
+head_or_not done left sure (inl was) = inl (sure left was)
+head_or_not {MightBe} {head} done left sure (inr made) = inr (subst (λ files. Sets head_path (Some head) files left) (sure made.0 made.1) (subst (λ file. Sets head_path file made.0 left) made.3 made.4))
 
 -- the head's put leaves the tree
 pub perform-requires : goal.perform-requires
@@ -129,3 +141,53 @@ pub returns-clause-clash : goal.returns-clause-clash
 returns-clause-clash g c honest good all e =
     let walked = c.put_head-2.ensures.later.was_honest honest in
     absurd (free (performed g (goal.at.returns-clause-clash g c).In_ok-perform walked good) (g.met.S.Store.are_files c.perform.new.store walked) (c.put_head-2.ensures.clash honest e))
+
+-- ---- after a loss of power
+
+-- nothing is in doubt behind the changes
+synced_next : (g : Over) (c : In_ok-perform g) → g.S.Store.honest c.perform.new.store → IsEntry c.args.changes.now → HaveTree g.S.Store c.args.store.now (tree_of (g.S.Store.files c.args.store.now)) → IsSynced g.S.Store c.perform.new.store
+synced_next g c honest good sure = c.in_ok-perform.ensures.lasting honest good (c.in_ok-put_head.ensures.lasting (c.perform.ensures.later.was_honest honest) sure)
+
+pub returns-in_err-put_head-clause-doubt : goal.returns-in_err-put_head-clause-doubt
+returns-in_err-put_head-clause-doubt g c honest good sure =
+    let p = err_from_is_err_and c.from_residual.result c.from_residual.ensures.1 in
+    subst (λ r. OnErr r (StopsWithDoubt g.S.Store c.args.way c.args.changes.now c.args.pending.now c.args.settled.now c.args.store.now c.put_head.new.store)) (sym p.1)
+    (inl (c.in_err-put_head.ensures.err honest, λ left is. with_head (c.put_head.ensures.left left is)))
+
+pub returns-in_err-perform-clause-doubt : goal.returns-in_err-perform-clause-doubt
+returns-in_err-perform-clause-doubt g c honest good sure =
+    let way = c.args.way in
+    let changes = c.args.changes.now in
+    let pending = c.args.pending.now in
+    let old = g.S.Store.files c.args.store.now in
+    let started = g.S.Store.files c.put_head.new.store in
+    let now = g.S.Store.files c.perform.new.store in
+    let p = err_from_is_err_and c.from_residual-in_err-perform.result c.from_residual-in_err-perform.ensures.1 in
+    let front = c.in_err-perform.ensures.midway honest good in
+    let first = first_put g (goal.at.returns-in_err-perform-clause-doubt g c).After-perform honest in
+    let synced = c.in_ok-put_head.ensures.lasting (c.perform.ensures.later.was_honest honest) sure in
+    subst (λ r. OnErr r (StopsWithDoubt g.S.Store way changes pending c.args.settled.now c.args.store.now c.perform.new.store)) (sym p.1)
+    (inr (inl (
+      stopped way changes pending old started first now (made_of_front way changes front.0 (tree_of started) (tree_of now) front.1 good) (c.perform.ensures.folder honest good),
+      λ left is. let midway = c.perform.ensures.left honest good synced left is in stopped way changes pending old started first left midway.tree midway.folder,
+    )))
+
+pub returns-clause-lasting : goal.returns-clause-lasting
+returns-clause-lasting g c honest good sure =
+    c.put_head-2.ensures.lasting honest (λ left is. ap tree_of (synced_next g (goal.at.returns-clause-lasting g c).In_ok-perform (c.put_head-2.ensures.later.was_honest honest) good sure left is))
+
+pub returns-clause-doubt : goal.returns-clause-doubt
+returns-clause-doubt g c honest good sure =
+    let at = (goal.at.returns-clause-doubt g c).In_ok-perform in
+    let walked = c.put_head-2.ensures.later.was_honest honest in
+    let done = performed g at walked good in
+    let old = g.S.Store.files c.args.store.now in
+    let started = g.S.Store.files c.put_head.new.store in
+    let now = g.S.Store.files c.perform.new.store in
+    let pending = c.args.pending.now in
+    on_err_weaker c.put_head-2.result (λ either. inr (inr (
+      now,
+      subst (λ t. LeadsBy c.args.way c.args.changes.now t (tree_of now)) (tree_stays c.args.way c.args.changes.now pending old started done.first) done.leads,
+      subst (Sets head_path (Some pending) (undo_folder_of old)) (sym done.folder) (head_sets old started (Some pending) done.first),
+      (either, λ left is. head_or_not now left (synced_next g at walked good sure) (c.put_head-2.ensures.left left is)),
+    ))) (c.put_head-2.ensures.err honest)

@@ -4,11 +4,12 @@ use Rattle.reuse_session.specs.Answer.{HasCause}
 use Rattle.reuse_session.specs.JournalFiles.{IsFree}
 use Rattle.reuse_session.specs.Session.{store_of}
 use Rattle.reuse_session.specs.Driven.{store_in}
-use Rattle.reuse_session.specs.Stops.{Point, open_at, AnswersEvent, AreLeft}
+use Rattle.reuse_session.specs.Stops.{Point, open_at, AnswersEvent, AreLeft, MayBeFound}
 use Rattle.reuse_tree.specs.Tree.{undo_folder_of}
 use Rattle.reuse_session.specs.declared.events.Event.{Event}
 use Rattle.reuse_session.specs.declared.reply.Refusal.TheVariants.{Broken}
 use Rattle.reuse_session.proofs.Driving.{left_at, at_open, at_closed, answers_open, answers_closed, answers_reopen}
+use Rattle.reuse_session.proofs.SafeDriving.{found_in, safely_open, safely_closed}
 use Rattle.reuse_session.proofs.events.Driven.answer.Goals as goal
 
 pub returns-in-Reopen-clause-answers : goal.returns-in-Reopen-clause-answers
@@ -16,6 +17,13 @@ returns-in-Reopen-clause-answers g c honest old at =
     let files = g.S.Store.files in
     let left = subst (λ (f : Files). AreLeft f old.state old.next) (sym (ap files c.into_store.ensures)) (left_at files c.args.self old at) in
     let r = c.open.ensures.reopens honest old left in
+    (r.0, subst (λ (event : Event). AnswersEvent old.is_open event c.open.result.1 old r.0) (sym c.in-Reopen.is) (answers_reopen old.is_open c.open.result.1 old r.0 r.1), r.2)
+
+pub returns-in-Reopen-clause-survives : goal.returns-in-Reopen-clause-survives
+returns-in-Reopen-clause-survives g c honest old at =
+    let store = g.S.Store in
+    let found = subst (λ s. MayBeFound store s old.state old.next) (sym c.into_store.ensures) (found_in store c.args.self old at) in
+    let r = c.open.ensures.survives honest old found in
     (r.0, subst (λ (event : Event). AnswersEvent old.is_open event c.open.result.1 old r.0) (sym c.in-Reopen.is) (answers_reopen old.is_open c.open.result.1 old r.0 r.1), r.2)
 
 pub returns-in-Reopen-clause-free : goal.returns-in-Reopen-clause-free
@@ -42,6 +50,10 @@ returns-in-Open g c =
           let stands = at_open store.files c.args.self session old c.in-Open.is at in
           let r = c.go_on.ensures.continues honest old.state stands.1 in
           (r.0, subst (λ (p : Point). AnswersEvent p.is_open c.args.event.now c.go_on.result.1 p r.0) (sym stands.0) (answers_open c.args.event.now c.go_on.result.1 (open_at old.state) r.0 c.in_default.not-Reopen r.1), r.2);
+      survives = λ honest old at.
+          let safely = safely_open store c.args.self session old c.in-Open.is at in
+          let r = c.go_on.ensures.survives honest old.state safely.1 in
+          (r.0, subst (λ (p : Point). AnswersEvent p.is_open c.args.event.now c.go_on.result.1 p r.0) (sym safely.0) (answers_open c.args.event.now c.go_on.result.1 (open_at old.state) r.0 c.in_default.not-Reopen r.1), r.2);
       clash = λ honest old at free.
           let stands = at_open store.files c.args.self session old c.in-Open.is at in
           c.go_on.ensures.clash honest old.state stands.1 (subst (λ (f : Files). IsFree (undo_folder_of f)) (ap store.files here) free);
@@ -59,6 +71,9 @@ returns-in-Closed g c =
       answers = λ honest old at.
           let left = at_closed store.files c.args.self c.in-Closed.store old c.in-Closed.is at in
           (old, subst (λ b. AnswersEvent b c.args.event.now (Err Broken) old old) (sym left.0) (answers_closed c.args.event.now (Err Broken) old c.in_default.not-Reopen refl), left);
+      survives = λ honest old at.
+          let found = safely_closed store c.args.self c.in-Closed.store old c.in-Closed.is at in
+          (old, subst (λ b. AnswersEvent b c.args.event.now (Err Broken) old old) (sym found.0) (answers_closed c.args.event.now (Err Broken) old c.in_default.not-Reopen refl), found);
       clash = λ honest old at free. tt;
       free = λ honest free. subst (λ (f : Files). IsFree (undo_folder_of f)) (ap store.files here) free;
       fault = tt;

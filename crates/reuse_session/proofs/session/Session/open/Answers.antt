@@ -1,4 +1,5 @@
 use Rattle.std.proofs.Common.{inl, inr, ⊎_elim, Err, refl, ap}
+use Rattle.reuse_session.specs.Losses.{AreSafeOn}
 use Rattle.reuse_session.specs.Session.{Remembers}
 use Rattle.reuse_session.specs.Standing.{IsStanding}
 use Rattle.reuse_session.proofs.FilesInDoubt.{opened_standing}
@@ -40,3 +41,15 @@ returns-in-Ok-clause-settles g c first second doubt honest =
 
 pub returns-in-Err-clause-settles : goal.returns-in-Err-clause-settles
 returns-in-Err-clause-settles g c first second doubt honest = c.in-Err.ensures.settles honest first second doubt
+
+pub returns-in-Ok-clause-survives : goal.returns-in-Ok-clause-survives
+returns-in-Ok-clause-survives g c earlier held next doubt honest =
+    let store = g.S.Store in
+    let new = c.open_journal.new.store in
+    ⊎_elim
+    (λ (h : IsStanding (store.files new) held × Remembers c.in-Ok.history held.journal × AreSafeOn store earlier held new). inl (record { whole = refl; standing = h.0; remembers = h.1 }, h.2))
+    (λ (h : IsStanding (store.files new) next × Remembers c.in-Ok.history next.journal × AreSafeOn store held next new). inr (record { whole = refl; standing = h.0; remembers = h.1 }, h.2))
+    (c.in-Ok.ensures.survives honest earlier held next doubt)
+
+pub returns-in-Err-clause-survives : goal.returns-in-Err-clause-survives
+returns-in-Err-clause-survives g c earlier held next doubt honest = c.in-Err.ensures.survives honest earlier held next doubt

@@ -3,14 +3,16 @@ use Rattle.std.proofs.lemmas.Bool.{false≢true}
 use Rattle.reuse_tree.proofs.AskedLemmas.{reads_none, reads_more}
 use Rattle.reuse_session.specs.Answer.{IsNoStep, RefusedAsRead, TellsNoFault}
 use Rattle.reuse_tree.specs.Entry.{paths_of}
-use Rattle.reuse_session.specs.RevertCalls.{as_run, LeavesRevert}
-use Rattle.reuse_session.specs.Session.{store_of, memory_of}
+use Rattle.reuse_session.specs.RevertCalls.{as_run, IsAfterRevert, LeavesRevert}
+use Rattle.reuse_session.specs.Losses.{Survives}
+use Rattle.reuse_session.specs.Session.{store_of, memory_of, IsRun}
 use Rattle.reuse_session.specs.Showing.{lists}
 use Rattle.reuse_session.specs.declared.command.Command.TheVariants.{Revert}
 use Rattle.reuse_session.specs.declared.reply.Refusal.TheVariants.{Broken, Memory, NoSuchStep}
-use Rattle.reuse_session.proofs.OnlyReading.{is_refused}
+use Rattle.reuse_session.proofs.OnlyReading.{is_refused, read_early}
 use Rattle.reuse_session.proofs.Recording.{after_reading}
-use Rattle.reuse_session.proofs.RevertAnswers.{told_run, run_has_step, call_as_run, call_after_reading, reverts_step, revert_follows, absent_step, absent_follows, unrun_leaves, no_fault, fails_too, read_early, run_leaves}
+use Rattle.reuse_session.proofs.RevertAnswers.{told_run, run_has_step, call_as_run, call_after_reading, reverts_step, revert_follows, absent_step, absent_follows, unrun_leaves, no_fault, fails_too, run_leaves}
+use Rattle.reuse_session.proofs.StepDoubt.{reads_are_safe, survives_early, survives_weaker}
 use Rattle.reuse_session.proofs.StepAnswers.{still_stands, read_told}
 use Rattle.reuse_session.proofs.StepsByNumber.{done_says, read_is_no_absence}
 use Rattle.reuse_session.proofs.session.Session.revert.Goals as goal
@@ -157,3 +159,29 @@ returns-clause-leaves g c =
     run_leaves store c.args.number c.args.skip_moved c.args.when c.told.result c.run.result session c.run.new.self c.in_ok-entry.entry c.new.result
     (λ honest. c.in_ok-entry.ensures.ok (c.run.ensures.call.later.was_honest honest)) c.new.ensures (c.told.ensures.same c.run.ensures.kinds)
     (after_reading store session c.run.new.self c.read_entry.new.store c.read_entry.ensures.reads c.run.ensures.call.later.was_honest (Revert c.new.result c.args.skip_moved) c.args.when c.run.result c.run.ensures.leaves)
+
+-- ---- after a loss of power
+
+pub returns-in_err-entry-clause-survives : goal.returns-in_err-entry-clause-survives
+returns-in_err-entry-clause-survives g c honest earlier held stands safe =
+    let IsNext = IsAfterRevert c.args.skip_moved c.args.when held in
+    let refusal = c.in_err-entry.field-0.0 in
+    subst (λ r. Survives g.S.Store IsNext earlier held (as_run r) c.read_entry.new.store) (sym (is_refused c.from_residual.result c.from_residual.ensures.1))
+    (survives_early g.S.Store IsNext earlier held c.read_entry.new.store refusal (read_early refusal c.in_err-entry.ensures.refusal)
+    (reads_are_safe g.S.Store earlier held (store_of c.args.self.now) c.read_entry.new.store c.read_entry.ensures.reads safe))
+
+pub returns-in_err-paths-clause-survives : goal.returns-in_err-paths-clause-survives
+returns-in_err-paths-clause-survives g c honest earlier held stands safe =
+    subst (λ r. Survives g.S.Store (IsAfterRevert c.args.skip_moved c.args.when held) earlier held (as_run r) c.read_entry.new.store) (sym (is_refused c.from_residual-in_err-paths.result c.from_residual-in_err-paths.ensures.1))
+    (reads_are_safe g.S.Store earlier held (store_of c.args.self.now) c.read_entry.new.store c.read_entry.ensures.reads safe)
+
+pub returns-clause-survives : goal.returns-clause-survives
+returns-clause-survives g c honest earlier held stands safe =
+    let files = g.S.Store.files in
+    let session = c.args.self.now in
+    let was = c.run.ensures.call.later.was_honest honest in
+    let still = still_stands files session c.read_entry.new.store held (c.read_entry.ensures.reads.files was) stands in
+    let IsNext = IsAfterRevert c.args.skip_moved c.args.when held in
+    subst (λ r. Survives g.S.Store IsNext earlier held r (store_of c.run.new.self)) (sym (c.told.ensures.same c.run.ensures.kinds))
+    (survives_weaker g.S.Store (IsRun (Revert c.new.result c.args.skip_moved) c.args.when held) IsNext earlier held (store_of c.run.new.self) c.run.result (λ next is. (c.new.result, is))
+    (c.run.ensures.survives honest earlier held still (reads_are_safe g.S.Store earlier held (store_of session) c.read_entry.new.store c.read_entry.ensures.reads safe)))

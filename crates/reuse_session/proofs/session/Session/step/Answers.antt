@@ -13,6 +13,10 @@ use Rattle.reuse_tree.specs.Head.{way_of}
 use Rattle.reuse_session.specs.Answer.{HasCause}
 use Rattle.reuse_session.specs.History.{head_listing}
 use Rattle.reuse_session.specs.JournalFiles.{head_path}
+use Rattle.reuse_session.specs.Journal.{State}
+use Rattle.reuse_session.specs.Losses.{AreSafeOn, HaveTree, StopsWithDoubt}
+use Rattle.reuse_session.specs.Standing.{IsStanding}
+use Rattle.reuse_session.proofs.StepDoubt.{stops_in_doubt}
 use Rattle.reuse_session.specs.Session.{store_of, memory_of, head_room, listed_count}
 use Rattle.reuse_tree.specs.declared.cause.Cause.{Cause}
 use Rattle.reuse_tree.specs.declared.cause.Cause.TheVariants as causes
@@ -125,3 +129,32 @@ returns-in_err-settled-clause-call g c = call_none g.S.Store c.args.self.now c.f
 
 pub returns-in_err-head-clause-call : goal.returns-in_err-head-clause-call
 returns-in_err-head-clause-call g c = call_none g.S.Store c.args.self.now c.from_residual-in_err-head.result (is_refused c.from_residual-in_err-head.result c.from_residual-in_err-head.ensures.1)
+
+-- ---- after a loss of power
+
+-- the tree of what is safe is that of the files
+sure : {S : Type 0} (store : Ghosts S) (old : S) (earlier held : State) → IsStanding (store.files old) held → AreSafeOn store earlier held old → HaveTree store old (tree_of (store.files old))
+sure store old earlier held standing safe left is = (safe left is).tree ∙ sym standing.tree
+
+pub returns-in-Ok-clause-survives : goal.returns-in-Ok-clause-survives
+returns-in-Ok-clause-survives g c honest earlier held second stands is safe has =
+    c.in-Ok.ensures.lasting honest is.entry (sure g.S.Store (store_of c.args.self.now) earlier held stands.standing safe)
+
+pub returns-in-Err-clause-survives : goal.returns-in-Err-clause-survives
+returns-in-Err-clause-survives g c honest earlier held second stands is safe has stop =
+    let store = g.S.Store in
+    let old = store_of c.args.self.now in
+    let files = store.files old in
+    let new = c.carry_out-carried.new.store in
+    let before = c.in_ok-before.before.items in
+    let settled = c.in_ok-settled.settled.items in
+    let memory = memory_of c.args.self.now in
+    let Stops : Way → List Change → List ℕ → List ℕ → Type 0 = λ w cs p s. StopsWithDoubt store w cs p s old new in
+    let stops : Stops (way_of c.args.pending.way) is.step.changes before settled =
+    subst (λ w. Stops w is.step.changes before settled) c.way.ensures
+    (subst (λ cs. Stops c.way.result cs before settled) (sym is.changes)
+    (subst (λ text. Stops c.way.result c.args.changes.now before text) c.deref-2.ensures.value
+    (subst (λ text. Stops c.way.result c.args.changes.now text c.deref-2.result.now) c.deref.ensures.value (c.in-Err.ensures.doubt honest is.entry (sure store old earlier held stands.standing safe))))) in
+    stops_in_doubt store old new c.args.pending.way is.step earlier held second stands.standing is.kept is.is_step (subst IsEntry (sym is.changes) is.entry) (g.met.S.Store.are_files new honest) before settled
+    (good_between memory files held second stands.standing stands.remembers is before c.in_ok-before.ensures.good)
+    (good_second memory files held second stands.standing stands.remembers is settled c.in_ok-settled.ensures.good) safe has stops

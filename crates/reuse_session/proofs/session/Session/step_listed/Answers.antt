@@ -4,15 +4,19 @@ use Rattle.reuse_tree.specs.Files.{tree_of}
 use Rattle.reuse_session.specs.Answer.{TellsNoFault}
 use Rattle.reuse_session.specs.Calls.{LeavesTravel}
 use Rattle.reuse_tree.specs.Entry.{IsEntry, CanBeMade, IsFirstStuck}
-use Rattle.reuse_tree.specs.Head.{way_of}
-use Rattle.reuse_session.specs.Journal.{State, Travels, ahead, reply_of}
-use Rattle.reuse_session.specs.JournalFiles.{entry_in}
+use Rattle.reuse_tree.specs.Head.{way_of, listed_way}
+use Rattle.reuse_session.specs.Journal.{Recorded, State, Travels, ahead, reply_of}
+use Rattle.reuse_session.specs.JournalFiles.{entry_in, IsKeptIn}
+use Rattle.reuse_session.specs.Losses.{AreSafeOn, IsNextBy, Survives}
+use Rattle.reuse_session.specs.Standing.{IsStep}
 use Rattle.reuse_session.specs.Session.{store_of, StandsOn}
 use Rattle.reuse_tree.specs.declared.journal.head.Pending.{Pending}
 use Rattle.reuse_session.proofs.Following.{names_path}
-use Rattle.reuse_tree.specs.Asked.{OnlyReads}
+use Rattle.reuse_tree.specs.Asked.{OnlyReads, Leaves}
+use Rattle.reuse_tree.specs.Tree.{undo_folder_of}
 use Rattle.reuse_tree.proofs.AskedLemmas.{reads_more}
-use Rattle.reuse_session.proofs.OnlyReading.{is_refused}
+use Rattle.reuse_session.proofs.OnlyReading.{is_refused, read_early, tested_early}
+use Rattle.reuse_session.proofs.StepDoubt.{kept_next, reads_are_safe, safe_entries, survives_early, survives_stop, survives_travel}
 use Rattle.reuse_session.proofs.StepAnswers.{still_stands, read_told, failed_untold}
 use Rattle.reuse_session.proofs.Travelling.{Prepared, same_way, next_of, next_says, next_changes, stuck, ready, step_leaves, stop_leaves}
 use Rattle.reuse_session.proofs.session.Session.step_listed.Given.{Over}
@@ -103,3 +107,45 @@ returns-clause-leaves g c =
     step_leaves g.S.Store c.args.way c.args.self.now c.step.new.self c.prepare.new.store (only_read g tested) c.step.ensures.call.later.was_honest c.as_slice-changes.result.now (pending_of g tested) c.in_ok-moved.moved
     (good g tested) (prepared_step g tested) c.step.ensures.folder c.step.ensures.written c.step.ensures.asks
     c.reply_of.result c.in_ok-step.ensures.texts
+
+-- ---- after a loss of power
+
+-- what was tested only read
+module _ (g : Over) (c : After-of_listed g) (earlier held : State) (safe : AreSafeOn g.S.Store earlier held (store_of c.args.self.now)) where
+  safe_then : AreSafeOn g.S.Store earlier held c.prepare.new.store
+  safe_then = reads_are_safe g.S.Store earlier held (store_of c.args.self.now) c.prepare.new.store (only_read g c) safe
+
+  kept_then : (step : Recorded) (second : State) → IsStep (listed_way c.args.way) step held second → Leaves g.S.Store c.prepare.new.store (λ left. IsKeptIn (undo_folder_of left) step)
+  kept_then step second goes left is = kept_next c.args.way step held second (undo_folder_of left) goes (safe_entries earlier held left (safe_then left is))
+
+pub returns-in_err-entry-clause-survives : goal.returns-in_err-entry-clause-survives
+returns-in_err-entry-clause-survives g c honest earlier held stands safe =
+    let store = c.read_entry.new.store in
+    subst (λ r. Survives g.S.Store (IsNextBy (listed_way c.args.way) held) earlier held r store) (sym (is_refused c.from_residual-in_err-entry.result c.from_residual-in_err-entry.ensures.1))
+    (survives_early g.S.Store (IsNextBy (listed_way c.args.way) held) earlier held store c.in_err-entry.field-0.0 (read_early c.in_err-entry.field-0.0 c.in_err-entry.ensures.refusal)
+    (reads_are_safe g.S.Store earlier held (store_of c.args.self.now) store c.read_entry.ensures.reads safe))
+
+pub returns-in_err-paths-clause-survives : goal.returns-in_err-paths-clause-survives
+returns-in_err-paths-clause-survives g c honest earlier held stands safe =
+    let store = c.prepare.new.store in
+    subst (λ r. Survives g.S.Store (IsNextBy (listed_way c.args.way) held) earlier held r store) (sym (is_refused c.from_residual-in_err-paths.result c.from_residual-in_err-paths.ensures.1))
+    (survives_early g.S.Store (IsNextBy (listed_way c.args.way) held) earlier held store c.in_err-paths.field-0.0 (tested_early c.in_err-paths.field-0.0 c.in_err-paths.ensures.refusal)
+    (reads_are_safe g.S.Store earlier held (store_of c.args.self.now) store (reads_more g.S.Store (store_of c.args.self.now) c.read_entry.new.store store c.read_entry.ensures.reads c.prepare.ensures.reads) safe))
+
+pub returns-in_err-step-clause-survives : goal.returns-in_err-step-clause-survives
+returns-in_err-step-clause-survives g c honest earlier held stands safe =
+    let at = (goal.at.returns-in_err-step-clause-survives g c).After-of_listed in
+    let here = prepared_step g at (c.step.ensures.call.later.was_honest honest) held stands in
+    let then = safe_then g at earlier held safe in
+    let IsNext = IsNextBy (listed_way c.args.way) held in
+    subst (λ r. Survives g.S.Store IsNext earlier held r (store_of c.step.new.self)) (sym (is_refused c.from_residual-in_err-step.result c.from_residual-in_err-step.ensures.1))
+    (survives_stop g.S.Store IsNext earlier held here.second (store_of c.step.new.self) c.in_err-step.field-0.0
+    (λ early. subst (λ s. AreSafeOn g.S.Store earlier held (store_of s)) (sym (c.in_err-step.ensures.refused early)) then) (here.is.step, here.goes)
+    (c.in_err-step.ensures.survives honest earlier held here.second here.stands here.is then (kept_then g at earlier held safe here.is.step here.second here.goes)))
+
+pub returns-clause-survives : goal.returns-clause-survives
+returns-clause-survives g c honest earlier held stands safe =
+    let at = (goal.at.returns-clause-survives g c).After-of_listed in
+    let here = prepared_step g at (c.step.ensures.call.later.was_honest honest) held stands in
+    survives_travel g.S.Store (IsNextBy (listed_way c.args.way) held) earlier held (store_of c.step.new.self) c.args.way _ c.reply_of.result c.reply_of.ensures
+    (c.in_ok-step.ensures.survives honest earlier held here.second here.stands here.is (safe_then g at earlier held safe) (kept_then g at earlier held safe here.is.step here.second here.goes))

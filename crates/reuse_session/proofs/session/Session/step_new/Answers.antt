@@ -1,10 +1,18 @@
 use Rattle.std.proofs.Common.{◌≡◌, ◌+◌, Ok, Err, length, arith, ap, sym, subst, ◌∙◌}
+use Rattle.reuse_tree.specs.Asked.{Leaves, IsSynced}
+use Rattle.reuse_tree.specs.Tree.{undo_folder_of}
+use Rattle.reuse_tree.specs.declared.journal.head.PendingWay.TheVariants as ways
 use Rattle.reuse_session.specs.Calls.{LeavesRun}
+use Rattle.reuse_session.specs.Journal.{State}
+use Rattle.reuse_session.specs.JournalFiles.{IsKeptIn}
+use Rattle.reuse_session.specs.Losses.{AreSafeOn, Survives}
 use Rattle.reuse_tree.specs.Entry.{paths_of}
-use Rattle.reuse_session.specs.Session.{Runs}
+use Rattle.reuse_session.specs.Session.{store_of, IsRun, Runs, StandsOn}
 use Rattle.reuse_session.specs.declared.reply.Reply.TheVariants.{Changed}
 use Rattle.reuse_session.proofs.OnlyReading.{is_refused}
-use Rattle.reuse_session.proofs.Recording.{EntryPut, EntryListed, can_go, unput_leaves, recording, record_leaves, halt_leaves}
+use Rattle.reuse_session.proofs.Recording.{EntryPut, EntryListed, Recording, put_early, can_go, unput_leaves, recording, record_leaves, halt_leaves}
+use Rattle.reuse_session.proofs.RunDoubt.{sure_tree, has_entry, put_is_safe}
+use Rattle.reuse_session.proofs.StepDoubt.{survives_early, survives_stop, synced_is_safe}
 use Rattle.reuse_session.proofs.StepAnswers.{failed_untold, put_fails}
 use Rattle.reuse_session.proofs.session.Session.step_new.Given.{Over}
 use Rattle.reuse_session.proofs.session.Session.step_new.Goals.{After-put_entry, After-step}
@@ -77,3 +85,50 @@ returns-clause-leaves g c =
     subst (λ ps. LeavesRun g.S.Store c.args.command.now c.args.when (Ok (Changed ps)) c.args.self.now c.step.new.self) (sym (c.in_ok-paths.ensures ∙ ap paths_of c.deref.ensures.value))
     (record_leaves (entry_put g at.After-put_entry) (entry_listed g at.After-step) c.step.new.self c.step.ensures.call.later.was_honest c.step.ensures.folder c.step.ensures.written c.step.ensures.asks
     c.in_ok-put_entry.ensures.counted c.in_ok-put_entry.ensures.text c.in_ok-step.ensures.texts)
+
+-- ---- after a loss of power
+
+pub returns-in_err-put_entry-clause-survives : goal.returns-in_err-put_entry-clause-survives
+returns-in_err-put_entry-clause-survives g c honest earlier held stands safe =
+    let put = entry_put g (goal.at.returns-in_err-put_entry-clause-survives g c).After-put_entry in
+    let refusal = c.in_err-put_entry.field-0.0 in
+    let store = c.put_entry.new.store in
+    subst (λ r. Survives g.S.Store (IsRun c.args.command.now c.args.when held) earlier held r store) (sym (is_refused c.from_residual-in_err-put_entry.result c.from_residual-in_err-put_entry.ensures.1))
+    (survives_early g.S.Store (IsRun c.args.command.now c.args.when held) earlier held store refusal (put_early refusal c.in_err-put_entry.ensures.refusal)
+    (put_is_safe put honest earlier held stands safe c.put_entry.ensures.left))
+
+-- behind the entry what may be left is what is there
+module _ (g : Over) (c : After-step g)
+    (put : EntryPut g.S.Store c.args.self.now c.args.command.now c.args.when c.args.changes.items c.put_entry.new.store c.used-number.result (record { changes = c.new.result; command = c.name-command.result; when = c.args.when }))
+    (honest : g.S.Store.honest (store_of c.step.new.self)) (earlier held : State) (stands : StandsOn g.S.Store.files c.args.self.now held) (safe : AreSafeOn g.S.Store earlier held (store_of c.args.self.now)) where
+  made : Recording g.S.Store.files c.args.command.now c.args.when (record c.args.self.now { store = c.put_entry.new.store }) c.args.changes.items c.as_slice.result.now (record { entry = c.used-number.result + 1; way = ways.Do }) c.in_ok-moved.moved held
+  made = recording put (entry_listed g c) (c.step.ensures.call.later.was_honest honest) held stands
+
+  synced : IsSynced g.S.Store c.put_entry.new.store
+  synced =
+      c.in_ok-put_entry.ensures.lasting (c.step.ensures.call.later.was_honest honest) (sure_tree g.S.Store (store_of c.args.self.now) earlier held stands.standing safe)
+
+  safe_then : AreSafeOn g.S.Store earlier held c.put_entry.new.store
+  safe_then = synced_is_safe g.S.Store earlier held c.put_entry.new.store made.stands.standing synced
+
+  kept_then : Leaves g.S.Store c.put_entry.new.store (λ left. IsKeptIn (undo_folder_of left) made.is.step)
+  kept_then = has_entry g.S.Store c.put_entry.new.store made.is.step made.is.kept synced
+
+pub returns-in_err-step-clause-survives : goal.returns-in_err-step-clause-survives
+returns-in_err-step-clause-survives g c honest earlier held stands safe =
+    let at = (goal.at.returns-in_err-step-clause-survives g c).After-step in
+    let put = entry_put g (goal.at.returns-in_err-step-clause-survives g c).After-put_entry in
+    let here = made g at put honest earlier held stands safe in
+    let then = safe_then g at put honest earlier held stands safe in
+    let refusal = c.in_err-step.field-0.0 in
+    subst (λ r. Survives g.S.Store (IsRun c.args.command.now c.args.when held) earlier held r (store_of c.step.new.self)) (sym (is_refused c.from_residual-in_err-step.result c.from_residual-in_err-step.ensures.1))
+    (survives_stop g.S.Store (IsRun c.args.command.now c.args.when held) earlier held here.second (store_of c.step.new.self) refusal
+    (λ early. subst (λ s. AreSafeOn g.S.Store earlier held (store_of s)) (sym (c.in_err-step.ensures.refused early)) then) here.run
+    (c.in_err-step.ensures.survives honest earlier held here.second here.stands here.is then (kept_then g at put honest earlier held stands safe)))
+
+pub returns-clause-survives : goal.returns-clause-survives
+returns-clause-survives g c honest earlier held stands safe =
+    let at = (goal.at.returns-clause-survives g c).After-step in
+    let put = entry_put g (goal.at.returns-clause-survives g c).After-put_entry in
+    let here = made g at put honest earlier held stands safe in
+    c.in_ok-step.ensures.survives honest earlier held here.second here.stands here.is (safe_then g at put honest earlier held stands safe) (kept_then g at put honest earlier held stands safe)
