@@ -9,7 +9,6 @@ use Rattle.reuse_tree.specs.declared.store.Store.{Ghosts}
 use Rattle.reuse_session.specs.Answer.{TellsNoFault, IsEarly, IsStop, HasClash, IsNoClash, IsBrokenOrMemory, RefusedAsRead}
 use Rattle.reuse_session.specs.Journal.{State, Recorded}
 use Rattle.reuse_session.specs.JournalFiles.{head_path, entry_in, entry_path, number_of, EntrySays}
-use Rattle.reuse_session.specs.Machine.{step}
 use Rattle.reuse_session.specs.Calls.{LeavesRun, folder_of}
 use Rattle.reuse_session.specs.Opening.{OpensOn}
 use Rattle.reuse_session.specs.RevertCalls.{Reverts, LeavesRevert, as_run}
@@ -21,7 +20,6 @@ use Rattle.reuse_session.specs.Standing.{IsStanding, InDoubt}
 use Rattle.reuse_session.specs.declared.command.Command.TheVariants.{Revert}
 use Rattle.reuse_session.specs.declared.events.Event.{Event}
 use Rattle.reuse_session.specs.declared.events.Event.TheVariants as events
-use Rattle.reuse_session.specs.declared.fate.Call.{Call}
 use Rattle.reuse_tree.specs.declared.journal.entry.Entry.{Entry}
 use Rattle.reuse_tree.specs.declared.cause.Cause.{Cause}
 use Rattle.reuse_tree.specs.declared.cause.Cause.TheVariants as causes

@@ -1,6 +1,7 @@
 -- What is carried out on a store that hands each call on to one inside it is carried out on that one.
 use Rattle.std.proofs.Common.{◌≡◌, ◌∙◌, ◌<◌, ℕ, Bool, List, Option, Result, Ok, Err, sym, subst, arith}
 use Rattle.reuse_tree.specs.Asked.{OnlyReads}
+use Rattle.reuse_tree.specs.Files.{Files}
 use Rattle.reuse_tree.specs.declared.store.Store.{Ghosts}
 use Rattle.reuse_session.specs.Answer.{HasCause}
 use Rattle.reuse_session.specs.Standing.{IsStanding}
@@ -14,7 +15,7 @@ use Rattle.reuse_undo.specs.declared.fault.Fault.TheVariants as faults
 use Rattle.reuse_undo.specs.declared.line.Telling.{Telling}
 use Rattle.reuse_undo.specs.declared.request.Request.{Request}
 
--- the one holds what the other holds, and counts and is honest alike
+-- the one holds what the other holds, a loss of power leaves the same, and they count and are honest alike
 pub record IsSameStore {W S : Type 0} (outer : Ghosts W) (inner : Ghosts S) (whole : W) (inside : S) : Type 0 where
   pub files : outer.files whole ≡ inner.files inside
   pub failures : outer.failures whole ≡ inner.failures inside
@@ -22,6 +23,8 @@ pub record IsSameStore {W S : Type 0} (outer : Ghosts W) (inner : Ghosts S) (who
   pub moves : outer.moves whole ≡ inner.moves inside
   pub gives : inner.honest inside → outer.honest whole
   pub takes : outer.honest whole → inner.honest inside
+  pub gives_left : (left : Files) → inner.may_be inside left → outer.may_be whole left
+  pub takes_left : (left : Files) → outer.may_be whole left → inner.may_be inside left
 
 reads_inside : {W S : Type 0} (outer : Ghosts W) (inner : Ghosts S) (before after : W) (old new : S) → IsSameStore outer inner before old → IsSameStore outer inner after new
     → OnlyReads outer before after → OnlyReads inner old new
@@ -29,6 +32,7 @@ reads_inside outer inner before after old new b a reads =
     record {
       was_honest = λ honest. b.takes (reads.was_honest (a.gives honest));
       files = λ honest. sym a.files ∙ reads.files (a.gives honest) ∙ b.files;
+      may = λ left is. b.takes_left left (reads.may left (a.gives_left left is));
       failures = omega (arith, reads.failures, b.failures, a.failures);
       written = sym a.written ∙ reads.written ∙ b.written;
       moves = sym a.moves ∙ reads.moves ∙ b.moves;

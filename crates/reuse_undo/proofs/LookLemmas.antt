@@ -10,7 +10,6 @@ use Rattle.reuse_tree.specs.declared.fault.StoreFault.TheVariants as stores
 use Rattle.reuse_tree.specs.declared.store.Store.{Ghosts}
 use Rattle.reuse_session.specs.Answer.{TellsNoFault, IsEarly, IsStop, HasCause, IsNoClash, RefusedAsRead}
 use Rattle.reuse_session.specs.Journal.{State}
-use Rattle.reuse_session.specs.Machine.{step}
 use Rattle.reuse_session.specs.Calls.{IsCall}
 use Rattle.reuse_session.specs.Previews.{OnlyLooks, IsPreviewRefusal}
 use Rattle.reuse_session.specs.Session.{store_of, is_broken, StandsOn, IsKept}

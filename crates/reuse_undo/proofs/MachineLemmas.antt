@@ -27,7 +27,7 @@ use Rattle.reuse_session.specs.declared.reply.Row.{Row}
 use Rattle.reuse_session.specs.declared.reply.Shown.{Shown}
 use Rattle.reuse_session.specs.declared.reply.Refusal.{Refusal}
 use Rattle.reuse_session.specs.declared.reply.Refusal.TheVariants.{JournalFull, Fault as StoreFailed, Memory, Interrupted, NoSuchStep}
-use Rattle.reuse_session.proofs.Driving.{run_left, undo_left, redo_left, stays_closed}
+use Rattle.reuse_session.proofs.Driving.{run_left, undo_next, redo_next, stays_closed}
 use Rattle.reuse_session.proofs.Following.{undo_follows, redo_follows, log_follows}
 use Rattle.reuse_session.proofs.RunFollowing.{runs_as_machine}
 use Rattle.reuse_session.proofs.Following.{is_full_alike}
@@ -112,8 +112,8 @@ module _ (held : State) (state : Snapshots) (holds : HoldsSnapshots held state) 
 
   stopped_near : (event : Event) → IsStopped event held after → AreLeft after state (Some (step state event).1)
   stopped_near (events.Run command when) stopped = run_left held state holds after before command when standing stopped
-  stopped_near events.Undo stopped = undo_left held state holds after stopped
-  stopped_near events.Redo stopped = redo_left held state holds after stopped
+  stopped_near events.Undo stopped = (held, stopped.0, holds, undo_next held state holds stopped.0 (stopped.1, stopped.2), stopped.3)
+  stopped_near events.Redo stopped = (held, stopped.0, holds, redo_next held state holds stopped.0 (stopped.1, stopped.2), stopped.3)
   stopped_near (events.Preview call) stopped = absurd stopped
   stopped_near events.Log stopped = absurd stopped
   stopped_near events.Reopen stopped = absurd stopped

@@ -1,10 +1,13 @@
 -- When a folder is honest: its answers are those of a folder that nobody else writes and that gives back what was written.
-use Rattle.std.specs.Prelude.{◌≡◌, ◌≢◌, ℕ, Bool, true, false, IsTrue, List, [], ◌∷◌, Result, Ok, Err, MatchResult, if◌then◌else◌}
+use Rattle.std.specs.Prelude.{◌≡◌, ◌≢◌, ◌⊎◌, ℕ, Bool, true, false, IsTrue, List, [], ◌∷◌, Result, Ok, Err, MatchResult, if◌then◌else◌, cond, refl}
+use Rattle.std.specs.List.{Contains}
 use Rattle.std.specs.FinMap.{get, insert, keys, remove}
 use Rattle.reuse_tree.specs.Calls.{Call}
-use Rattle.reuse_tree.specs.Calls.Call.{ListCall, ReadCall, PutCall, RemoveCall}
+use Rattle.reuse_tree.specs.Calls.Call.{ListCall, ReadCall, PutCall, RemoveCall, SyncCall}
 use Rattle.reuse_tree.specs.Files.{Files, Clashes, AreFiles}
+use Rattle.reuse_tree.specs.Lasting.{IsCertain}
 use Rattle.reuse_tree.specs.Path.{is_path}
+use Rattle.std.proofs.Common.{inl, inr}
 use Rattle.reuse_tree.specs.Store.{reading_of}
 use Rattle.reuse_tree.specs.declared.fault.StoreFault.{StoreFault}
 use Rattle.reuse_tree.specs.declared.fault.StoreFault.TheVariants.{Device, Clash, Memory}
@@ -22,6 +25,7 @@ files_after files (ListCall answer) = files
 files_after files (ReadCall path limit answer) = files
 files_after files (PutCall path bytes answer took) = if has_effect answer took then insert files path bytes else files
 files_after files (RemoveCall path answer took) = if has_effect answer took then remove files path else files
+files_after files (SyncCall changes answer) = files
 
 -- the files after these calls, the newest first
 abbrev pub files_of : Files → List Call → Files
@@ -46,8 +50,44 @@ MayAnswer files (ListCall answer) = MatchResult answer (λ paths. paths ≡ keys
 MayAnswer files (ReadCall path limit answer) = MatchResult answer (λ reading. reading ≡ reading_of (get files path) limit) (λ fault. fault ≢ Clash)
 MayAnswer files (PutCall path bytes answer took) = MayAnswerPut files path answer took
 MayAnswer files (RemoveCall path answer took) = answer ≢ Err Clash
+MayAnswer files (SyncCall changes answer) = answer ≢ Err Clash
 
 -- the files at the start are files, and each call was answered as a folder that holds the files of its moment may
 abbrev pub IsHonest : Files → List Call → Type 0
 IsHonest start [] = AreFiles start
 IsHonest start (call ∷ calls) = MayAnswer (files_of start calls) call × IsHonest start calls
+
+-- What a loss of power may leave after these calls, the newest first: at the start the files, or one of what else might be left then.
+-- Behind a put or a removal it is what might be left before, with it or without, whatever was answered; behind a barrier that succeeded
+-- it is one of what might be left before, and certain where that says so.
+abbrev pub MayBeLeft : Files → List Files → List Call → Files → Type 0
+MayBeLeft start doubts [] left = (left ≡ start) ⊎ Contains doubts left
+MayBeLeft start doubts (ListCall answer ∷ calls) left = MayBeLeft start doubts calls left
+MayBeLeft start doubts (ReadCall path limit answer ∷ calls) left = MayBeLeft start doubts calls left
+MayBeLeft start doubts (PutCall path bytes answer took ∷ calls) left =
+    MayBeLeft start doubts calls left ⊎ ((kept : Files) × MayBeLeft start doubts calls kept × (left ≡ insert kept path bytes))
+MayBeLeft start doubts (RemoveCall path answer took ∷ calls) left =
+    MayBeLeft start doubts calls left ⊎ ((kept : Files) × MayBeLeft start doubts calls kept × (left ≡ remove kept path))
+MayBeLeft start doubts (SyncCall changes (Ok done) ∷ calls) left = MayBeLeft start doubts calls left × IsCertain changes (files_of start calls) left left
+MayBeLeft start doubts (SyncCall changes (Err fault) ∷ calls) left = MayBeLeft start doubts calls left
+
+-- what is there may be left
+put_may : (start : Files) (doubts : List Files) (calls : List Call) (path bytes : List ℕ) (answer : Result (Unit {0}) StoreFault) (took effect : Bool) → MayBeLeft start doubts calls (files_of start calls)
+    → MayBeLeft start doubts (PutCall path bytes answer took ∷ calls) (cond effect (insert (files_of start calls) path bytes) (files_of start calls))
+put_may start doubts calls path bytes answer took true may = inr (files_of start calls, may, refl)
+put_may start doubts calls path bytes answer took false may = inl may
+
+removal_may : (start : Files) (doubts : List Files) (calls : List Call) (path : List ℕ) (answer : Result (Unit {0}) StoreFault) (took effect : Bool) → MayBeLeft start doubts calls (files_of start calls)
+    → MayBeLeft start doubts (RemoveCall path answer took ∷ calls) (cond effect (remove (files_of start calls) path) (files_of start calls))
+removal_may start doubts calls path answer took true may = inr (files_of start calls, may, refl)
+removal_may start doubts calls path answer took false may = inl may
+
+pub files_may_be_left : (start : Files) (doubts : List Files) (calls : List Call) → MayBeLeft start doubts calls (files_of start calls)
+files_may_be_left start doubts [] = inl refl
+files_may_be_left start doubts (ListCall answer ∷ calls) = files_may_be_left start doubts calls
+files_may_be_left start doubts (ReadCall path limit answer ∷ calls) = files_may_be_left start doubts calls
+files_may_be_left start doubts (PutCall path bytes answer took ∷ calls) = put_may start doubts calls path bytes answer took (has_effect answer took) (files_may_be_left start doubts calls)
+files_may_be_left start doubts (RemoveCall path answer took ∷ calls) = removal_may start doubts calls path answer took (has_effect answer took) (files_may_be_left start doubts calls)
+files_may_be_left start doubts (SyncCall changes (Ok done) ∷ calls) =
+    (files_may_be_left start doubts calls, record { folder = refl; here = λ path touched. refl; others = λ path none. inl refl })
+files_may_be_left start doubts (SyncCall changes (Err fault) ∷ calls) = files_may_be_left start doubts calls

@@ -10,8 +10,12 @@ use std::alloc::{AllocError, Global};
 /// The largest number that a step may be asked for by.
 const MOST_NUMBER: u64 = 4_294_967_295;
 
-/// The version, and the format of the journal that this version writes.
-const VERSION: &str = "1.1.0 (journal format 2)";
+/// The version, the formats of the journal, and a line on the proof of this build. If all is proved,
+/// `install.sh` writes a line of the same length over the last one, which says so.
+const VERSION: &str = "\
+1.2.0
+journal formats: reads 1 and 2, writes 2
+this build says nothing about a proof";
 
 fn one_of<'a>(arg: Arg<'a>, names: &'static [&'static str]) -> Arg<'a> {
     arg.value_name("NAME")

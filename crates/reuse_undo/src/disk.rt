@@ -2,7 +2,7 @@
 ghost use Rattle.std.specs.Prelude.{◌≡◌};
 ghost use Rattle.reuse_tree.specs.Calls.{Start, failures_of, written_of, moves_of};
 ghost use Rattle.reuse_tree.specs.Files.{AreFiles};
-ghost use Rattle.reuse_undo.specs.Honesty.{files_of, IsHonest};
+ghost use Rattle.reuse_undo.specs.Honesty.{files_of, files_may_be_left, IsHonest, MayBeLeft};
 
 mod empty_folders;
 mod failure;
@@ -13,15 +13,17 @@ mod known;
 mod listing;
 mod new_file;
 mod place;
+mod syncs;
 
 pub use failure::Failure;
 use failure::LastFailure;
 use folder::RootFolder;
 use reuse_tree::laws::files_stay_good;
-use reuse_tree::{Asked, CallRecord, Parts, PathText, Reading, Store, StoreFault};
+use reuse_tree::{Asked, CallRecord, Change, Parts, PathText, Reading, Store, StoreFault};
 use std::alloc::Global;
 use std::fs::File;
 use std::rt::Files;
+pub use syncs::Syncs;
 
 /// The files of a folder. It is honest as long as each call was answered as a folder answers that
 /// held the files of the start and that nobody else writes. No contract says that a folder is: proved are
@@ -36,9 +38,9 @@ pub struct DiskStore<R: Files<File = File> + AllocGlobal + Clone + Drop> {
 }
 
 impl<R: Files<File = File> + AllocGlobal + Clone + Drop> DiskStore<R> {
-    /// The folder at this path. Nothing is asked of the system yet, so what the folder holds is unknown:
-    /// for any files the contract gives a store that holds these, and the answers then fit or don't.
-    pub fn at(rt: R, root: String) -> DiskStore<R>
+    /// The folder at this path, in which what is written is made lasting or not. Nothing is asked of the system yet, so what the folder
+    /// holds is unknown: for any files the contract gives a store that holds these, and the answers then fit or don't.
+    pub fn at(rt: R, root: String, syncs: Syncs) -> DiskStore<R>
         ghost start: { Start }
         ensures files { ⟦<DiskStore<R> as Store>⟧.files result ≡ start.files }
         ensures honest { AreFiles start.files → ⟦<DiskStore<R> as Store>⟧.honest result }
@@ -47,7 +49,7 @@ impl<R: Files<File = File> + AllocGlobal + Clone + Drop> DiskStore<R> {
         ensures moves { ⟦<DiskStore<R> as Store>⟧.moves result ≡ 0 }
     {
         DiskStore {
-            folder: RootFolder::new(rt, root),
+            folder: RootFolder::new(rt, root, syncs),
             failure: LastFailure::none(),
             calls: CallRecord::new(),
         }
@@ -61,6 +63,8 @@ impl<R: Files<File = File> + AllocGlobal + Clone + Drop> DiskStore<R> {
 
 impl<R: Files<File = File> + AllocGlobal + Clone + Drop> Store for DiskStore<R> {
     ghost files = { λ store. files_of store.calls.start store.calls.calls };
+
+    ghost may_be = { λ store. MayBeLeft store.calls.start store.calls.doubts store.calls.calls };
 
     ghost failures = { λ store. failures_of store.calls.calls };
 
@@ -115,6 +119,17 @@ impl<R: Files<File = File> + AllocGlobal + Clone + Drop> Store for DiskStore<R> 
         self.calls.note_remove(path, &answer);
         answer
     }
+
+    fn sync(&mut self, alloc: Global, changes: &[Change]) -> Result<(), StoreFault> {
+        let answer = self.folder.sync(alloc, changes);
+        self.failure
+            .note(alloc, Asked::Sync, self.folder.synced(), &answer);
+        let answer = answer.map_err(StoreFault::from);
+        self.calls.note_sync(changes, &answer);
+        answer
+    }
+
+    ghost files_may_be = { λ store. files_may_be_left store.calls.start store.calls.doubts store.calls.calls };
 
     ghost are_files = { λ store honest. store.are_files honest };
 }

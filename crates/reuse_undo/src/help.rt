@@ -4,8 +4,8 @@ pub const ABOUT: &str =
     "Adds licensing information to the files of a source tree, and takes it back.";
 
 pub const AFTER: &str = "\
-Each command is one step: undo takes it back and redo makes it again, byte for byte. The steps are kept in
-DIR/.reuse/undo.
+Each command that changes something is one step: undo takes it back and redo makes it again, byte
+for byte. The steps are kept in DIR/.reuse/undo.
 
 Examples:
   reuse-undo annotate -c \"Jane Doe\" -l MIT -r src

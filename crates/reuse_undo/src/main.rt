@@ -29,7 +29,7 @@ mod status;
 mod texts;
 mod words;
 
-use disk::DiskStore;
+use disk::{DiskStore, Syncs};
 use fault::Fault;
 use file_list::with_list;
 use findings::Findings;
@@ -79,11 +79,12 @@ fn texts_for(rt: &impl Files, alloc: Global, line: &Line) -> Result<LicenceTexts
     }
 }
 
-/// What is told beside the reply or the fault.
+/// What is told beside the reply or the fault, and whether what is written is made lasting.
 #[derive(Clone, Copy)]
 struct Extras {
     notes: bool,
     progress: bool,
+    syncs: Syncs,
 }
 
 /// What a call works with.
@@ -104,7 +105,7 @@ fn tools_for<R: Files<File = File> + AllocGlobal + Clock + Eprint + Clone + Drop
     let texts = texts_for(rt, alloc, line)?;
     let progress = Progress::new(rt.clone()?, extras.progress);
     Ok(Tools {
-        folder: folder_at(rt, alloc, line.root.as_str())?,
+        folder: folder_at(rt, alloc, line.root.as_str(), extras.syncs)?,
         texts,
         progress,
     })
@@ -115,9 +116,10 @@ fn folder_at<R: Files<File = File> + AllocGlobal + Clone + Drop>(
     rt: &R,
     alloc: Global,
     root: &str,
+    syncs: Syncs,
 ) -> Result<DiskStore<R>, AllocError> {
     let root = String::from_str(alloc, root)?;
-    Ok(DiskStore::at(rt.clone()?, root))
+    Ok(DiskStore::at(rt.clone()?, root, syncs))
 }
 
 /// What comes of a line that is carried out.
@@ -280,6 +282,7 @@ fn said_in<R: Env + AllocGlobal>(rt: &R, alloc: Global, moment: Moment) -> Said 
 fn whole_line<R: Files + Input>(rt: &R, alloc: Global, said: Said) -> Result<Line, LineFault> {
     let Said {
         verbose: _,
+        syncs: _,
         files_from,
         line,
     } = said;
@@ -308,6 +311,7 @@ fn run<R: Runtime + Files<File = File> + AllocGlobal>(
     let extras = Extras {
         notes: at_terminal || said.verbose,
         progress: at_terminal,
+        syncs: said.syncs,
     };
     match whole_line(rt, alloc, said) {
         Ok(line) => {

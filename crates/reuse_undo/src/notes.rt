@@ -22,6 +22,11 @@ pub fn note_words(rt: &impl Eprint, fault: &LineFault) {
     }
 }
 
+const BAD_JOURNAL: &str =
+    "this file of the journal is damaged, missing or of a later version: put it \
+    back from a backup; or delete the folder .reuse/undo, which forgets the history and changes no \
+    other file";
+
 /// What can be done about a refusal, where a note says that.
 fn advice(refusal: &Refusal, is_begun: bool, task: Task) -> Option<&'static str> {
     match refusal {
@@ -48,6 +53,7 @@ fn advice(refusal: &Refusal, is_begun: bool, task: Task) -> Option<&'static str>
         Refusal::Interrupted(_) => {
             Some("the next call on this tree, log too, takes back what was begun")
         }
+        Refusal::BadJournal(_) => Some(BAD_JOURNAL),
         Refusal::Dep5(refusal) => dep5_advice(refusal),
         _ => None,
     }

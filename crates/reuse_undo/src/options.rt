@@ -79,7 +79,14 @@ pub const BEFORE: &[Argument] = &[
         Some('v'),
         Takes::Nothing,
         Rule::Global,
-        "Tell notes on standard error, as on a terminal: what a fault is about and what to do",
+        "Print notes on standard error, as on a terminal: what a fault is about and what to do",
+    ),
+    Argument(
+        "no-sync",
+        None,
+        Takes::Nothing,
+        Rule::Global,
+        "Leave out all syncs: faster, but a loss of power can empty files",
     ),
 ];
 
@@ -89,7 +96,7 @@ const DRY_RUN: Argument = Argument(
     Some('n'),
     Takes::Nothing,
     Rule::Free,
-    "Tell what would change, with the refusal of each path, and write nothing",
+    "Print what would change, with the refusal of each path, and make no step",
 );
 
 const DIFF: Argument = Argument(
@@ -97,7 +104,7 @@ const DIFF: Argument = Argument(
     None,
     Takes::Nothing,
     Rule::Requires("dry-run"),
-    "With --dry-run, tell as a diff too what would change",
+    "With --dry-run, print a diff of what would change, too",
 );
 
 const NUMBER: Argument = Argument(
@@ -241,7 +248,7 @@ const ANNOTATE: &[Argument] = &[
         None,
         Takes::Nothing,
         Rule::Free,
-        "Skip a PATH that has licensing information",
+        "Skip a PATH that has licensing information where it would be written",
     ),
     Argument(
         "PATH",
@@ -292,7 +299,7 @@ const SHOW: &[Argument] = &[
         None,
         Takes::Nothing,
         Rule::Excludes("json"),
-        "Tell the lines that the step took away and wrote",
+        "Print the lines that the step took away and wrote",
     ),
     JSON,
     NUMBER,
@@ -349,5 +356,5 @@ pub const SUBCOMMANDS: &[Subcommand] = &[
         &[],
     ),
     Subcommand("log", "Lists the steps", AFTER_LOG, &[JSON], &[]),
-    Subcommand("show", "Tells what a step changed", AFTER_SHOW, SHOW, &[]),
+    Subcommand("show", "Prints what a step changed", AFTER_SHOW, SHOW, &[]),
 ];

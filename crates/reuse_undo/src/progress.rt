@@ -111,7 +111,7 @@ impl<R: Clock + Print + Eprint + Drop> Write for ClearedOutput<'_, R> {
 impl<R: Clock + Eprint + Drop> Watcher for Progress<R> {
     fn before(&self, _: Global, asked: Asked) {
         match asked {
-            Asked::List => {}
+            Asked::List | Asked::Sync => {}
             Asked::Read => self.count(&self.read),
             Asked::Write | Asked::Remove => self.count(&self.written),
         }

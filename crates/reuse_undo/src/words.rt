@@ -1,6 +1,7 @@
 //! From the words of a command line to what they ask for.
 use crate::arguments::whole;
 use crate::date::year_of;
+use crate::disk::Syncs;
 use crate::line::{Action, Deed, Line, LineFault, Telling};
 use crate::place_word::place_of_word;
 use crate::prefix_name::prefix_of_name;
@@ -18,6 +19,8 @@ use std::alloc::{AllocError, Global};
 pub struct Said {
     /// Whether notes are asked for.
     pub verbose: bool,
+    /// Whether what is written is made lasting.
+    pub syncs: Syncs,
     /// The file that lists the files of an annotation, where one is named.
     pub files_from: Option<String>,
     pub line: Result<Line, LineFault>,
@@ -28,6 +31,7 @@ impl Said {
     pub fn fault(fault: LineFault) -> Said {
         Said {
             verbose: false,
+            syncs: Syncs::Kept,
             files_from: None,
             line: Err(fault),
         }
@@ -43,12 +47,21 @@ pub fn words_to_command(alloc: Global, words: &[String], moment: Moment) -> Said
         Ok(matches) => match files_from(alloc, &matches) {
             Ok(files_from) => Said {
                 verbose: matches.get_flag("verbose"),
+                syncs: read_syncs(&matches),
                 files_from,
                 line: read_line(alloc, &matches, moment),
             },
             Err(error) => Said::fault(LineFault::from(error)),
         },
         Err(fault) => Said::fault(fault),
+    }
+}
+
+fn read_syncs(matches: &ArgMatches<'_>) -> Syncs {
+    if matches.get_flag("no-sync") {
+        Syncs::LeftOut
+    } else {
+        Syncs::Kept
     }
 }
 

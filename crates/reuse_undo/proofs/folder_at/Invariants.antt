@@ -4,4 +4,4 @@ use Rattle.std.specs.FinMap.{empty}
 use Rattle.reuse_undo.proofs.folder_at.Given as goal
 
 abbrev pub ghost-at : goal.ghost-at
-ghost-at g a = record { files = empty; fates = [] }
+ghost-at g a = record { files = empty; doubts = []; fates = [] }

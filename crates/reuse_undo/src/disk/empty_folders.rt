@@ -1,9 +1,35 @@
-//! Removing folders that hold nothing but folders.
+//! Making folders, and removing those that hold nothing but folders.
 use crate::disk::fault::{FolderFault, Obstacle};
 use crate::disk::listing::{MOST_NAMES, push_text};
+use crate::disk::place::{Found, FullPath};
+use crate::disk::syncs::Unsynced;
 use std::alloc::Global;
 use std::fs::{self, DirEntry};
 use std::rt::Files;
+
+/// Makes the folders above the path that are missing, but not the root. Each gives a name to the one above it.
+pub fn make_folders(
+    rt: &impl Files,
+    alloc: Global,
+    full: &FullPath,
+    unsynced: &mut Unsynced,
+) -> Result<(), FolderFault> {
+    let mut above = 0usize;
+    for (end, slash) in full.path().match_indices('/') {
+        match full.look_up_to(rt, end)? {
+            Found::Folder => {}
+            Found::Nothing => {
+                unsynced.note(alloc, full.path().get(..above).unwrap_or(""))?;
+                fs::create_dir(rt, full.up_to(end))?;
+            }
+            Found::File(_) | Found::Other => {
+                return Err(FolderFault::Device(Obstacle::Foreign));
+            }
+        }
+        above = end.saturating_add(slash.len());
+    }
+    Ok(())
+}
 
 /// Adds a folder. Anything else is in the way.
 fn push_folder<R: Files>(

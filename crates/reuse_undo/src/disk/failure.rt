@@ -20,6 +20,7 @@ impl fmt::Display for Failure {
             Asked::Read => "read",
             Asked::Write => "write",
             Asked::Remove => "remove",
+            Asked::Sync => "sync",
         };
         let path = self.path.as_str();
         let place = if path.is_empty() { "." } else { path };

@@ -7,15 +7,16 @@ ghost use Rattle.reuse_tree.specs.Path.{is_path};
 ghost use Rattle.reuse_undo.specs.KeptOut.{is_kept_out};
 ghost use Rattle.reuse_undo.specs.Within.{IsWithin};
 
-use crate::disk::empty_folders::remove_folders;
+use crate::disk::empty_folders::{make_folders, remove_folders};
 use crate::disk::fault::{FolderFault, Obstacle};
 use crate::disk::kept_out::{NEW, is_kept_out};
 use crate::disk::known::KnownFiles;
 use crate::disk::listing::{list_below, paths_of};
-use crate::disk::new_file::NewFile;
+use crate::disk::new_file::{Content, NewFile};
 use crate::disk::place::{FileStatus, Found, FullPath, Place, check_root};
+use crate::disk::syncs::{Syncs, Unsynced};
 use reuse_text::Bytes;
-use reuse_tree::{Parts, PathText, Reading};
+use reuse_tree::{Change, Parts, PathText, Reading};
 use std::alloc::Global;
 use std::fs::{self, File};
 use std::io::{self, ErrorKind, Read};
@@ -42,14 +43,16 @@ pub struct RootFolder<R: Files<File = File> + AllocGlobal + Clone + Drop> {
     new_file: Option<NewFile>,
     /// The folder that the last listing looked at last.
     listed: String,
+    unsynced: Unsynced,
 }
 
 impl<R: Files<File = File> + AllocGlobal + Clone + Drop> RootFolder<R> {
-    /// The folder at this path.
-    pub fn new(rt: R, root: String) -> RootFolder<R> {
+    /// The folder at this path, in which what is written is made lasting or not.
+    pub fn new(rt: R, root: String, syncs: Syncs) -> RootFolder<R> {
         let seen = String::new(rt.alloc());
         let listed = String::new(rt.alloc());
         let known = KnownFiles::new(Vec::new(rt.alloc()));
+        let unsynced = Unsynced::new(rt.alloc(), syncs);
         RootFolder {
             rt,
             root,
@@ -58,12 +61,18 @@ impl<R: Files<File = File> + AllocGlobal + Clone + Drop> RootFolder<R> {
             known,
             new_file: None,
             listed,
+            unsynced,
         }
     }
 
     /// The folder that the last listing looked at last, which is empty for the root: where one that fails has failed.
     pub fn listed(&self) -> &str {
         self.listed.as_str()
+    }
+
+    /// The folder or the file that was synced last, which is empty for the root: where a sync that fails has failed.
+    pub fn synced(&self) -> &str {
+        self.unsynced.last()
     }
 
     fn full(&self, alloc: Global, path: &str) -> Result<FullPath, FolderFault>
@@ -214,33 +223,32 @@ impl<R: Files<File = File> + AllocGlobal + Clone + Drop> RootFolder<R> {
         ensures kept_out { IsTrue (is_kept_out path.now) → IsErr result }
     {
         let full = self.full(alloc, path.text())?;
+        let mut mode = None;
         match self.look(path, &full)? {
-            Place::Nothing => {
-                full.make_folders(&self.rt)?;
-                self.write(alloc, &full, None, parts)
-            }
-            Place::File(status) => self.write(alloc, &full, Some(status.mode), parts),
-            Place::BelowFile => Err(FolderFault::Clash),
-            Place::Folder => {
-                self.clear_folder(alloc, path, &full)?;
-                self.write(alloc, &full, None, parts)
-            }
-            Place::Other => Err(FolderFault::Device(Obstacle::Foreign)),
+            Place::Nothing => make_folders(&self.rt, alloc, &full, &mut self.unsynced)?,
+            Place::File(status) => mode = Some(status.mode),
+            Place::BelowFile => return Err(FolderFault::Clash),
+            Place::Folder => self.clear_folder(alloc, path, &full)?,
+            Place::Other => return Err(FolderFault::Device(Obstacle::Foreign)),
         }
+        self.write(alloc, &full, Content { parts, mode })
     }
 
     fn write(
         &mut self,
         alloc: Global,
         full: &FullPath,
-        mode: Option<u32>,
-        parts: Parts,
+        content: Content<'_>,
     ) -> Result<(), FolderFault> {
+        self.unsynced.note(alloc, full.above())?;
         let mut new_file = match self.new_file.take() {
             Some(new_file) => new_file,
-            None => NewFile::at(&self.rt, alloc, self.full(alloc, NEW)?)?,
+            None => {
+                let new = self.full(alloc, NEW)?;
+                NewFile::at(&self.rt, alloc, new, &mut self.unsynced)?
+            }
         };
-        new_file.write(&self.rt, alloc, full, mode, parts)?;
+        new_file.write(&self.rt, alloc, full, content, &mut self.unsynced)?;
         self.new_file = Some(new_file);
         Ok(())
     }
@@ -257,6 +265,7 @@ impl<R: Files<File = File> + AllocGlobal + Clone + Drop> RootFolder<R> {
         if !files.is_empty() {
             return Err(FolderFault::Clash);
         }
+        self.unsynced.note(alloc, full.above())?;
         self.seen.clear();
         self.new_file = None;
         remove_folders(&self.rt, alloc, full.text())
@@ -266,9 +275,19 @@ impl<R: Files<File = File> + AllocGlobal + Clone + Drop> RootFolder<R> {
     pub fn remove(&mut self, alloc: Global, path: &PathText) -> Result<(), FolderFault> {
         let full = self.full(alloc, path.text())?;
         match self.look(path, &full)? {
-            Place::File(_) => Ok(fs::remove_file(&self.rt, full.text())?),
+            Place::File(_) => {
+                self.unsynced.note(alloc, full.above())?;
+                Ok(fs::remove_file(&self.rt, full.text())?)
+            }
             Place::Nothing | Place::BelowFile | Place::Folder | Place::Other => Ok(()),
         }
+    }
+
+    /// Makes lasting what the files of the journal hold now, and what the paths of these changes hold, whoever wrote them, and all
+    /// that was put and removed here.
+    pub fn sync(&mut self, alloc: Global, changes: &[Change]) -> Result<(), FolderFault> {
+        self.unsynced
+            .sync(&self.rt, alloc, self.root.as_str(), changes)
     }
 }
 

@@ -1,24 +1,17 @@
 //! Which paths of a folder are no part of the tree, whatever stands there.
-ghost use Rattle.std.specs.Prelude.{◌≡◌, ◌<◌, ◌∷◌, [], length, ◌&&◌, ◌||◌, IfSome};
+ghost use Rattle.std.specs.Prelude.{◌≡◌, ◌<◌, ◌∷◌, [], length, IfSome};
+ghost use Rattle.std.specs.Char.{is_ascii_digit};
+ghost use Rattle.std.specs.List.{list_all};
 ghost use Rattle.std.specs.Option.{option_map_or};
 ghost use Rattle.std.specs.Str.{str_eq_ignore_ascii_case};
-ghost use Rattle.reuse_tree.specs.Path.{lies_under};
 ghost use Rattle.reuse_undo.specs.Places.{between_slashes};
-ghost use Rattle.reuse_undo.specs.KeptOut.{is_control_folder, is_name_kept_out, begins_journal, is_foreign, is_kept_out, is_folder_kept_out};
+ghost use Rattle.reuse_undo.specs.KeptOut.{is_control_folder, is_name_kept_out, begins_journal, is_number, is_new_name, begins_new, is_new_in_reuse, is_new, is_foreign, is_kept_out, is_folder_kept_out};
 
-/// The file that is written before it is given its name.
+/// The file that is written before it is given its name. Where several are written at once, the others have a dot and a number behind that name.
 pub const NEW: &str = ".reuse/undo/new";
 
 /// The name of that file where it is written beside the one that it is to be, since the journal's folder lies on another device.
 pub const NEW_BESIDE: &str = ".reuse-undo-new";
-
-/// Whether the path lies under the folder, at any depth.
-fn lies_under(path: &str, folder: &str) -> bool
-    ensures { result ≡ lies_under path.now folder.now }
-{
-    let (path, folder) = (path.as_bytes(), folder.as_bytes());
-    path.starts_with(folder) && path.len() > folder.len() && path[folder.len()] == b'/'
-}
 
 /// Whether the names are the same but for capital and small letters.
 fn is_same(name: &str, other: &str) -> bool
@@ -27,7 +20,7 @@ fn is_same(name: &str, other: &str) -> bool
     name.as_bytes().eq_ignore_ascii_case(other.as_bytes())
 }
 
-/// Whether version control keeps its data in folders of this name.
+/// Whether version control keeps its data in folders of this name. `CVS` is asked for as it is: `cvs` is a likely name of a source folder.
 fn is_control_folder(name: &str) -> bool
     ensures { result ≡ is_control_folder name.now }
 {
@@ -37,6 +30,10 @@ fn is_control_folder(name: &str) -> bool
         || is_same(name, ".jj")
         || is_same(name, ".bzr")
         || is_same(name, "_darcs")
+        || is_same(name, ".sl")
+        || is_same(name, ".pijul")
+        || is_same(name, ".repo")
+        || name == "CVS"
 }
 
 /// Whether a file of this name is no part of the tree.
@@ -67,6 +64,55 @@ fn begins_journal(path: &str) -> bool
     }
 }
 
+/// Whether all these bytes are decimal digits.
+fn are_digits(bytes: &[u8]) -> bool
+    ensures { result ≡ list_all is_ascii_digit bytes.now }
+{
+    bytes.iter().all(|byte| byte.is_ascii_digit())
+}
+
+/// Whether the bytes are a number in decimal digits.
+fn is_number(bytes: &[u8]) -> bool
+    ensures { result ≡ is_number bytes.now }
+{
+    !bytes.is_empty() && are_digits(bytes)
+}
+
+/// Whether a file of this name in the journal's folder has no name of its own yet.
+fn is_new_name(name: &str) -> bool
+    ensures { result ≡ is_new_name name.now }
+{
+    let bytes = name.as_bytes();
+    name == "new" || (bytes.starts_with(b"new.") && is_number(&bytes[4..]))
+}
+
+/// Whether such a file stands at the path below the journal's folder, or above it.
+fn begins_new(path: &str) -> bool
+    ensures { result ≡ begins_new (between_slashes path.now) }
+{
+    is_new_name(first_name(path).0)
+}
+
+/// Whether such a file stands at the path below `.reuse`, or above it.
+fn is_new_in_reuse(path: &str) -> bool
+    ensures { result ≡ is_new_in_reuse (between_slashes path.now) }
+{
+    match first_name(path) {
+        (first, Some(rest)) => first == "undo" && begins_new(rest),
+        (_, None) => false,
+    }
+}
+
+/// Whether a file that has no name of its own yet stands at the path, or above it.
+fn is_new(path: &str) -> bool
+    ensures { result ≡ is_new (between_slashes path.now) }
+{
+    match first_name(path) {
+        (first, Some(rest)) => first == ".reuse" && is_new_in_reuse(rest),
+        (_, None) => false,
+    }
+}
+
 /// Whether somebody else's data stands at the path, of a file or of a folder.
 #[tactic(auto, using(crate::proofs::NameLemmas::foreign_before))]
 fn is_foreign(path: &str, is_folder: bool) -> bool
@@ -85,12 +131,12 @@ fn is_foreign(path: &str, is_folder: bool) -> bool
 pub fn is_kept_out(path: &str) -> bool
     ensures { result ≡ is_kept_out path.now }
 {
-    path == NEW || lies_under(path, NEW) || is_foreign(path, false)
+    is_new(path) || is_foreign(path, false)
 }
 
 /// Whether all that lies under this folder is kept out of the tree.
 pub fn is_folder_kept_out(folder: &str) -> bool
     ensures { result ≡ is_folder_kept_out folder.now }
 {
-    folder == NEW || is_foreign(folder, true)
+    is_new(folder) || is_foreign(folder, true)
 }

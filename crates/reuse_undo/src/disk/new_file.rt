@@ -1,7 +1,9 @@
-//! Writing a file as a whole or not at all: a new one is written aside and then given its name.
+//! Writing a file as a whole or not at all: a new one is written aside, and its data is synced before it is given its name.
+use crate::disk::empty_folders::make_folders;
 use crate::disk::fault::FolderFault;
 use crate::disk::kept_out::NEW_BESIDE;
 use crate::disk::place::{FullPath, kept_bits};
+use crate::disk::syncs::Unsynced;
 use reuse_tree::Parts;
 use std::alloc::Global;
 use std::fs::{self, File, OpenOptions, Permissions};
@@ -12,6 +14,13 @@ use std::rt::Files;
 /// Parts that are no longer than this together are joined, and go out by one call of the system. A copy of more takes longer than
 /// another call. (The library's vectored write would need no copy, but it links calls on sockets, for which the program has no handle.)
 const MOST_JOINED: usize = 32_768;
+
+/// What a file is to hold, and the bits that it is to have in place of those of a new file.
+#[derive(Clone, Copy)]
+pub struct Content<'a> {
+    pub parts: Parts<'a>,
+    pub mode: Option<u32>,
+}
 
 /// The place where each file is written before it is given its name.
 #[derive(Drop)]
@@ -25,8 +34,13 @@ pub struct NewFile {
 
 impl NewFile {
     /// The new file at this path; the folders above it are made as needed.
-    pub fn at(rt: &impl Files, alloc: Global, full: FullPath) -> Result<NewFile, FolderFault> {
-        full.make_folders(rt)?;
+    pub fn at(
+        rt: &impl Files,
+        alloc: Global,
+        full: FullPath,
+        unsynced: &mut Unsynced,
+    ) -> Result<NewFile, FolderFault> {
+        make_folders(rt, alloc, &full, unsynced)?;
         Ok(NewFile::of(alloc, full))
     }
 
@@ -87,25 +101,37 @@ impl NewFile {
         file.write_all(&self.joined)
     }
 
-    /// Writes the parts to a file that was created with these bits.
-    fn fill(&mut self, file: &File, mode: Option<u32>, parts: Parts) -> io::Result<()> {
-        self.write_parts(file, parts)?;
-        match mode {
+    /// Writes the content to a file that was created with its bits.
+    fn fill(&mut self, file: &File, content: Content<'_>) -> io::Result<()> {
+        self.write_parts(file, content.parts)?;
+        match content.mode {
             Some(mode) => self.set_mode(file, mode),
             None => Ok(()),
         }
     }
 
+    /// Writes the content to such a file, which is to get this name, and makes its data lasting.
+    fn complete(
+        &mut self,
+        file: &File,
+        name: &FullPath,
+        content: Content<'_>,
+        unsynced: &mut Unsynced,
+    ) -> io::Result<()> {
+        self.fill(file, content)?;
+        unsynced.sync_data(file, name.path())
+    }
+
     fn write_here<R: Files<File = File>>(
         &mut self,
         rt: &R,
-        name: &str,
-        mode: Option<u32>,
-        parts: Parts,
+        name: &FullPath,
+        content: Content<'_>,
+        unsynced: &mut Unsynced,
     ) -> io::Result<()> {
-        let file = self.create(rt, mode)?;
-        let written = match self.fill(&file, mode, parts) {
-            Ok(()) => fs::rename(rt, self.full.text(), name),
+        let file = self.create(rt, content.mode)?;
+        let written = match self.complete(&file, name, content, unsynced) {
+            Ok(()) => fs::rename(rt, self.full.text(), name.text()),
             Err(error) => Err(error),
         };
         if written.is_err() {
@@ -115,21 +141,21 @@ impl NewFile {
         written
     }
 
-    /// Writes the parts, one after the other, and renames the file to `name`, with these permission bits or those of a new file. Where
-    /// that leads to another device, as below a mount, the new file is written beside the one that it is to be.
+    /// Writes the content and renames the file to `name`. Where that leads to another device, as below a mount, the new file is
+    /// written beside the one that it is to be.
     pub fn write<R: Files<File = File>>(
         &mut self,
         rt: &R,
         alloc: Global,
         name: &FullPath,
-        mode: Option<u32>,
-        parts: Parts,
+        content: Content<'_>,
+        unsynced: &mut Unsynced,
     ) -> io::Result<()> {
-        match self.write_here(rt, name.text(), mode, parts) {
+        match self.write_here(rt, name, content, unsynced) {
             Err(error) if error.kind() == ErrorKind::CrossesDevices => {
                 let full = name.beside(alloc, NEW_BESIDE)?;
                 let mut beside = NewFile::of(alloc, full);
-                beside.write_here(rt, name.text(), mode, parts)
+                beside.write_here(rt, name, content, unsynced)
             }
             written => written,
         }

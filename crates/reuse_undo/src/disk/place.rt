@@ -136,6 +136,11 @@ impl FullPath {
         }
     }
 
+    /// That folder with the slash behind it.
+    pub fn above(&self) -> &str {
+        above(self.path())
+    }
+
     /// The path of this name in the same folder.
     pub fn beside(&self, alloc: Global, name: &str) -> Result<FullPath, AllocError> {
         let start = self.start;
@@ -146,7 +151,7 @@ impl FullPath {
     }
 
     /// The whole text up to this byte of the path.
-    fn up_to(&self, end: usize) -> &str {
+    pub fn up_to(&self, end: usize) -> &str {
         let end = self.start.saturating_add(end);
         self.text().get(..end).unwrap_or("")
     }
@@ -156,10 +161,15 @@ impl FullPath {
         look_at(rt, self.text())
     }
 
+    /// What stands at the path up to this byte of it, where what is above that is known to be folders.
+    pub fn look_up_to(&self, rt: &impl Files, end: usize) -> Result<Found, FolderFault> {
+        look_at(rt, self.up_to(end))
+    }
+
     /// What the path is by the first part above it that is no folder, if one is none.
     pub fn look_above(&self, rt: &impl Files) -> Result<Option<Place>, FolderFault> {
         for (end, _) in self.path().match_indices('/') {
-            match look_at(rt, self.up_to(end))? {
+            match self.look_up_to(rt, end)? {
                 Found::Folder => {}
                 Found::Nothing => return Ok(Some(Place::Nothing)),
                 Found::File(_) => return Ok(Some(Place::BelowFile)),
@@ -169,18 +179,24 @@ impl FullPath {
         Ok(None)
     }
 
-    /// Makes the folders above the path that are missing, but not the root.
-    pub fn make_folders(&self, rt: &impl Files) -> Result<(), FolderFault> {
-        for (end, _) in self.path().match_indices('/') {
-            match look_at(rt, self.up_to(end))? {
-                Found::Folder => {}
-                Found::Nothing => fs::create_dir(rt, self.up_to(end))?,
-                Found::File(_) | Found::Other => {
-                    return Err(FolderFault::Device(Obstacle::Foreign));
-                }
-            }
+    /// The nearest folder above the path that is there, with the slash behind it.
+    pub fn nearest_folder(&self, rt: &impl Files) -> Result<&str, FolderFault> {
+        let mut nearest = 0usize;
+        for (end, slash) in self.path().match_indices('/') {
+            let Found::Folder = self.look_up_to(rt, end)? else {
+                break;
+            };
+            nearest = end.saturating_add(slash.len());
         }
-        Ok(())
+        Ok(self.path().get(..nearest).unwrap_or(""))
+    }
+}
+
+/// The folder that the path lies in with the slash behind it, which is empty for the root.
+pub fn above(path: &str) -> &str {
+    match path.rsplit_once('/') {
+        Some((folder, _)) => path.get(..folder.len().saturating_add(1)).unwrap_or(""),
+        None => "",
     }
 }
 

@@ -6,4 +6,14 @@ use Rattle.reuse_undo.proofs.on_folder.run_on_folder.Goals as goal
 pub returns : goal.returns
 returns g c =
     carried_inside _ _ _ _ _ _ _ _ _ _ _ _ _ c.run_request-watched.ensures (λ watched. watched.inner)
-    (λ watched. record { files = refl; failures = refl; written = refl; moves = refl; gives = λ honest. honest; takes = λ honest. honest }) c.new-watched.ensures (sym c.into_inner.ensures)
+    (λ watched. record {
+      files = refl;
+      failures = refl;
+      written = refl;
+      moves = refl;
+      gives = λ honest. honest;
+      takes = λ honest. honest;
+      gives_left = λ left is. is;
+      takes_left = λ left is. is;
+    })
+    c.new-watched.ensures (sym c.into_inner.ensures)

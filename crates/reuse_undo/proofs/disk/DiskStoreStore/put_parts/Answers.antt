@@ -6,7 +6,7 @@ use Rattle.reuse_tree.specs.Files.{AreFiles, Clashes}
 use Rattle.reuse_tree.specs.Parts.{joined}
 use Rattle.reuse_tree.specs.declared.fault.StoreFault.TheVariants.{Clash}
 use Rattle.reuse_tree.specs.declared.record.CallRecord.{CallRecord}
-use Rattle.reuse_undo.specs.Honesty.{files_of, IsHonest}
+use Rattle.reuse_undo.specs.Honesty.{files_of, IsHonest, MayBeLeft}
 use Rattle.reuse_undo.proofs.HonestFiles.{after_put}
 use Rattle.reuse_undo.proofs.PutKept.{put_kept}
 use Rattle.reuse_undo.proofs.disk.DiskStoreStore.put_parts.Goals as goal
@@ -31,6 +31,7 @@ returns-clause-puts g c =
           (put_kept was.start was.calls path (joined c.args.parts) c.map_err-answer.result (took_effect was.fates was.calls) honest c.put-answer.ensures.path);
       ok = grind (arith, common_steps);
       err = grind (arith, common_steps);
+      may = λ left is. subst (λ (noted : CallRecord). MayBeLeft noted.start noted.doubts noted.calls left) c.note_put_parts.ensures is;
       device = grind (arith, common_steps);
       written = grind (arith, common_steps);
       moves = grind (arith, common_steps);
