@@ -1,7 +1,7 @@
 # What the scripts that run the program share: `program`, which the first argument names; `room`, a folder that is removed at the end; and
 # some functions.
 program=$(realpath "${1:?"usage: $0 PROGRAM"}")
-room=$(mktemp -d "/dev/shm/$(basename "$0" .sh).XXXXXX")
+room=$(mktemp -d "/dev/shm/$(basename "$0" .sh).XXXXXX" 2> /dev/null || mktemp -d)
 trap 'rm -rf "$room"' EXIT
 
 # A dep5 file in a tree
@@ -45,13 +45,14 @@ fail() {
   exit 1
 }
 
-# Ends where a command isn't there, and names Debian's package for it.
-wants() {
-  command -v "$1" > /dev/null || {
-    echo "$1 isn't there: apt-get install $2" >&2
-    exit 1
-  }
+# Ends a script that can't be run here, for this reason: tests/all.sh counts status 77 as skipped, and prints the last line.
+skip() {
+  echo "$1" >&2
+  exit 77
 }
+
+# Skips a script where a command isn't there, and names Debian's package for it.
+wants() { command -v "$1" > /dev/null || skip "$1 isn't there: apt-get install $2"; }
 
 # The words of help: the subcommands; the options of a subcommand, or, without one, those before it; the names that an option of annotate takes
 help_subcommands() { "$program" --help | sed -nE '/^Commands:/,/^$/s/^  ([a-z][a-z0-9-]*) .*/\1/p'; }

@@ -1,7 +1,7 @@
 #!/usr/bin/env bash
 # Compares dry runs with the calls themselves: a dry run writes nothing, ends with the status of the call, tells the call's first refusal first, and
 # names the paths that the call changes. The diff of one, applied to a copy by `git apply` and by `patch -p1`, gives byte for byte the tree of the
-# call: for the examples of docs/USAGE.md, and for random trees, with real files of /usr among them. Prints what was compared; ends with status 1
+# call: for the examples of docs/REFERENCE.md, and for random trees, with real files of /usr among them. Prints what was compared; ends with status 1
 # at the first fault.
 # usage: tests/dry_run.sh PROGRAM [ROUNDS]      (300 rounds by default)
 # The tags below are data: REUSE-IgnoreStart
@@ -68,7 +68,7 @@ compare() {
   applied=$((applied + 1))
 }
 
-# The examples of docs/USAGE.md, on a tree that has what they name
+# The examples of docs/REFERENCE.md, on a tree that has what they name
 example_tree() {
   files a.py 'print(1)\n' script '#!/bin/sh\necho\n' main.c 'int main;' src/b.py 'x = 1\r\n' src/c.h 'int y;\n' src/odd 'x\n' data.csv '1,2\n'
   make_dep5 "$tree"
@@ -77,8 +77,8 @@ example_tree() {
   printf 'text without an end' > "$room/texts/Apache-2.0.txt"
   echo 'text of GPL' > "$room/texts/GPL-2.0-only.txt"
 }
-mapfile -t examples < <(sed -nE "s/^    reuse-undo ((annotate|convert-dep5|download).*)/\1/p" "$here/../docs/USAGE.md" | sed -E 's/ +#.*//; s/ +(--dry-run|-n)( --diff)?$//' | grep -vE -e '--files-from|--exclude ' | sort -u)
-((${#examples[@]} >= 12)) || fail "docs/USAGE.md has ${#examples[@]} examples"
+mapfile -t examples < <(sed -nE "s/^    reuse-undo ((annotate|convert-dep5|download).*)/\1/p" "$here/../docs/REFERENCE.md" | sed -E 's/ +#.*//; s/ +(--dry-run|-n)( --diff)?$//' | grep -vE -e '--files-from|--exclude ' | sort -u)
+((${#examples[@]} >= 12)) || fail "docs/REFERENCE.md has ${#examples[@]} examples"
 for example in "${examples[@]}"; do
   example_tree
   eval "call=(${example//~\/license-list-data\/text/$room/texts})"

@@ -216,21 +216,22 @@ clashes() {
 
 kept_out() {
   local path
-  stand .git/HEAD .reuse/undo/new a/.Hg/x b/.git a/.svn/x a/.jj/x a/b/.bzr/x a/_darcs/b/x a/.reuse/undo/head.json c/.reuse-undo-new
+  stand .git/HEAD .reuse/undo/new a/.Hg/x b/.git a/.svn/x a/.jj/x a/b/.bzr/x a/_darcs/b/x \
+    a/.SL/x a/.pijul/x a/b/.repo/x a/CVS/Root a/.reuse/undo/head.json c/.reuse-undo-new
   for path in .reuse/undo/new .reuse/undo/new/x; do
     refused "$path: no such path" "${annotate[@]}" $path
     bad_journal $path
   done
   holds .reuse/undo/new y
   for path in .git/HEAD .git/refs/x .GIT a/.Hg/x a/.svn/x a/.jj/x a/b/.bzr/x a/_darcs/b/x b/.git b/.git/x \
-    a/.reuse/undo a/.reuse/undo/head.json c/.reuse-undo-new; do
+    a/.SL/x a/.pijul/x a/b/.repo/x a/CVS/Root a/.reuse/undo a/.reuse/undo/head.json c/.reuse-undo-new; do
     barred $path
   done
   printf y > "$tree/.reuse/undo/new"
   rm -r "$tree/a/_darcs" "$tree/a/.reuse"
-  for path in a.py a/_darcs a/.reuse/undone; do puts $path; done
-  lists a.py a/.reuse/undone a/_darcs
-  tells_each changed a.py a/.reuse/undone a/_darcs : "${annotate[@]}" -r .
+  for path in a.py a/_darcs a/.reuse/undone a/cvs/b; do puts $path; done
+  lists a.py a/.reuse/undone a/_darcs a/cvs/b
+  tells_each changed a.py a/.reuse/undone a/_darcs a/cvs/b : "${annotate[@]}" -r .
 }
 
 links() {

@@ -5,11 +5,16 @@
 # usage: tests/full_disk.sh PROGRAM
 set -euo pipefail
 . "$(dirname "$0")/common.sh"
-((EUID == 0)) || fail 'it mounts a disk, and wants root'
+((EUID == 0)) || skip 'it mounts a disk, and wants root'
 disk=$room/disk
 mkdir "$disk"
 trap 'umount "$disk" 2> /dev/null; rm -rf "$room"' EXIT
-mount -t tmpfs -o size=1m tmpfs "$disk"
+# (so that no mount is left behind a fault)
+fail() {
+  echo "fault: $1" >&2
+  exit 1
+}
+mount -t tmpfs -o size=1m tmpfs "$disk" 2> "$room/error" || skip "it mounts a disk: $(< "$room/error")"
 annotate=(annotate -c "Jane Doe" -l MIT -y 2024 -r .)
 pages=$(($(getconf PAGESIZE) / 1024))
 

@@ -1,9 +1,10 @@
 #!/usr/bin/env bash
 # Runs the program on a tree that holds other people's data: a clone, a submodule, folders of other version control, and a tree with a journal of its
 # own. Annotating everything, undoing and redoing it touches none of them. Ends with status 1 at the first fault.
-# usage: tests/nested_trees.sh PROGRAM      (needs git)
+# usage: tests/nested_trees.sh PROGRAM
 set -euo pipefail
 . "$(dirname "$0")/common.sh"
+wants git git
 tree=$room/tree
 export GIT_CONFIG_GLOBAL=/dev/null GIT_CONFIG_NOSYSTEM=1
 git() { command git -c user.name=Jane -c user.email=jane@example.org -c protocol.file.allow=always -c init.defaultBranch=main "$@"; }
@@ -25,7 +26,7 @@ git -C "$tree" add -A
 git -C "$tree" commit -qm Start
 git clone -q "$room/library" "$tree/vendor/clone"
 git clone -q --bare "$room/library" "$tree/vendor/CAPITALS/.GIT"
-for name in .hg .svn .jj .bzr _darcs .Svn; do
+for name in .hg .svn .jj .bzr _darcs .Svn .sl .pijul .Repo CVS; do
   mkdir -p "$tree/vendor/$name/store"
   echo 'x = 1' > "$tree/vendor/$name/store/data.py"
   echo 'x' > "$tree/vendor/$name/requires"
@@ -37,7 +38,7 @@ echo 'x = 1' > "$tree/nested/a.py"
 # The names and bytes of all that is somebody else's
 foreign() {
   (cd "$tree" && find . \( -ipath '*/.git/*' -o -iname .git -o -ipath '*/.hg/*' -o -ipath '*/.svn/*' -o -ipath '*/.jj/*' -o -ipath '*/.bzr/*' -o -ipath '*/_darcs/*' \
-    -o -path './nested/.reuse/undo*' \) -type f -not -name index -print0 | sort -z | xargs -0 sha256sum)
+    -o -ipath '*/.sl/*' -o -ipath '*/.pijul/*' -o -ipath '*/.repo/*' -o -path '*/CVS/*' -o -path './nested/.reuse/undo*' \) -type f -not -name index -print0 | sort -z | xargs -0 sha256sum)
 }
 # What git says of each repository, but for the files that were annotated
 check() {

@@ -113,6 +113,14 @@ dep5() {
   notes convert-dep5 : '2 files changed; .*'
 }
 
+# A head that a loss of power without syncs may leave
+journal() {
+  files a.py 'x\n'
+  "$program" --root "$tree" annotate -l MIT a.py > /dev/null
+  : > "$tree/.reuse/undo/head.json"
+  notes log : 'this file of the journal is damaged, .* delete the folder \.reuse/undo, .*'
+}
+
 # A link, a name, a root and a limit that keep the store from its work
 faults() {
   local found=0
@@ -169,5 +177,5 @@ progress() {
   ! "$program" --root "$tree" -v undo 2>&1 > /dev/null | grep -q 'files read' || fail 'progress without a terminal'
 }
 
-for group in words changes refusals dep5 faults above progress; do $group; done
+for group in words changes refusals dep5 journal faults above progress; do $group; done
 echo "$notes notes are as stated, with -v and at a terminal"

@@ -7,12 +7,12 @@ set -euo pipefail
 . "$(dirname "$0")/worked_lines.sh"
 
 # Options that leave what is written for a.py as it is without them, and what each of them does elsewhere. (--merge-copyrights, --no-replace, -r,
-# and those of neighbours and of what is skipped do it in worked_lines.sh.)
+# and those of neighbours and of what is skipped do it in worked_lines.sh, and --no-sync in syncs.sh.)
 settings() {
   local option style comment
   writes '-l|MIT|a.py' a.py 'x\n' to a.py "$tagged"
   for option in --single-line --merge-copyrights --no-replace --recursive -r --fallback-dot-license --skip-unrecognised --skip-existing \
-    --exclude-year -- '--recursive|--exclude|**a|--exclude=*'; do
+    --exclude-year --no-sync -- '--recursive|--exclude|**a|--exclude=*'; do
     writes "-l|MIT|$option|a.py" a.py 'x\n' to a.py "$tagged"
   done
   writes '-l|MIT|-s|python|--|-r' -r 'x\n' to -r "$tagged"
@@ -55,6 +55,20 @@ texts() {
   gives '-c|A|-y|2024|--copyright-style|string' '# Copyright 2024 A\n'
 }
 
+# The version is that of the sources. The last line is that of a build that says nothing about a
+# proof, or that of one that install.sh proved.
+version_told() {
+  local source version proof
+  source=$(dirname "$0")/../crates/reuse_undo/src/arguments.rt
+  version=$(sed -nE 's/^([0-9]+\.[0-9]+\.[0-9]+)$/\1/p' "$source")
+  run --version
+  proof=$(tail -n 1 <<< "${out%$'\n'}")
+  [[ $proof =~ ^proved\ by\ rattle-kit\ [0-9a-f]{16}$ ]] ||
+    proof='this build says nothing about a proof'
+  tells --version 0 "reuse-undo $version\njournal formats: reads 1 and 2, writes 2\n$proof\n"
+  tells -V 0 "reuse-undo $version\njournal formats: reads 1 and 2, writes 2\n$proof\n"
+}
+
 # Help, and words that are refused
 words() {
   local before line
@@ -64,7 +78,7 @@ words() {
     run "${line%=*}"
     [[ $status == 0 && $out == "${line#*=}"* && ! $error ]] || differs "$line"
   done
-  tells --version 0 'reuse-undo 1.1.0 (journal format 2)\n'
+  version_told
   for line in 'undo|x' 'annotate|-l|MIT' 'annotate|-l|MIT|-s|none|a.py' 'annotate|-l|MIT|--copyright-prefix|none|a.py' 'download|MIT' 'undo|--diff' \
     show 'show|x' 'show|1|--diff|--json' 'revert|-1'; do
     refuses "$line" ''

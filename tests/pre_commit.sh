@@ -1,14 +1,16 @@
 #!/usr/bin/env bash
-# Tries our hook by Debian's pre-commit on a repository of its own, and what docs/USAGE.md says for a git alias, for a check on each push and for
-# what git is to ignore. Ends with status 1 at the first fault.
+# Tries our hook by Debian's pre-commit on a repository of its own, and what docs/HOWTO.md says for
+# a git alias, for a check in CI and for what git is to ignore. Ends with status 1 at the first
+# fault.
 # usage: tests/pre_commit.sh PROGRAM
 set -euo pipefail
 # The tags below are data: REUSE-IgnoreStart
 . "$(dirname "$0")/common.sh"
 wants pre-commit pre-commit
 wants git git
+wants make make
 top=$(realpath "$(dirname "$0")/..")
-usage=$top/docs/USAGE.md
+usage=$top/docs/HOWTO.md
 header='# SPDX-License-Identifier: MIT'
 export PRE_COMMIT_HOME=$room/cache HOME=$room GIT_CONFIG_NOSYSTEM=1
 export GIT_AUTHOR_NAME=a GIT_AUTHOR_EMAIL=a@a GIT_COMMITTER_NAME=a GIT_COMMITTER_EMAIL=a@a
@@ -41,10 +43,13 @@ hook() {
   cp "$top/.pre-commit-hooks.yaml" "$room/hooks"
   git -C "$room/hooks" add -A
   git -C "$room/hooks" commit -q -m hooks
+  git -C "$room/hooks" tag v1.0.0
   repository a.py 'x\n' b.py "# SPDX-License-Identifier: ISC\n\nx\n" sub/c.xyz 'x\n' p.png '\0211\0' LICENSES/MIT.txt 'text\n' LICENSE 'text\n' \
     REUSE.toml 'version = 1\n' 'sub/d e.c' 'int x;\n'
   ln -s a.py link.py
-  block 'yaml pre-commit' | sed -e "s#https://.*#$room/hooks#" -e "s#rev: .*#rev: $(git -C "$room/hooks" rev-parse HEAD)#" > .pre-commit-config.yaml
+  block 'yaml pre-commit' | sed "s#https://.*#$room/hooks#" > .pre-commit-config.yaml
+  pre-commit autoupdate > "$room/out" 2>&1 || fail "autoupdate: $(cat "$room/out")"
+  grep -q "^    rev: 'v1.0.0'" .pre-commit-config.yaml || fail "$(cat .pre-commit-config.yaml)"
   sed -i "1i $header" .pre-commit-config.yaml .gitignore
   git add -A
   pre-commit install > "$room/out" 2>&1
@@ -77,14 +82,50 @@ alias_of_git() {
   echo "git alias: what git knows is annotated"
 }
 
-# The check of a push fails where a file has no header, and shows it.
+# The commands of a CI's file, run as it runs them, where nothing is to be fetched or installed
+steps() {
+  "$(sed -n '1s/^#! *//p' "$(command -v pre-commit)")" - "$1" << 'PYTHON' > "$room/steps"
+import sys, yaml
+job = yaml.safe_load(open(sys.argv[1]))
+job = job.get("jobs", job)["headers"]
+print("\n".join(job.get("script") or [step["run"] for step in job["steps"] if "run" in step]))
+PYTHON
+  bash -e -o pipefail "$room/steps"
+}
+
+# The check, by itself and called by each snippet, prints a file without a header and fails; once
+# all files have one it passes. It changes nothing.
 check() {
-  repository a.py 'x\n'
-  block 'sh check' > "$room/check"
-  if bash "$room/check" > "$room/out" 2>&1; then fail 'the check passes a file without a header'; fi
-  grep -q 'changed a.py' "$room/out" || fail "the check tells: $(cat "$room/out")"
-  bash "$room/check" > "$room/out" 2>&1 || fail "the check fails: $(cat "$room/out")"
-  echo "check of a push: it fails where a header is missing"
+  local name call calls=('sh check-headers.sh' 'steps .github/workflows/headers.yml'
+    'steps .gitlab-ci.yml' 'pre-commit run --all-files' 'make headers')
+  for name in apt-get wget; do printf '#!/bin/sh\n' > "$room/bin/$name"; done
+  printf '#!/bin/sh\nexec "$@"\n' > "$room/bin/sudo"
+  chmod +x "$room/bin"/*
+  repository a.py 'x\n' data.xyz 'x\n'
+  mkdir -p .github/workflows
+  block 'sh check' > check-headers.sh
+  block 'yaml github' > .github/workflows/headers.yml
+  block 'yaml gitlab' > .gitlab-ci.yml
+  block 'yaml pre-commit check' > .pre-commit-config.yaml
+  block make > Makefile
+  git add -A
+  for call in "${calls[@]}"; do
+    if $call > "$room/out" 2>&1; then fail "$call passes a file without a header"; fi
+    grep -q '^would change a.py' "$room/out" || fail "$call: $(cat "$room/out")"
+  done
+  [[ ! $(git status --porcelain | grep -v '^A ') ]] || fail "the check changes $(git status -s)"
+  reuse-undo annotate -l MIT --recursive --skip-unrecognised . > "$room/out"
+  git add -A
+  for call in "${calls[@]}"; do
+    $call > "$room/out" 2>&1 || fail "$call fails: $(cat "$room/out")"
+  done
+  mkdir -p .reuse
+  echo x > .reuse/styles.toml
+  for call in "${calls[@]}"; do
+    if $call > "$room/out" 2>&1; then fail "$call passes what is refused"; fi
+    grep -q 'bad styles' "$room/out" || fail "$call: $(cat "$room/out")"
+  done
+  echo "check in CI: ${#calls[@]} ways fail for want of a header, and pass with it"
 }
 
 hook

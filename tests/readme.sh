@@ -1,6 +1,8 @@
 #!/usr/bin/env bash
-# Runs the commands of the README in a fresh clone: the example without the proved program; the install script, over what this repository's checks kept
-# where that is of the same commit, and else from nothing; and the commands on a tree, with the installed program. Last it removes what was installed.
+# Runs the commands of the README in a fresh clone: the example without the proved program; the
+# install script, over what this repository's checks kept if that is of the same commit, and else
+# from nothing; and the quick start, with the installed program. Last it removes what was installed.
+# `./test.sh` isn't run, which takes longest.
 # usage: tests/readme.sh [-x]         -x: the example alone, which needs no proof
 # The tags below are data: REUSE-IgnoreStart
 set -euo pipefail
@@ -11,6 +13,7 @@ fail() {
   echo "fault: $1" >&2
   exit 1
 }
+. "$top/tests/blocks.sh"
 # Whether the README has this line
 has() {
   grep -qxF -- "$1" "$room/clone/README.md" || fail "the README has no line '$1'"
@@ -20,48 +23,43 @@ git clone -q "$top" "$room/clone"
 cd "$room/clone"
 
 # (kits of several letters have the same logic)
-logic=$(grep -oE '`rattle-kit-[^`]* logic [0-9a-f]+`' README.md | grep -oE 'logic [0-9a-f]+') || fail "the README names no kit"
-[[ $(rt version) == *" $logic" ]] || fail "the README names the $logic, and rt version prints $(rt version)"
-grep -oE '\]\([A-Za-z_/]+\.(md|svg)' README.md CONTRIBUTING.md docs/*.md | while IFS=: read -r file link; do
-  [ -e "$(dirname "$file")/${link#](}" ] || fail "$file: no file ${link#](}"
-done
+logic=$(grep -oE '`rattle-kit-[^`]* logic [0-9a-f]+`' README.md | grep -oE 'logic [0-9a-f]+') ||
+  fail 'the README names no kit'
+[[ $(rt version) == *" $logic" ]] || fail "the README names the $logic, and not $(rt version)"
+has '    ./install.sh'
+has '    ./test.sh'
+[[ -x test.sh ]] || fail 'test.sh is not there'
 
-has '    ./example.sh'
+grep -q '^- `./example.sh`' README.md || fail "the README doesn't name the example"
 start=$SECONDS
 ./example.sh > "$room/example"
 echo "example.sh: $((SECONDS - start)) seconds"
-grep -q 'NOT proved yet' "$room/example" || fail "the example doesn't say that its build isn't proved"
-printf '%s\n' 'changed a.py' 'changed b.py' 'undone b.py' 'undone a.py' 'redone a.py' > "$room/wanted"
-grep -E '^(changed|undone|redone) ' "$room/example" | diff "$room/wanted" - || fail "the example printed something else"
+grep -q 'NOT proved yet' "$room/example" || fail "the example doesn't say that it isn't proved"
+printf '%s\n' 'changed a.py' 'changed b.py' 'undone b.py' 'undone a.py' 'redone a.py' \
+  > "$room/wanted"
+grep -E '^(changed|undone|redone) ' "$room/example" | diff "$room/wanted" - ||
+  fail 'the example printed something else'
 sed -n '/^\$ cat a.py/,$p' "$room/example" > "$room/files"
-printf '%s\n' '$ cat a.py' '# SPDX-FileCopyrightText: 2024 Jane Doe' '#' '# SPDX-License-Identifier: MIT' '' 'print(1)' '' '$ cat b.py' 'print(2)' |
-  diff - "$room/files" || fail "the example left other files"
+printf '%s\n' '$ cat a.py' '# SPDX-FileCopyrightText: 2024 Jane Doe' '#' \
+  '# SPDX-License-Identifier: MIT' '' 'print(1)' '' '$ cat b.py' 'print(2)' |
+  diff - "$room/files" || fail 'the example left other files'
 [ "${1:-}" != -x ] || exit 0
 
-has '    ./install.sh'
 if git -C "$top" diff --quiet HEAD -- crates; then
   for kept in "$top"/crates/*/out; do
     [ ! -d "$kept" ] || cp -a "$kept" "crates/$(basename "$(dirname "$kept")")/"
   done
 fi
 start=$SECONDS
-HOME=$room/home ./install.sh
+HOME=$room/home ./install.sh | tee "$room/installed"
 echo "install.sh: $((SECONDS - start)) seconds"
+grep -q '^This is the proved program' "$room/installed" || fail "install.sh shows no program"
 program=$room/home/.local/bin/reuse-undo
+[[ $("$program" --version) == *"proved by rattle-kit ${logic#logic }" ]] ||
+  fail "the installed program says $("$program" --version)"
+run_blocks README.md
+echo "the quick start: $compared commands print what the README says"
 
-mkdir -p "$room/tree/src"
-echo 'print(1)' > "$room/tree/src/a.py"
-cd "$room/tree"
-grep -E '^    reuse-undo ' "$room/clone/README.md" | sed 's/^    //' > "$room/lines"
-while IFS= read -r line; do
-  echo "\$ $line"
-  (PATH=$room/home/.local/bin:$PATH && eval "$line") || fail "$line"
-done < "$room/lines" | tee "$room/printed"
-grep -qx 'changed src/a.py' "$room/printed" && grep -qx 'redone src/a.py' "$room/printed" || fail "the README's commands printed something else"
-grep -q 'Jane Doe' src/a.py || fail "src/a.py has no header"
-
-cd "$room/clone"
 HOME=$room/home ./install.sh --uninstall
-[ ! -e "$program" ] || fail "the program is still there"
-[ -z "$(find "$room/home" -type f)" ] || fail "files are left: $(find "$room/home" -type f)"
+[ ! -e "$room/home" ] || fail "these are left: $(find "$room/home")"
 echo ok

@@ -1,7 +1,9 @@
 #!/usr/bin/env bash
-# Compares the words of the program's help with those of the manual page, of docs/USAGE.md and of the pages of the completions: subcommands, options,
-# styles and prefixes; compares the manual page with each text of a refusal in the sources, and the version with that of CHANGELOG.md. The
-# manual page passes mandoc's and man's own tests. What each shell completes is compared by completions.sh. Ends with status 1 at the first fault.
+# Compares the program's help, the manual page and docs/REFERENCE.md: of each subcommand the options, one
+# by one, with their short names and values; subcommands, styles and prefixes. Compares the manual page
+# with each text of a refusal in the sources, and the version with that of CHANGELOG.md. The manual page
+# passes mandoc's and man's own tests. What each shell completes is compared by completions.sh. Ends with
+# status 1 at the first fault.
 # usage: tests/words.sh PROGRAM
 set -euo pipefail
 . "$(dirname "$0")/common.sh"
@@ -10,7 +12,7 @@ wants man man-db
 wants groff groff-base
 top=$(realpath "$(dirname "$0")/..")
 page=$top/share/man/man1/reuse-undo.1
-usage=$top/docs/USAGE.md
+reference=$top/docs/REFERENCE.md
 
 # The manual page as text
 manual() { mandoc -T utf8 -O width=200 "$page" | sed 's/.\x08//g'; }
@@ -42,15 +44,60 @@ LC_ALL=C.UTF-8 man --warnings -E UTF-8 -l -Tutf8 -Z "$page" 2> "$room/lint" > "$
 options_of() { grep -oE -- '(^|[^A-Za-z0-9-])--[a-z][a-z0-9-]*' "$1" | sed -E 's/^[^-]//' | sort -u; }
 for list in subcommands options styles prefixes; do
   all_in "the manual page" "$room/$list" "$room/manual"
-  all_in "docs/USAGE.md" "$room/$list" "$usage"
+  all_in "docs/REFERENCE.md" "$room/$list" "$reference"
 done
 # And none that help hasn't
 options_of "$room/manual" > "$room/manual_options"
 grep -E '^--' "$room/options" > "$room/long_options"
 same 'options of help and of the manual page' "$room/long_options" "$room/manual_options"
-grep -E '^\| `-|reuse-undo ' "$usage" | grep -v 'git ' > "$room/usage_lines"
-options_of "$room/usage_lines" > "$room/usage_options"
-while read -r word; do grep -qxF -- "$word" "$room/long_options" || fail "docs/USAGE.md: $word is no option"; done < "$room/usage_options"
+grep -E 'reuse-undo ' "$reference" "$top/docs/HOWTO.md" | grep -v 'git ' > "$room/lines"
+options_of "$room/lines" > "$room/used_options"
+while read -r word; do
+  grep -qxF -- "$word" "$room/long_options" || fail "docs/REFERENCE.md, HOWTO.md: $word is no option"
+done < "$room/used_options"
+
+# Option by option: a line `-c, --copyright TEXT` for each option of a section of the manual page, of the
+# reference, or of a subcommand's help
+one_each() {
+  awk -F', ' '{
+    short = ""
+    for (k = 1; k <= NF; k++) {
+      if ($k ~ /^--/) { print short $k; short = "" }
+      else short = $k ", "
+    }
+  }' | sort
+}
+in_manual() {
+  awk -v section=".Ss $1" '/^\.S[hs] / { inside = $0 == section } inside && /^\.It Fl / { print substr($0, 5) }' "$page" |
+    sed -E 's/Fl -/--/g; s/Fl /-/g; s/ Ar / /g; s/ , /, /g' | one_each
+}
+in_reference() {
+  awk -v section="## $1" '/^## / { inside = $0 == section } inside && /^\| `-/ { print }' "$reference" |
+    sed -E 's/^\| ([^|]*) \|.*/\1/; s/`//g' | one_each
+}
+in_help() {
+  "$program" "$@" --help | sed -nE '/^Options:/,/^$/s/^ +(-.*)/\1/p' |
+    sed -E 's/^((-[a-zA-Z], )?--[a-z-]+( <[A-Z]+>)?)(.*\[alias(es)?: (--[a-z-]+)\])?.*/\1, \6\3/; s/, ( <[A-Z]+>)?$//; s/[<>]//g' | one_each
+}
+compared=0
+for section in 'Options of all subcommands' 'Dry runs' $(grep -vx help "$room/subcommands"); do
+  in_manual "$section" > "$room/in_manual"
+  in_reference "$section" > "$room/in_reference"
+  same "options of the manual page and of docs/REFERENCE.md, $section" "$room/in_manual" "$room/in_reference"
+  case $section in
+    Options*)
+      in_help > "$room/in_help"
+      cp "$room/in_help" "$room/in_each"
+      ;;
+    Dry*) cp "$room/in_manual" "$room/in_dry_runs" && continue ;;
+    *)
+      in_help "$section" | grep -vxFf "$room/in_each" > "$room/in_help" || true
+      case $section in log | show) ;; *) cat "$room/in_dry_runs" >> "$room/in_manual" ;; esac
+      ;;
+  esac
+  same "options of help and of the manual page, $section" "$room/in_help" "$room/in_manual"
+  compared=$((compared + $(wc -l < "$room/in_help")))
+done
 
 # Texts of refusals; two are of calls that the program doesn't make alone, a dry run tells the refusals in place of one, and why styles are bad
 # isn't told, nor is what a folder's fault was, but in notes
@@ -58,8 +105,8 @@ sed -nE 's/.*#\[error\("(.*)"(, .*)?\)\]$/\1/p' $(find "$top"/crates/*/src -name
   | sed -E 's/\{[^}]*\}/\n/g' | sed -E 's/^[: ]+//; s/[: ]+$//' | grep . | sort -u > "$room/refusals"
 while IFS= read -r text; do grep -qF -- "$text" "$room/manual" || fail "the manual page: the refusal $text is not told"; done < "$room/refusals"
 
-version=$("$program" --version | sed -nE 's/^reuse-undo ([0-9.]+) \(journal format [0-9]+\)$/\1/p')
+version=$("$program" --version | sed -nE '1s/^reuse-undo ([0-9.]+)$/\1/p')
 [[ -n $version ]] || fail "--version tells $("$program" --version)"
 [[ $(sed -nE 's/^## \[([0-9.]+)\].*/\1/p' "$top/CHANGELOG.md" | head -n 1) == "$version" ]] || fail "CHANGELOG.md is not of version $version"
-grep -q "^    rev: v$version\$" "$usage" || fail "docs/USAGE.md: the hook is not of version $version"
-echo "$(wc -l < "$room/options") options, $(cat "$room/styles" "$room/prefixes" | wc -l) names and $(wc -l < "$room/refusals") texts of refusals are told, and no others"
+echo "$compared options of help, manual page and reference are the same; $(cat "$room/styles" "$room/prefixes" | wc -l) names" \
+  "and $(wc -l < "$room/refusals") texts of refusals are told, and no others"

@@ -1,0 +1,51 @@
+#!/usr/bin/env bash
+# Compares the documents with what they are made of: the pages that scripts write are what these
+# write today; each link leads to a file, and to a heading of it; README has 120 lines at most, and
+# the tutorial 80. No line outside of tables and code has over 100 columns, and no cell over 25
+# words.
+# usage: tests/documents.sh PROGRAM      (which isn't run)
+set -euo pipefail
+. "$(dirname "$0")/common.sh"
+cd "$(dirname "$0")/.."
+documents=(README.md CONTRIBUTING.md CHANGELOG.md docs/*.md)
+
+for page in 'index_of_clauses.sh CLAUSES.md' 'list_of_wrong_bodies.sh WRONG_BODIES.md'; do
+  "docs/${page% *}" > "$room/page" || fail "docs/${page% *}"
+  cmp -s "$room/page" "docs/${page#* }" || fail "write it anew: docs/${page% *} > docs/${page#* }"
+done
+
+# The headings of a document, as links name them, and the names of other places
+headings() {
+  sed -nE 's/^#+ +//p' "$1" | tr '[:upper:]' '[:lower:]' | sed -E 's/[^a-z0-9 _-]//g; s/ /-/g'
+  sed -nE 's/^<a name="([^"]+)">.*/\1/p' "$1"
+}
+links=0
+while IFS=$'\t' read -r document link; do
+  links=$((links + 1))
+  file=${link%%#*}
+  file=${file:+$(dirname "$document")/$file}
+  file=${file:-$document}
+  [[ -e $file ]] || fail "$document: no file for the link $link"
+  [[ $link != *'#'* ]] || grep -qxF -- "${link#*#}" <(headings "$file") ||
+    fail "$document: no heading for the link $link"
+done < <(grep -oE '\]\([^) ]+\)' "${documents[@]}" | grep -v '](https\?:' |
+  sed -E 's/:\]\(/\t/; s/\)$//')
+((links >= 30)) || fail "only $links links"
+
+(($(wc -l < README.md) <= 120)) || fail "README.md has over 120 lines"
+(($(wc -l < docs/TUTORIAL.md) <= 80)) || fail "docs/TUTORIAL.md has over 80 lines"
+for document in "${documents[@]}"; do
+  awk '
+    function tell(what) { print FILENAME ":" FNR ": a long " what }
+    /^```/ { is_code = !is_code }
+    is_code || /^    / { next }
+    /^\|/ {
+      cells = split($0, cell, / \| |^\| | \|$/)
+      for (k = 1; k <= cells; k++) if (split(cell[k], words, / +/) > 25) tell("cell")
+      next
+    }
+    { gsub(/[\200-\277]/, "") }
+    length($0) > 100 { tell("line") }' "$document"
+done > "$room/long"
+[[ ! -s $room/long ]] || fail "$(cat "$room/long")"
+echo "$links links lead somewhere, written pages are new, and ${#documents[@]} documents are short"

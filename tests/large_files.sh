@@ -1,0 +1,102 @@
+#!/usr/bin/env bash
+# Annotates files whose lengths, before or after, stand at and round the bounds of buffers, from one
+# byte to the longest file: with a first line that stays in front, an old header block, and text
+# behind it, where each of the three in turn is the long one, and with text alone. Each file must
+# then hold just the front part, the new block and the rest, which python3 puts together; undo must
+# give the first bytes, and redo the second. Ends with status 1 at the first fault.
+# usage: tests/large_files.sh PROGRAM
+# The tags below are data: REUSE-IgnoreStart
+set -euo pipefail
+. "$(dirname "$0")/common.sh"
+wants python3 python3
+
+python3 - "$room" << 'PYTHON'
+import os, sys
+
+room = sys.argv[1]
+LONGEST = 16_777_216
+NOTICE = b'# SPDX-FileCopyrightText: 2001 Old Holder\n'
+NEW = b'# SPDX-FileCopyrightText: 2024 Jane Doe\n#\n# SPDX-License-Identifier: MIT\n'
+FIRST = b'#!/usr/bin/python3\n'
+
+bounds = [4_096, 8_192, 16_384, 32_768, 65_536, 131_072, 1_048_576]
+lengths = [1, 2, *(bound + more for bound in bounds for more in (-1, 0, 1)), LONGEST - 1, LONGEST]
+
+# Lines, no two of which are alike: those of a program, and those of a comment without a tag
+TEXT = b''.join(b'x%d = 1\n' % number for number in range(1_400_000))
+COMMENT = b''.join(b'# text %d\n' % number for number in range(1_200_000))
+assert min(len(TEXT), len(COMMENT)) > LONGEST
+
+
+def comment(length):
+    """So many bytes of a comment, in whole lines: at least eight."""
+    end = COMMENT.rindex(b'\n', 0, length - 4) + 1 if length > 16 else 0
+    return COMMENT[:end] + b'# ' + b'y' * (length - end - 3) + b'\n'
+
+
+def parts_of(kind, length):
+    """Front, old block, new block and rest: together so long before, or after."""
+    when, long = kind
+    front, free, rest = FIRST, b'', b'x\n'
+    if long == 'text':
+        front, old, new = b'', b'', NEW + b'\n'
+    else:
+        old, new = NOTICE, NOTICE + NEW
+    if long == 'block':
+        old, new = old + b'#\n', new + b'#\n'
+    block = new if when == 'after' else old
+    left = length - len(front) - len(block) - (0 if long == 'text' else len(rest))
+    if left < 1 or (long == 'block' and left < 8):
+        return None
+    if long == 'front':
+        front = b'#!/' + b'y' * (left + len(front) - 4) + b'\n'
+    elif long == 'block':
+        free = comment(left)
+    elif long == 'rest':
+        rest = TEXT[:left + len(rest)]
+    else:
+        rest = TEXT[:left]
+    return front, old + free, new + free, rest
+
+
+def write(tree, name, parts):
+    with open(os.path.join(room, tree, name), 'wb') as file:
+        file.write(b''.join(parts))
+
+
+for tree in ('before', 'after'):
+    os.mkdir(os.path.join(room, tree))
+for when in ('before', 'after'):
+    for long in ('front', 'block', 'rest', 'text'):
+        for length in lengths:
+            parts = parts_of((when, long), length)
+            if parts is None:
+                continue
+            front, old, new, rest = parts
+            made = len(front + new + rest)
+            if made > LONGEST:
+                continue
+            assert length == (made if when == 'after' else len(front + old + rest))
+            name = f'{long}_of_{length}_{when}.py'
+            write('before', name, (front, old, rest))
+            write('after', name, (front, new, rest))
+PYTHON
+
+# The call ends well, and leaves just the files of this tree.
+tree=$room/tree
+leaves() {
+  local wanted=$1
+  shift
+  "$program" --root "$tree" "$@" > "$room/out" 2>&1 ||
+    fail "$* is refused: $(tail -n 1 "$room/out")"
+  diff -r -x .reuse "$room/$wanted" "$tree" > "$room/out" ||
+    fail "after $*: $(head -n 1 "$room/out")"
+}
+cp -r "$room/before" "$tree"
+leaves after annotate -c "Jane Doe" -l MIT -y 2024 -r .
+leaves before undo
+leaves after redo
+leaves before revert 1
+count=$(find "$room/before" -type f | wc -l)
+echo "$count files, of 1 to 16,777,216 bytes before or after: annotate, undo, redo and revert leave" \
+  "the bytes that are expected"
