@@ -1,0 +1,54 @@
+#!/usr/bin/env bash
+# Passes all tests, in this order:
+# - the gate, `rt ci`: every proof, every must-fail edit and the program's run, from nothing;
+# - beside it the tests of calls (tests/calls.sh), which are compiled without proof;
+# - the scripts of tests/ that take the program (tests/all.sh), on what the gate proved and built.
+# Ends with the gate's status if that isn't 0, and with 1 if a test of calls or a script fails.
+# A script that can't be run here, for want of a Debian package or of root, counts as skipped.
+# RT_JOBS: how many checks run side by side. ROUNDS: how often the scripts try that go by chance.
+# usage: ./test.sh
+set -euo pipefail
+cd "$(dirname "$0")"
+(($# == 0)) || { sed -n '/^# usage/s/^# //p' "$0" >&2; exit 2; }
+command -v rt > /dev/null || { echo "The Rattle kit isn't there: no command rt." >&2; exit 1; }
+room=$(mktemp -d)
+calls=
+trap '[ -z "$calls" ] || kill "$calls" 2> /dev/null; rm -rf "$room"' EXIT
+: > "$room/begun"
+
+tests/calls.sh > "$room/calls" 2>&1 &
+calls=$!
+# As many checks side by side as there are processors, and 5 GB of free memory for each: most take
+# 1 to 4, the largest 6 for a while. Left to itself, rt reckons with three times as much for the
+# largest crates, and tries them one after the other.
+lanes=$(nproc)
+memory=$(awk '/^MemAvailable:/ { print int($2 / 5000000) }' /proc/meminfo)
+((lanes <= memory)) || lanes=$((memory > 1 ? memory : 1))
+gate=0
+RT_JOBS="${RT_JOBS:-$lanes}" rt ci || gate=$?
+took=$((SECONDS / 60)):$(printf %02d $((SECONDS % 60)))
+[ $gate = 0 ] && gate_said=passed || gate_said="FAILED with status $gate"
+
+called=0
+wait $calls || called=$?
+calls=
+sed 's/^/tests of calls: /' "$room/calls"
+[ $called = 0 ] && calls_said=passed || calls_said=FAILED
+
+# The gate leaves the program that it built here, and has set aside what was here before.
+program=crates/reuse_undo/out/reuse_undo
+scripts=0
+if [ -x "$program" ] && [ "$program" -nt "$room/begun" ]; then
+    tests/all.sh "$program" | tee "$room/scripts" || scripts=$?
+    scripts_said=$(tail -n 1 "$room/scripts")
+else
+    scripts=1
+    scripts_said='not run, since the gate built no program'
+fi
+
+echo
+echo "the gate (rt ci): $gate_said, after $took minutes"
+echo "the tests of calls (tests/calls.sh): $calls_said"
+echo "the scripts (tests/all.sh): $scripts_said"
+if [ $gate != 0 ]; then exit $gate; fi
+[ $called = 0 ] && [ $scripts = 0 ]
