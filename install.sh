@@ -1,53 +1,113 @@
 #!/usr/bin/env bash
-# Proves, builds and installs the program and what belongs to it: the manual, completions for bash, zsh and fish, and a table of styles. Crates that don't
-# stand on each other are proved side by side. It can be interrupted and run again: what was proved is kept.
-# usage: ./install.sh [PREFIX]                  (PREFIX is $HOME/.local by default)
-#        ./install.sh --uninstall [PREFIX]      removes just what it installed
+# Proves, builds and installs the program and what belongs to it: the manual, completions for bash,
+# zsh and fish, and a table of styles; then runs the program on a folder with two files, if DESTDIR
+# isn't set. Crates that don't stand on each other are proved side by side. It can be interrupted
+# and run again: what was proved is kept.
+# usage: ./install.sh [PREFIX]                  PREFIX is $HOME/.local by default
+#        ./install.sh --program FILE [PREFIX]   proves nothing, and installs this program
+#        ./install.sh --uninstall [PREFIX]      removes what it installed, and folders that it made
+# If the variable DESTDIR is set, DESTDIR/PREFIX stands for PREFIX.
 set -euo pipefail
+shopt -s inherit_errexit
 top=$(cd "$(dirname "$0")" && pwd)
-uninstall=
-if [ "${1:-}" = --uninstall ]; then
-    uninstall=yes
-    shift
-fi
-case ${1:-} in -*) sed -n '4,5s/^# //p' "$0"; exit 2 ;; esac
-prefix=${1:-$HOME/.local}
+usage() {
+    sed -n '6,8s/^# //p' "$0" >&2
+    exit 2
+}
+uninstall='' program=''
+case ${1:-} in
+    --uninstall) uninstall=yes; shift ;;
+    --program) [ $# -ge 2 ] || usage; program=$(realpath -e "$2"); shift 2 ;;
+esac
+case ${1:-} in -*) usage ;; esac
+[ $# -le 1 ] || usage
+prefix=$(realpath -ms "${DESTDIR:+$DESTDIR/}${1:-$HOME/.local}")
+# The folders that it made, each by its path from the prefix
+record=$prefix/share/reuse-undo/folders
 
-# What is installed: the file, where it goes, and its bits. What isn't in the repository is passed over.
+# What is installed: the file, where it goes, and its bits
 files() {
-    echo "crates/reuse_undo/out/reuse_undo bin/reuse-undo 755"
+    echo "program bin/reuse-undo 755"
     echo "share/man/man1/reuse-undo.1 share/man/man1/reuse-undo.1 644"
     echo "share/completions/reuse-undo.bash share/bash-completion/completions/reuse-undo 644"
     echo "share/completions/_reuse-undo share/zsh/site-functions/_reuse-undo 644"
     echo "share/completions/reuse-undo.fish share/fish/vendor_completions.d/reuse-undo.fish 644"
     echo "share/styles.toml share/reuse-undo/styles.toml 644"
 }
-if [ $uninstall ]; then
+# Makes a folder and those above it, and tells of each that wasn't there its path from the prefix.
+make_folder() {
+    [ ! -d "$1" ] || return 0
+    make_folder "$(dirname "$1")"
+    mkdir -m 755 "$1"
+    realpath -ms --relative-to="$prefix" "$1"
+}
+# The record of an earlier installation. A version that kept none made its own folder at least.
+kept_record() {
+    if [ -e "$record" ]; then
+        cat "$record"
+    elif [ -e "$(dirname "$record")/styles.toml" ]; then
+        realpath -ms --relative-to="$prefix" "$(dirname "$record")"
+    fi
+}
+install_files() {
+    local from to bits made
+    umask 022
+    made=$(kept_record
+        files | while read -r _ to _; do make_folder "$(dirname "$prefix/$to")"; done)
+    sort -u <<< "$made" > "$record"
+    files | while read -r from to bits; do
+        [ "$from" = program ] && from=$program || from=$top/$from
+        install -m "$bits" "$from" "$prefix/$to"
+        say "installed $prefix/$to"
+    done
+}
+uninstall_files() {
+    local to it made
+    made=$(kept_record)
+    rm -f "$record"
     files | while read -r _ to _; do
         [ ! -e "$prefix/$to" ] || { rm "$prefix/$to"; echo "removed $prefix/$to"; }
     done
-    [ ! -d "$prefix/share/reuse-undo" ] || rmdir --ignore-fail-on-non-empty "$prefix/share/reuse-undo"
-    exit
-fi
-
-command -v rt > /dev/null || { echo "The Rattle kit isn't there: no command rt." >&2; exit 1; }
-# (so that a prefix that can't be written is told now, and not after the proofs)
-mkdir -p "$prefix/bin"
-[ -w "$prefix/bin" ] || { echo "$prefix/bin can't be written" >&2; exit 1; }
-
-logs=$(mktemp -d)
+    # (those below a folder go first)
+    while IFS= read -r it; do
+        [ ! "$it" ] || realpath -ms "$prefix/$it"
+    done <<< "$made" | LC_ALL=C sort -ru | while IFS= read -r it; do
+        [ ! -d "$it" ] || rmdir --ignore-fail-on-non-empty "$it"
+    done
+}
 start=$SECONDS
-declare -A running=() lanes=() proved=() told=()
-# (each check has a process group of its own, so that all of it ends with this script)
-set -m
-trap '{ for it in "${!running[@]}"; do kill -- "-${running[$it]}" || true; done; wait; take_back; } 2> /dev/null; rm -rf "$logs"' EXIT
-trap 'echo "interrupted; run it again to go on" >&2; exit 130' INT TERM
-
 say() {
     printf '%3d:%02d  %s\n' $(((SECONDS - start) / 60)) $(((SECONDS - start) % 60)) "$*"
 }
-# Proves a crate by so many jobs, and builds it, in one go: a check first would have all that was proved be read twice. A crate beside others is proved
-# in a copy of the repository, since one check at a time works over a library; what it leaves goes back into the repository.
+
+[ ! "$uninstall" ] || { uninstall_files; exit; }
+# (so that a prefix that can't be written is told now, and not after the proofs)
+above=$prefix/bin
+while [ ! -e "$above" ]; do above=$(dirname "$above"); done
+[ -d "$above" ] && [ -w "$above" ] || { echo "$above can't be written" >&2; exit 1; }
+[ ! "$program" ] || { install_files; exit; }
+
+command -v rt > /dev/null || { echo "The Rattle kit isn't there: no command rt." >&2; exit 1; }
+logs=$(mktemp -d)
+declare -A running=() lanes=() proved=() told=()
+# (each check has a process group of its own, so that all of it ends with this script)
+set -m
+end_all() {
+    local it
+    for it in "${!running[@]}"; do kill -- "-${running[$it]}" || true; done
+    wait
+    take_back
+}
+trap 'end_all 2> /dev/null; rm -rf "$logs"' EXIT
+trap 'echo "interrupted; run it again to go on" >&2; exit 130' INT TERM
+
+# The sources as they are now, for the copies: crates/ changes while the others are proved.
+mkdir "$logs/sources"
+tar -C "$top" --exclude=out -cf - HANDLES crates.txt crates | tar -C "$logs/sources" -xf -
+
+# Proves a crate by so many jobs, and builds it, in one go: a check first would have all that was
+# proved be read twice. A crate beside others is proved in a copy of the repository, since one check
+# at a time works over a library; what it leaves goes back into the repository.
 prove() {
     local crate=$1 jobs=$2 at=$top
     if [ "$3" ]; then
@@ -62,8 +122,8 @@ prove() {
 copy_for() {
     local it
     mkdir -p "$2"
-    tar -C "$top" --exclude=./.git --exclude=out -cf - . | tar -C "$2" -xf -
-    for it in "$1" $(below "$1"); do
+    cp -a "$logs/sources/." "$2"
+    for it in "$1" ${below[$1]}; do
         [ ! -d "$top/crates/$it/out" ] || cp -a "$top/crates/$it/out" "$2/crates/$it/"
     done
 }
@@ -76,19 +136,13 @@ take_back() {
     local it
     for it in "$logs"/copies/*; do take_back_one "$(basename "$it")"; done
 }
-# The crates of the repository that a crate stands on
-below() {
-    local word
-    for word in $(sed -n "s/^$1: *//p" "$top/crates.txt"); do
-        [ ! -d "$top/crates/$word" ] || echo "$word"
-    done
-}
 is_ready() {
     local it
     [ ! "${proved[$1]:-}" ] && [ ! "${running[$1]:-}" ] || return 1
-    for it in $(below "$1"); do [ "${proved[$it]:-}" ] || return 1; done
+    for it in ${below[$1]}; do [ "${proved[$it]:-}" ] || return 1; done
 }
-# How many jobs a check may take: all processors where it is alone, else half of them, where so many are idle; and 2 GB of free memory for each
+# How many jobs a check may take: all processors if it is alone, else half of them, if so many are
+# idle; and 2 GB of free memory for each
 jobs_of() {
     local idle=$1 alone=$2 most room
     most=$((alone ? processors : processors > 1 ? processors / 2 : 1))
@@ -97,23 +151,48 @@ jobs_of() {
     most=$((most < room ? most : room))
     echo $((most > 1 ? most : 1))
 }
-# How much is to prove of a crate and of the longest chain of crates that stand on it, in bytes
-weight_of() {
-    local it weight most=0
+# Finds how much is to prove of a crate and of the longest chain of crates on it, in bytes.
+weigh() {
+    local it most=0
+    [ ! "${weights[$1]:-}" ] || return 0
     for it in "${names[@]}"; do
-        if below "$it" | grep -qx "$1"; then
-            weight=$(weight_of "$it")
-            most=$((weight > most ? weight : most))
-        fi
+        case " ${below[$it]} " in
+            *" $1 "*) weigh "$it"; most=$((weights[$it] > most ? weights[$it] : most)) ;;
+        esac
     done
-    echo $((most + $(du -cb "$top/crates/$1"/{src,proofs} | tail -n 1 | cut -f 1)))
+    weights[$1]=$((most + $(du -cb "$top/crates/$1"/{src,proofs} | tail -n 1 | cut -f 1)))
+}
+# The program that was proved, with that said in its version. As it is compiled it says nothing
+# about a proof, since it can be compiled without one. The line of a proof has the same length, and
+# takes the place of that line.
+stamp() {
+    local line nothing='this build says nothing about a proof' places
+    program=$logs/reuse-undo
+    cp "$top/crates/reuse_undo/out/reuse_undo" "$program"
+    line="proved by rattle-kit $(rt version | sed -nE 's/^.* logic ([0-9a-f]+)$/\1/p')"
+    mapfile -t places < <(LC_ALL=C grep -aboF "$nothing" "$program" | cut -d : -f 1)
+    if [ ${#places[@]} = 1 ] && [ ${#line} = ${#nothing} ]; then
+        printf %s "$line" | dd of="$program" bs=1 seek="${places[0]}" conv=notrunc status=none
+    else
+        say "--version will say nothing about a proof: it has no place for '$line'"
+    fi
 }
 
-# Of the crates that can begin together, that with the longest chain on it goes first.
-mapfile -t names < <(sed -n 's/^\([a-z0-9_]*\):.*/\1/p' "$top/crates.txt")
-mapfile -t crates < <(for it in "${names[@]}"; do echo "$(weight_of "$it") $it"; done | sort -rn | cut -d ' ' -f 2)
+# The crates, and those of the repository that each stands on. Of the crates that can begin
+# together, that with the longest chain on it goes first.
+names=()
+declare -A below=() weights=()
+while IFS=: read -r crate words; do
+    names+=("$crate")
+    below[$crate]=
+    for it in $words; do [ ! -d "$top/crates/$it" ] || below[$crate]+=" $it"; done
+done < <(grep -E '^[a-z0-9_]+:' "$top/crates.txt")
+for it in "${names[@]}"; do weigh "$it"; done
+mapfile -t crates < <(for it in "${names[@]}"; do echo "${weights[$it]} $it"; done |
+    sort -rn | cut -d ' ' -f 2)
 processors=$(nproc)
-say "proving ${#crates[@]} crates on $processors processors; the first time that takes about twenty minutes on four"
+say "proving ${#crates[@]} crates on $processors processors;" \
+    "the first time that takes about twenty minutes on four"
 # (half as many jobs again as there are processors, since a check of several ends with a job alone)
 lanes_at_most=$((processors + processors / 2))
 while [ ${#proved[@]} -lt ${#crates[@]} ]; do
@@ -134,25 +213,30 @@ while [ ${#proved[@]} -lt ${#crates[@]} ]; do
         told[$it]=$SECONDS
         say "$it: begun"
     done
-    sleep 1
+    sleep 0.2
     for it in "${!running[@]}"; do
         if ! kill -0 "${running[$it]}" 2> /dev/null; then
-            wait "${running[$it]}" || { unset "running[$it]"; tail -n 30 "$logs/$it"; say "$it: NOT proved"; exit 1; }
+            failed=
+            wait "${running[$it]}" || failed=yes
             unset "running[$it]"
+            [ ! "$failed" ] || { tail -n 30 "$logs/$it"; say "$it: NOT proved"; exit 1; }
             proved[$it]=yes
             say "$it: proved and built, ${#proved[@]} of ${#crates[@]} crates"
         elif [ $((SECONDS - told[$it])) -ge 60 ]; then
             told[$it]=$SECONDS
-            count=$(sed -nE 's/^so far: ([0-9]+ of [0-9]+) functions checked.*$/\1 functions/p' "$logs/$it" | tail -n 1)
+            so_far='s/^so far: ([0-9]+ of [0-9]+) functions checked.*$/\1 functions/p'
+            count=$(sed -nE "$so_far" "$logs/$it" | tail -n 1)
             say "$it: ${count:-at work}"
         fi
     done
 done
 
-files | while read -r from to bits; do
-    if [ -e "$top/$from" ]; then
-        install -D -m "$bits" "$top/$from" "$prefix/$to"
-        say "installed $prefix/$to"
-    fi
-done
-case :$PATH: in *":$prefix/bin:"*) ;; *) echo "$prefix/bin is not in PATH" ;; esac
+stamp
+install_files
+[ ! "${DESTDIR:-}" ] || exit 0
+case :$PATH: in
+    *":$prefix/bin:"*) ;;
+    *) echo "$prefix/bin is not in PATH" ;;
+esac
+echo
+"$top/example.sh"

@@ -83,17 +83,17 @@ _reuse_undo() {
   fi
   if [[ $word == -* && -z $only_paths ]]; then
     case $subcommand in
-      '') _reuse_undo_of '--root --verbose --help --version' ;;
+      '') _reuse_undo_of '--root --verbose --no-sync --help --version' ;;
       annotate)
         _reuse_undo_of '--copyright --license --contributor --year --exclude-year --style --copyright-prefix --copyright-style
           --merge-copyrights --single-line --multi-line --no-replace --recursive --files-from --exclude --force-dot-license --fallback-dot-license
-          --skip-unrecognised --skip-existing --dry-run --diff --root --verbose --help'
+          --skip-unrecognised --skip-existing --dry-run --diff --root --verbose --no-sync --help'
         ;;
-      download) _reuse_undo_of '--texts --dry-run --diff --root --verbose --help' ;;
-      convert-dep5 | undo | redo) _reuse_undo_of '--dry-run --diff --root --verbose --help' ;;
-      revert) _reuse_undo_of '--dry-run --diff --skip-moved --root --verbose --help' ;;
-      log) _reuse_undo_of '--json --root --verbose --help' ;;
-      show) _reuse_undo_of '--diff --json --root --verbose --help' ;;
+      download) _reuse_undo_of '--texts --dry-run --diff --root --verbose --no-sync --help' ;;
+      convert-dep5 | undo | redo) _reuse_undo_of '--dry-run --diff --root --verbose --no-sync --help' ;;
+      revert) _reuse_undo_of '--dry-run --diff --skip-moved --root --verbose --no-sync --help' ;;
+      log) _reuse_undo_of '--json --root --verbose --no-sync --help' ;;
+      show) _reuse_undo_of '--diff --json --root --verbose --no-sync --help' ;;
       *) ;;
     esac
     return

@@ -63,6 +63,7 @@ end
 complete -c reuse-undo -f
 complete -c reuse-undo -n 'not __reuse_undo_subcommand_is help' -l root -x -a '(__fish_complete_directories)' -d 'The root of the source tree'
 complete -c reuse-undo -n 'not __reuse_undo_subcommand_is help' -s v -l verbose -d 'Tell notes on standard error'
+complete -c reuse-undo -n 'not __reuse_undo_subcommand_is help' -l no-sync -d 'Leave out all syncs'
 complete -c reuse-undo -n 'not __reuse_undo_subcommand_is help' -s h -l help -d 'Print help'
 complete -c reuse-undo -n '__reuse_undo_subcommand_is ""' -s V -l version -d 'Print the version'
 
@@ -104,12 +105,12 @@ complete -c reuse-undo -n '__reuse_undo_subcommand_is download' -l texts -x -a '
 complete -c reuse-undo -n '__reuse_undo_subcommand_is download' -a '(__reuse_undo_ids)'
 
 for word in annotate convert-dep5 download undo redo revert
-    complete -c reuse-undo -n "__reuse_undo_subcommand_is $word" -s n -l dry-run -d 'Tell what would change, and write nothing'
+    complete -c reuse-undo -n "__reuse_undo_subcommand_is $word" -s n -l dry-run -d 'Print what would change, and make no step'
     complete -c reuse-undo -n "__reuse_undo_subcommand_is $word" -l diff -d 'With --dry-run, tell it as a diff too'
 end
 complete -c reuse-undo -n '__reuse_undo_subcommand_is revert' -l skip-moved -d 'Leave a file where the step cannot be taken back'
 complete -c reuse-undo -n '__reuse_undo_subcommand_is revert' -a '(__reuse_undo_steps done)'
 complete -c reuse-undo -n '__reuse_undo_subcommand_is log' -l json -d 'Print a JSON object on each line'
-complete -c reuse-undo -n '__reuse_undo_subcommand_is show' -l diff -d 'Tell the lines that the step took away and wrote'
+complete -c reuse-undo -n '__reuse_undo_subcommand_is show' -l diff -d 'Print the lines that the step took away and wrote'
 complete -c reuse-undo -n '__reuse_undo_subcommand_is show' -l json -d 'Print a JSON object'
 complete -c reuse-undo -n '__reuse_undo_subcommand_is show' -a '(__reuse_undo_steps)'
