@@ -26,5 +26,5 @@ for folder in call session; do
     done
 done
 cd "$src/.."
-rt try --test > "$room/log" 2>&1 || { tail -n 40 "$room/log"; exit 1; }
+rt try --test --seconds 300 > "$room/log" 2>&1 || { tail -n 40 "$room/log"; exit 1; }
 grep '^test result' "$room/log"
