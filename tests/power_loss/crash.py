@@ -181,7 +181,9 @@ class beside:
 
 
 def lose_power(longest, *words):
-    """Takes the power away at a random moment of a call or after it; the call's status."""
+    """Takes the power away at a random moment of a call or after it; the status of a call that had
+    ended by then. One that ends later tells nothing: XFS answers the sync of a folder with success
+    once the file system is shut down, where a machine without power would answer no more."""
     handle = os.open(disk, os.O_RDONLY)
     with beside(longest / 4):
         run = start_call(*words)
@@ -190,11 +192,12 @@ def lose_power(longest, *words):
             time.sleep(random.choice([0, random.uniform(0, longest)]))
         else:
             time.sleep(random.uniform(0, longest * 1.2))
+        status = run.poll()
         fcntl.ioctl(handle, FS_IOC_SHUTDOWN, struct.pack('I', NO_LOG_FLUSH))
     run.communicate()
     os.close(handle)
     mount_again()
-    return run.returncode
+    return status
 
 
 def mount_again():
