@@ -1,0 +1,215 @@
+#!/usr/bin/env bash
+# Which system calls make a run lasting, and in which order, by strace. The data of each new file is
+# synced before its rename. Behind the entry, the pending head, the files and the last head each
+# folder that got or lost a name is synced, once. A call that writes nothing makes no sync, and
+# neither does one with --no-sync. A file system that can't sync folders counts as synced. No sync
+# follows one that failed, and a note names what couldn't be synced. Prints how many runs were
+# traced; ends with status 1 at the first fault.
+# usage: tests/syncs.sh PROGRAM
+# The tags below are data: REUSE-IgnoreStart
+set -euo pipefail
+. "$(dirname "$0")/common.sh"
+wants strace strace
+tree=$room/tree
+annotate=(annotate -s python -l MIT)
+new=.reuse/undo/new
+runs=0
+
+# Runs the program on the tree by strace, with these options of it up to a `--`.
+trace() {
+  local options=()
+  while [[ $1 != -- ]]; do
+    options+=("$1")
+    shift
+  done
+  # The braces keep bash from telling each kill.
+  {
+    strace -f -qq -y -o "$room/trace" "${options[@]}" \
+      -e trace=fsync,fdatasync,sync,syncfs,sync_file_range,rename,unlink,mkdir,rmdir \
+      "$program" -v --root "$tree" "${@:2}" > "$room/out" 2>&1
+  } 2> /dev/null
+}
+
+# What that run asked for, a line each, with paths below the root: `data` of a file that is synced,
+# `folder` of a folder that is, and else the call. Kills and calls that are killed are left out.
+traced() {
+  sed -E -e '/^[0-9]+ \+\+\+/d' -e '/= \?$/d' -e 's/^[0-9]+ +//' -e "s#$tree/?##g" \
+    -e 's/ = (0|-1 .*)$//' \
+    -e 's/^fdatasync\([0-9]+<(.*)>\)$/data \1/' -e 's/^fsync\([0-9]+<(.*)>\)$/folder \1/' \
+    -e 's/^rename\("(.*)", "(.*)"\)$/rename \1 \2/' \
+    -e 's/^(unlink|rmdir|mkdir)\("([^"]*)".*\)$/\1 \2/' -e 's/^folder $/folder ./' "$room/trace"
+}
+
+# Spells out what these lines say: `put PATH` writes a file, `barrier FOLDER..` syncs folders.
+spell_out() {
+  local words
+  while read -ra words; do
+    case ${words[0]} in
+      put) printf '%s\n' "data $new" "rename $new ${words[1]}" ;;
+      barrier) printf 'folder %s\n' "${words[@]:1}" ;;
+      *) echo "${words[*]}" ;;
+    esac
+  done
+}
+
+# The run makes just the calls that the lines on standard input say, in this order.
+makes() {
+  spell_out > "$room/wanted"
+  trace -- "$@" || fail "$*: $(< "$room/out")"
+  traced > "$room/calls"
+  cmp -s "$room/wanted" "$room/calls" || fail "$*: $(diff "$room/wanted" "$room/calls")"
+  runs=$((runs + 1))
+}
+makes_none() { makes "$@" < /dev/null; }
+
+# The calls of a step on an earlier one: its number, and the calls for its files; and without its
+# entry, as for an undo
+step() {
+  printf '%s\n' "put .reuse/undo/$1.json" 'barrier .reuse/undo'
+  replay "${@:2}"
+}
+replay() {
+  local head=('put .reuse/undo/head.json' 'barrier .reuse/undo')
+  printf '%s\n' "${head[@]}" "$@" "${head[@]}"
+}
+
+# The first step makes the journal's folder, whose name lasts too.
+first_step() {
+  files src/a.py 'x\n'
+  makes "${annotate[@]}" src/a.py << 'CALLS'
+mkdir .reuse
+mkdir .reuse/undo
+put .reuse/undo/000001.json
+barrier . .reuse .reuse/undo
+put .reuse/undo/head.json
+barrier .reuse/undo
+put src/a.py
+barrier .reuse/undo src
+put .reuse/undo/head.json
+barrier .reuse/undo
+CALLS
+  local one=('put src/a.py' 'barrier .reuse/undo src')
+  makes "${annotate[@]}" -l ISC src/a.py < <(step 000002 "${one[@]}")
+  makes undo < <(replay "${one[@]}")
+  makes redo < <(replay "${one[@]}")
+  makes revert 2 < <(step 000003 "${one[@]}")
+}
+
+# Each folder once, whatever came and went in it
+folders() {
+  files a/x.py 'x\n' a/y.py 'x\n' b/deep/z.py 'x\n' c.py 'x\n'
+  "$program" --root "$tree" "${annotate[@]}" c.py > "$room/out"
+  makes "${annotate[@]}" -r a b < <(step 000002 'put a/x.py' 'put a/y.py' 'put b/deep/z.py' \
+    'barrier .reuse/undo a b/deep')
+  mkdir -p "$room/texts"
+  echo 'Permission is granted' > "$room/texts/MIT.txt"
+  makes download --texts "$room/texts" MIT < <(step 000003 'mkdir LICENSES' \
+    'put LICENSES/MIT.txt' 'barrier . .reuse/undo LICENSES')
+  makes undo < <(replay 'unlink LICENSES/MIT.txt' 'barrier .reuse/undo LICENSES')
+  # A folder without files gives way to a file.
+  mkdir -p "$tree/LICENSES/MIT.txt/in"
+  makes redo < <(replay 'rmdir LICENSES/MIT.txt/in' 'rmdir LICENSES/MIT.txt' \
+    'put LICENSES/MIT.txt' 'barrier .reuse/undo LICENSES')
+  make_dep5 "$tree"
+  makes convert-dep5 < <(step 000004 'unlink .reuse/dep5' 'put REUSE.toml' \
+    'barrier . .reuse .reuse/undo')
+}
+
+# Calls that write nothing
+none() {
+  files a.py 'x\n'
+  makes_none log
+  makes_none "${annotate[@]}" -n a.py
+  "$program" --root "$tree" "${annotate[@]}" a.py > "$room/out"
+  makes_none "${annotate[@]}" a.py
+  makes_none log
+  makes_none show 1
+  makes_none undo --dry-run
+  local head="rename $new .reuse/undo/head.json"
+  makes --no-sync undo < <(printf '%s\n' "$head" "rename $new a.py" "$head")
+  makes redo --no-sync < <(printf '%s\n' "$head" "rename $new a.py" "$head")
+}
+
+# Kills the call at this rename.
+killed_at() {
+  local number=$1
+  shift
+  trace -e inject=rename:signal=KILL:when="$number" -- "$@" || true
+  is_pending "$tree" || fail "$* is not pending after a kill at rename $number"
+}
+
+# What a killed run began is set back: first what it wrote of the journal lasts, then all its paths
+# do, those too that are as before.
+set_back() {
+  files src/a.py 'x\n' src/b.py 'x\n' in/c.py 'x\n'
+  killed_at 3 "${annotate[@]}" -r .
+  makes log << CALLS
+barrier .reuse/undo
+barrier .reuse/undo in src
+unlink $new
+put .reuse/undo/head.json
+barrier .reuse/undo
+CALLS
+  files src/a.py 'x\n' src/b.py 'x\n' in/c.py 'x\n'
+  killed_at 5 "${annotate[@]}" -r .
+  makes log << CALLS
+barrier .reuse/undo
+unlink $new
+put in/c.py
+put src/a.py
+barrier .reuse/undo in src
+put .reuse/undo/head.json
+barrier .reuse/undo
+CALLS
+  # A folder that isn't there any more: the nearest one above it
+  files p.png 'x'
+  killed_at 3 download --texts "$room/texts" MIT
+  rmdir "$tree/LICENSES"
+  makes log << CALLS
+barrier .reuse/undo
+barrier . .reuse/undo
+unlink $new
+put .reuse/undo/head.json
+barrier .reuse/undo
+CALLS
+}
+
+# With this error at the Nth such call the run fails, makes no sync behind it, and tells this.
+fails_at() {
+  local call=$1 number=$2 told=$3
+  rm -rf "$tree"
+  cp -a "$room/kept" "$tree"
+  ! trace -e inject="$call:error=EIO:when=$number" -- "${annotate[@]}" src/a.py ||
+    fail "$call $number fails: status 0"
+  sed -n '/INJECTED/,$p' "$room/trace" | sed 1d > "$room/later"
+  ! grep -E 'fsync|fdatasync' "$room/later" || fail "$call $number fails, and a sync follows"
+  grep -qxF "reuse-undo: note: can't $told: Input/output error (os error 5)" "$room/out" ||
+    fail "$call $number fails: $(< "$room/out")"
+  runs=$((runs + 1))
+}
+faults() {
+  files src/a.py 'x\n' b.py 'x\n'
+  "$program" --root "$tree" "${annotate[@]}" b.py > "$room/out"
+  cp -a "$tree" "$room/kept"
+  fails_at fdatasync 1 'write .reuse/undo/000002.json'
+  fails_at fsync 1 'sync .reuse/undo'
+  fails_at fdatasync 2 'write .reuse/undo/head.json'
+  fails_at fsync 2 'sync .reuse/undo'
+  fails_at fdatasync 3 'write src/a.py'
+  fails_at fsync 3 'sync .reuse/undo'
+  fails_at fsync 4 'sync src'
+  fails_at fdatasync 4 'write .reuse/undo/head.json'
+  fails_at fsync 5 'sync .reuse/undo'
+  # Where folders can't be synced
+  for error in EINVAL EOPNOTSUPP; do
+    rm -rf "$tree"
+    cp -a "$room/kept" "$tree"
+    trace -e inject=fsync:error=$error -- "${annotate[@]}" src/a.py ||
+      fail "$error: $(< "$room/out")"
+    [[ $(grep -c INJECTED "$room/trace") == 5 ]] || fail "$error: $(< "$room/trace")"
+    runs=$((runs + 1))
+  done
+}
+
+for group in first_step folders none set_back faults; do $group; done
+echo "$runs runs make the syncs that they are to make, and no others"
