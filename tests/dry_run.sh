@@ -56,6 +56,8 @@ compare() {
   rm -rf "$room/made/.reuse/undo"
   local tool
   for tool in git patch; do
+    # patch drops the spaces at the end of a path, in a diff by git itself too.
+    [[ $tool == git ]] || ! grep -qE $'^(---|\\+\\+\\+) [ab]/.* \t$' "$room/diff" || continue
     rm -rf "$room/$tool"
     cp -a "$tree" "$room/$tool"
     rm -rf "$room/$tool/.reuse/undo"
