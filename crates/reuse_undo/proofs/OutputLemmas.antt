@@ -9,7 +9,8 @@ use Rattle.reuse_undo.specs.Outputs.{AppendsFront}
 abbrev pub Written : Option (List ℕ) → Option (List ℕ) → (text rest : List ℕ) → Type 0
 Written old new text rest = (front : List ℕ) × (text ≡ front ++ rest) × Appends old new front
 
-appends_none : (known : Option (List ℕ)) → Appends known known []
+-- nothing is written
+pub appends_none : (known : Option (List ℕ)) → Appends known known []
 appends_none None = tt
 appends_none (Some xs) = sym (append-nil xs)
 

@@ -1,10 +1,11 @@
 pub mod CarriedOut
 pub mod Dates
+pub mod DiffText
 pub mod FileLists
 pub mod FolderFault
 pub mod FolderPlaces
 pub mod Honesty
-pub mod Within
+pub mod Hunks
 pub mod KeptOut
 pub mod Lines
 pub mod Objects
@@ -16,5 +17,7 @@ pub mod Requests
 pub mod RowLines
 pub mod RunLine
 pub mod Statuses
+pub mod TextLines
 pub mod Told
+pub mod Within
 pub mod WriterFaults

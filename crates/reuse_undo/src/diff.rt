@@ -1,11 +1,23 @@
 //! A change of a file as a unified diff, which `git apply` and `patch -p1` read.
+ghost use Rattle.std.specs.Prelude.{◌≡◌, OnOk, ◌++◌, unwrap_or, []};
+ghost use Rattle.std.specs.Option.{option_copied};
+ghost use Rattle.std.specs.Io.KnownBytes.{Appends};
+ghost use Rattle.reuse_undo.specs.DiffText.{head_text, title_text, both_text, mode_text, names_text, side_text, end_text, binary_text, old_binary_text, new_binary_text, is_binary, is_either_binary, same_side, IsDiff, IsBody, IsTextBody};
+ghost use Rattle.reuse_undo.specs.Hunks.{hunk_text};
+ghost use Rattle.reuse_undo.specs.RowLines.{AppendsSome};
+
+mod compare;
 mod hunk;
 mod name;
+mod pieces;
+mod text_lines;
 
-use hunk::{Hunk, Piece, Sign, hunk_between, pieces_between};
-use name::Named;
+use compare::{hunk_between, pieces_of};
+use hunk::Hunk;
+use name::{is_name_spaced, print_name};
+use pieces::{print_hunk, print_pieces};
 use reuse_tree::{Change, PathText};
-use std::alloc::{AllocError, Global};
+use std::alloc::Global;
 use std::io::{self, Write};
 
 /// What a path holds before a change and after it, where no bytes are no file.
@@ -43,23 +55,15 @@ impl<'a> Turn<'a> {
 
 /// Prints how the file of a path changes: a hunk with three lines around what changes, or a line of its own for a binary.
 /// Nothing where it doesn't change.
-pub fn print_diff<W: Write>(out: &mut W, alloc: Global, turn: Turn<'_>) -> io::Result<()> {
-    if turn.before == turn.after {
+pub fn print_diff<W: Write>(out: &mut W, alloc: Global, turn: Turn<'_>) -> io::Result<()>
+    ensures { OnOk result (AppendsSome (W.contents out.old) (W.contents out.new) (IsDiff turn.entry.path.now (option_copied turn.entry.before) (option_copied turn.entry.after))) }
+{
+    if is_same_side(turn.before, turn.after) {
         return Ok(());
     }
     print_head(out, turn)?;
-    let before = turn.before.unwrap_or(b"");
-    let after = turn.after.unwrap_or(b"");
-    if is_binary(before) || is_binary(after) {
-        return print_binary(out, turn);
-    }
-    match hunk_between(alloc, before, after)? {
-        Some(hunk) => {
-            print_names(out, turn)?;
-            print_hunk(out, &hunk)
-        }
-        None => Ok(()),
-    }
+    print_body(out, alloc, turn)?;
+    Ok(())
 }
 
 /// Prints what a change has recorded: all lines of a file that is made or removed, and of a range of a file the bytes that gave way and
@@ -81,19 +85,99 @@ fn print_range<W: Write>(out: &mut W, alloc: Global, turn: Turn<'_>, at: usize) 
     }
     print_names(out, turn)?;
     writeln!(out, "@@ byte {at} @@")?;
-    print_pieces(out, pieces_between(alloc, before, after)?.as_slice())
+    print_pieces(out, pieces_of(alloc, before, after)?.as_slice())
+}
+
+// What stands behind the head.
+fn print_body<W: Write>(out: &mut W, alloc: Global, turn: Turn<'_>) -> io::Result<()>
+    ensures { OnOk result (AppendsSome (W.contents out.old) (W.contents out.new) (IsBody turn.entry.path.now (option_copied turn.entry.before) (option_copied turn.entry.after))) }
+{
+    if is_either_binary(bytes_of(turn.before), bytes_of(turn.after)) {
+        return print_binary(out, turn);
+    }
+    print_texts(out, alloc, turn)
+}
+
+// The names of two texts, and the hunk between them.
+fn print_texts<W: Write>(out: &mut W, alloc: Global, turn: Turn<'_>) -> io::Result<()>
+    ensures { OnOk result (AppendsSome (W.contents out.old) (W.contents out.new)
+        (IsTextBody (names_text turn.entry.path.now (option_copied turn.entry.before) (option_copied turn.entry.after)) (unwrap_or (option_copied turn.entry.before) []) (unwrap_or (option_copied turn.entry.after) []))) }
+{
+    if let Some(hunk) = hunk_between(alloc, bytes_of(turn.before), bytes_of(turn.after))? {
+        print_named(out, turn, &hunk)?;
+    }
+    Ok(())
+}
+
+fn print_named<W: Write>(out: &mut W, turn: Turn<'_>, hunk: &Hunk<'_>) -> io::Result<()>
+    ensures { OnOk result (Appends (W.contents out.old) (W.contents out.new) (names_text turn.entry.path.now (option_copied turn.entry.before) (option_copied turn.entry.after) ++ hunk_text hunk.now)) }
+{
+    print_names(out, turn)?;
+    print_hunk(out, hunk)
+}
+
+// The bytes of a file, none of one that isn't there.
+fn bytes_of<'a>(file: Option<&'a [u8]>) -> &'a [u8]
+    ensures { result.now ≡ unwrap_or (option_copied file.entry) [] }
+{
+    match file {
+        Some(bytes) => bytes,
+        None => b"",
+    }
+}
+
+fn is_either_binary(before: &[u8], after: &[u8]) -> bool
+    ensures { result ≡ is_either_binary before.now after.now }
+{
+    is_binary(before) || is_binary(after)
+}
+
+fn is_same_side(before: Option<&[u8]>, after: Option<&[u8]>) -> bool
+    ensures { result ≡ same_side (option_copied before.entry) (option_copied after.entry) }
+{
+    match (before, after) {
+        (None, None) => true,
+        (Some(before), Some(after)) => before == after,
+        _ => false,
+    }
 }
 
 /// Whether a file is shown as a binary: it holds a NUL, as git asks.
-fn is_binary(file: &[u8]) -> bool {
-    file.contains(&0)
+fn is_binary(file: &[u8]) -> bool
+    ensures { result ≡ is_binary file.now }
+{
+    file.iter().any(|byte| *byte == 0)
 }
 
-/// The line that begins the diff of a file, and what becomes of the file.
-fn print_head<W: Write>(out: &mut W, turn: Turn<'_>) -> io::Result<()> {
-    let old = Named::new("a/", turn.path);
-    let new = Named::new("b/", turn.path);
-    writeln!(out, "diff --git {old} {new}")?;
+// The line that begins the diff of a file, and what becomes of the file.
+fn print_head<W: Write>(out: &mut W, turn: Turn<'_>) -> io::Result<()>
+    ensures { OnOk result (Appends (W.contents out.old) (W.contents out.new) (head_text turn.entry.path.now (option_copied turn.entry.before) (option_copied turn.entry.after))) }
+{
+    print_title(out, turn.path)?;
+    print_mode(out, turn)
+}
+
+fn print_title<W: Write>(out: &mut W, path: &PathText) -> io::Result<()>
+    ensures { OnOk result (Appends (W.contents out.old) (W.contents out.new) (title_text path.now)) }
+{
+    write!(out, "diff --git ")?;
+    print_both(out, path)?;
+    writeln!(out)?;
+    Ok(())
+}
+
+fn print_both<W: Write>(out: &mut W, path: &PathText) -> io::Result<()>
+    ensures { OnOk result (Appends (W.contents out.old) (W.contents out.new) (both_text path.now)) }
+{
+    print_name(out, "a/", path)?;
+    write!(out, " ")?;
+    print_name(out, "b/", path)?;
+    Ok(())
+}
+
+fn print_mode<W: Write>(out: &mut W, turn: Turn<'_>) -> io::Result<()>
+    ensures { OnOk result (Appends (W.contents out.old) (W.contents out.new) (mode_text (option_copied turn.entry.before) (option_copied turn.entry.after))) }
+{
     if turn.before.is_none() {
         writeln!(out, "new file mode 100644")?;
     }
@@ -103,76 +187,61 @@ fn print_head<W: Write>(out: &mut W, turn: Turn<'_>) -> io::Result<()> {
     Ok(())
 }
 
-fn print_names<W: Write>(out: &mut W, turn: Turn<'_>) -> io::Result<()> {
+fn print_names<W: Write>(out: &mut W, turn: Turn<'_>) -> io::Result<()>
+    ensures { OnOk result (Appends (W.contents out.old) (W.contents out.new) (names_text turn.entry.path.now (option_copied turn.entry.before) (option_copied turn.entry.after))) }
+{
     write!(out, "--- ")?;
-    print_name(out, Named::new("a/", turn.path), turn.before)?;
+    print_side(out, "a/", turn.path, turn.before)?;
+    print_end(out, turn.path, turn.before)?;
     write!(out, "+++ ")?;
-    print_name(out, Named::new("b/", turn.path), turn.after)
+    print_side(out, "b/", turn.path, turn.after)?;
+    print_end(out, turn.path, turn.after)
 }
 
-/// The name of one side. Behind one with a space a tab shows where it ends.
-fn print_name<W: Write>(out: &mut W, name: Named<'_>, file: Option<&[u8]>) -> io::Result<()> {
-    if file.is_none() {
-        return writeln!(out, "/dev/null");
+// The end of the line of one side. Behind a name with a space a tab shows where it ends.
+fn print_end<W: Write>(out: &mut W, path: &PathText, file: Option<&[u8]>) -> io::Result<()>
+    ensures { OnOk result (Appends (W.contents out.old) (W.contents out.new) (end_text path.now (option_copied file.entry))) }
+{
+    if file.is_some() && is_name_spaced(path) {
+        return writeln!(out, "\t");
     }
-    if name.is_spaced() {
-        writeln!(out, "{name}\t")
-    } else {
-        writeln!(out, "{name}")
-    }
+    writeln!(out)
 }
 
-fn print_binary<W: Write>(out: &mut W, turn: Turn<'_>) -> io::Result<()> {
+fn print_binary<W: Write>(out: &mut W, turn: Turn<'_>) -> io::Result<()>
+    ensures { OnOk result (Appends (W.contents out.old) (W.contents out.new) (binary_text turn.entry.path.now (option_copied turn.entry.before) (option_copied turn.entry.after))) }
+{
+    print_old_binary(out, turn)?;
+    print_new_binary(out, turn)?;
+    Ok(())
+}
+
+fn print_old_binary<W: Write>(out: &mut W, turn: Turn<'_>) -> io::Result<()>
+    ensures { OnOk result (Appends (W.contents out.old) (W.contents out.new) (old_binary_text turn.entry.path.now (option_copied turn.entry.before))) }
+{
     write!(out, "Binary files ")?;
-    print_side(out, Named::new("a/", turn.path), turn.before)?;
+    print_side(out, "a/", turn.path, turn.before)?;
+    Ok(())
+}
+
+fn print_new_binary<W: Write>(out: &mut W, turn: Turn<'_>) -> io::Result<()>
+    ensures { OnOk result (Appends (W.contents out.old) (W.contents out.new) (new_binary_text turn.entry.path.now (option_copied turn.entry.after))) }
+{
     write!(out, " and ")?;
-    print_side(out, Named::new("b/", turn.path), turn.after)?;
+    print_side(out, "b/", turn.path, turn.after)?;
     writeln!(out, " differ")
 }
 
-fn print_side<W: Write>(out: &mut W, name: Named<'_>, file: Option<&[u8]>) -> io::Result<()> {
+fn print_side<W: Write>(
+    out: &mut W,
+    side: &str,
+    path: &PathText,
+    file: Option<&[u8]>,
+) -> io::Result<()>
+    ensures { OnOk result (Appends (W.contents out.old) (W.contents out.new) (side_text side.now path.now (option_copied file.entry))) }
+{
     match file {
-        Some(_) => write!(out, "{name}"),
+        Some(_) => print_name(out, side, path),
         None => write!(out, "/dev/null"),
     }
-}
-
-fn print_hunk<W: Write>(out: &mut W, hunk: &Hunk<'_>) -> io::Result<()> {
-    let pieces = hunk.pieces.as_slice();
-    let old = pieces
-        .iter()
-        .filter(|piece| piece.sign != Sign::Added)
-        .count();
-    let new = pieces
-        .iter()
-        .filter(|piece| piece.sign != Sign::Removed)
-        .count();
-    let old_first = first_line(hunk.lines_above, old);
-    let new_first = first_line(hunk.lines_above, new);
-    writeln!(out, "@@ -{old_first},{old} +{new_first},{new} @@")?;
-    print_pieces(out, pieces)
-}
-
-/// The number of a hunk's first line, from 1; of no lines that of the line above.
-fn first_line(lines_above: usize, count: usize) -> usize {
-    if count == 0 {
-        lines_above
-    } else {
-        lines_above.saturating_add(1)
-    }
-}
-
-fn print_pieces<W: Write>(out: &mut W, pieces: &[Piece<'_>]) -> io::Result<()> {
-    for piece in pieces {
-        out.write_all(match piece.sign {
-            Sign::Kept => b" ",
-            Sign::Removed => b"-",
-            Sign::Added => b"+",
-        })?;
-        out.write_all(piece.line)?;
-        if !piece.line.ends_with(b"\n") {
-            writeln!(out, "\n\\ No newline at end of file")?;
-        }
-    }
-    Ok(())
 }

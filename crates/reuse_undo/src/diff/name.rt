@@ -1,57 +1,103 @@
 //! The name of a file in a diff.
+ghost use Rattle.std.specs.Prelude.{◌≡◌, ◌&&◌, ◌==◌, not, OnOk};
+ghost use Rattle.std.specs.List.{flat_map, list_any};
+ghost use Rattle.std.specs.Io.KnownBytes.{Appends};
+ghost use Rattle.reuse_undo.specs.DiffText.{escape_letter, is_printable, is_quoted, name_text, plain_text, quoted_text};
+
 use reuse_tree::PathText;
-use std::fmt::{self, Display, Formatter};
+use std::io::{self, Write};
 
-/// A path behind `a/` or `b/`, quoted as git quotes it.
-#[derive(Clone, Copy)]
-pub struct Named<'a> {
-    side: &'static str,
-    path: &'a PathText,
-}
-
-impl<'a> Named<'a> {
-    pub fn new(side: &'static str, path: &'a PathText) -> Named<'a> {
-        Named { side, path }
+/// Prints a path behind `a/` or `b/`, quoted as git quotes it.
+pub fn print_name<W: Write>(out: &mut W, side: &str, path: &PathText) -> io::Result<()>
+    ensures { OnOk result (Appends (W.contents out.old) (W.contents out.new) (name_text side.now path.now)) }
+{
+    if !is_name_quoted(path) {
+        return write!(out, "{side}{}", path.text());
     }
+    write!(out, "\"{side}")?;
+    print_quoted(out, path.as_bytes())?;
+    write!(out, "\"")
+}
 
-    /// Whether it has a space, and stands without quotes.
-    pub fn is_spaced(&self) -> bool {
-        let text = self.path.text().as_bytes();
-        text.contains(&b' ') && !text.iter().any(|byte| is_quoted(*byte))
+/// Whether a path stands in quotes: if a byte of it does.
+pub fn is_name_quoted(path: &PathText) -> bool
+    ensures { result ≡ list_any is_quoted path.now }
+{
+    path.as_bytes().iter().any(|byte| is_quoted(*byte))
+}
+
+/// Whether a path has a space, and stands without quotes.
+pub fn is_name_spaced(path: &PathText) -> bool
+    ensures { result ≡ (list_any (λ byte. byte == 32) path.now && not (list_any is_quoted path.now)) }
+{
+    has_space(path) && !is_name_quoted(path)
+}
+
+fn has_space(path: &PathText) -> bool
+    ensures { result ≡ list_any (λ byte. byte == 32) path.now }
+{
+    path.as_bytes().iter().any(|byte| *byte == b' ')
+}
+
+// Whether a name with this byte stands in quotes.
+fn is_quoted(byte: u8) -> bool
+    ensures { result ≡ is_quoted byte }
+{
+    !is_printable(byte) || byte == b'"' || byte == b'\\'
+}
+
+fn is_printable(byte: u8) -> bool
+    ensures { result ≡ is_printable byte }
+{
+    b' ' <= byte && byte <= b'~'
+}
+
+fn print_quoted<W: Write>(out: &mut W, bytes: &[u8]) -> io::Result<()>
+    ensures { OnOk result (Appends (W.contents out.old) (W.contents out.new) (flat_map quoted_text bytes.now)) }
+{
+    for byte in bytes {
+        print_byte(out, *byte)?;
+    }
+    Ok(())
+}
+
+fn print_byte<W: Write>(out: &mut W, byte: u8) -> io::Result<()>
+    ensures { OnOk result (Appends (W.contents out.old) (W.contents out.new) (quoted_text byte)) }
+{
+    match escape_letter(byte) {
+        Some(letter) => out.write_all(&[b'\\', letter]),
+        None => print_plain(out, byte),
     }
 }
 
-/// Whether a name with this byte stands in quotes.
-fn is_quoted(byte: u8) -> bool {
-    !(b' '..=b'~').contains(&byte) || byte == b'"' || byte == b'\\'
-}
-
-impl Display for Named<'_> {
-    fn fmt<W: fmt::Write>(&self, f: &mut Formatter<W>) -> fmt::Result {
-        let text = self.path.text();
-        if !text.as_bytes().iter().any(|byte| is_quoted(*byte)) {
-            return write!(f, "{}{text}", self.side);
-        }
-        write!(f, "\"{}", self.side)?;
-        for byte in text.as_bytes() {
-            write_quoted(f, *byte)?;
-        }
-        f.write_str("\"")
+fn print_plain<W: Write>(out: &mut W, byte: u8) -> io::Result<()>
+    ensures { OnOk result (Appends (W.contents out.old) (W.contents out.new) (plain_text byte)) }
+{
+    if is_printable(byte) {
+        return out.write_all(&[byte]);
     }
+    out.write_all(&[
+        b'\\',
+        b'0' + byte / 64,
+        b'0' + byte / 8 % 8,
+        b'0' + byte % 8,
+    ])
 }
 
-fn write_quoted<W: fmt::Write>(f: &mut Formatter<W>, byte: u8) -> fmt::Result {
+// The letter that stands for a byte behind a backslash.
+fn escape_letter(byte: u8) -> Option<u8>
+    ensures { result ≡ escape_letter byte }
+{
     match byte {
-        b'"' => f.write_str("\\\""),
-        b'\\' => f.write_str("\\\\"),
-        7 => f.write_str("\\a"),
-        8 => f.write_str("\\b"),
-        b'\t' => f.write_str("\\t"),
-        b'\n' => f.write_str("\\n"),
-        11 => f.write_str("\\v"),
-        12 => f.write_str("\\f"),
-        b'\r' => f.write_str("\\r"),
-        b' '..=b'~' => write!(f, "{}", byte as char),
-        _ => write!(f, "\\{:03o}", byte),
+        b'"' => Some(b'"'),
+        b'\\' => Some(b'\\'),
+        7 => Some(b'a'),
+        8 => Some(b'b'),
+        b'\t' => Some(b't'),
+        b'\n' => Some(b'n'),
+        11 => Some(b'v'),
+        12 => Some(b'f'),
+        b'\r' => Some(b'r'),
+        _ => None,
     }
 }
