@@ -60,12 +60,12 @@ bad_once files p q (inr (inr a)) (inr (inr b)) = bad_in_once (undo_folder_of fil
 
 -- ---- one step is pending
 
-record IsOneStep (journal : Journal) (way : PendingWay) (step : Recorded) (other : Journal) (turn : PendingWay) (next : Recorded) : Type 0 where
-  journals : journal ≡ other
-  ways : way ≡ turn
-  steps : step ≡ next
+pub record IsOneStep (journal : Journal) (way : PendingWay) (step : Recorded) (other : Journal) (turn : PendingWay) (next : Recorded) : Type 0 where
+  pub journals : journal ≡ other
+  pub ways : way ≡ turn
+  pub steps : step ≡ next
 
-one_step : (folder : Files) (journal other : Journal) (way turn : PendingWay) (step next : Recorded)
+pub one_step : (folder : Files) (journal other : Journal) (way turn : PendingWay) (step next : Recorded)
     → KeepsJournal folder journal (Some (record { entry = number_of step; way = way })) → KeepsJournal folder other (Some (record { entry = number_of next; way = turn }))
     → IsKeptIn folder step → IsKeptIn folder next → IsOneStep journal way step other turn next
 one_step folder journal other way turn step next keeps keeps_other kept kept_next =
@@ -82,7 +82,7 @@ one_step folder journal other way turn step next keeps keeps_other kept kept_nex
     }
 
 -- none is where another journal tells of none
-none_pending : (folder : Files) (journal other : Journal) (pending : Pending) → KeepsJournal folder journal None → KeepsJournal folder other (Some pending) → ⊥
+pub none_pending : (folder : Files) (journal other : Journal) (pending : Pending) → KeepsJournal folder journal None → KeepsJournal folder other (Some pending) → ⊥
 none_pending folder journal other pending keeps keeps_other = let e = (same_journal folder journal other None (Some pending) keeps keeps_other).1 in cc
 
 -- ---- it is stuck at one path

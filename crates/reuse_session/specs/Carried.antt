@@ -2,7 +2,7 @@
 use Rattle.std.specs.Prelude.{◌≡◌, ◌⊎◌, ℕ, List, Some}
 use Rattle.reuse_tree.specs.Files.{Files, tree_of}
 use Rattle.reuse_tree.specs.declared.change.Change.{Change}
-use Rattle.reuse_tree.specs.Entry.{LeadsBy, SomeMade, ArePartlyMade}
+use Rattle.reuse_tree.specs.Entry.{opposite, LeadsBy, SomeMade, ArePartlyMade}
 use Rattle.reuse_session.specs.JournalFiles.{head_path}
 use Rattle.reuse_tree.specs.Tree.{Sets, undo_folder_of}
 use Rattle.reuse_tree.specs.declared.way.Way.{Way}
@@ -31,3 +31,9 @@ abbrev pub StopsRollingBack : Way → List Change → List ℕ → Files → Fil
 StopsRollingBack way changes head start before after =
     (SomeMade way changes start (tree_of after) × (undo_folder_of after ≡ undo_folder_of before))
     ⊎ ((tree_of after ≡ start) × SetsHead head before after)
+
+-- rolling back stops: some of the changes are taken back under the head that was there, or all that were made are under the new one
+abbrev pub StopsBack : Way → List Change → List ℕ → Files → Files → Type 0
+StopsBack way changes head before after =
+    (SomeMade (opposite way) changes (tree_of before) (tree_of after) × (undo_folder_of after ≡ undo_folder_of before))
+    ⊎ IsRolledBack way changes head before after

@@ -67,8 +67,8 @@ pub fn open_journal<S: Store>(alloc: Global, store: &mut S) -> Result<History, R
     }
 }
 
-// Reads the head and each entry that it names. It answers what is pending, and what the head lists.
-fn read_journal<S: Store>(
+/// Reads the head and each entry that it names. It answers what is pending, and what the head lists.
+pub fn read_journal<S: Store>(
     alloc: Global,
     store: &mut S,
 ) -> Result<(Option<Pending>, History), Refusal>

@@ -3,7 +3,7 @@ ghost use Rattle.std.specs.Prelude.{◌≡◌, ◌≢◌, ◌<◌, ◌≤◌, �
 ghost use Rattle.std.specs.List.{All};
 ghost use Rattle.reuse_tree.specs.Files.{Files, AreFiles, Clashes, tree_of};
 ghost use Rattle.reuse_session.specs.Answer.{told_of, HasCause, IsEarly, IsNoClash, IsRollBackRefusal};
-ghost use Rattle.reuse_session.specs.Carried.{IsRolledBack, StopsRollingBack};
+ghost use Rattle.reuse_session.specs.Carried.{IsRolledBack, StopsBack, StopsRollingBack};
 ghost use Rattle.reuse_tree.specs.Turn.{NotesMoves};
 ghost use Rattle.reuse_tree.specs.Entry.{IsEntry, SomeMade, ArePartlyMade, CanBeSetBack, IsFirstWithout};
 ghost use Rattle.reuse_session.specs.Session.{IsSameBut};
@@ -51,6 +51,9 @@ pub fn roll_back<S: Store>(
     ensures left { S.honest store.new → IsEntry changes.now → (start : Files) → ArePartlyMade way changes.now start (tree_of (S.files store.old))
         → Leaves S.Store store.old (λ kept. SomeMade way changes.now start (tree_of kept))
         → (cause : Cause) → result ≡ Err (refusals.Interrupted cause) → StopsBackWithDoubt S.Store way changes.now settled.now start (S.files store.old) store.new }
+    // Where it stops, each path is as it was or is set back.
+    ensures back { S.honest store.new → IsEntry changes.now → (cause : Cause) → result ≡ Err (refusals.Interrupted cause)
+        → StopsBack way changes.now settled.now (S.files store.old) (S.files store.new) }
     ensures refusal { IfErr result IsRollBackRefusal }
     ensures clash { S.honest store.new → IsEntry changes.now → ¬ (Clashes (S.files store.old) head_path) → IfErr result IsNoClash }
     // It stops only where each change isn't made or can be taken back.
@@ -74,8 +77,8 @@ pub fn roll_back<S: Store>(
     }
 }
 
-// What is told of a cause: a stop once a put or a removal has started.
-fn told(started: bool, cause: Cause) -> Refusal
+/// What is told of a cause: a stop once a put or a removal has started.
+pub fn told(started: bool, cause: Cause) -> Refusal
     ensures { result ≡ told_of started cause }
 {
     match (started, cause) {
@@ -105,6 +108,7 @@ fn set_all_back<S: Store>(
     ensures left { S.honest store.new → IsEntry changes.now → (start : Files) → ArePartlyMade way changes.now start (tree_of (S.files store.old))
         → Leaves S.Store store.old (IsMidway way changes.now start (undo_folder_of (S.files store.old)))
         → OnErr result (StopsBackWithDoubt S.Store way changes.now settled.now start (S.files store.old) store.new) }
+    ensures back { S.honest store.new → IsEntry changes.now → OnErr result (StopsBack way changes.now settled.now (S.files store.old) (S.files store.new)) }
     ensures cause { S.honest store.new → IsEntry changes.now → All (CanBeSetBack way (tree_of (S.files store.old))) changes.now
         → ¬ (Clashes (S.files store.old) head_path) → (result ≢ Err Cause.Moved) × (result ≢ Err Cause.Clash) }
     ensures folder { S.honest store.new → IsEntry changes.now → IsSameBut head_path (undo_folder_of (S.files store.old)) (undo_folder_of (S.files store.new)) }

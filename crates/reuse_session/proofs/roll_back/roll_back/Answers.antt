@@ -7,7 +7,7 @@ use Rattle.reuse_tree.specs.Files.{Files, Clashes, tree_of}
 use Rattle.reuse_tree.specs.Lasting.{IsMidway}
 use Rattle.reuse_tree.specs.Tree.{undo_folder_of}
 use Rattle.reuse_session.specs.Answer.{told_of, HasCause, IsEarly, IsNoClash, IsRollBackRefusal}
-use Rattle.reuse_session.specs.Carried.{StopsRollingBack}
+use Rattle.reuse_session.specs.Carried.{StopsBack, StopsRollingBack}
 use Rattle.reuse_session.specs.Losses.{StopsBackWithDoubt}
 use Rattle.reuse_tree.specs.Entry.{ArePartlyMade, CanBeSetBack, SomeMade}
 use Rattle.reuse_session.specs.JournalFiles.{head_path}
@@ -124,6 +124,14 @@ returns-in-Err-clause-stopped g c honest good start partly cause e =
     let stopped = c.set_all_back.ensures.stopped honest good start (still_partly g at before start partly) in
     subst (λ files. StopsRollingBack c.args.way c.args.changes.now c.args.settled.now start files after) (same_files g at before)
     (subst (λ r. OnErr r (StopsRollingBack c.args.way c.args.changes.now c.args.settled.now start (store.files c.sync.new.self) after)) c.in-Err.is stopped)
+
+pub returns-in-Err-clause-back : goal.returns-in-Err-clause-back
+returns-in-Err-clause-back g c honest good cause e =
+    let store = g.S.Store in
+    let at = (goal.at.returns-in-Err-clause-back g c).After-sync in
+    let after = store.files c.set_all_back.new.store in
+    subst (λ files. StopsBack c.args.way c.args.changes.now c.args.settled.now files after) (same_files g at (c.set_all_back.ensures.later.was_honest honest))
+    (subst (λ r. OnErr r (StopsBack c.args.way c.args.changes.now c.args.settled.now (store.files c.sync.new.self) after)) c.in-Err.is (c.set_all_back.ensures.back honest good))
 
 pub returns-in-Err-clause-left : goal.returns-in-Err-clause-left
 returns-in-Err-clause-left g c honest good start partly sure cause e =

@@ -7,7 +7,7 @@ use Rattle.reuse_tree.specs.Change.{path_of}
 use Rattle.reuse_tree.specs.declared.change.Change.{Change}
 use Rattle.reuse_tree.proofs.NotedMoves.{notes_none, notes_more, notes_last}
 use Rattle.reuse_tree.specs.declared.way.Way.{Way}
-use Rattle.reuse_session.specs.Carried.{IsRolledBack, StopsRollingBack}
+use Rattle.reuse_session.specs.Carried.{IsRolledBack, StopsBack, StopsRollingBack}
 use Rattle.reuse_tree.specs.Tree.{undo_folder_of, Sets}
 use Rattle.reuse_tree.specs.Entry.{IsEntry, IsReady, CanBeSetBack, SomeMade, ArePartlyMade, LeadsByOneChange, TurnsBy, opposite}
 use Rattle.reuse_session.specs.JournalFiles.{head_path}
@@ -18,6 +18,7 @@ use Rattle.reuse_tree.specs.Lasting.{IsMidway}
 use Rattle.reuse_tree.proofs.AtChange.{IsOfEntry, at_change, folder_at_stop, of_entry, walked, stays_none, stays_on}
 use Rattle.reuse_tree.proofs.OfTree.{tree_at, step_of_tree, clash_in_tree}
 use Rattle.reuse_tree.proofs.MadeLemmas.{made_none, back_none, back_more, still_made, still_free, set_back_of_tree, folder_stays_back, made_from_start, back_at_start}
+use Rattle.reuse_session.proofs.BackAgain.{made_in_front, seen_from_there}
 use Rattle.reuse_session.proofs.LeftByRollBacks.{certain_back, head_or_not, midway_back, notes_reads}
 use Rattle.reuse_session.proofs.HeadPuts.{head_sets, head_keeps_tree, head_clashed}
 use Rattle.reuse_session.proofs.roll_back.set_all_back.Given.{Over}
@@ -99,6 +100,30 @@ returns-in_err-set_back-clause-stopped g c honest good start partly =
     let stops = c.in_err-set_back.ensures.err honest of.proper of.small in
     subst (λ r. OnErr r (StopsRollingBack c.args.way c.args.changes.now c.args.settled.now start old after)) (sym p.1) (inl (
       some_at_stop c.args.way c.args.changes.now good c.loop-change.change-index c.loop-change-test.true c.change-item.result c.change-item.is start old (g.S.Store.files c.loop-change.store) after partly
+          (c.loop-change.invariant.back (c.set_back.ensures.later.was_honest honest) good) stops,
+      folder_stopped g at.After-set_back honest good stops,
+    ))
+
+-- some of the changes are set back then
+back_at_stop : (way : Way) (changes : List Change) (good : IsEntry changes) (i : ℕ) (lt : i < length changes) (change : Change) (is : change ≡ get_or changes i change) (old now after : Files)
+    → ArePartlyMade way (take i changes) (tree_of now) (tree_of old) → (after ≡ now) ⊎ LeadsByOneChange (opposite way) change now after → SomeMade (opposite way) changes (tree_of old) (tree_of after)
+back_at_stop way changes good i lt change is old now after back (inl same) =
+    subst (λ files. SomeMade (opposite way) changes (tree_of old) (tree_of files)) (sym same)
+    (seen_from_there way changes (tree_of now) (tree_of old) (made_in_front way changes good i (tree_of now) (tree_of old) back.made))
+back_at_stop way changes good i lt change is old now after back (inr step) =
+    let more = back_more way changes good i lt change is (tree_of old) (tree_of now) back (tree_of after) (inr (step_of_tree (opposite way) change now after (of_entry changes i lt change is good).of_tree step)) in
+    seen_from_there way changes (tree_of after) (tree_of old) (made_in_front way changes good (i + 1) (tree_of after) (tree_of old) more.made)
+
+pub returns-in_err-set_back-clause-back : goal.returns-in_err-set_back-clause-back
+returns-in_err-set_back-clause-back g c honest good =
+    let at = goal.at.returns-in_err-set_back-clause-back g c in
+    let of = here g at.After-change-item good in
+    let old = g.S.Store.files c.args.store.now in
+    let after = g.S.Store.files c.set_back.new.store in
+    let p = err_from_is_err_and c.from_residual.result c.from_residual.ensures.1 in
+    let stops = c.in_err-set_back.ensures.err honest of.proper of.small in
+    subst (λ r. OnErr r (StopsBack c.args.way c.args.changes.now c.args.settled.now old after)) (sym p.1) (inl (
+      back_at_stop c.args.way c.args.changes.now good c.loop-change.change-index c.loop-change-test.true c.change-item.result c.change-item.is old (g.S.Store.files c.loop-change.store) after
           (c.loop-change.invariant.back (c.set_back.ensures.later.was_honest honest) good) stops,
       folder_stopped g at.After-set_back honest good stops,
     ))
@@ -198,6 +223,10 @@ module _ (way : Way) (changes : List Change) (settled : List ℕ) (good : IsEntr
     head_set sets,
   )
 
+  stops_back : (after ≡ now) ⊎ Sets head_path (Some settled) now after → StopsBack way changes settled old after
+  stops_back (inl same) = inl (subst (λ files. SomeMade (opposite way) changes (tree_of old) (tree_of files)) (sym same) (seen_from_there way changes (tree_of now) (tree_of old) back.made), ap undo_folder_of same ∙ folder)
+  stops_back (inr sets) = inr (rolled_back sets)
+
 -- all changes are back behind the barrier
 all_are_back : (g : Over) (c : After-sync g) → g.S.Store.honest c.sync.new.self → IsEntry c.args.changes.now
     → ArePartlyMade c.args.way c.args.changes.now (tree_of (g.S.Store.files c.sync.new.self)) (tree_of (g.S.Store.files c.args.store.now)) × (undo_folder_of (g.S.Store.files c.sync.new.self) ≡ undo_folder_of (g.S.Store.files c.args.store.now))
@@ -225,6 +254,15 @@ returns-in_err-sync-clause-stopped g c honest good start partly =
     let p = err_from_is_err_and c.from_residual-in_err-sync.result c.from_residual-in_err-sync.ensures.1 in
     subst (λ r. OnErr r (StopsRollingBack c.args.way c.args.changes.now c.args.settled.now start old after)) (sym p.1)
     (stops_at_head c.args.way c.args.changes.now c.args.settled.now good old after after back.0 back.1 start partly (inl refl))
+
+pub returns-in_err-sync-clause-back : goal.returns-in_err-sync-clause-back
+returns-in_err-sync-clause-back g c honest good =
+    let old = g.S.Store.files c.args.store.now in
+    let after = g.S.Store.files c.sync.new.self in
+    let back = all_are_back g (goal.at.returns-in_err-sync-clause-back g c).After-sync honest good in
+    let p = err_from_is_err_and c.from_residual-in_err-sync.result c.from_residual-in_err-sync.ensures.1 in
+    subst (λ r. OnErr r (StopsBack c.args.way c.args.changes.now c.args.settled.now old after)) (sym p.1)
+    (stops_back c.args.way c.args.changes.now c.args.settled.now good old after after back.0 back.1 (inl refl))
 
 pub returns-in_err-sync-clause-left : goal.returns-in_err-sync-clause-left
 returns-in_err-sync-clause-left g c honest good start partly sure =
@@ -308,3 +346,8 @@ returns-clause-written g c good =
     let a = c.put_head.ensures.written in
     let b = c.loop-change.invariant.walk.written good in
     omega (arith, a, b, c.sync.ensures.reads.written)
+
+pub returns-clause-back : goal.returns-clause-back
+returns-clause-back g c honest good =
+    let back = all_are_back g (goal.at.returns-clause-back g c).After-sync (c.put_head.ensures.later.was_honest honest) good in
+    on_err_weaker c.put_head.result (stops_back c.args.way c.args.changes.now c.args.settled.now good _ _ (g.S.Store.files c.put_head.new.store) back.0 back.1) (c.put_head.ensures.err honest)

@@ -1,0 +1,42 @@
+-- Where no change of a pending step can be set back, its head alone is put.
+use Rattle.std.proofs.Common.{◌≡◌, ◌⊎◌, inl, inr, ⊎_elim, List, [], ℕ, Some, Result, Ok, Err, IfErr, OnOk, refl, sym, ap, subst}
+use Rattle.std.specs.FinMap.{get}
+use Rattle.reuse_tree.specs.Asked.{OnlyReads}
+use Rattle.reuse_tree.specs.Entry.{opposite, ArePartlyMade, SomeMade}
+use Rattle.reuse_tree.specs.Files.{Files, tree_of}
+use Rattle.reuse_tree.specs.Tree.{undo_folder_of, Sets}
+use Rattle.reuse_tree.specs.declared.cause.Cause.{Cause}
+use Rattle.reuse_tree.specs.declared.change.Change.{Change}
+use Rattle.reuse_tree.specs.declared.store.Store.{Ghosts}
+use Rattle.reuse_tree.specs.declared.way.Way.{Way}
+use Rattle.reuse_tree.proofs.MadeLemmas.{back_none, made_none}
+use Rattle.reuse_session.specs.Answer.{IsEarly}
+use Rattle.reuse_session.specs.Carried.{IsRolledBack, StopsBack}
+use Rattle.reuse_session.specs.JournalFiles.{head_path}
+use Rattle.reuse_session.specs.Session.{IsSameBut}
+use Rattle.reuse_session.specs.declared.reply.Refusal.{Refusal}
+use Rattle.reuse_session.specs.declared.reply.Refusal.TheVariants.{Interrupted}
+use Rattle.reuse_session.proofs.HeadPuts.{head_sets, head_keeps_tree}
+
+module _ (way : Way) (text : List ℕ) (old new : Files) where
+  pub cleared : (changes : List Change) → changes ≡ [] → Sets head_path (Some text) old new → IsRolledBack way changes text old new
+  cleared changes none sets =
+      subst (λ cs. IsRolledBack way cs text old new) (sym none) (record {
+        partly = subst (λ tree. ArePartlyMade way [] tree (tree_of old)) (sym (head_keeps_tree old new (Some text) sets)) (back_none way [] (tree_of old));
+        sets = head_sets old new (Some text) sets;
+      })
+
+  pub cleared_or_not : (changes : List Change) → changes ≡ [] → (new ≡ old) ⊎ Sets head_path (Some text) old new → StopsBack way changes text old new
+  cleared_or_not changes none (inl same) = inl (subst (λ files. SomeMade (opposite way) changes (tree_of old) (tree_of files)) (sym same) (made_none (opposite way) changes (tree_of old)), ap undo_folder_of same)
+  cleared_or_not changes none (inr sets) = inr (cleared changes none sets)
+
+-- the rest of the journal's folder stays
+pub cleared_alone : {A S : Type 0} (store : Ghosts S) (text : List ℕ) (old new : S) (result : Result A Refusal) → store.honest new → OnOk result (Sets head_path (Some text) (store.files old) (store.files new))
+    → ((cause : Cause) → result ≡ Err (Interrupted cause) → (store.files new ≡ store.files old) ⊎ Sets head_path (Some text) (store.files old) (store.files new))
+    → IfErr result (λ refusal. IsEarly refusal → OnlyReads store old new) → IsSameBut head_path (undo_folder_of (store.files old)) (undo_folder_of (store.files new))
+cleared_alone store text old new (Ok x) honest done stopped early = (head_sets (store.files old) (store.files new) (Some text) done).elsewhere
+cleared_alone store text old new (Err (Interrupted cause)) honest done stopped early = ⊎_elim
+    (λ (same : store.files new ≡ store.files old). λ other differs. ap (λ files. get (undo_folder_of files) other) same)
+    (λ (sets : Sets head_path (Some text) (store.files old) (store.files new)). (head_sets (store.files old) (store.files new) (Some text) sets).elsewhere)
+    (stopped cause refl)
+cleared_alone store text old new (Err refusal) honest done stopped early = λ other differs. ap (λ files. get (undo_folder_of files) other) ((early tt).files honest)
