@@ -29,7 +29,7 @@ use Rattle.reuse_session.specs.declared.fate.Fate.{Fate}
 use Rattle.reuse_session.specs.declared.fate.Fate.TheVariants as fate
 use Rattle.reuse_session.specs.declared.reply.Refusal.{Refusal}
 use Rattle.reuse_session.specs.declared.reply.Refusal.TheVariants as refusals
-use Rattle.reuse_session.specs.Reverting.{stands_as_written, is_short, put_back, taken_back, taken_back_on, stuck_on}
+use Rattle.reuse_session.specs.Reverting.{stands_as_written, is_short, put_back, taken_back, taken_back_on, taken_back_unless, stuck_on}
 use Rattle.reuse_text.specs.Text.{spliced}
 use Rattle.reuse_tree.specs.Change.{path_of, IsProper}
 use Rattle.reuse_tree.specs.declared.change.Change.{Change}
@@ -40,7 +40,7 @@ use Rattle.reuse_session.proofs.EachEdit.{EachTakenBack, each_edit}
 use Rattle.reuse_session.proofs.FatePlans.{none_refused}
 use Rattle.reuse_session.proofs.Outcomes.{edits_of_tree, some_edit, same_edit, unskipped}
 use Rattle.reuse_session.proofs.Planning.{paths_at, with_same, with_other, edited_other}
-use Rattle.reuse_session.proofs.RevertFitting.{backs, back_on, path_back, edits_are}
+use Rattle.reuse_session.proofs.RevertFitting.{backs, back_on, path_back, path_unless, edits_are}
 use Rattle.reuse_session.proofs.RevertPlanning.{and_first, splice_differs}
 use Rattle.reuse_session.proofs.Results.{err_or}
 
@@ -104,17 +104,17 @@ unfolding is_change
 no_way_back true path other fates = refl
 no_way_back false path other fates = refl
 
-of_revert : (tree : Files) (skip : Bool) (path : List ℕ) (changes : List Change) → list_any (is_change path) (map (revert_fate skip tree) changes) ≡ is_among (paths_at (backs tree changes)) path
+of_revert : (touched : List (List ℕ)) (tree : Files) (skip : Bool) (path : List ℕ) (changes : List Change) → list_any (is_change path) (map (revert_fate touched skip tree) changes) ≡ is_among (paths_at (backs touched tree changes)) path
 unfolding is_change
-of_revert tree skip path [] = refl
-of_revert tree skip path (c ∷ cs) = by_back (taken_back_on tree c) refl (of_revert tree skip path cs)
+of_revert touched tree skip path [] = refl
+of_revert touched tree skip path (c ∷ cs) = by_back (taken_back_unless touched tree c) refl (of_revert touched tree skip path cs)
   where
-    by_back : (o : Option Edit) → taken_back_on tree c ≡ o → list_any (is_change path) (map (revert_fate skip tree) cs) ≡ is_among (paths_at (backs tree cs)) path
-        → list_any (is_change path) (cond (is_some o) (fate.Changes (path_of c)) (cond skip (fate.Skipped (path_of c)) (fate.Refused (refusals.Moved (path_of c)))) ∷ map (revert_fate skip tree) cs)
-        ≡ is_among (paths_at (cons_option o (backs tree cs))) path
-    by_back None is rest = no_way_back skip path (path_of c) (map (revert_fate skip tree) cs) ∙ rest
+    by_back : (o : Option Edit) → taken_back_unless touched tree c ≡ o → list_any (is_change path) (map (revert_fate touched skip tree) cs) ≡ is_among (paths_at (backs touched tree cs)) path
+        → list_any (is_change path) (cond (is_some o) (fate.Changes (path_of c)) (cond skip (fate.Skipped (path_of c)) (fate.Refused (refusals.Moved (path_of c)))) ∷ map (revert_fate touched skip tree) cs)
+        ≡ is_among (paths_at (cons_option o (backs touched tree cs))) path
+    by_back None is rest = no_way_back skip path (path_of c) (map (revert_fate touched skip tree) cs) ∙ rest
     by_back (Some edit) is rest =
-        ap (λ b. bytes_eq path (path_of c) || b) rest ∙ ap (λ p. bytes_eq path p || is_among (paths_at (backs tree cs)) path) (sym (path_back tree c edit is))
+        ap (λ b. bytes_eq path (path_of c) || b) rest ∙ ap (λ p. bytes_eq path p || is_among (paths_at (backs touched tree cs)) path) (sym (path_unless touched tree c edit is))
 
 of_command : (command : Command) (tree : Files) (path : List ℕ) (edits : List Edit) → edits_of command tree ≡ Ok edits → list_any (is_change path) (path_fates command tree) ≡ is_among (paths_at edits) path
 of_command (Annotate places additions how scope) tree path edits h = by_styles (styles_in tree) h
@@ -131,9 +131,9 @@ of_command (Download ids texts) tree path edits h =
     let none = none_or (ids_refusal tree texts (set_of ids)) (map (licence_edit texts) (set_of (map licence_path (set_of ids)))) edits h in
     ap (λ fs. list_any (is_change path) (or_else fs (edit_fates (download_edits ids texts tree)))) (none_refused tree texts (set_of ids) none)
     ∙ ap (λ r. list_any (is_change path) (edit_fates r)) h ∙ of_edits path edits
-of_command (Revert changes skip_moved) tree path edits h =
-    of_revert tree skip_moved path changes
-    ∙ ap (λ es. is_among (paths_at es) path) (edits_are tree (cond skip_moved [] (stuck_on tree changes)) (backs tree changes) edits h)
+of_command (Revert changes touched skip_moved) tree path edits h =
+    of_revert touched tree skip_moved path changes
+    ∙ ap (λ es. is_among (paths_at es) path) (edits_are touched tree (cond skip_moved [] (stuck_on touched tree changes)) (backs touched tree changes) edits h)
 
 -- ---- each edit changes its file
 
@@ -192,7 +192,7 @@ each_differs command tree edits holds h =
     all_proper (Annotate places additions how scope) holds = tt
     all_proper ConvertDep5 holds = tt
     all_proper (Download ids texts) holds = tt
-    all_proper (Revert changes skip_moved) holds = recursion_from_All IsProper changes holds.0.proper
+    all_proper (Revert changes touched skip_moved) holds = recursion_from_All IsProper changes holds.0.proper
 
 -- ---- the edited tree
 

@@ -24,7 +24,7 @@ use Rattle.reuse_session.specs.Edit.{Edit, made, dropped}
 use Rattle.reuse_session.specs.Licence.{licence_path, licence_id}
 use Rattle.reuse_tree.specs.Listing.{is_folder}
 use Rattle.reuse_session.specs.Outcome.{edits_at, edits_by_names, edits_of}
-use Rattle.reuse_session.specs.Reverting.{taken_back_on, stuck_on}
+use Rattle.reuse_session.specs.Reverting.{taken_back_on, taken_back_unless, stuck_on}
 use Rattle.reuse_session.specs.TreeStyles.{OwnNames, styles_in}
 use Rattle.reuse_session.specs.Worked.{worked_paths}
 use Rattle.reuse_session.specs.declared.command.Command.{Command}
@@ -40,11 +40,12 @@ use Rattle.reuse_session.proofs.Annotating.{both_err, if_not, all_edits}
 use Rattle.reuse_session.proofs.Downloading.{IsMade, are_made}
 use Rattle.reuse_session.proofs.Outcomes.{edits_unless, some_edit, unskipped}
 use Rattle.reuse_session.proofs.RevertFitting.{backs, edits_are}
+use Rattle.reuse_session.proofs.RevertPlanning.{untouched_back}
 use Rattle.reuse_session.proofs.Results.{err_or, same_Ok, none_from_test}
 
 -- what is wanted of the changes that a revert takes back
 abbrev pub EachTakenBack : (Change → Type 0) → Command → Type 0
-EachTakenBack Q (Revert changes skip_moved) = AllByRecursion Q changes
+EachTakenBack Q (Revert changes touched skip_moved) = AllByRecursion Q changes
 EachTakenBack Q command = Unit {0}
 
 module _
@@ -105,13 +106,13 @@ module _
         each [] all = tt
         each (p ∷ paths) all = (comes p (unwrap_or (text_for texts (licence_id p)) []) all.0.absent, each paths all.1)
 
-    of_revert : (changes : List Change) → AllByRecursion Q changes → AllByRecursion P (backs tree changes)
-    of_revert [] all = tt
-    of_revert (c ∷ cs) all = by_back (taken_back_on tree c) refl (of_revert cs all.1)
+    of_revert : (touched : List (List ℕ)) (changes : List Change) → AllByRecursion Q changes → AllByRecursion P (backs touched tree changes)
+    of_revert touched [] all = tt
+    of_revert touched (c ∷ cs) all = by_back (taken_back_unless touched tree c) refl (of_revert touched cs all.1)
       where
-        by_back : (o : Option Edit) → taken_back_on tree c ≡ o → AllByRecursion P (backs tree cs) → AllByRecursion P (cons_option o (backs tree cs))
+        by_back : (o : Option Edit) → taken_back_unless touched tree c ≡ o → AllByRecursion P (backs touched tree cs) → AllByRecursion P (cons_option o (backs touched tree cs))
         by_back None is rest = rest
-        by_back (Some edit) is rest = (back c edit all.0 is, rest)
+        by_back (Some edit) is rest = (back c edit all.0 (untouched_back touched tree c edit is).1, rest)
 
     pub each_edit : (command : Command) (edits : List Edit) → EachTakenBack Q command → edits_of command tree ≡ Ok edits → AllByRecursion P edits
     each_edit (Annotate places additions how scope) edits wanted h = by_styles (styles_in tree) h
@@ -123,5 +124,5 @@ module _
             (if_not (not scope.recursive && has_root places) (refusals.IsFolder place.Root) (edits_at (annotated_at how scope additions own tree) (worked_paths scope places tree)) edits e)
     each_edit ConvertDep5 edits wanted h = of_conversion edits h
     each_edit (Download ids texts) edits wanted h = of_download ids texts edits h
-    each_edit (Revert changes skip_moved) edits wanted h =
-        subst (AllByRecursion P) (edits_are tree (cond skip_moved [] (stuck_on tree changes)) (backs tree changes) edits h) (of_revert changes wanted)
+    each_edit (Revert changes touched skip_moved) edits wanted h =
+        subst (AllByRecursion P) (edits_are touched tree (cond skip_moved [] (stuck_on touched tree changes)) (backs touched tree changes) edits h) (of_revert touched changes wanted)

@@ -102,4 +102,4 @@ edits_told command tree edits h =
     nothing (Annotate places additions how scope) = tt
     nothing ConvertDep5 = tt
     nothing (Download ids texts) = tt
-    nothing (Revert changes skip_moved) = each_nothing changes
+    nothing (Revert changes touched skip_moved) = each_nothing changes

@@ -21,7 +21,7 @@ use Rattle.reuse_session.specs.declared.fate.Fate.TheVariants as fate
 use Rattle.reuse_session.specs.declared.licence.LicenceText.{LicenceText}
 use Rattle.reuse_session.specs.declared.reply.Refusal.{Refusal}
 use Rattle.reuse_session.specs.declared.reply.Refusal.TheVariants as refusals
-use Rattle.reuse_session.specs.Reverting.{taken_back_on, stuck_on, unless_stuck, revert_edits}
+use Rattle.reuse_session.specs.Reverting.{taken_back_unless, stuck_on, unless_stuck, revert_edits}
 use Rattle.reuse_tree.specs.Change.{path_of}
 use Rattle.reuse_tree.specs.declared.change.Change.{Change}
 use Rattle.reuse_session.proofs.FatePlans.{first_of_ids, none_refused}
@@ -82,29 +82,29 @@ first_of_download ids texts tree = by_refusal (ids_refusal tree texts (set_of id
         ∙ sym (ap (λ o. refusal_in (unless_refused o (map (licence_edit texts) (set_of (map licence_path (set_of ids)))))) e)
 
 -- where such are skipped, no change of a revert is refused
-none_stuck : (tree : Files) (changes : List Change) → first_refusal (map (revert_fate true tree) changes) ≡ None
-none_stuck tree [] = refl
-none_stuck tree (c ∷ cs) = by_back (is_some (taken_back_on tree c)) (none_stuck tree cs)
+none_stuck : (touched : List (List ℕ)) (tree : Files) (changes : List Change) → first_refusal (map (revert_fate touched true tree) changes) ≡ None
+none_stuck touched tree [] = refl
+none_stuck touched tree (c ∷ cs) = by_back (is_some (taken_back_unless touched tree c)) (none_stuck touched tree cs)
   where
-    by_back : (b : Bool) → first_refusal (map (revert_fate true tree) cs) ≡ None
-        → first_refusal (cond b (fate.Changes (path_of c)) (fate.Skipped (path_of c)) ∷ map (revert_fate true tree) cs) ≡ None
+    by_back : (b : Bool) → first_refusal (map (revert_fate touched true tree) cs) ≡ None
+        → first_refusal (cond b (fate.Changes (path_of c)) (fate.Skipped (path_of c)) ∷ map (revert_fate touched true tree) cs) ≡ None
     by_back true rest = rest
     by_back false rest = rest
 
 -- else the first that can't be taken back is
-first_stuck : (tree : Files) (changes : List Change) (edits : List Edit) → first_refusal (map (revert_fate false tree) changes) ≡ refusal_in (unless_stuck (stuck_on tree changes) edits)
-first_stuck tree [] edits = refl
-first_stuck tree (c ∷ cs) edits = by_back (is_some (taken_back_on tree c)) (first_stuck tree cs edits)
+first_stuck : (touched : List (List ℕ)) (tree : Files) (changes : List Change) (edits : List Edit) → first_refusal (map (revert_fate touched false tree) changes) ≡ refusal_in (unless_stuck (stuck_on touched tree changes) edits)
+first_stuck touched tree [] edits = refl
+first_stuck touched tree (c ∷ cs) edits = by_back (is_some (taken_back_unless touched tree c)) (first_stuck touched tree cs edits)
   where
-    by_back : (b : Bool) → first_refusal (map (revert_fate false tree) cs) ≡ refusal_in (unless_stuck (stuck_on tree cs) edits)
-        → first_refusal (cond b (fate.Changes (path_of c)) (fate.Refused (refusals.Moved (path_of c))) ∷ map (revert_fate false tree) cs)
-        ≡ refusal_in (unless_stuck (cond (not b) (c ∷ stuck_on tree cs) (stuck_on tree cs)) edits)
+    by_back : (b : Bool) → first_refusal (map (revert_fate touched false tree) cs) ≡ refusal_in (unless_stuck (stuck_on touched tree cs) edits)
+        → first_refusal (cond b (fate.Changes (path_of c)) (fate.Refused (refusals.Moved (path_of c))) ∷ map (revert_fate touched false tree) cs)
+        ≡ refusal_in (unless_stuck (cond (not b) (c ∷ stuck_on touched tree cs) (stuck_on touched tree cs)) edits)
     by_back true rest = rest
     by_back false rest = refl
 
-first_of_revert : (tree : Files) (skip : Bool) (changes : List Change) → first_refusal (map (revert_fate skip tree) changes) ≡ refusal_in (revert_edits changes skip tree)
-first_of_revert tree true changes = none_stuck tree changes
-first_of_revert tree false changes = first_stuck tree changes (backs tree changes)
+first_of_revert : (touched : List (List ℕ)) (tree : Files) (skip : Bool) (changes : List Change) → first_refusal (map (revert_fate touched skip tree) changes) ≡ refusal_in (revert_edits changes touched skip tree)
+first_of_revert touched tree true changes = none_stuck touched tree changes
+first_of_revert touched tree false changes = first_stuck touched tree changes (backs touched tree changes)
 
 first_of_command : (command : Command) (tree : Files) → first_refusal (path_fates command tree) ≡ refusal_in (edits_of command tree)
 first_of_command (Annotate places additions how scope) tree = by_styles (styles_in tree)
@@ -120,7 +120,7 @@ first_of_command (Annotate places additions how scope) tree = by_styles (styles_
     by_styles (Ok own) = by_root own (not scope.recursive && has_root places)
 first_of_command ConvertDep5 tree = first_of_edits (conversion_edits tree)
 first_of_command (Download ids texts) tree = first_of_download ids texts tree
-first_of_command (Revert changes skip_moved) tree = first_of_revert tree skip_moved changes
+first_of_command (Revert changes touched skip_moved) tree = first_of_revert touched tree skip_moved changes
 
 first_of_limit : (tree : Files) (given : Result (List Edit) Refusal) → option_or (refusal_in given) (first_refusal (limit_fates given)) ≡ refusal_in (tree_after tree given)
 first_of_limit tree (Err refusal) = refl

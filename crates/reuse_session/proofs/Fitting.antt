@@ -330,4 +330,4 @@ command_fits (Annotate places additions how scope) tree holds are edits h = by_n
         (sorted-set_of (cond scope.recursive (flat_map (expanded scope tree) places) (paths_among places)))
 command_fits ConvertDep5 tree holds are edits h = fit_of tree edits (conversion_fits tree edits h)
 command_fits (Download ids texts) tree holds are edits h = fit_of tree edits (download_fits ids texts tree edits h)
-command_fits (Revert changes skip) tree holds are edits h = fit_of tree edits (revert_fits tree changes skip edits holds.0 holds.1 h)
+command_fits (Revert changes touched skip) tree holds are edits h = fit_of tree edits (revert_fits touched tree changes skip edits holds.0 holds.1 h)

@@ -1,5 +1,5 @@
 -- What a revert answers and leaves, from the run that it makes.
-use Rattle.std.proofs.Common.{◌≡◌, inl, inr, ℕ, ◌<◌, Bool, true, false, List, [], ◌∷◌, Result, Ok, Err, IfOk, refl, sym, ap, subst, ◌∙◌, arith}
+use Rattle.std.proofs.Common.{◌≡◌, ◌⊎◌, inl, inr, ℕ, ◌<◌, Bool, true, false, List, [], ◌∷◌, Result, Ok, Err, IfOk, refl, sym, ap, ap₂, subst, ◌∙◌, arith}
 use Rattle.std.specs.List.{Contains}
 use Rattle.std.specs.List.Sorted.{IsStrictlySortedBy}
 use Rattle.std.specs.FinMap.{get}
@@ -9,31 +9,31 @@ use Rattle.reuse_tree.specs.declared.change.Change.{Change}
 use Rattle.reuse_tree.specs.declared.fault.StoreFault.TheVariants as faults
 use Rattle.reuse_tree.specs.declared.store.Store.{Ghosts}
 use Rattle.reuse_tree.proofs.AskedLemmas.{later_more, later_reads}
-use Rattle.reuse_session.specs.Answer.{IsEarly, IsRunAnswer, RefusedAsRead, TellsNoFault}
+use Rattle.reuse_session.specs.Answer.{IsEarly, IsReadRefusal, IsRunAnswer, RefusedAsRead, TellsNoFault}
 use Rattle.reuse_session.specs.Calls.{folder_of, IsCall, LeavesRun}
 use Rattle.reuse_tree.specs.Entry.{paths_of}
-use Rattle.reuse_session.specs.Journal.{Recorded, State}
-use Rattle.reuse_session.specs.JournalFiles.{entry_path, entry_in, number_of, EntrySays}
+use Rattle.reuse_session.specs.Journal.{State}
+use Rattle.reuse_session.specs.JournalFiles.{entry_path, EntrySays}
 use Rattle.reuse_tree.specs.Listing.{ArePaths}
 use Rattle.reuse_session.specs.Machine.{Snapshots}
-use Rattle.reuse_session.specs.RevertCalls.{changed_or_none, as_run, left_of, LeavesRevert, Reverts, RevertFollows, TakesBack}
+use Rattle.reuse_session.specs.RevertCalls.{changed_or_none, as_run, left_of, touched_later, changed_later, IsBackOf, LeavesRevert, Reverts, RevertFollows, TakesBack}
 use Rattle.reuse_session.specs.Session.{store_of, memory_of, StandsOn, StandsAt, Runs}
 use Rattle.reuse_session.specs.Showing.{lists, IsUnused}
-use Rattle.reuse_tree.specs.Tree.{undo_folder_of}
 use Rattle.reuse_session.specs.declared.command.Command.{Command}
 use Rattle.reuse_session.specs.declared.command.Command.TheVariants.{Revert}
 use Rattle.reuse_tree.specs.declared.journal.entry.Entry.{Entry}
 use Rattle.reuse_session.specs.declared.reply.Refusal.{Refusal}
-use Rattle.reuse_session.specs.declared.reply.Refusal.TheVariants.{Fault, NoSuchStep}
+use Rattle.reuse_session.specs.declared.reply.Refusal.TheVariants.{BadJournal, Fault, NoSuchStep}
 use Rattle.reuse_session.specs.declared.reply.Reply.{Reply}
 use Rattle.reuse_session.specs.declared.reply.Reply.TheVariants.{Changed, NothingChanged}
 use Rattle.reuse_session.specs.declared.reply.Reverted.{Reverted}
 use Rattle.reuse_session.specs.declared.session.Session.{Session}
 use Rattle.reuse_tree.proofs.DifferingPaths.{changed_ascend}
-use Rattle.reuse_session.proofs.JournalLemmas.{same_entry}
 use Rattle.reuse_session.proofs.OnlyReading.{still_caused}
+use Rattle.reuse_session.proofs.LaterSteps.{later_as_machine}
 use Rattle.reuse_session.proofs.RunFollowing.{follows_exact}
-use Rattle.reuse_session.proofs.StepsByNumber.{done_step, led_to_tree, says_step, unkept, unused}
+use Rattle.reuse_session.proofs.StepAnswers.{read_told}
+use Rattle.reuse_session.proofs.StepsByNumber.{led_to_tree, unkept, unused}
 
 -- ---- answers
 
@@ -94,46 +94,49 @@ reverts_of number skip when held left (Ok reverted) is back = back
 reverts_of number skip when held left (Err (NoSuchStep other)) is back = absurd is
 reverts_of number skip when held left (Err refusal) is back = back
 
-module _ {S : Type 0} (files : S → Files) (session : Session S) (held left : State) (stands : StandsOn files session held) (number : ℕ) (skip : Bool) (when : ℕ)
-    (listed : lists (memory_of session).done number ≡ true) (entry : Entry) (says : EntrySays (get (undo_folder_of (files (store_of session))) (entry_path number)) entry)
-    (changes : List Change) (is_changes : changes ≡ entry.changes) (paths : List (List ℕ)) (is_paths : paths ≡ paths_of entry.changes)
+module _ (held left : State) (number : ℕ) (skip : Bool) (when : ℕ) (changes : List Change) (touched : List (List ℕ)) (back : IsBackOf number held.journal changes touched)
+    (paths : List (List ℕ)) (is_paths : paths ≡ paths_of changes)
     (answer : Result Reply Refusal) (kinds : IsRunAnswer answer) (result : Result Reverted Refusal) (same : as_run result ≡ answer)
     (skipped : IfOk result (λ reverted. ArePaths reverted.changed → reverted.skipped ≡ left_of paths reverted.changed))
-    (runs : Runs (Revert changes skip) when held answer left)
+    (runs : Runs (Revert changes touched skip) when held answer left)
   where
-    at : (step : Recorded) × Contains held.journal.done step × (number_of step ≡ number)
-    at = done_step (memory_of session) held.journal number stands.remembers listed
+    abbrev of_step : Command
+    of_step = Revert back.step.changes (touched_later number held.journal.done back.step.changes) skip
 
-    is_entry : entry ≡ entry_in at.0
-    is_entry = same_entry _ entry (entry_in at.0) says (says_step (undo_folder_of (files (store_of session))) held.journal stands.standing.journal true at.0 number at.1 at.2)
-
-    run_of_step : Runs (Revert (at.0).changes skip) when held (as_run result) left
+    run_of_step : Runs of_step when held (as_run result) left
     run_of_step =
-        subst (λ r. Runs (Revert (at.0).changes skip) when held r left) (sym same)
-        (subst (λ cs. Runs (Revert cs skip) when held answer left) (is_changes ∙ ap (λ (e : Entry). e.changes) is_entry) runs)
+        subst (λ r. Runs of_step when held r left) (sym same)
+        (subst (λ (k : Command). Runs k when held answer left) (ap₂ (λ cs ts. Revert cs ts skip) back.changes back.touched) runs)
 
-    left_out : (r : Result Reverted Refusal) → Runs (Revert (at.0).changes skip) when held (as_run r) left → IfOk r (λ reverted. ArePaths reverted.changed → reverted.skipped ≡ left_of paths reverted.changed)
-        → IfOk r (λ reverted. reverted.skipped ≡ left_of (paths_of (at.0).changes) reverted.changed)
-    left_out (Ok reverted) ran h =
-        h (ascend_changed (Revert (at.0).changes skip) when held left reverted.changed ran) ∙ ap (λ ps. left_of ps reverted.changed) (is_paths ∙ ap (λ (e : Entry). paths_of e.changes) is_entry)
+    left_out : (r : Result Reverted Refusal) → Runs of_step when held (as_run r) left → IfOk r (λ reverted. ArePaths reverted.changed → reverted.skipped ≡ left_of paths reverted.changed)
+        → IfOk r (λ reverted. reverted.skipped ≡ left_of (paths_of back.step.changes) reverted.changed)
+    left_out (Ok reverted) ran h = h (ascend_changed of_step when held left reverted.changed ran) ∙ ap (λ ps. left_of ps reverted.changed) (is_paths ∙ ap paths_of back.changes)
     left_out (Err refusal) ran h = tt
 
     pub reverts_step : Reverts number skip when held result left
     reverts_step = reverts_of number skip when held left result (subst IsRunAnswer (sym same) kinds) (record {
-      step = at.0;
-      is_done = at.1;
-      numbered = at.2;
+      step = back.step;
+      is_done = back.is_done;
+      numbered = back.numbered;
       runs = run_of_step;
       skipped = left_out result run_of_step skipped;
     })
 
-    pub revert_follows : (new : Session S) (state : Snapshots) (stands_at : StandsAt files session state) → held ≡ stands_at.held → StandsOn files new left → RevertFollows files number skip when state result new
-    revert_follows new state stands_at is_held stands_left =
-        let h = subst (λ (s : State). Contains s.journal.done at.0) is_held at.1 in
+    pub revert_follows : {S : Type 0} (files : S → Files) (session new : Session S) (state : Snapshots) (stands_at : StandsAt files session state) → held ≡ stands_at.held → StandsOn files new left
+        → RevertFollows files number skip when state result new
+    revert_follows files session new state stands_at is_held stands_left =
+        let cs = back.step.changes in
+        let h = subst (λ (s : State). Contains s.journal.done back.step) is_held back.is_done in
+        let late = ap (λ (s : State). touched_later number s.journal.done back.step.changes) is_held ∙ later_as_machine stands_at.held state stands_at.holds number back.step.changes in
+        let ran = subst (λ ts. Runs (Revert back.step.changes ts skip) when held (as_run result) left) late run_of_step in
         inr (
-          (at.0).changes,
-          led_to_tree stands_at.held state stands_at.holds at.0 number h at.2,
-          follows_exact files new state stands_at (Revert (at.0).changes skip) when (as_run result) (left, stands_left, subst (λ (s : State). Runs (Revert (at.0).changes skip) when s (as_run result) left) is_held run_of_step),
+          cs,
+          led_to_tree stands_at.held state stands_at.holds back.step number h back.numbered,
+          follows_exact files new state stands_at (Revert cs (changed_later number state.tree state.past cs) skip) when (as_run result) (
+            left,
+            stands_left,
+            subst (λ (s : State). Runs (Revert back.step.changes (changed_later number state.tree state.past back.step.changes) skip) when s (as_run result) left) is_held ran,
+          ),
         )
 
 -- no step that is done has the number
@@ -144,6 +147,11 @@ pub absent_follows : {S : Type 0} (files : S → Files) (session : Session S) (s
     → RevertFollows files number skip when state (Err (NoSuchStep number)) session
 absent_follows files session state stands_at number skip when none =
     inl (refl, unkept number state.tree stands_at.held.journal.done state.past stands_at.holds.past (absent_step files session stands_at.held stands_at.stands number none), stands_at)
+
+-- where nothing can be taken back and no fault is told, there is no such step
+pub no_step_back : (number : ℕ) (refusal : Refusal) → (refusal ≡ NoSuchStep number) ⊎ IsReadRefusal refusal → TellsNoFault {A = Reply} (Err refusal) → ((path : List ℕ) → refusal ≡ BadJournal path → ⊥) → refusal ≡ NoSuchStep number
+no_step_back number refusal (inl e) told good = e
+no_step_back number refusal (inr is) told good = absurd (read_told refusal is told good)
 
 -- the refusal tells no fault of the store
 abbrev pub IsNoFaultOfStore : Refusal → Type 0
@@ -176,7 +184,15 @@ fails_too {A} {B} store old new refusal fails = record {
 
 -- what the run leaves
 pub run_leaves : {S : Type 0} (store : Ghosts S) (number : ℕ) (skip : Bool) (when : ℕ) (result : Result Reverted Refusal) (answer : Result Reply Refusal) (old new : Session S) (entry : Entry) (changes : List Change)
-    → (store.honest (store_of new) → EntrySays (get (folder_of store old) (entry_path number)) entry) → changes ≡ entry.changes → as_run result ≡ answer → LeavesRun store (Revert changes skip) when answer old new
-    → LeavesRevert store number skip when result old new
-run_leaves store number skip when result answer old new entry changes says is_changes same leaves =
-    inr (entry, says, subst (λ r. LeavesRun store (Revert entry.changes skip) when r old new) (sym same) (subst (λ cs. LeavesRun store (Revert cs skip) when answer old new) is_changes leaves))
+    (touched : List (List ℕ)) → (store.honest (store_of new) → EntrySays (get (folder_of store old) (entry_path number)) entry) → changes ≡ entry.changes
+    → (store.honest (store_of new) → (held : State) → StandsOn store.files old held → IsBackOf number held.journal changes touched) → as_run result ≡ answer
+    → LeavesRun store (Revert changes touched skip) when answer old new → LeavesRevert store number skip when result old new
+run_leaves store number skip when result answer old new entry changes touched says is_changes back same leaves = inr (
+  entry,
+  says,
+  touched,
+  λ honest held stands.
+      let of = back honest held stands in
+      of.touched ∙ ap (touched_later number held.journal.done) (sym of.changes ∙ is_changes),
+  subst (λ r. LeavesRun store (Revert entry.changes touched skip) when r old new) (sym same) (subst (λ cs. LeavesRun store (Revert cs touched skip) when answer old new) is_changes leaves),
+)

@@ -21,10 +21,11 @@ use Rattle.reuse_session.specs.Edit.{Edit, made, dropped}
 use Rattle.reuse_tree.specs.Entry.{makes, paths_of, touches, IsEntry}
 use Rattle.reuse_tree.specs.EntryText.{HavePaths}
 use Rattle.reuse_tree.specs.Listing.{ArePaths, is_among}
-use Rattle.reuse_session.specs.Reverting.{stands_as_written, is_short, put_back, taken_back, taken_back_on, stuck_on, unless_stuck, revert_edits}
+use Rattle.reuse_session.specs.Reverting.{stands_as_written, is_short, put_back, taken_back, taken_back_on, taken_back_unless, stuck_on, unless_stuck, revert_edits}
 use Rattle.reuse_tree.specs.Tree.{is_of_tree}
 use Rattle.reuse_tree.specs.declared.way.Way.TheVariants.{Undo}
 use Rattle.reuse_session.proofs.Planning.{paths_at, IsFit, AreEdits}
+use Rattle.reuse_session.proofs.RevertPlanning.{untouched_back}
 use Rattle.reuse_tree.proofs.Testing.{clashes_keys}
 
 -- ---- one change
@@ -71,42 +72,45 @@ fit_back tree change edit of_tree good e = record {
     same : edit.path ≡ path_of change
     same = back_path change (get tree (path_of change)) edit back.0
 
+pub path_back : (tree : Files) (change : Change) (edit : Edit) → taken_back_on tree change ≡ Some edit → edit.path ≡ path_of change
+path_back tree change edit e = back_path change (get tree (path_of change)) edit (back_on tree change edit e).0
+
 -- ---- all changes
 
-module _ (tree : Files) where
+module _ (touched : List (List ℕ)) (tree : Files) where
   abbrev pub backs : List Change → List Edit
-  backs changes = filter_map (taken_back_on tree) changes
+  backs changes = filter_map (taken_back_unless touched tree) changes
 
-  pub path_back : (change : Change) (edit : Edit) → taken_back_on tree change ≡ Some edit → edit.path ≡ path_of change
-  path_back change edit e = back_path change (get tree (path_of change)) edit (back_on tree change edit e).0
+  pub path_unless : (change : Change) (edit : Edit) → taken_back_unless touched tree change ≡ Some edit → edit.path ≡ path_of change
+  path_unless change edit e = path_back tree change edit (untouched_back touched tree change edit e).1
 
   -- what is known of each path of the changes is known of those of the edits
   still_each : (P : List ℕ → Type 0) (changes : List Change) → AllByRecursion P (paths_of changes) → AllByRecursion P (paths_at (backs changes))
   still_each P [] each = tt
-  still_each P (c ∷ cs) each = by_back (taken_back_on tree c) refl (still_each P cs each.1)
+  still_each P (c ∷ cs) each = by_back (taken_back_unless touched tree c) refl (still_each P cs each.1)
     where
-      by_back : (o : Option Edit) → taken_back_on tree c ≡ o → AllByRecursion P (paths_at (backs cs)) → AllByRecursion P (paths_at (cons_option o (backs cs)))
+      by_back : (o : Option Edit) → taken_back_unless touched tree c ≡ o → AllByRecursion P (paths_at (backs cs)) → AllByRecursion P (paths_at (cons_option o (backs cs)))
       by_back None is rest = rest
-      by_back (Some edit) is rest = (subst P (sym (path_back c edit is)) each.0, rest)
+      by_back (Some edit) is rest = (subst P (sym (path_unless c edit is)) each.0, rest)
 
   pub still_ascend : (changes : List Change) → ArePaths (paths_of changes) → ArePaths (paths_at (backs changes))
   unfolding IsStrictlySortedBy
   still_ascend [] h = tt
-  still_ascend (c ∷ cs) h = by_back (taken_back_on tree c) refl (still_ascend cs h.1)
+  still_ascend (c ∷ cs) h = by_back (taken_back_unless touched tree c) refl (still_ascend cs h.1)
     where
-      by_back : (o : Option Edit) → taken_back_on tree c ≡ o → ArePaths (paths_at (backs cs)) → ArePaths (paths_at (cons_option o (backs cs)))
+      by_back : (o : Option Edit) → taken_back_unless touched tree c ≡ o → ArePaths (paths_at (backs cs)) → ArePaths (paths_at (cons_option o (backs cs)))
       by_back None is rest = rest
       by_back (Some edit) is rest =
-          (subst (λ p. AllByRecursion (λ q. slice_cmp nat_cmp p q ≡ Less) (paths_at (backs cs))) (sym (path_back c edit is)) (still_each (λ q. slice_cmp nat_cmp (path_of c) q ≡ Less) cs h.0), rest)
+          (subst (λ p. AllByRecursion (λ q. slice_cmp nat_cmp p q ≡ Less) (paths_at (backs cs))) (sym (path_unless c edit is)) (still_each (λ q. slice_cmp nat_cmp (path_of c) q ≡ Less) cs h.0), rest)
 
   pub still_among : (changes : List Change) (q : List ℕ) → is_among (paths_at (backs changes)) q ≡ true → touches changes q ≡ true
   still_among [] q h = h
-  still_among (c ∷ cs) q h = by_back (taken_back_on tree c) refl h (still_among cs q)
+  still_among (c ∷ cs) q h = by_back (taken_back_unless touched tree c) refl h (still_among cs q)
     where
-      by_back : (o : Option Edit) → taken_back_on tree c ≡ o → is_among (paths_at (cons_option o (backs cs))) q ≡ true → (is_among (paths_at (backs cs)) q ≡ true → touches cs q ≡ true)
+      by_back : (o : Option Edit) → taken_back_unless touched tree c ≡ o → is_among (paths_at (cons_option o (backs cs))) q ≡ true → (is_among (paths_at (backs cs)) q ≡ true → touches cs q ≡ true)
           → (bytes_eq q (path_of c) || touches cs q) ≡ true
       by_back None is among rest = ap (λ b. bytes_eq q (path_of c) || b) (rest among) ∙ or_right (bytes_eq q (path_of c)) true refl
-      by_back (Some edit) is among rest = by_test (bytes_eq q (path_of c)) (ap (λ p. bytes_eq q p || is_among (paths_at (backs cs)) q) (sym (path_back c edit is)) ∙ among)
+      by_back (Some edit) is among rest = by_test (bytes_eq q (path_of c)) (ap (λ p. bytes_eq q p || is_among (paths_at (backs cs)) q) (sym (path_unless c edit is)) ∙ among)
         where
           by_test : (b : Bool) → (b || is_among (paths_at (backs cs)) q) ≡ true → (b || touches cs q) ≡ true
           by_test true t = refl
@@ -114,11 +118,11 @@ module _ (tree : Files) where
 
   fit_each : (changes : List Change) → AllByRecursion (λ (c : Change). is_of_tree (path_of c) ≡ true) changes → AllByRecursion (λ (c : Change). IsTrue (is_path (path_of c))) changes → AllByRecursion (IsFit tree) (backs changes)
   fit_each [] of_tree good = tt
-  fit_each (c ∷ cs) of_tree good = by_back (taken_back_on tree c) refl (fit_each cs of_tree.1 good.1)
+  fit_each (c ∷ cs) of_tree good = by_back (taken_back_unless touched tree c) refl (fit_each cs of_tree.1 good.1)
     where
-      by_back : (o : Option Edit) → taken_back_on tree c ≡ o → AllByRecursion (IsFit tree) (backs cs) → AllByRecursion (IsFit tree) (cons_option o (backs cs))
+      by_back : (o : Option Edit) → taken_back_unless touched tree c ≡ o → AllByRecursion (IsFit tree) (backs cs) → AllByRecursion (IsFit tree) (cons_option o (backs cs))
       by_back None is rest = rest
-      by_back (Some edit) is rest = (fit_back tree c edit of_tree.0 good.0 is, rest)
+      by_back (Some edit) is rest = (fit_back tree c edit of_tree.0 good.0 (untouched_back touched tree c edit is).1, rest)
 
   are_edits : (changes : List Change) → IsEntry changes → HavePaths changes → AreEdits tree (backs changes)
   are_edits changes entry paths = record {
@@ -135,5 +139,5 @@ module _ (tree : Files) where
       same_ok a b h = cc
   edits_are (c ∷ cs) given edits e = absurd (cc)
 
-  pub revert_fits : (changes : List Change) (skip : Bool) (edits : List Edit) → IsEntry changes → HavePaths changes → revert_edits changes skip tree ≡ Ok edits → AreEdits tree edits
-  revert_fits changes skip edits entry paths e = subst (AreEdits tree) (edits_are (cond skip [] (stuck_on tree changes)) (backs changes) edits e) (are_edits changes entry paths)
+  pub revert_fits : (changes : List Change) (skip : Bool) (edits : List Edit) → IsEntry changes → HavePaths changes → revert_edits changes touched skip tree ≡ Ok edits → AreEdits tree edits
+  revert_fits changes skip edits entry paths e = subst (AreEdits tree) (edits_are (cond skip [] (stuck_on touched tree changes)) (backs changes) edits e) (are_edits changes entry paths)

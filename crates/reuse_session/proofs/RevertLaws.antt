@@ -202,20 +202,20 @@ module _ (before after : Files) where
       let none = not_both (makes Undo change) (is_clash after (path_of change)) (λ m c. free m ((clashes_keys after (path_of change)).0 c)) in
       (taken, where_free after change none ∙ taken.is))
 
-  none_stuck : (changes : List Change) → AllByRecursion IsBack changes → stuck_on after changes ≡ []
+  none_stuck : (changes : List Change) → AllByRecursion IsBack changes → stuck_on [] after changes ≡ []
   none_stuck [] all = refl
-  none_stuck (c ∷ cs) all = ap (λ o. cond (not (is_some o)) (c ∷ stuck_on after cs) (stuck_on after cs)) all.0.1 ∙ none_stuck cs all.1
+  none_stuck (c ∷ cs) all = ap (λ o. cond (not (is_some o)) (c ∷ stuck_on [] after cs) (stuck_on [] after cs)) all.0.1 ∙ none_stuck cs all.1
 
-  skips_none : (b : Bool) → cond b [] (stuck_on after []) ≡ []
+  skips_none : (b : Bool) → cond b [] (stuck_on [] after []) ≡ []
   skips_none true = refl
   skips_none false = refl
 
-  edits_are : (changes : List Change) (skip : Bool) → AllByRecursion IsBack changes → revert_edits changes skip after ≡ Ok (backs after changes)
-  edits_are changes skip all = ap (λ cs. unless_stuck cs (backs after changes)) (ap (λ cs. cond skip [] cs) (none_stuck changes all) ∙ skips_none skip)
+  edits_are : (changes : List Change) (skip : Bool) → AllByRecursion IsBack changes → revert_edits changes [] skip after ≡ Ok (backs [] after changes)
+  edits_are changes skip all = ap (λ cs. unless_stuck cs (backs [] after changes)) (ap (λ cs. cond skip [] cs) (none_stuck changes all) ∙ skips_none skip)
 
-  same_count : (changes : List Change) → AllByRecursion IsBack changes → length (backs after changes) ≡ length changes
+  same_count : (changes : List Change) → AllByRecursion IsBack changes → length (backs [] after changes) ≡ length changes
   same_count [] all = refl
-  same_count (c ∷ cs) all = let n = same_count cs all.1 in ap (λ o. length (cons_option o (backs after cs))) all.0.1 ∙ omega (arith, n)
+  same_count (c ∷ cs) all = let n = same_count cs all.1 in ap (λ o. length (cons_option o (backs [] after cs))) all.0.1 ∙ omega (arith, n)
 
   same_size : (change : Change) → is_sealed change ≡ true → (taken : TakesTo change (get before (path_of change)) (get after (path_of change))) → edit_size taken.edit ≡ change_size change
   same_size change sealed taken =
@@ -225,24 +225,24 @@ module _ (before after : Files) where
       let e = ap fixed_size sealed in
       omega (arith, a, b, d, e)
 
-  same_sizes : (changes : List Change) → AllByRecursion (λ c. is_sealed c ≡ true) changes → AllByRecursion IsBack changes → sum_by edit_size (backs after changes) ≡ sum_by change_size changes
+  same_sizes : (changes : List Change) → AllByRecursion (λ c. is_sealed c ≡ true) changes → AllByRecursion IsBack changes → sum_by edit_size (backs [] after changes) ≡ sum_by change_size changes
   same_sizes [] sealed all = refl
   same_sizes (c ∷ cs) sealed all =
-      ap (λ o. sum_by edit_size (cons_option o (backs after cs))) all.0.1 ∙ sum_by-cons edit_size all.0.0.edit (backs after cs)
+      ap (λ o. sum_by edit_size (cons_option o (backs [] after cs))) all.0.1 ∙ sum_by-cons edit_size all.0.0.edit (backs [] after cs)
       ∙ ap₂ (λ m n. m + n) (same_size c sealed.0 all.0.0) (same_sizes cs sealed.1 all.1) ∙ sym (sum_by-cons change_size c cs)
 
-  few : (changes : List Change) → IsEntry changes → AreAllSealed true changes → AllByRecursion IsBack changes → is_too_many (backs after changes) ≡ false
+  few : (changes : List Change) → IsEntry changes → AreAllSealed true changes → AllByRecursion IsBack changes → is_too_many (backs [] after changes) ≡ false
   few changes entry sealed all =
       let count = same_count changes all in
       let size = same_sizes changes (recursion_from_All (λ (c : Change). is_sealed c ≡ true) changes sealed) all in
-      few_held (backs after changes) (omega (arith, count, entry.few), omega (arith, size, entry.light))
+      few_held (backs [] after changes) (omega (arith, count, entry.few), omega (arith, size, entry.light))
 
   -- ---- the tree
 
-  has_before : (files : Files) (changes : List Change) → AllByRecursion IsBack changes → EachHas files (backs after changes) → AllByRecursion (λ c. get files (path_of c) ≡ get before (path_of c)) changes
+  has_before : (files : Files) (changes : List Change) → AllByRecursion IsBack changes → EachHas files (backs [] after changes) → AllByRecursion (λ c. get files (path_of c) ≡ get before (path_of c)) changes
   has_before files [] all has = tt
   has_before files (c ∷ cs) all has =
-      let here : EachHas files (all.0.0.edit ∷ backs after cs) = subst (λ o. EachHas files (cons_option o (backs after cs))) all.0.1 has in
+      let here : EachHas files (all.0.0.edit ∷ backs [] after cs) = subst (λ o. EachHas files (cons_option o (backs [] after cs))) all.0.1 has in
       (ap (get files) (sym all.0.0.path) ∙ here.0 ∙ all.0.0.file, has_before files cs all.1 here.1)
 
   at_path : (files : Files) (changes : List Change) (q : List ℕ) → AllByRecursion (λ c. get files (path_of c) ≡ get before (path_of c)) changes → touches changes q ≡ true → get files q ≡ get before q
@@ -253,23 +253,23 @@ module _ (before after : Files) where
       of_test true e t rest = subst (λ p. get files p ≡ get before p) (sym ((bytes_eq-Decides q (path_of c)).0 e)) all.0
       of_test false e t rest = rest t
 
-  edited_is : (changes : List Change) → IsEntry changes → LeadsAll changes before after → AllByRecursion IsBack changes → edited after (backs after changes) ≡ before
+  edited_is : (changes : List Change) → IsEntry changes → LeadsAll changes before after → AllByRecursion IsBack changes → edited after (backs [] after changes) ≡ before
   edited_is changes entry leads all = same_files _ _ (λ q. of_test q (touches changes q) refl)
     where
-      untouched : (q : List ℕ) (b : Bool) → is_among (paths_at (backs after changes)) q ≡ b → touches changes q ≡ false → is_among (paths_at (backs after changes)) q ≡ false
-      untouched q true e none = absurd (false≢true (sym none ∙ still_among after changes q e))
+      untouched : (q : List ℕ) (b : Bool) → is_among (paths_at (backs [] after changes)) q ≡ b → touches changes q ≡ false → is_among (paths_at (backs [] after changes)) q ≡ false
+      untouched q true e none = absurd (false≢true (sym none ∙ still_among [] after changes q e))
       untouched q false e none = e
 
-      of_test : (q : List ℕ) (b : Bool) → touches changes q ≡ b → get (edited after (backs after changes)) q ≡ get before q
-      of_test q false e = edited_other after (backs after changes) q (untouched q (is_among (paths_at (backs after changes)) q) refl e) ∙ leads.others q e
+      of_test : (q : List ℕ) (b : Bool) → touches changes q ≡ b → get (edited after (backs [] after changes)) q ≡ get before q
+      of_test q false e = edited_other after (backs [] after changes) q (untouched q (is_among (paths_at (backs [] after changes)) q) refl e) ∙ leads.others q e
       of_test q true e =
-          at_path (edited after (backs after changes)) changes q
-          (has_before (edited after (backs after changes)) changes all (edited_has after (backs after changes) (still_ascend after changes entry.ascending))) e
+          at_path (edited after (backs [] after changes)) changes q
+          (has_before (edited after (backs [] after changes)) changes all (edited_has after (backs [] after changes) (still_ascend [] after changes entry.ascending))) e
 
-  pub reverts_as_undo : (changes : List Change) (skip : Bool) → IsEntry changes → AreAllSealed true changes → AreFiles before → LeadsAll changes before after → outcome_of (Revert changes skip) after ≡ Ok before
+  pub reverts_as_undo : (changes : List Change) (skip : Bool) → IsEntry changes → AreAllSealed true changes → AreFiles before → LeadsAll changes before after → outcome_of (Revert changes [] skip) after ≡ Ok before
   unfolding outcome_of
   reverts_as_undo changes skip entry sealed are leads =
       let all = is_back changes entry are leads in
       ap (tree_after after) (edits_are changes skip all)
-      ∙ ap (λ b. cond b (Err TooMany) (Ok (edited after (backs after changes)))) (few changes entry sealed all)
+      ∙ ap (λ b. cond b (Err TooMany) (Ok (edited after (backs [] after changes)))) (few changes entry sealed all)
       ∙ ap (λ t. Ok t) (edited_is changes entry leads all)

@@ -7,7 +7,7 @@ use Rattle.reuse_tree.specs.Files.{Files}
 use Rattle.reuse_tree.specs.declared.change.Change.{Change}
 use Rattle.reuse_session.specs.Edit.{Edit}
 use Rattle.reuse_session.specs.Plan.{MakesEdit, MakesEdits}
-use Rattle.reuse_session.specs.Reverting.{taken_back_on}
+use Rattle.reuse_session.specs.Reverting.{taken_back_unless}
 use Rattle.reuse_session.specs.declared.fate.Fate.{Fate}
 use Rattle.reuse_session.specs.declared.planned.Planned.{Planned}
 use Rattle.reuse_session.specs.declared.reply.Refusal.{Refusal}
@@ -49,5 +49,5 @@ abbrev pub back_or_refused : Bool → List ℕ → Option Edit → Result (Optio
 back_or_refused skip_moved path (Some edit) = Ok (Some edit)
 back_or_refused skip_moved path None = if skip_moved then Ok None else Err (Moved path)
 
-abbrev pub back_at : Bool → Files → Change → Result (Option Edit) Refusal
-back_at skip_moved tree change = back_or_refused skip_moved (path_of change) (taken_back_on tree change)
+abbrev pub back_at : List (List ℕ) → Bool → Files → Change → Result (Option Edit) Refusal
+back_at touched skip_moved tree change = back_or_refused skip_moved (path_of change) (taken_back_unless touched tree change)

@@ -16,7 +16,7 @@ use Rattle.reuse_session.specs.Downloads.{id_refusal, download_edits}
 use Rattle.reuse_session.specs.Edit.{Edit}
 use Rattle.reuse_tree.specs.Entry.{CanBeMade}
 use Rattle.reuse_session.specs.Outcome.{edits_of, is_too_many}
-use Rattle.reuse_session.specs.Reverting.{taken_back_on}
+use Rattle.reuse_session.specs.Reverting.{taken_back_unless}
 use Rattle.reuse_session.specs.TreeStyles.{OwnNames, styles_in}
 use Rattle.reuse_session.specs.Worked.{worked_paths}
 use Rattle.reuse_session.specs.declared.command.Command.{Command}
@@ -92,9 +92,9 @@ abbrev pub download_fates : List (List ℕ) → List LicenceText → Files → L
 download_fates ids texts tree = or_else (id_refusals tree texts (set_of ids)) (edit_fates (download_edits ids texts tree))
 
 -- of a change that a revert takes back: its path changes; or it can't be taken back, and is skipped where such are, or else refused
-abbrev pub revert_fate : Bool → Files → Change → Fate
-revert_fate skip_moved tree change =
-    if is_some (taken_back_on tree change) then Changes (path_of change)
+abbrev pub revert_fate : List (List ℕ) → Bool → Files → Change → Fate
+revert_fate touched skip_moved tree change =
+    if is_some (taken_back_unless touched tree change) then Changes (path_of change)
     else if skip_moved then Skipped (path_of change)
     else Refused (Moved (path_of change))
 
@@ -102,7 +102,7 @@ abbrev pub path_fates : Command → Files → List Fate
 path_fates (Annotate places additions how scope) tree = annotation_fates places additions how scope tree (styles_in tree)
 path_fates ConvertDep5 tree = edit_fates (conversion_edits tree)
 path_fates (Download ids texts) tree = download_fates ids texts tree
-path_fates (Revert changes skip_moved) tree = map (revert_fate skip_moved tree) changes
+path_fates (Revert changes touched skip_moved) tree = map (revert_fate touched skip_moved tree) changes
 
 -- where nothing else is refused, that the edits are too many together
 abbrev pub limit_fates : Result (List Edit) Refusal → List Fate

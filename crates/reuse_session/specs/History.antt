@@ -1,5 +1,5 @@
 -- What a session remembers of the journal.
-use Rattle.std.specs.Prelude.{ℕ, ◌+◌, List, [], ◌∷◌, ◌++◌, map, reverse, Bool, true, false, Option}
+use Rattle.std.specs.Prelude.{ℕ, ◌+◌, ◌==◌, not, take_while, List, [], ◌∷◌, ◌++◌, map, reverse, Bool, true, false, Option}
 use Rattle.reuse_session.specs.Machine.{row_of}
 use Rattle.reuse_tree.specs.declared.way.Way.{Way}
 use Rattle.reuse_tree.specs.declared.way.Way.TheVariants.{Do, Undo}
@@ -30,6 +30,10 @@ row_listing done entry = row_of (record { number = entry.number; when = entry.wh
 -- the rows of a log
 abbrev pub rows_listing : Memory → List Row
 rows_listing memory = map (row_listing true) memory.done ++ map (row_listing false) (reverse memory.undone)
+
+-- the numbers of the entries that were done after that of the number, the newest first
+abbrev pub numbers_after : List ListedEntry → ℕ → List ℕ
+numbers_after done number = map (λ (entry : ListedEntry). entry.number) (take_while (λ (entry : ListedEntry). not (entry.number == number)) (reverse done))
 
 -- what is remembered after a run: a new entry is done, and none is undone
 abbrev pub remember_run : Memory → ListedEntry → Memory

@@ -14,6 +14,7 @@ use Rattle.reuse_text.specs.declared.TheConstants.{LONGEST_FILE}
 use Rattle.reuse_tree.specs.Clash.{is_clash}
 use Rattle.reuse_session.specs.Edit.{Edit, made, dropped}
 use Rattle.reuse_tree.specs.Entry.{makes}
+use Rattle.reuse_tree.specs.Listing.{is_among}
 use Rattle.reuse_tree.specs.declared.way.Way.TheVariants.{Undo}
 use Rattle.reuse_session.specs.declared.reply.Refusal.{Refusal}
 use Rattle.reuse_session.specs.declared.reply.Refusal.TheVariants.{Moved}
@@ -59,9 +60,13 @@ taken_back (Splice path at old new rest seal) (Some file) =
 abbrev pub taken_back_on : Files → Change → Option Edit
 taken_back_on tree change = if makes Undo change && is_clash tree (path_of change) then None else taken_back change (get tree (path_of change))
 
+-- the same where later steps touched these paths: what they hold is those steps', and nothing takes a change of them back
+abbrev pub taken_back_unless : List (List ℕ) → Files → Change → Option Edit
+taken_back_unless touched tree change = if is_among touched (path_of change) then None else taken_back_on tree change
+
 -- the changes that can't be taken back
-abbrev pub stuck_on : Files → List Change → List Change
-stuck_on tree changes = filter (λ change. not (is_some (taken_back_on tree change))) changes
+abbrev pub stuck_on : List (List ℕ) → Files → List Change → List Change
+stuck_on touched tree changes = filter (λ change. not (is_some (taken_back_unless touched tree change))) changes
 
 -- the first of some changes is refused
 abbrev pub unless_stuck : List Change → List Edit → Result (List Edit) Refusal
@@ -69,5 +74,6 @@ unless_stuck [] edits = Ok edits
 unless_stuck (change ∷ changes) edits = Err (Moved (path_of change))
 
 -- all changes that can be taken back are, in their order; the first that can't be is refused, unless such are skipped
-abbrev pub revert_edits : List Change → Bool → Files → Result (List Edit) Refusal
-revert_edits changes skip_moved tree = unless_stuck (if skip_moved then [] else stuck_on tree changes) (filter_map (taken_back_on tree) changes)
+abbrev pub revert_edits : List Change → List (List ℕ) → Bool → Files → Result (List Edit) Refusal
+revert_edits changes touched skip_moved tree =
+    unless_stuck (if skip_moved then [] else stuck_on touched tree changes) (filter_map (taken_back_unless touched tree) changes)

@@ -1,8 +1,8 @@
 //! What a session remembers of the journal: its entries' labels, and not their changes.
-ghost use Rattle.std.specs.Prelude.{◌≡◌, ◌<◌, ◌≤◌, ◌+◌, ◌*◌, ◌++◌, ◌∷◌, [], Option, None, Some, List, IfOk, length, map, true, false};
+ghost use Rattle.std.specs.Prelude.{◌≡◌, ◌<◌, ◌≤◌, ◌+◌, ◌*◌, ◌++◌, ◌∷◌, [], Option, None, Some, List, IfOk, length, map, not, reverse, take_while, ◌==◌, true, false};
 ghost use Rattle.std.specs.Option.{option_copied};
 ghost use Rattle.reuse_tree.specs.Head.{head_text, IsGoodHead, IsSoundHead};
-ghost use Rattle.reuse_session.specs.History.{Memory, head_listing, row_listing, rows_listing, remember_run, entries_ahead, remember_moved};
+ghost use Rattle.reuse_session.specs.History.{Memory, head_listing, row_listing, rows_listing, remember_run, entries_ahead, remember_moved, numbers_after};
 ghost use Rattle.reuse_session.specs.Machine.{is_full};
 ghost use Rattle.reuse_session.specs.Showing.{lists, entry_of, row_in};
 ghost use Rattle.reuse_session.specs.declared.history.ListedEntry.{ListedEntry};
@@ -141,6 +141,14 @@ impl History {
         self.done.iter().any(|entry| entry.number == number)
     }
 
+    /// The numbers of the entries that were done after that of this number, the newest first.
+    pub fn numbers_after(&self, alloc: Global, number: u32) -> Result<Vec<u32>, AllocError>
+        ensures { IfOk result (λ numbers. numbers.items ≡ numbers_after self.now.done number) }
+    {
+        let later = self.done.len() - count_after(self.done.as_slice(), number);
+        numbers_back(alloc, &self.done[later..])
+    }
+
     /// The row of the entry of this number, done or undone.
     pub fn row(&self, number: u32) -> Option<Row>
         ensures { result ≡ row_in self.now number }
@@ -174,6 +182,29 @@ fn entry_of(entries: &[ListedEntry], number: u32) -> Option<&ListedEntry>
     ensures { option_copied result ≡ entry_of entries.now number }
 {
     entries.iter().find(|entry| entry.number == number)
+}
+
+// How many entries are behind the last of this number.
+fn count_after(entries: &[ListedEntry], number: u32) -> usize
+    ensures count { result ≡ length (take_while (λ (entry : ListedEntry). not (entry.number == number)) (reverse entries.now)) }
+    ensures room { result ≤ length entries.now }
+{
+    entries
+        .iter()
+        .rev()
+        .take_while(|entry| entry.number != number)
+        .count()
+}
+
+// The numbers of the entries, from the last on back.
+fn numbers_back(alloc: Global, entries: &[ListedEntry]) -> Result<Vec<u32>, AllocError>
+    ensures { IfOk result (λ numbers. numbers.items ≡ map (λ (entry : ListedEntry). entry.number) (reverse entries.now)) }
+{
+    let mut numbers = Vec::with_capacity(alloc, entries.len())?;
+    for entry in entries.iter().rev() {
+        numbers.push(entry.number)?;
+    }
+    Ok(numbers)
 }
 
 // The row of an entry.

@@ -20,7 +20,7 @@ ghost use Rattle.reuse_session.specs.Command.{HoldsEntry, paths_among};
 ghost use Rattle.reuse_session.specs.Covered.{is_covered};
 ghost use Rattle.reuse_session.specs.Edit.{Edit};
 ghost use Rattle.reuse_session.specs.EditBytes.{TakesAndWrites};
-ghost use Rattle.reuse_tree.specs.Entry.{CanBeMade, IsEntry, IsFirstStuck, LeadsAll, LeadsBy, AreAllSealed};
+ghost use Rattle.reuse_tree.specs.Entry.{touches, CanBeMade, IsEntry, IsFirstStuck, LeadsAll, LeadsBy, AreAllSealed};
 ghost use Rattle.reuse_session.specs.Fresh.{IsFresh, first_state};
 ghost use Rattle.reuse_tree.specs.declared.change.Change.TheVariants.{Splice};
 ghost use Rattle.reuse_tree.specs.declared.digest.Seal.{Seal};
@@ -41,6 +41,7 @@ ghost use Rattle.reuse_tree.specs.Tree.{changed_paths, undo_folder_of};
 ghost use Rattle.reuse_session.specs.TreeStyles.{OwnNames, styles_in};
 ghost use Rattle.reuse_session.specs.Worked.{worked_paths};
 ghost use Rattle.reuse_session.specs.declared.command.Command.{Command};
+ghost use Rattle.reuse_tree.specs.Listing.{is_among};
 ghost use Rattle.reuse_session.specs.declared.command.Command.TheVariants.{Annotate, ConvertDep5, Download, Revert};
 ghost use Rattle.reuse_session.specs.declared.command.Place.{Place};
 ghost use Rattle.reuse_session.specs.declared.command.Scope.{Scope};
@@ -157,16 +158,22 @@ pub fn worked_paths_are_asked_for()
 
 /// A revert of a sealed step that is the last leads back to the tree before it, as its undo does, and a run that isn't refused leaves that
 /// tree. Of any step, and whatever else the tree is now: where the revert isn't refused, a path that is as the step left it holds what it
-/// held before the step; but where paths that have moved are left, one stays away while a folder or a file is in its way. Of a file that
+/// held before the step; but where paths that have moved are left, one stays away while a folder or a file is in its way. A path that a
+/// later step touched keeps what it holds, and a revert that leaves none of its paths is refused where there is one. Of a file that
 /// was edited below what a step wrote, that gives way to what was there before, whatever is below it, where that didn't begin with what was
 /// written. And bytes that a step took away come back once.
 pub fn reverts_take_steps_back()
     ensures undo { (changes : List Change) (skip_moved : Bool) (before after : Files) → IsEntry changes → AreAllSealed true changes → AreFiles before → LeadsAll changes before after
-        → outcome_of (Revert changes skip_moved) after ≡ Ok before }
+        → outcome_of (Revert changes [] skip_moved) after ≡ Ok before }
     ensures left { (changes : List Change) (skip_moved : Bool) (before : Files) (when : ℕ) (old new : State) (reply : Reply) → IsEntry changes → AreAllSealed true changes → AreFiles before
-        → LeadsAll changes before old.tree → Runs (Revert changes skip_moved) when old (Ok reply) new → new.tree ≡ before }
-    ensures returned { (changes : List Change) (skip_moved : Bool) (before after now reverted : Files) (path : List ℕ) → IsEntry changes → LeadsAll changes before after
-        → outcome_of (Revert changes skip_moved) now ≡ Ok reverted → (skip_moved ≡ false) ⊎ ¬ (Clashes now path) → get now path ≡ get after path → get reverted path ≡ get before path }
+        → LeadsAll changes before old.tree → Runs (Revert changes [] skip_moved) when old (Ok reply) new → new.tree ≡ before }
+    ensures returned { (changes : List Change) (touched : List (List ℕ)) (skip_moved : Bool) (before after now reverted : Files) (path : List ℕ) → IsEntry changes → LeadsAll changes before after
+        → outcome_of (Revert changes touched skip_moved) now ≡ Ok reverted → (skip_moved ≡ false) ⊎ (¬ (Clashes now path) × (is_among touched path ≡ false))
+        → get now path ≡ get after path → get reverted path ≡ get before path }
+    ensures later { (changes : List Change) (touched : List (List ℕ)) (skip_moved : Bool) (now reverted : Files) (path : List ℕ) → is_among touched path ≡ true
+        → outcome_of (Revert changes touched skip_moved) now ≡ Ok reverted → get reverted path ≡ get now path }
+    ensures unskipped { (changes : List Change) (touched : List (List ℕ)) (now reverted : Files) (path : List ℕ) → touches changes path ≡ true → is_among touched path ≡ true
+        → outcome_of (Revert changes touched false) now ≢ Ok reverted }
     ensures below { (path front old new behind : List ℕ) (rest : ℕ) (seal : Option Seal) → starts_with nat_eq old new ≡ false → length (front ++ new ++ behind) ≤ LONGEST_FILE → length (front ++ old ++ behind) ≤ LONGEST_FILE
         → taken_back (Splice path (length front) old new rest seal) (Some (front ++ new ++ behind)) ≡ Some (record { path = path; removed = new; written = old; file = Some (front ++ old ++ behind) }) }
     ensures once { (path old new file : List ℕ) (at rest : ℕ) (seal : Option Seal) (edit : Edit) → starts_with nat_eq old new ≡ true → old ≢ new

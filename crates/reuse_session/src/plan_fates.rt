@@ -69,8 +69,9 @@ fn plan_command<S: Store>(
         }
         Command::Revert {
             changes,
+            touched,
             skip_moved,
-        } => plan_revert(alloc, store, changes, *skip_moved),
+        } => plan_revert(alloc, store, changes, touched, *skip_moved),
     }
 }
 

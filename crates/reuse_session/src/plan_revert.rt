@@ -14,8 +14,9 @@ ghost use Rattle.reuse_session.specs.Answer.{IsTestRefusal};
 ghost use Rattle.reuse_session.specs.Plan.{AnswersEdits, MakesEdit};
 ghost use Rattle.reuse_session.specs.Previews.{IsLookRefusal};
 ghost use Rattle.reuse_session.specs.Reading.{get, keys, reading_of, tree_of, Files, IsOfPlan, ReadsAlone};
-ghost use Rattle.reuse_session.specs.Reverting.{has_digest, is_as_left, revert_edits, stands_as_written, stands_at, taken_back, taken_back_on};
+ghost use Rattle.reuse_session.specs.Reverting.{has_digest, is_as_left, revert_edits, stands_as_written, stands_at, taken_back, taken_back_on, taken_back_unless};
 
+use crate::choice::PathList;
 use crate::reply::Refusal;
 use crate::tree_paths::tree_paths;
 use reuse_text::{Bytes, LONGEST_FILE};
@@ -29,15 +30,16 @@ pub(crate) fn plan_revert<S: Store>(
     alloc: Global,
     store: &mut S,
     changes: &EntryChanges,
+    touched: &PathList,
     skip_moved: bool,
 ) -> Result<Vec<Change>, Refusal>
-    ensures edits { S.honest store.new → AnswersEdits (tree_of (S.files store.old)) (revert_edits changes.now skip_moved (tree_of (S.files store.old))) result }
+    ensures edits { S.honest store.new → AnswersEdits (tree_of (S.files store.old)) (revert_edits changes.now touched.now skip_moved (tree_of (S.files store.old))) result }
     ensures entry { IsEntry changes.now × HavePaths changes.now }
     ensures asks { ReadsAlone S.Store IsOfPlan store.old store.new result }
 {
     let changes = changes.as_slice();
     match paths_to_heed(alloc, store, changes) {
-        Ok(paths) => take_all_back(alloc, store, &paths, changes, skip_moved),
+        Ok(paths) => take_all_back(alloc, store, &paths, changes, touched, skip_moved),
         Err(refusal) => Err(refusal),
     }
 }
@@ -64,15 +66,16 @@ fn take_all_back<S: Store>(
     store: &mut S,
     paths: &[PathText],
     changes: &[Change],
+    touched: &PathList,
     skip_moved: bool,
 ) -> Result<Vec<Change>, Refusal>
     ensures edits { S.honest store.new → IsEntry changes.now → (list_any (makes Undo) changes.now ≡ true → paths.now ≡ keys (tree_of (S.files store.old)))
-        → AnswersEdits (tree_of (S.files store.old)) (revert_edits changes.now skip_moved (tree_of (S.files store.old))) result }
+        → AnswersEdits (tree_of (S.files store.old)) (revert_edits changes.now touched.now skip_moved (tree_of (S.files store.old))) result }
     ensures asks { ReadsAlone S.Store IsOfPlan store.old store.new result }
 {
     let mut taken = Vec::new(alloc);
     for change in changes {
-        let back = match take_back(alloc, store, paths, change) {
+        let back = match take_back_unless(alloc, store, paths, touched, change) {
             Ok(back) => back,
             Err(refusal) => return Err(refusal),
         };
@@ -105,8 +108,28 @@ fn add_back(
     }
 }
 
+// The change that takes a change back, if it can be taken back and no later step touched its path. `paths` are those of the tree, where
+// it makes a file.
+pub(crate) fn take_back_unless<S: Store>(
+    alloc: Global,
+    store: &mut S,
+    paths: &[PathText],
+    touched: &PathList,
+    change: &Change,
+) -> Result<Option<Change>, Refusal>
+    ensures edit { S.honest store.new → IsProper change.now → IsSmall change.now → is_of_tree (path_of change.now) ≡ true
+        → (makes Undo change.now ≡ true → paths.now ≡ keys (tree_of (S.files store.old)))
+        → IfOk result (MakesEdit (tree_of (S.files store.old)) (Ok (taken_back_unless touched.now (tree_of (S.files store.old)) change.now))) }
+    ensures asks { ReadsAlone S.Store IsLookRefusal store.old store.new result }
+{
+    if touched.has(change.path()) {
+        return Ok(None);
+    }
+    take_back(alloc, store, paths, change)
+}
+
 // The change that takes a change back, if it can be taken back. `paths` are those of the tree, where it makes a file.
-pub(crate) fn take_back<S: Store>(
+fn take_back<S: Store>(
     alloc: Global,
     store: &mut S,
     paths: &[PathText],

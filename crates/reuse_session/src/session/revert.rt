@@ -5,11 +5,11 @@ ghost use Rattle.reuse_tree.specs.Listing.{ArePaths, is_among};
 ghost use Rattle.reuse_session.specs.RevertCalls.{as_run, left_of};
 
 use crate::command::Command;
-use crate::journal_files::read_entry;
 use crate::prepare::paths_of;
 use crate::reply::{Paths, Refusal, Reply, Reverted};
 use crate::session::Session;
-use reuse_tree::{EntryChanges, Moment, PathText, Store, is_among};
+use crate::session::later_steps::read_back;
+use reuse_tree::{Moment, PathText, Store, is_among};
 use std::alloc::Global;
 
 impl<S: Store + Drop> Session<S> {
@@ -19,16 +19,20 @@ impl<S: Store + Drop> Session<S> {
     ghost use Rattle.reuse_session.specs.Journal.{State};
     ghost use Rattle.reuse_session.specs.Losses.{SurvivesCall};
     ghost use Rattle.reuse_session.specs.Machine.{Snapshots};
-    ghost use Rattle.reuse_session.specs.RevertCalls.{as_run, IsAfterRevert, Reverts, RevertFollows, LeavesRevert};
+    ghost use Rattle.reuse_session.specs.RevertCalls.{as_run, GivesRevert, GivesRevertAt, IsAfterRevert, Reverts, RevertFollows, LeavesRevert};
+    ghost use Rattle.reuse_session.specs.Previews.{OnlyLooks};
     ghost use Rattle.reuse_session.specs.Session.{store_of, is_broken, memory_of, StandsOn, StandsAt};
     ghost use Rattle.reuse_session.specs.Showing.{lists};
 
     /// Takes the changes of a step back, on whatever the tree is now, as a new step. With `skip_moved` a change that can't be taken back is
     /// left out. It answers the paths that changed, and those of the step that were left.
     ///
-    /// It is refused as `Broken`, as `NoSuchStep` where no step that is done has the number, as `BadJournal` where the step's entry has
-    /// changed since the journal was opened, as `JournalFull`, as `Moved` at the first path at which the step can't be taken back, as
-    /// `TooMany`, or for a fault of the store or want of memory, before the new step is pending. Where it stops later it is `Interrupted`.
+    /// A change can't be taken back where its path isn't as the step left it, or where a later step that is done touched the path.
+    ///
+    /// It is refused as `Broken`, as `NoSuchStep` where no step that is done has the number, as `BadJournal` where the entry of the step or
+    /// of a later one has changed since the journal was opened, as `JournalFull`, as `Moved` at the first path at which the step can't be
+    /// taken back, as `TooMany`, or for a fault of the store or want of memory, before the new step is pending. Where it stops later it is
+    /// `Interrupted`.
     pub fn revert(
         &mut self,
         alloc: Global,
@@ -60,16 +64,43 @@ impl<S: Store + Drop> Session<S> {
         if self.broken {
             return Err(Refusal::Broken);
         }
-        if !self.history.is_done(number) {
-            return Err(Refusal::NoSuchStep(number));
-        }
-        let entry = read_entry(alloc, &mut self.store, number)?;
-        let paths = paths_of(alloc, entry.changes.as_slice())?;
+        let (changes, touched) = read_back(alloc, &mut self.store, &self.history, number)?;
+        let paths = paths_of(alloc, changes.as_slice())?;
         let command = Command::Revert {
-            changes: EntryChanges::new(entry.changes),
+            changes,
+            touched,
             skip_moved,
         };
         told(alloc, self.run(alloc, &command, when), paths)
+    }
+
+    /// The command that a revert of this step runs: it takes the step's changes back, but where a later step that is done touched the
+    /// path. It only reads.
+    ///
+    /// It is refused as `Broken`, as `NoSuchStep` where no step that is done has the number, as `BadJournal` where the entry of the step or
+    /// of a later one has changed since the journal was opened, or for a fault of the store or want of memory.
+    pub fn revert_command(
+        &mut self,
+        alloc: Global,
+        number: u32,
+        skip_moved: bool,
+    ) -> Result<Command, Refusal>
+        ensures broken { (result ≡ Err Refusal.Broken) ↔ (is_broken self.old ≡ true) }
+        ensures absent { (result ≡ Err (Refusal.NoSuchStep number)) ↔ ((is_broken self.old ≡ false) × (lists (memory_of self.old).done number ≡ false)) }
+        ensures exact { S.honest (store_of self.new) → (held : State) → StandsOn S.files self.old held → TellsNoFault result → GivesRevert number skip_moved held result }
+        ensures machine { S.honest (store_of self.new) → (state : Snapshots) → StandsAt S.files self.old state → TellsNoFault result → GivesRevertAt number skip_moved state result }
+        ensures looks { OnlyLooks S.Store result self.old self.new }
+        ensures call { IsCall S.Store result self.old self.new }
+    {
+        if self.broken {
+            return Err(Refusal::Broken);
+        }
+        let (changes, later) = read_back(alloc, &mut self.store, &self.history, number)?;
+        Ok(Command::Revert {
+            changes,
+            touched: later,
+            skip_moved,
+        })
     }
 }
 
@@ -98,7 +129,7 @@ fn reverted(paths: Paths, changed: Paths) -> Reverted
 }
 
 // The paths that are none of these, which are in byte order.
-fn left_of(paths: Vec<PathText>, changed: &[PathText]) -> Vec<PathText>
+pub(crate) fn left_of(paths: Vec<PathText>, changed: &[PathText]) -> Vec<PathText>
     ensures { ArePaths changed.now → result.items ≡ left_of paths.items changed.now }
 {
     let mut left = paths;

@@ -13,5 +13,5 @@ abbrev pub invariant-loop-change : goal.invariant-loop-change
 invariant-loop-change g l = record {
   reads : OnlyReads g.S.Store l.initial.store l.store;
   so_far : g.S.Store.honest l.store → IsEntry l.changes → (list_any (makes Undo) l.changes ≡ true → l.paths ≡ keys (tree_of (g.S.Store.files l.initial.store)))
-      → RevertSoFar (tree_of (g.S.Store.files l.initial.store)) l.skip_moved l.changes (drop l.change-index l.changes) l.planned;
+      → RevertSoFar l.touched (tree_of (g.S.Store.files l.initial.store)) l.skip_moved l.changes (drop l.change-index l.changes) l.planned;
 }
