@@ -1,5 +1,5 @@
 -- What comes of a session's one call, from any files.
-use Rattle.std.proofs.Common.{◌≡◌, ◌⊎◌, inl, inr, ⊎_elim, ◌+◌, ℕ, Bool, true, false, Result, Ok, Err, IfErr, refl, sym, ap, subst}
+use Rattle.std.proofs.Common.{List, ◌≡◌, ◌⊎◌, inl, inr, ⊎_elim, ◌+◌, ℕ, Bool, true, false, Result, Ok, Err, IfErr, refl, sym, ap, subst}
 use Rattle.std.specs.FinMap.{get}
 use Rattle.std.specs.List.{Contains}
 use Rattle.reuse_tree.specs.Asked.{OnlyReads}
@@ -11,7 +11,8 @@ use Rattle.reuse_session.specs.Journal.{State, Recorded}
 use Rattle.reuse_session.specs.JournalFiles.{head_path, entry_in, entry_path, number_of, EntrySays}
 use Rattle.reuse_session.specs.Calls.{LeavesRun, folder_of}
 use Rattle.reuse_session.specs.Opening.{OpensOn}
-use Rattle.reuse_session.specs.RevertCalls.{Reverts, LeavesRevert, as_run}
+use Rattle.reuse_tree.specs.declared.change.Change.{Change}
+use Rattle.reuse_session.specs.RevertCalls.{Reverts, LeavesRevert, as_run, touched_later}
 use Rattle.reuse_session.specs.Session.{store_of, is_broken, memory_of, StandsOn, IsKept, IsSameBut, IsSameButTwo}
 use Rattle.reuse_session.specs.Showing.{lists}
 use Rattle.reuse_session.specs.Session.{StopsAfterRun}
@@ -83,14 +84,17 @@ ReadAlone store result old new = (refusal : Refusal) × (result ≡ Err refusal)
 
 abbrev RunBack : {S : Type 0} → Ghosts S → ℕ → Bool → ℕ → Result Reverted Refusal → Session S → Session S → Type 0
 RunBack store number skip_moved when result old new =
-    (entry : Entry) × (store.honest (store_of new) → EntrySays (get (folder_of store old) (entry_path number)) entry) × LeavesRun store (Revert entry.changes skip_moved) when (as_run result) old new
+    (entry : Entry) × (store.honest (store_of new) → EntrySays (get (folder_of store old) (entry_path number)) entry)
+    × (touched : List (List ℕ))
+    × (store.honest (store_of new) → (held : State) → StandsOn store.files old held → touched ≡ touched_later number held.journal.done entry.changes)
+    × LeavesRun store (Revert entry.changes touched skip_moved) when (as_run result) old new
 
 -- a refusal of a revert that comes before a step is pending leaves the standing
 revert_stands : {S : Type 0} (store : Ghosts S) (number : ℕ) (skip_moved : Bool) (when : ℕ) (held : State) (old new : Session S) (refusal : Refusal) → IsEarly refusal
     → store.honest (store_of new) → StandsOn store.files old held → LeavesRevert store number skip_moved when (Err refusal) old new → IsStanding (store.files (store_of new)) held
 revert_stands store number skip_moved when held old new refusal early honest stands leaves =
     ⊎_elim (λ (read : ReadAlone store (Err refusal) old new). subst (λ f. IsStanding f held) (sym (read.3.files honest)) stands.standing)
-    (λ (run : RunBack store number skip_moved when (Err refusal) old new). (run.2.stands honest held stands early).standing) leaves
+    (λ (run : RunBack store number skip_moved when (Err refusal) old new). (run.4.stands honest held stands early).standing) leaves
 
 no_early_stop : (cause : Cause) (refusal : Refusal) → refused Reverted (Interrupted cause) ≡ refused Reverted refusal → IsEarly refusal → ⊥
 no_early_stop cause refusal is early = subst IsEarly (sym (same_refusal Reverted (Interrupted cause) refusal is)) early
@@ -129,7 +133,13 @@ reverts_by store number skip_moved when held old new (Err (Interrupted cause)) h
     (λ (run : RunBack store number skip_moved when (Err (Interrupted cause)) old new).
     let listed = is_listed number old (Err (Interrupted cause)) stands.whole absent (is_no_absence cause number) in
     let step = listed_step store.files old held stands number listed run.0 (run.1 honest) in
-    (step.0, step.1, step.2, subst (λ cs. StopsAfterRun (Revert cs skip_moved) when held (store.files (store_of new))) step.3 (run.2.doubt honest held stands tt))) leaves
+    let Stops = (λ (cs : List Change) (late : List (List ℕ)). StopsAfterRun (Revert cs late skip_moved) when held (store.files (store_of new))) in
+    (
+      step.0,
+      step.1,
+      step.2,
+      subst (λ cs. Stops cs (touched_later number held.journal.done cs)) step.3 (subst (Stops run.0.changes) (run.3 honest held stands) (run.4.doubt honest held stands tt)),
+    )) leaves
 reverts_by store number skip_moved when held old new (Err refusal) honest stands absent exact leaves = let left = exact tt in (left.0, left.2, left.1.standing)
 
 -- a clash that a revert tells is that of the path that is put
@@ -140,14 +150,14 @@ revert_clash store number skip_moved when old new (Ok reverted) honest leaves = 
 revert_clash store number skip_moved when old new (Err refusal) honest leaves =
     ⊎_elim (λ (read : ReadAlone store (Err refusal) old new).
     no_clash_of _ _ refusal (unclashed_read refusal (λ is. read.4.clash honest (ap (λ r. Err r) is)) (let same : read.0 ≡ refusal = sym (same_refusal Reverted refusal read.0 read.1) in subst IsEarly same read.2)))
-    (λ (run : RunBack store number skip_moved when (Err refusal) old new). run.2.clash honest) leaves
+    (λ (run : RunBack store number skip_moved when (Err refusal) old new). run.4.clash honest) leaves
 
 -- and of the journal's files it puts none but that of the next entry and the head
 pub revert_folder : {S : Type 0} (store : Ghosts S) (number : ℕ) (skip_moved : Bool) (when : ℕ) (old new : Session S) (answer : Result Reverted Refusal) → store.honest (store_of new)
     → LeavesRevert store number skip_moved when answer old new → IsSameButTwo (entry_path ((memory_of old).used + 1)) head_path (folder_of store old) (folder_of store new)
 revert_folder store number skip_moved when old new answer honest leaves =
     ⊎_elim (λ (read : ReadAlone store answer old new). λ other no_entry no_head. ap (λ f. get (undo_folder_of f) other) (read.3.files honest))
-    (λ (run : RunBack store number skip_moved when answer old new). run.2.folder honest) leaves
+    (λ (run : RunBack store number skip_moved when answer old new). run.4.folder honest) leaves
 
 -- ---- the opening and the call
 

@@ -16,6 +16,7 @@ use Rattle.reuse_session.specs.Machine.{is_full, as_reply, row_of}
 use Rattle.reuse_session.specs.Outcome.{outcome_of}
 use Rattle.reuse_session.specs.Plan.{IsRefusalOf}
 use Rattle.reuse_session.specs.Previews.{run_fates_on, IsLookRefusal}
+use Rattle.reuse_session.specs.RevertCalls.{GivesRevert, touched_later}
 use Rattle.reuse_session.specs.Session.{store_of, is_broken, memory_of, IsKept, StandsOn}
 use Rattle.reuse_session.specs.Showing.{IsUnused, ShowsIn}
 use Rattle.reuse_tree.specs.Tree.{undo_folder_of}
@@ -37,7 +38,7 @@ use Rattle.reuse_session.proofs.JournalLemmas.{same_entry}
 use Rattle.reuse_session.proofs.Running.{full_alike}
 use Rattle.reuse_session.proofs.StepsByNumber.{says_step}
 use Rattle.reuse_undo.specs.Requests.{IsLook}
-use Rattle.reuse_undo.specs.RunLine.{as_told, IsAccepted, Looks, Meets, Previews, PreviewsRevert, StandsAccepted, TakesBackStep}
+use Rattle.reuse_undo.specs.RunLine.{as_told, IsAccepted, Looks, Meets, Previews, PreviewsRevert, StandsAccepted}
 use Rattle.reuse_undo.specs.Told.{is_refused, IsWanted}
 use Rattle.reuse_undo.specs.declared.line.Telling.{Telling}
 use Rattle.reuse_undo.specs.declared.request.Request.{Request}
@@ -172,11 +173,11 @@ show_kind journal number row (Err refusal) is_in numbered exact early =
 
 -- the steps done have one changes list for each number
 pub back_alike : {S : Type 0} (files : S → Files) (session : Session S) (held : State) → StandsOn files session held → (number : ℕ) (skip_moved : Bool) (command : Command) (fates : List Fate)
-    → TakesBackStep number skip_moved held (Ok command) → PreviewsRevert number skip_moved held (Ok fates) → fated fates ≡ run_fates_on held command
+    → GivesRevert number skip_moved held (Ok command) → PreviewsRevert number skip_moved held (Ok fates) → fated fates ≡ run_fates_on held command
 back_alike files session held stands number skip_moved command fates back (inl is) = absurd (cc)
 back_alike files session held stands number skip_moved command fates back (inr is) =
     let folder = undo_folder_of (files (store_of session)) in
     let keeps = stands.standing.journal in
     let same =
     same_entry (get folder (entry_path number)) (entry_in is.0) (entry_in back.0) (says_step folder held.journal keeps true is.0 number is.1 is.2) (says_step folder held.journal keeps true back.0 number back.1 back.2) in
-    is.3 ∙ ap (λ (entry : Entry). run_fates_on held (Revert entry.changes skip_moved)) same ∙ ap (run_fates_on held) (sym back.3)
+    is.3 ∙ ap (λ (entry : Entry). run_fates_on held (Revert entry.changes (touched_later number held.journal.done entry.changes) skip_moved)) same ∙ ap (run_fates_on held) (sym back.3)

@@ -26,8 +26,7 @@ use Rattle.reuse_session.specs.declared.session.Session.{Session}
 use Rattle.reuse_session.proofs.Driving.{stands_still}
 use Rattle.reuse_undo.specs.declared.request.Told.{Told}
 use Rattle.reuse_undo.specs.Peeks.{Peeks}
-use Rattle.reuse_undo.specs.RunLine.{Looks, as_told, TakesBackStep}
-use Rattle.reuse_undo.proofs.NumberLemmas.{undone_is_unused}
+use Rattle.reuse_undo.specs.RunLine.{Looks, as_told}
 
 -- a refusal as an answer
 abbrev pub refused : (A : Type 0) → Refusal → Result A Refusal
@@ -129,25 +128,6 @@ peeks_err {S} {A} {B} store refusal old new peeks =
       caused = peeks.caused;
     }
 
-pub peeks_absent : {S A B : Type 0} (store : Ghosts S) (first : Result A Refusal) (number : ℕ) (old new : Session S) → Peeks store first old new → Peeks {A = B} store (Err (NoSuchStep number)) old new
-peeks_absent {S} {A} {B} store first number old new peeks =
-    record {
-      reads = peeks.reads;
-      kept = peeks.kept;
-      fails = record { device = λ is. absurd (no_step_is_no_fault B number _ is); clash = λ honest is. no_step_is_no_fault B number _ is; memory = λ is. no_step_is_no_fault B number _ is };
-      unstopped = λ whole. tt;
-      caused = tt;
-    }
-
--- what is made of a step that is shown only looks too
-pub peeks_back : {S A : Type 0} (store : Ghosts S) (first : Result A Refusal) (number : ℕ) (skip_moved : Bool) (shown : Shown) (result : Result Command Refusal) (old new : Session S)
-    → Peeks store first old new → (shown.row.done ≡ true → result ≡ Ok (Revert shown.changes skip_moved)) → (shown.row.done ≡ false → result ≡ Err (NoSuchStep number)) → Peeks store result old new
-peeks_back store first number skip_moved shown result old new peeks done undone = by_done shown.row.done refl
-  where
-    by_done : (flag : Bool) → shown.row.done ≡ flag → Peeks store result old new
-    by_done true is = subst (λ r. Peeks store r old new) (sym (done is)) (peeks_ok store first (Revert shown.changes skip_moved) old new peeks)
-    by_done false is = subst (λ r. Peeks store r old new) (sym (undone is)) (peeks_absent store first number old new peeks)
-
 -- the session still stands
 pub still_stands : {S A : Type 0} (store : Ghosts S) (answer : Result A Refusal) (old new : Session S) (held : State) → Peeks store answer old new → store.honest (store_of new)
     → StandsOn store.files old held → StandsOn store.files new held
@@ -183,18 +163,6 @@ told_again A B (StoreFailed fault) told = absurd told
 told_again A B Memory told = absurd told
 told_again A B (Interrupted cause) told = absurd told
 told_again A B refusal told = tt
-
--- what is shown of a step that is done is taken back
-pub back_of_shown : {S : Type 0} (files : S → Files) (session : Session S) (held : State) → StandsOn files session held → (number : ℕ) (skip_moved : Bool) (shown : Shown) (result : Result Command Refusal)
-    → Shows held.journal number shown → (shown.row.done ≡ true → result ≡ Ok (Revert shown.changes skip_moved)) → (shown.row.done ≡ false → result ≡ Err (NoSuchStep number))
-    → TakesBackStep number skip_moved held result
-back_of_shown files session held stands number skip_moved shown result shows done undone = by_done shown.row.done refl shows.is_in
-  where
-    by_done : (flag : Bool) → shown.row.done ≡ flag → Contains (steps_in flag held.journal) shows.step → TakesBackStep number skip_moved held result
-    by_done true is is_in = subst (TakesBackStep number skip_moved held) (sym (done is)) (shows.step, is_in, shows.numbered, ap (λ changes. Revert changes skip_moved) shows.changes)
-    by_done false is is_in =
-        subst (TakesBackStep number skip_moved held) (sym (undone is))
-        (refl, undone_is_unused (undo_folder_of (files (store_of session))) held.journal stands.standing.journal shows.step number is_in shows.numbered)
 
 -- what a look at an earlier one makes of it: one look, and then another
 pub peeks_on : {S A B : Type 0} (store : Ghosts S) (first : Result A Refusal) (second : Result B Refusal) (old mid new : Session S) → Peeks store first old mid → Peeks store second mid new

@@ -8,7 +8,9 @@ use Rattle.reuse_session.specs.Journal.{State, Recorded, rows_in}
 use Rattle.reuse_session.specs.JournalFiles.{number_of}
 use Rattle.reuse_session.specs.Machine.{Snapshots, step, as_reply, fates_in, is_full, run_fates}
 use Rattle.reuse_session.specs.Previews.{run_fates_on}
-use Rattle.reuse_session.specs.RevertCalls.{Reverts, TakesBack, as_run}
+use Rattle.reuse_session.specs.RevertCalls.{Reverts, TakesBack, as_run, touched_later, changed_later}
+use Rattle.reuse_session.specs.Session.{Runs, StopsAfterRun}
+use Rattle.reuse_session.proofs.LaterSteps.{later_as_machine}
 use Rattle.reuse_session.specs.Session.{HoldsSnapshots}
 use Rattle.reuse_session.specs.Showing.{IsUnused, ShowsIn, ShowsAt}
 use Rattle.reuse_session.specs.Standing.{IsStanding}
@@ -87,8 +89,14 @@ foretold_back : (held : State) (state : Snapshots) → HoldsSnapshots held state
     → ForetellsBack state number skip_moved answer
 foretold_back held state holds number skip_moved answer previews =
     ⊎_elim (λ (none : (answer ≡ Err (NoSuchStep number)) × IsUnused number held.journal.done). inl (none.0, unkept number state.tree held.journal.done state.past holds.past none.1))
-    (λ (back : (step : Recorded) × Contains held.journal.done step × (number_of step ≡ number) × (answer ≡ run_fates_on held (Revert step.changes skip_moved))).
-    inr (back.0.changes, led_to_tree held state holds back.0 number back.1 back.2, back.3 ∙ run_alike held state holds (Revert back.0.changes skip_moved))) previews
+    (λ (back : (step : Recorded) × Contains held.journal.done step × (number_of step ≡ number) × (answer ≡ run_fates_on held (Revert step.changes (touched_later number held.journal.done step.changes) skip_moved))).
+    let changes = back.0.changes in
+    inr (
+      changes,
+      led_to_tree held state holds back.0 number back.1 back.2,
+      back.3 ∙ run_alike held state holds (Revert changes (touched_later number held.journal.done changes) skip_moved)
+      ∙ ap (λ late. run_fates state (Revert changes late skip_moved)) (later_as_machine held state holds number changes),
+    )) previews
 
 -- a preview answers what the machine says
 previews_as_machine : (held : State) (state : Snapshots) → HoldsSnapshots held state → (call : Call) (fates : Result (List Fate) Refusal) → Previews call held fates → fates ≡ fates_in state call
@@ -163,11 +171,13 @@ module _ (held : State) (state : Snapshots) (holds : HoldsSnapshots held state) 
       ⊎_elim (λ (none : (answer ≡ Err (NoSuchStep number)) × IsUnused number held.journal.done × (reverts.0 ≡ held)).
       inl (none.0, unkept number state.tree held.journal.done state.past holds.past none.1, (held, subst (λ s. IsStanding after s) none.2 reverts.2, holds)))
       (λ (back : TakesBack number skip_moved when held answer reverts.0).
-      let event = events.Run (Revert back.step.changes skip_moved) when in
+      let changes = back.step.changes in
+      let event = events.Run (Revert changes (changed_later number state.tree state.past changes) skip_moved) when in
+      let runs = subst (λ late. Runs (Revert changes late skip_moved) when held (as_run answer) reverts.0) (later_as_machine held state holds number changes) back.runs in
       inr (
         back.step.changes,
         led_to_tree held state holds back.step number back.is_done back.numbered,
-        steps_told state event (as_run answer) after (told_as_run answer told) (did event (as_run answer) (reverts.0, back.runs, reverts.2)),
+        steps_told state event (as_run answer) after (told_as_run answer told) (did event (as_run answer) (reverts.0, runs, reverts.2)),
       )) (reverts_one number skip_moved when held answer reverts.0 reverts.1)
 
   reverted : (number : ℕ) (skip_moved : Bool) (when : ℕ) (answer : Result Reverted Refusal) → RevertsOn number skip_moved when held answer after → StepsBack state number skip_moved when answer after
@@ -175,10 +185,12 @@ module _ (held : State) (state : Snapshots) (holds : HoldsSnapshots held state) 
   reverted number skip_moved when (Err (StoreFailed fault)) reverts = (held, reverts, holds)
   reverted number skip_moved when (Err Memory) reverts = (held, reverts, holds)
   reverted number skip_moved when (Err (Interrupted cause)) reverts =
+      let changes = (reverts.0).changes in
+      let stops = subst (λ late. StopsAfterRun (Revert changes late skip_moved) when held after) (later_as_machine held state holds number changes) reverts.3 in
       inr (
-        (reverts.0).changes,
+        changes,
         led_to_tree held state holds reverts.0 number reverts.1 reverts.2,
-        run_left held state holds after before (Revert (reverts.0).changes skip_moved) when standing reverts.3,
+        run_left held state holds after before (Revert changes (changed_later number state.tree state.past changes) skip_moved) when standing stops,
       )
   reverted number skip_moved when (Err refusal) reverts = ran_back number skip_moved when (Err refusal) tt reverts
 

@@ -10,7 +10,7 @@ use Rattle.reuse_session.specs.JournalFiles.{head_path, entry_path, number_of}
 use Rattle.reuse_session.specs.Machine.{Kept, Snapshots, step, run_fates, as_reply}
 use Rattle.reuse_session.specs.Opening.{IsFirstBad, IsStuckAt, OpensOn, StopsOpening}
 use Rattle.reuse_session.specs.Previews.{run_fates_on, Foresees}
-use Rattle.reuse_session.specs.RevertCalls.{Reverts, as_run}
+use Rattle.reuse_session.specs.RevertCalls.{Reverts, as_run, touched_later, changed_later}
 use Rattle.reuse_session.specs.Session.{store_of, Runs, StandsOn, StopsAfterRun, StopsAfter, IsSameBut, IsSameButTwo}
 use Rattle.reuse_session.specs.Showing.{IsUnused, ShowsIn, ShowsAt, LedTo}
 use Rattle.reuse_session.specs.Standing.{IsStanding, InDoubt}
@@ -102,14 +102,14 @@ abbrev pub RevertsOn : ℕ → Bool → ℕ → State → Result Reverted Refusa
 RevertsOn number skip_moved when old (Err (refusals.Fault fault)) files = IsStanding files old
 RevertsOn number skip_moved when old (Err refusals.Memory) files = IsStanding files old
 RevertsOn number skip_moved when old (Err (refusals.Interrupted cause)) files =
-    (step : Recorded) × Contains old.journal.done step × (number_of step ≡ number) × StopsAfterRun (Revert step.changes skip_moved) when old files
+    (step : Recorded) × Contains old.journal.done step × (number_of step ≡ number) × StopsAfterRun (Revert step.changes (touched_later number old.journal.done step.changes) skip_moved) when old files
 RevertsOn number skip_moved when old answer files = (new : State) × Reverts number skip_moved when old answer new × IsStanding files new
 
 -- what a dry run of a revert answers: what a run would do that takes the changes of the step back, or that no such step is done
 abbrev pub PreviewsRevert : ℕ → Bool → State → Result (List Fate) Refusal → Type 0
 PreviewsRevert number skip_moved old answer =
     ((answer ≡ Err (refusals.NoSuchStep number)) × IsUnused number old.journal.done)
-    ⊎ ((step : Recorded) × Contains old.journal.done step × (number_of step ≡ number) × (answer ≡ run_fates_on old (Revert step.changes skip_moved)))
+    ⊎ ((step : Recorded) × Contains old.journal.done step × (number_of step ≡ number) × (answer ≡ run_fates_on old (Revert step.changes (touched_later number old.journal.done step.changes) skip_moved)))
 
 -- what a request is answered and leaves from a standing
 abbrev pub Meets : Request → State → Result Told Refusal → Files → Type 0
@@ -183,7 +183,7 @@ IsUnkept number past = All (λ (kept : Kept). ¬ (kept.label.number ≡ number))
 abbrev pub StepsBackBy : Snapshots → ℕ → Bool → ℕ → Result Reverted Refusal → Files → Type 0
 StepsBackBy state number skip_moved when answer files =
     ((answer ≡ Err (refusals.NoSuchStep number)) × IsUnkept number state.past × HoldState files state)
-    ⊎ ((changes : List Change) × LedTo number changes state.tree state.past × StepsBy state (events.Run (Revert changes skip_moved) when) (as_run answer) files)
+    ⊎ ((changes : List Change) × LedTo number changes state.tree state.past × StepsBy state (events.Run (Revert changes (changed_later number state.tree state.past changes) skip_moved) when) (as_run answer) files)
 
 -- The answer to a revert and the files are those of the machine. A fault of the store or want of memory leaves the state, and a stop leaves it, or files
 -- in doubt between it and the one that the run leads to.
@@ -192,14 +192,14 @@ StepsBack state number skip_moved when (Err (refusals.Fault fault)) files = Hold
 StepsBack state number skip_moved when (Err refusals.Memory) files = HoldState files state
 StepsBack state number skip_moved when (Err (refusals.Interrupted cause)) files =
     HoldState files state
-    ⊎ ((changes : List Change) × LedTo number changes state.tree state.past × AreLeft files state (Some (step state (events.Run (Revert changes skip_moved) when)).1))
+    ⊎ ((changes : List Change) × LedTo number changes state.tree state.past × AreLeft files state (Some (step state (events.Run (Revert changes (changed_later number state.tree state.past changes) skip_moved) when)).1))
 StepsBack state number skip_moved when answer files = StepsBackBy state number skip_moved when answer files
 
 -- a dry run of a revert answers what the machine says of such a run, or no step that is done has the number
 abbrev pub ForetellsBack : Snapshots → ℕ → Bool → Result (List Fate) Refusal → Type 0
 ForetellsBack state number skip_moved answer =
     ((answer ≡ Err (refusals.NoSuchStep number)) × IsUnkept number state.past)
-    ⊎ ((changes : List Change) × LedTo number changes state.tree state.past × (answer ≡ run_fates state (Revert changes skip_moved)))
+    ⊎ ((changes : List Change) × LedTo number changes state.tree state.past × (answer ≡ run_fates state (Revert changes (changed_later number state.tree state.past changes) skip_moved)))
 
 -- the same of a request; what only looks leaves the state, and a step that is shown is one of the machine's
 abbrev pub FollowsMachine : Snapshots → Request → Result Told Refusal → Files → Type 0
@@ -237,11 +237,6 @@ IfNoDiff (Err (faults.NoDiff refusal)) Claim = Claim refusal
 IfNoDiff result Claim = Unit {0}
 
 -- ---- for private clauses
-
--- the command takes a step of the number back that is done, or there is none
-abbrev pub TakesBackStep : ℕ → Bool → State → Result Command Refusal → Type 0
-TakesBackStep number skip_moved old (Ok command) = (step : Recorded) × Contains old.journal.done step × (number_of step ≡ number) × (command ≡ Revert step.changes skip_moved)
-TakesBackStep number skip_moved old (Err refusal) = (refusal ≡ refusals.NoSuchStep number) × IsUnused number old.journal.done
 
 -- a dry run tells fates from a standing, none of them a refusal
 abbrev pub IsAccepted : Request → State → Type 0

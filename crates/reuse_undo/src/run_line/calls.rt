@@ -1,16 +1,16 @@
 //! The call of a session that a line asks for.
-ghost use Rattle.std.specs.Prelude.{◌≡◌, ◌≤◌, ◌<◌, IfErr, true, false};
+ghost use Rattle.std.specs.Prelude.{◌≡◌, ◌≤◌, ◌<◌, IfErr};
 ghost use Rattle.reuse_tree.specs.Asked.{OnlyReads};
 ghost use Rattle.reuse_session.specs.Answer.{HasCause, TellsNoFault};
 ghost use Rattle.reuse_session.specs.Journal.{State};
 ghost use Rattle.reuse_session.specs.Session.{store_of, IsKept, StandsOn};
 ghost use Rattle.reuse_undo.specs.Peeks.{Peeks};
 ghost use Rattle.reuse_undo.specs.Requests.{IsLook};
-ghost use Rattle.reuse_undo.specs.RunLine.{as_told, CallLeaves, Meets, Previews, PreviewsRevert, HasCallClash, KeepsFolder, TakesBackStep};
+ghost use Rattle.reuse_undo.specs.RunLine.{as_told, CallLeaves, Meets, Previews, PreviewsRevert, HasCallClash, KeepsFolder};
 
 use crate::request::{Request, Told};
 use reuse_session::{
-    Answer, Call, Command, Event, Fates, Refusal, Reply, Reverted, Session, Shown,
+    Answer, Call, Event, Fates, Refusal, Reply, Reverted, Session, Shown,
 };
 use reuse_tree::Store;
 use std::alloc::Global;
@@ -146,43 +146,12 @@ fn preview_revert<S: Store + Drop>(
     ensures right { S.honest (store_of session.new) → (held : State) → StandsOn S.files session.old held → TellsNoFault result → PreviewsRevert number skip_moved held result }
     ensures peeks { Peeks S.Store result session.old session.new }
 {
-    match revert_command(alloc, session, number, skip_moved) {
+    match session.revert_command(alloc, number, skip_moved) {
         Ok(command) => {
             let fates = session.preview(alloc, &command);
             drop(command);
             fates
         }
         Err(refusal) => Err(refusal),
-    }
-}
-
-/// The command that takes a step back that is done; it only looks.
-pub fn revert_command<S: Store + Drop>(
-    alloc: Global,
-    session: &mut Session<S>,
-    number: u32,
-    skip_moved: bool,
-) -> Result<Command, Refusal>
-    ensures right { S.honest (store_of session.new) → (held : State) → StandsOn S.files session.old held → TellsNoFault result → TakesBackStep number skip_moved held result }
-    ensures peeks { Peeks S.Store result session.old session.new }
-{
-    match session.show(alloc, number) {
-        Ok(shown) => command_back(shown, number, skip_moved),
-        Err(refusal) => Err(refusal),
-    }
-}
-
-// The command that takes back what is shown of a step of the number, if it is done.
-fn command_back(shown: Shown, number: u32, skip_moved: bool) -> Result<Command, Refusal>
-    ensures done { shown.row.done ≡ true → result ≡ Ok (Command.Revert shown.changes skip_moved) }
-    ensures undone { shown.row.done ≡ false → result ≡ Err (Refusal.NoSuchStep number) }
-{
-    if shown.row.done {
-        Ok(Command::Revert {
-            changes: shown.changes,
-            skip_moved,
-        })
-    } else {
-        Err(Refusal::NoSuchStep(number))
     }
 }

@@ -12,7 +12,6 @@ ghost use Rattle.reuse_undo.specs.declared.fault.Fault.TheVariants as faults;
 use crate::diff::{Turn, print_diff};
 use crate::fault::{Fault, in_memory};
 use crate::request::Request;
-use crate::run_line::calls::revert_command;
 use reuse_session::{Call, Changes, EntryChanges, Event, Refusal, Row, Session};
 use reuse_text::{LONGEST_FILE, splice};
 use reuse_tree::{Change, PathText, Reading, Store};
@@ -65,7 +64,7 @@ fn foresee_revert<S: Store + Drop>(
     ensures reads { OnlyReads S.Store (store_of session.old) (store_of session.new) }
     ensures fault { IfErr result (IsUndrawn S.Store (store_of session.old) (store_of session.new)) }
 {
-    let command = revert_command(alloc, session, number, skip_moved)?;
+    let command = session.revert_command(alloc, number, skip_moved)?;
     let changes = session.changes(alloc, &command);
     drop(command);
     Ok(Foreseen::Run(changes?))
