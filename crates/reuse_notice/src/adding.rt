@@ -139,7 +139,7 @@ fn find_bad_text<'a>(texts: &[&'a str]) -> Option<&'a [u8]>
 }
 
 // Whether a holder or a contributor can't be written.
-fn is_unfit(text: &[u8]) -> bool
+pub(crate) fn is_unfit(text: &[u8]) -> bool
     ensures { result ≡ is_bad_text text.now }
 {
     text.is_empty()
@@ -181,7 +181,7 @@ fn find_bad_licence<'a>(licences: &[&'a str]) -> Option<(&'a [u8], usize)>
 }
 
 // The bytes of a text without outer spaces.
-fn trim_spaces(text: &str) -> &[u8]
+pub(crate) fn trim_spaces(text: &str) -> &[u8]
     ensures value { result.now ≡ without_spaces text.now }
     ensures utf8 { IsUtf8 result.now }
 {
@@ -303,4 +303,11 @@ fn copy_texts(alloc: Global, texts: &[&str]) -> Result<Texts, AllocError>
         copied.push(Bytes::from_slice(alloc, trim_spaces(text))?)?;
     }
     Ok(Texts::new(copied))
+}
+
+// A copy of a text without its outer spaces.
+pub(crate) fn copy_text(alloc: Global, text: &str) -> Result<Bytes, AllocError>
+    ensures { IfOk result (λ copied. copied ≡ without_spaces text.now) }
+{
+    Bytes::from_slice(alloc, trim_spaces(text))
 }

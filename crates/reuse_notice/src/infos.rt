@@ -7,10 +7,12 @@ ghost use Rattle.reuse_notice.specs.Contents.{notice_text, contributor_value, li
 ghost use Rattle.reuse_notice.specs.TagViews.{tag_view};
 
 use crate::adding::Additions;
+use crate::amending::{amend_contributors, amend_licences, amend_notices};
+use crate::amendments::{AmendRefusal, Amendments};
 use crate::blanks::is_all_filler;
 use crate::merging::merge_notices;
 use crate::tags::{Tag, read_tag};
-use crate::text_lists::{TextSet, Texts};
+use crate::text_lists::{TextSet, Texts, are_same};
 use reuse_text::Bytes;
 use std::alloc::{AllocError, Global};
 
@@ -25,7 +27,9 @@ pub struct Info {
 }
 
 impl Info {
-    ghost use Rattle.reuse_notice.specs.Infos.{info_of, union_of, merged_of};
+    ghost use Rattle.reuse_notice.specs.Infos.{info_of, union_of, merged_of, says_the_same, says_nothing};
+    ghost use Rattle.reuse_notice.specs.Amending.{amended};
+    ghost use Rattle.reuse_notice.specs.AmendmentViews.{IsAnswer};
 
     /// The information in the contents of a comment whose style has the punctuation `punct`.
     pub fn read(alloc: Global, contents: &[&[u8]], punct: &[u8]) -> Result<Info, AllocError>
@@ -66,6 +70,42 @@ impl Info {
     {
         let notices = merge_notices(alloc, self.notices.as_slice(), additions.notices.as_slice())?;
         Ok(Info { notices, ..self })
+    }
+
+    /// The information with the amendments: licences, holders and contributors replaced and then removed, then
+    /// years and prefixes of notices. Texts that become equal are one. What is not named stays, and so do the
+    /// free contents.
+    ///
+    /// # Errors
+    /// `BadExpression` where an identifier is replaced by what can't stand in its place.
+    pub fn amend(&self, alloc: Global, amendments: &Amendments) -> Result<Info, AmendRefusal>
+        ensures { IsAnswer (amended amendments.now self.now) result }
+    {
+        let licences = amend_licences(alloc, self.licences.as_slice(), amendments)?;
+        Ok(Info {
+            notices: amend_notices(alloc, self.notices.as_slice(), amendments)?,
+            contributors: amend_contributors(alloc, self.contributors.as_slice(), amendments)?,
+            licences,
+            free: self.free.copy(alloc)?,
+        })
+    }
+
+    /// Whether two say the same notices, contributors and licences.
+    pub fn says_the_same(&self, other: &Info) -> bool
+        ensures { result ≡ says_the_same self.now other.now }
+    {
+        are_same(self.notices.as_slice(), other.notices.as_slice())
+            && are_same(self.contributors.as_slice(), other.contributors.as_slice())
+            && are_same(self.licences.as_slice(), other.licences.as_slice())
+    }
+
+    /// Whether there is no notice, no contributor and no licence.
+    pub fn says_nothing(&self) -> bool
+        ensures { result ≡ says_nothing self.now }
+    {
+        self.notices.as_slice().is_empty()
+            && self.contributors.as_slice().is_empty()
+            && self.licences.as_slice().is_empty()
     }
 
     /// The texts of the notices, in byte order.

@@ -3,17 +3,27 @@
 #![tactic(auto)]
 
 mod adding;
+mod amend_laws;
+mod amending;
+mod amendments;
 mod blanks;
 mod expressions;
 mod infos;
 mod laws;
 mod merging;
 mod prefixes;
+mod replacements;
+mod replacing;
 mod tags;
 mod text_lists;
 mod trims;
 
 pub use adding::{Additions, NoticeRefusal};
+pub use amend_laws::{
+    amended_years_include_the_old, licences_are_their_pieces, the_same_is_said_by_the_same,
+    unnamed_information_stays,
+};
+pub use amendments::{AmendRefusal, Amendments};
 pub use blanks::{is_all_blank, is_all_filler, trim_blank_end};
 pub use expressions::{BadExpression, Token, check_expression};
 pub use infos::Info;
@@ -23,6 +33,7 @@ pub use laws::{
     repeating_adds_nothing, sets_are_one,
 };
 pub use prefixes::Prefix;
+pub use replacements::{Replacement, Replacements};
 pub use tags::{Notice, Tag, Years, read_tag};
 pub use text_lists::{TextSet, Texts};
 pub use trims::{trim_end_with, trim_start_with};

@@ -150,12 +150,17 @@ fn reads_as(text: &[u8], prefix: Prefix, years: Option<Years>, holder: &[u8]) ->
 {
     match read_notice(text) {
         None => false,
-        Some(notice) => {
-            notice.prefix.text() == prefix.text()
-                && are_same_years(notice.years, years)
-                && notice.holder == holder
-        }
+        Some(notice) => says(notice, prefix, years, holder),
     }
+}
+
+// Whether a notice has this prefix, these years and this holder.
+pub(crate) fn says(notice: Notice<'_>, prefix: Prefix, years: Option<Years>, holder: &[u8]) -> bool
+    ensures { result ≡ says prefix years holder.now (Some (notice_view notice.entry)) }
+{
+    notice.prefix.text() == prefix.text()
+        && are_same_years(notice.years, years)
+        && notice.holder == holder
 }
 
 // Whether two notices have the same years.

@@ -1,5 +1,9 @@
 //! Lists of texts, and sets of them in byte order.
-ghost use Rattle.std.specs.Prelude.{◌≡◌, ◌++◌, IfOk, List, ℕ};
+ghost use Rattle.std.specs.Prelude.{◌≡◌, [], ◌∷◌, ◌++◌, IfOk, OnOk, OnErr, List, ℕ};
+ghost use Rattle.std.specs.List.{list_any};
+ghost use Rattle.std.specs.Str.{bytes_eq};
+ghost use Rattle.std.specs.Cmp.Lexicographic.{pointwise};
+ghost use Rattle.reuse_notice.specs.AmendmentLists.{without};
 ghost use Rattle.reuse_notice.specs.Sets.{set_of, IsSorted};
 
 use reuse_text::Bytes;
@@ -30,6 +34,74 @@ impl Texts {
     {
         self.texts.as_slice()
     }
+
+    // The same texts again.
+    pub(crate) fn copy(&self, alloc: Global) -> Result<Texts, AllocError>
+        ensures { IfOk result (λ copied. copied ≡ self.now) }
+    {
+        copy_all(alloc, self.as_slice())
+    }
+
+    // Those that are not to be removed.
+    pub(crate) fn without(self, removed: &[Bytes]) -> Texts
+        ensures { result ≡ without removed.now self }
+    {
+        let Texts { texts } = self;
+        Texts {
+            texts: without(texts, removed),
+        }
+    }
+
+    // The set of the texts.
+    pub(crate) fn into_set(self) -> TextSet
+        ensures { result ≡ set_of self }
+    {
+        let Texts { texts } = self;
+        TextSet::new(texts)
+    }
+
+    // Adds a text.
+    pub(crate) fn push(&mut self, text: Bytes) -> Result<(), AllocError>
+        ensures ok { OnOk result (self.new ≡ self.old ++ text ∷ []) }
+        ensures err { OnErr result (self.new ≡ self.old) }
+    {
+        self.texts.push(text)?;
+        Ok(())
+    }
+}
+
+// The same texts again.
+fn copy_all(alloc: Global, from: &[Bytes]) -> Result<Texts, AllocError>
+    ensures { IfOk result (λ copied. copied ≡ from.now) }
+{
+    let mut texts = Vec::new(alloc);
+    for text in from {
+        texts.push(text.try_clone(alloc)?)?;
+    }
+    Ok(Texts { texts })
+}
+
+// The texts that are not to be removed.
+fn without(texts: Vec<Bytes>, removed: &[Bytes]) -> Vec<Bytes>
+    ensures { result.items ≡ without removed.now texts.items }
+{
+    let mut kept = texts;
+    kept.retain(|text| !is_among(removed, text.as_slice()));
+    kept
+}
+
+// Whether texts are the same.
+pub(crate) fn are_same(texts: &[Bytes], others: &[Bytes]) -> bool
+    ensures { result ≡ pointwise bytes_eq texts.now others.now }
+{
+    texts == others
+}
+
+// Whether a text is one of some.
+pub(crate) fn is_among(texts: &[Bytes], text: &[u8]) -> bool
+    ensures { result ≡ list_any (λ other. bytes_eq other text.now) texts.now }
+{
+    texts.iter().any(|other| other.as_slice() == text)
 }
 
 /// A set of texts, in byte order without repeats.
