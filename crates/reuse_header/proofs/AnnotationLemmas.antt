@@ -33,7 +33,7 @@ block_within style file span (before, header, front, at) =
     let rest = length-append (bytes_of header.block) (bytes_of header.after) in
     (omega (arith, at.start, at.end), omega (arith, at.end, whole, rest))
 
-found_within : (style : Style) (file : List ℕ) (found : Option Block) → MatchOption found (HasNoHeader style file) (λ block. IsHeaderBlock style file (block_view block)) → IsWithin file (option_map block_view found)
+pub found_within : (style : Style) (file : List ℕ) (found : Option Block) → MatchOption found (HasNoHeader style file) (λ block. IsHeaderBlock style file (block_view block)) → IsWithin file (option_map block_view found)
 found_within style file None split = tt
 found_within style file (Some block) split = block_within style file (block_view block) split
 

@@ -20,10 +20,10 @@ use Rattle.reuse_header.proofs.SpanLemmas.{neighbour_end-within}
 use Rattle.reuse_header.proofs.LawLemmas.{annotated_ok, neighbour_ok}
 
 -- the file with a text in the place of some bytes
-abbrev Replaces : List ℕ → ℕ → ℕ → Edit → Type 0
+abbrev pub Replaces : List ℕ → ℕ → ℕ → Edit → Type 0
 Replaces file start end edit = edited file edit ≡ take start file ++ edit.text ++ drop end file
 
-replacement_replaces : (file text : List ℕ) (start end : ℕ) → start ≤ end → Replaces file start end (replacement start end text)
+pub replacement_replaces : (file text : List ℕ) (start end : ℕ) → start ≤ end → Replaces file start end (replacement start end text)
 replacement_replaces file text start end low =
     let reaches : start + (end - start) ≡ end = omega arith in
     ap (λ (k : ℕ). take start file ++ (text ++ []) ++ drop k file) reaches
@@ -42,7 +42,7 @@ insertion_inserts file text prefix rest start =
 
 -- ---- files
 
-span_replaces : (style : Style) (file text : List ℕ) (span : HeaderSpan) → span.start ≤ span.end → Replaces file span.start span.end (edit_of style file (Some span) text)
+pub span_replaces : (style : Style) (file text : List ℕ) (span : HeaderSpan) → span.start ≤ span.end → Replaces file span.start span.end (edit_of style file (Some span) text)
 unfolding edit_of
 span_replaces style file text span low = replacement_replaces file text span.start span.end low
 
@@ -82,7 +82,7 @@ inserting_keeps_others style how additions file edit either e =
 
 -- ---- neighbour files
 
-block_replaces : (replace : Bool) (file text : List ℕ) → replace ≡ true → mark_len_of file ≤ neighbour_end file → Replaces file (mark_len_of file) (neighbour_end file) (neighbour_edit replace file text)
+pub block_replaces : (replace : Bool) (file text : List ℕ) → replace ≡ true → mark_len_of file ≤ neighbour_end file → Replaces file (mark_len_of file) (neighbour_end file) (neighbour_edit replace file text)
 unfolding neighbour_edit
 block_replaces true file text e low = replacement_replaces file text (mark_len_of file) (neighbour_end file) low
 block_replaces false file text e low = absurd (false≢true e)

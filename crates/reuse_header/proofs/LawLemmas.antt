@@ -91,7 +91,7 @@ new_keeps same keeping punct contents true additions = record {
   free = refl;
 }
 
-text_of_edit : (style : Style) (file text : List ℕ) (old : Option HeaderSpan) → (edit_of style file old text).text ≡ text
+pub text_of_edit : (style : Style) (file text : List ℕ) (old : Option HeaderSpan) → (edit_of style file old text).text ≡ text
 unfolding edit_of
 text_of_edit style file text None = refl
 text_of_edit style file text (Some span) = refl
@@ -207,23 +207,22 @@ text_lines marks kind info = refl
 abbrev a_size : Form → ℕ → BlockSize
 a_size form count = record { form = form; count = count }
 
-pub read_again : ((text : List ℕ) → text_of (lines_of text) ≡ text) → ((text : List ℕ) → AreLines (lines_of text)) → ((text : List ℕ) (lines : List TextLine) → AreLines lines → text_of lines ≡ text → lines ≡ lines_of text)
+-- the block of an edit that was written is found again, and says what was written
+pub read_written : ((text : List ℕ) → text_of (lines_of text) ≡ text) → ((text : List ℕ) → AreLines (lines_of text)) → ((text : List ℕ) (lines : List TextLine) → AreLines lines → text_of lines ≡ text → lines ≡ lines_of text)
     → ((texts other : List (List ℕ)) → IsSorted other → ((text : List ℕ) → (Contains other text) ↔ (Contains texts text)) → other ≡ set_of texts)
-    → (style : Style) (how : How) (additions : Additions) (file : List ℕ) (edit : Edit) (info : Info) (form : Form) (marks : LineMarks)
-    → annotation_of style how additions file ≡ Ok edit → IsBlockText style (kind_of_file file) info form marks edit.text → IsSayable (punctuation_of style) info → AreContents (kind_of_file file) (block_lines marks info)
+    → (style : Style) (file : List ℕ) (old : Option HeaderSpan) (said : Info) (m : LineMarks) (edit : Edit) (info : Info) (form : Form) (marks : LineMarks)
+    → IsWritten style file old said m edit → (edit_of style file old (block_text m (kind_of_file file) said)).start ≤ length file
+    → IsBlockText style (kind_of_file file) info form marks edit.text → IsSayable (punctuation_of style) info → AreContents (kind_of_file file) (block_lines marks info)
     → (span : HeaderSpan) × ReadsAs style (edited file edit) (text_start edit) (text_end edit) form info span
-read_again joined well only sets style how additions file edit info form marks e written sayable lines =
-    let found = option_map (span_in file) (header_of style file) in
-    let w = annotated_ok style how additions file found edit refl e in
+read_written joined well only sets style file old said m edit info form marks w fits written sayable lines =
     let made = edited file edit in
-    let there = stands_there style made (text_start edit) (text_end edit) w.2.stands in
+    let there = stands_there style made (text_start edit) (text_end edit) w.stands in
     let span = there.0 in
     let cut = span_cuts style made span (joined (after_mark made)) there.1 in
     let before = cut.0 in
     let h = cut.1 in
     let at = cut.3 in
-    let low = ap (λ (x : Edit). x.start) w.2.same in
-    let fits = start_within style file (block_text w.0 (kind_of_file file) (new_info (punctuation_of style) (old_contents (replaced_block how.replace found)) how.merge additions)) found how.replace (joined (after_mark file)) refl in
+    let low = ap (λ (x : Edit). x.start) w.same in
     let bytes = found_bytes style file edit span before h cut.2 (omega (arith, low, fits)) there.2 there.3 at in
     let text : bytes_of h.block ≡ ended_by (kind_of_file file) (block_lines marks info) = bytes ∙ written.text_is ∙ text_lines marks (kind_of_file file) info in
     let c = found_contents well only style made span before h cut.2 (kind_of_file file) (block_lines marks info) at text lines in
@@ -240,3 +239,15 @@ read_again joined well only sets style how additions file edit info form marks e
             ∙ reads_back sets (punctuation_of style) (inner_content style form) marks info (the_reader style form marks written.marks_are) sayable;
       },
     )
+
+pub read_again : ((text : List ℕ) → text_of (lines_of text) ≡ text) → ((text : List ℕ) → AreLines (lines_of text)) → ((text : List ℕ) (lines : List TextLine) → AreLines lines → text_of lines ≡ text → lines ≡ lines_of text)
+    → ((texts other : List (List ℕ)) → IsSorted other → ((text : List ℕ) → (Contains other text) ↔ (Contains texts text)) → other ≡ set_of texts)
+    → (style : Style) (how : How) (additions : Additions) (file : List ℕ) (edit : Edit) (info : Info) (form : Form) (marks : LineMarks)
+    → annotation_of style how additions file ≡ Ok edit → IsBlockText style (kind_of_file file) info form marks edit.text → IsSayable (punctuation_of style) info → AreContents (kind_of_file file) (block_lines marks info)
+    → (span : HeaderSpan) × ReadsAs style (edited file edit) (text_start edit) (text_end edit) form info span
+read_again joined well only sets style how additions file edit info form marks e written sayable lines =
+    let found = option_map (span_in file) (header_of style file) in
+    let w = annotated_ok style how additions file found edit refl e in
+    let said = new_info (punctuation_of style) (old_contents (replaced_block how.replace found)) how.merge additions in
+    read_written joined well only sets style file (replaced_block how.replace found) said w.0 edit info form marks w.2
+    (start_within style file (block_text w.0 (kind_of_file file) said) found how.replace (joined (after_mark file)) refl) written sayable lines

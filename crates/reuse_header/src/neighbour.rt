@@ -50,7 +50,7 @@ pub fn annotate_neighbour(
 }
 
 // Whether a file is UTF-8 without a NUL byte.
-fn is_text_file(file: &[u8]) -> bool
+pub(crate) fn is_text_file(file: &[u8]) -> bool
     ensures { result ≡ is_text file.now }
 {
     is_text(file)
@@ -58,7 +58,7 @@ fn is_text_file(file: &[u8]) -> bool
 
 // The change that writes the block of a neighbour file.
 #[tactic(auto, unfolding(crate::specs::Neighbour::neighbour_written))]
-fn write_neighbour(
+pub(crate) fn write_neighbour(
     alloc: Global,
     file: &[u8],
     replace: bool,
@@ -91,7 +91,7 @@ fn neighbour_stands(replace: bool, file: &[u8], start: usize, end: usize) -> boo
 }
 
 // The contents of a neighbour file's block, if that is replaced.
-fn replaced_contents<'a>(
+pub(crate) fn replaced_contents<'a>(
     alloc: Global,
     file: &'a [u8],
     replace: bool,

@@ -1,0 +1,207 @@
+//! The change that amends the licensing information of a file, in the place where it stands.
+ghost use Rattle.std.specs.Prelude.{◌≡◌, ◌≤◌, [], IfOk, Some, true, length};
+ghost use Rattle.reuse_notice.specs.Infos.{info_of};
+ghost use Rattle.reuse_header.specs.Found.{block_view};
+ghost use Rattle.reuse_header.specs.Contents.{contents_left};
+ghost use Rattle.reuse_header.specs.Neighbour.{replaced_contents, neighbour_written};
+ghost use Rattle.reuse_header.specs.Marks.{marks_of};
+ghost use Rattle.reuse_header.specs.Annotation.{written_by};
+ghost use Rattle.reuse_header.specs.Drafts.{IsWithin};
+ghost use Rattle.reuse_header.specs.Amendment.{amended_information, as_amendment, block_amendment, written_if, amendment_of, neighbour_amendment_of, amendment_answer, IsAmendmentDue};
+
+use crate::amendment::AmendHeaderRefusal;
+use crate::annotate::{collected, write_block};
+use crate::annotation::{HeaderRefusal, Splice};
+use crate::blocks::Contents;
+use crate::finder::{Block, find};
+use crate::neighbour::{is_text_file, replaced_contents, write_neighbour};
+use crate::style::Style;
+use crate::writer::marks_of;
+use reuse_notice::{AmendRefusal, Amendments, Info};
+use reuse_text::LONGEST_FILE;
+use std::alloc::{AllocError, Global};
+
+/// The change that amends what the header block of a file says, for a file of at most 16 MiB. None is the answer where
+/// the file has no header block, or where the amendments change nothing that it says.
+///
+/// The new block takes the old one's place and no other byte. It has the old one's form, and its contents without a tag
+/// stay.
+///
+/// # Errors
+/// The first reason in the order of `AmendHeaderRefusal`.
+pub fn amend_file(
+    alloc: Global,
+    file: &[u8],
+    style: Style,
+    amendments: &Amendments,
+) -> Result<Option<Splice>, AmendHeaderRefusal>
+    requires { length file.now ≤ LONGEST_FILE }
+    ensures { IsAmendmentDue (amendment_answer file.now (amendment_of style amendments.now file.now)) result }
+{
+    match find(file, style).block {
+        None => Ok(None),
+        Some(block) => amend_block(alloc, file, style, block, amendments),
+    }
+}
+
+// The change that amends what a block says.
+fn amend_block(
+    alloc: Global,
+    file: &[u8],
+    style: Style,
+    block: Block,
+    amendments: &Amendments,
+) -> Result<Option<Splice>, AmendHeaderRefusal>
+    requires within { IsWithin file.now (Some (block_view block)) }
+    requires short { length file.now ≤ LONGEST_FILE }
+    ensures { IsAmendmentDue (amendment_answer file.now (block_amendment style amendments.now file.now (block_view block.entry))) result }
+{
+    let info = read_block(alloc, block.contents, style.punctuation())?;
+    match amend_information(alloc, &info, amendments) {
+        Ok(new) => write_new(alloc, file, style, block, new),
+        Err(refusal) => Err(refusal),
+    }
+}
+
+// What the contents of a block say.
+fn read_block(alloc: Global, contents: Contents, punct: &[u8]) -> Result<Info, AllocError>
+    ensures { IfOk result (λ info. info ≡ info_of punct.now (contents_left contents.entry)) }
+{
+    let contents = collected(alloc, contents)?;
+    Info::read(alloc, contents.as_slice(), punct)
+}
+
+// The change that writes new information, if there is some to be written.
+fn write_new(
+    alloc: Global,
+    file: &[u8],
+    style: Style,
+    block: Block,
+    new: Option<Info>,
+) -> Result<Option<Splice>, AmendHeaderRefusal>
+    requires within { IsWithin file.now (Some (block_view block)) }
+    requires short { length file.now ≤ LONGEST_FILE }
+    ensures { IsAmendmentDue (amendment_answer file.now (written_if (λ info. written_by style file.now (Some (block_view block.entry)) info (marks_of style block.entry.form)) (Ok new))) result }
+{
+    match new {
+        None => Ok(None),
+        Some(info) => write_amended(alloc, file, style, block, &info),
+    }
+}
+
+// The change that writes information in the place of a block, in its form.
+fn write_amended(
+    alloc: Global,
+    file: &[u8],
+    style: Style,
+    block: Block,
+    info: &Info,
+) -> Result<Option<Splice>, AmendHeaderRefusal>
+    requires within { IsWithin file.now (Some (block_view block)) }
+    requires short { length file.now ≤ LONGEST_FILE }
+    ensures { IsAmendmentDue (amendment_answer file.now (as_amendment (written_by style file.now (Some (block_view block.entry)) info.now (marks_of style block.entry.form)))) result }
+{
+    let Some(marks) = marks_of(style, block.form) else {
+        return Err(AmendHeaderRefusal::Header(HeaderRefusal::NoSuchForm));
+    };
+    match write_block(alloc, file, style, Some(block), info, marks) {
+        Ok(splice) => Ok(splice),
+        Err(refusal) => Err(AmendHeaderRefusal::Header(refusal)),
+    }
+}
+
+/// The change that amends what a neighbour file says, one that has another's licensing information (`NAME.license`), for a
+/// file of at most 16 MiB. None is the answer where the amendments change nothing that it says.
+///
+/// # Errors
+/// That the neighbour isn't text comes first, then the others in the order of `AmendHeaderRefusal`.
+pub fn amend_neighbour(
+    alloc: Global,
+    file: &[u8],
+    amendments: &Amendments,
+) -> Result<Option<Splice>, AmendHeaderRefusal>
+    requires { length file.now ≤ LONGEST_FILE }
+    ensures { IsAmendmentDue (amendment_answer file.now (neighbour_amendment_of amendments.now file.now)) result }
+{
+    if is_text_file(file) {
+        amend_text(alloc, file, amendments)
+    } else {
+        Err(AmendHeaderRefusal::Header(HeaderRefusal::NotText))
+    }
+}
+
+// The change that amends what a neighbour file says, one that is text.
+fn amend_text(
+    alloc: Global,
+    file: &[u8],
+    amendments: &Amendments,
+) -> Result<Option<Splice>, AmendHeaderRefusal>
+    requires { length file.now ≤ LONGEST_FILE }
+    ensures { IsAmendmentDue (amendment_answer file.now (written_if (neighbour_written true file.now) (amended_information amendments.now (info_of [] (replaced_contents true file.now))))) result }
+{
+    let info = read_neighbour(alloc, file)?;
+    match amend_information(alloc, &info, amendments) {
+        Ok(new) => write_new_neighbour(alloc, file, new),
+        Err(refusal) => Err(refusal),
+    }
+}
+
+// The change that writes new information, if there is some to be written.
+fn write_new_neighbour(
+    alloc: Global,
+    file: &[u8],
+    new: Option<Info>,
+) -> Result<Option<Splice>, AmendHeaderRefusal>
+    requires { length file.now ≤ LONGEST_FILE }
+    ensures { IsAmendmentDue (amendment_answer file.now (written_if (neighbour_written true file.now) (Ok new))) result }
+{
+    match new {
+        None => Ok(None),
+        Some(info) => write_amended_neighbour(alloc, file, &info),
+    }
+}
+
+// What a neighbour file says.
+fn read_neighbour(alloc: Global, file: &[u8]) -> Result<Info, AllocError>
+    ensures { IfOk result (λ info. info ≡ info_of [] (replaced_contents true file.now)) }
+{
+    let contents = replaced_contents(alloc, file, true)?;
+    Info::read(alloc, contents.as_slice(), b"")
+}
+
+// The change that writes information in the place of a neighbour's block.
+fn write_amended_neighbour(
+    alloc: Global,
+    file: &[u8],
+    info: &Info,
+) -> Result<Option<Splice>, AmendHeaderRefusal>
+    requires { length file.now ≤ LONGEST_FILE }
+    ensures { IsAmendmentDue (amendment_answer file.now (as_amendment (neighbour_written true file.now info.now))) result }
+{
+    match write_neighbour(alloc, file, true, info) {
+        Ok(splice) => Ok(splice),
+        Err(refusal) => Err(AmendHeaderRefusal::Header(refusal)),
+    }
+}
+
+// The amended information that is to be written.
+fn amend_information(
+    alloc: Global,
+    info: &Info,
+    amendments: &Amendments,
+) -> Result<Option<Info>, AmendHeaderRefusal>
+    ensures { IsAmendmentDue (amended_information amendments.now info.now) result }
+{
+    let new = match info.amend(alloc, amendments) {
+        Ok(new) => new,
+        Err(AmendRefusal::BadExpression) => return Err(AmendHeaderRefusal::BadExpression),
+        Err(AmendRefusal::Memory(e)) => return Err(AmendHeaderRefusal::from(e)),
+    };
+    if info.says_the_same(&new) {
+        return Ok(None);
+    }
+    if new.says_nothing() {
+        return Err(AmendHeaderRefusal::NothingLeft);
+    }
+    Ok(Some(new))
+}

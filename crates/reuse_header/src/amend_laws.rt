@@ -1,0 +1,61 @@
+//! Laws of amending.
+ghost use Rattle.std.specs.Prelude.{◌≡◌, ◌++◌, ℕ, List, Option, None, Some, Ok, true, take, drop};
+ghost use Rattle.std.specs.Option.{option_map};
+ghost use Rattle.reuse_notice.specs.declared.infos.Info.{Info};
+ghost use Rattle.reuse_notice.specs.declared.amendments.Amendments.{Amendments};
+ghost use Rattle.reuse_notice.specs.Infos.{info_of, says_the_same};
+ghost use Rattle.reuse_notice.specs.Amending.{amended};
+ghost use Rattle.reuse_text.specs.Text.{mark_len_of};
+ghost use Rattle.reuse_header.specs.declared.style.Style.{Style};
+ghost use Rattle.reuse_header.specs.declared.style.Form.{Form};
+ghost use Rattle.reuse_header.specs.Styles.{punctuation_of};
+ghost use Rattle.reuse_header.specs.Marks.{LineMarks};
+ghost use Rattle.reuse_header.specs.Header.{HeaderSpan, span_in, header_of};
+ghost use Rattle.reuse_header.specs.Writing.{block_lines};
+ghost use Rattle.reuse_header.specs.Reading.{IsSayable};
+ghost use Rattle.reuse_header.specs.Annotation.{Edit, edited, kind_of_file, text_start, text_end};
+ghost use Rattle.reuse_header.specs.Neighbour.{neighbour_end};
+ghost use Rattle.reuse_header.specs.Laws.{IsBlockText, ReadsAs, AreContents};
+ghost use Rattle.reuse_header.specs.Amendment.{amendment_of, neighbour_amendment_of};
+ghost use Rattle.reuse_header.specs.AmendmentLaws.{AmendsBlock, AmendsNeighbour};
+
+use reuse_notice::sets_are_one;
+use reuse_text::lines_are_one;
+
+/// Amending makes nothing: a file without a header block stays, and so does one whose block the amendments change nothing of.
+pub fn unamended_files_stay()
+    ensures none { (style : Style) (a : Amendments) (file : List ℕ) → option_map (span_in file) (header_of style file) ≡ None → amendment_of style a file ≡ Ok None }
+    ensures same { (style : Style) (a : Amendments) (file : List ℕ) (span : HeaderSpan) (new : Info) → option_map (span_in file) (header_of style file) ≡ Some span
+        → let old = info_of (punctuation_of style) span.contents in
+        amended a old ≡ Some new → says_the_same old new ≡ true → amendment_of style a file ≡ Ok None }
+{}
+
+/// Amending keeps every byte outside the block: the new text stands between what stood in front of the old block and what
+/// stood behind it.
+pub fn amending_keeps_other_bytes()
+    ensures files { (style : Style) (a : Amendments) (file : List ℕ) (edit : Edit) (span : HeaderSpan) → amendment_of style a file ≡ Ok (Some edit)
+        → option_map (span_in file) (header_of style file) ≡ Some span → edited file edit ≡ take span.start file ++ edit.text ++ drop span.end file }
+    ensures neighbours { (a : Amendments) (file : List ℕ) (edit : Edit) → neighbour_amendment_of a file ≡ Ok (Some edit)
+        → edited file edit ≡ take (mark_len_of file) file ++ edit.text ++ drop (neighbour_end file) file }
+{
+    lines_are_one();
+}
+
+/// The new block says the amended information in the form of the old block, and the contents without a tag stay.
+pub fn amended_blocks_say_what_is_amended()
+    ensures files { (style : Style) (a : Amendments) (file : List ℕ) (edit : Edit) (span : HeaderSpan) → amendment_of style a file ≡ Ok (Some edit)
+        → option_map (span_in file) (header_of style file) ≡ Some span → AmendsBlock style a file span edit }
+    ensures neighbours { (a : Amendments) (file : List ℕ) (edit : Edit) → neighbour_amendment_of a file ≡ Ok (Some edit) → AmendsNeighbour a file edit }
+{}
+
+/// The block that amending writes is the new file's header block, and reading it gives what was written, where each of its
+/// texts reads as what it is and its lines are the contents of lines.
+pub fn amended_blocks_read_back()
+    ensures { (style : Style) (a : Amendments) (file : List ℕ) (edit : Edit) (span : HeaderSpan) (info : Info) (form : Form) (marks : LineMarks)
+        → amendment_of style a file ≡ Ok (Some edit) → option_map (span_in file) (header_of style file) ≡ Some span → IsBlockText style (kind_of_file file) info form marks edit.text
+        → IsSayable (punctuation_of style) info → AreContents (kind_of_file file) (block_lines marks info)
+        → (written : HeaderSpan) × ReadsAs style (edited file edit) (text_start edit) (text_end edit) form info written }
+{
+    lines_are_one();
+    sets_are_one();
+}
