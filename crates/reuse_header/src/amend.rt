@@ -21,11 +21,12 @@ use reuse_notice::{AmendRefusal, Amendments, Info};
 use reuse_text::LONGEST_FILE;
 use std::alloc::{AllocError, Global};
 
-/// The change that amends what the header block of a file says, for a file of at most 16 MiB. None is the answer where
-/// the file has no header block, or where the amendments change nothing that it says.
+/// The change that amends what the header block of a file says, for a file of at most 16 MiB. None
+/// is the answer where the file has no header block, or where the amendments change nothing that it
+/// says.
 ///
-/// The new block takes the old one's place and no other byte. It has the old one's form, and its contents without a tag
-/// stay.
+/// The new block takes the old one's place and no other byte. It has the old one's form, and its
+/// contents without a tag stay.
 ///
 /// # Errors
 /// The first reason in the order of `AmendHeaderRefusal`.
@@ -110,8 +111,9 @@ fn write_amended(
     }
 }
 
-/// The change that amends what a neighbour file says, one that has another's licensing information (`NAME.license`), for a
-/// file of at most 16 MiB. None is the answer where the amendments change nothing that it says.
+/// The change that amends what a neighbour file says, one that has another's licensing information
+/// (`NAME.license`), for a file of at most 16 MiB. None is the answer where the amendments change
+/// nothing that it says.
 ///
 /// # Errors
 /// That the neighbour isn't text comes first, then the others in the order of `AmendHeaderRefusal`.

@@ -22,7 +22,8 @@ ghost use Rattle.reuse_header.specs.AmendmentLaws.{AmendsBlock, AmendsNeighbour}
 use reuse_notice::sets_are_one;
 use reuse_text::lines_are_one;
 
-/// Amending makes nothing: a file without a header block stays, and so does one whose block the amendments change nothing of.
+/// Amending makes nothing: a file without a header block stays, and so does one whose block the
+/// amendments change nothing of.
 pub fn unamended_files_stay()
     ensures none { (style : Style) (a : Amendments) (file : List ℕ) → option_map (span_in file) (header_of style file) ≡ None → amendment_of style a file ≡ Ok None }
     ensures same { (style : Style) (a : Amendments) (file : List ℕ) (span : HeaderSpan) (new : Info) → option_map (span_in file) (header_of style file) ≡ Some span
@@ -30,8 +31,8 @@ pub fn unamended_files_stay()
         amended a old ≡ Some new → says_the_same old new ≡ true → amendment_of style a file ≡ Ok None }
 {}
 
-/// Amending keeps every byte outside the block: the new text stands between what stood in front of the old block and what
-/// stood behind it.
+/// Amending keeps every byte outside the block: the new text stands between what stood in front of
+/// the old block and what stood behind it.
 pub fn amending_keeps_other_bytes()
     ensures files { (style : Style) (a : Amendments) (file : List ℕ) (edit : Edit) (span : HeaderSpan) → amendment_of style a file ≡ Ok (Some edit)
         → option_map (span_in file) (header_of style file) ≡ Some span → edited file edit ≡ take span.start file ++ edit.text ++ drop span.end file }
@@ -41,15 +42,16 @@ pub fn amending_keeps_other_bytes()
     lines_are_one();
 }
 
-/// The new block says the amended information in the form of the old block, and the contents without a tag stay.
+/// The new block says the amended information in the form of the old block, and the contents
+/// without a tag stay.
 pub fn amended_blocks_say_what_is_amended()
     ensures files { (style : Style) (a : Amendments) (file : List ℕ) (edit : Edit) (span : HeaderSpan) → amendment_of style a file ≡ Ok (Some edit)
         → option_map (span_in file) (header_of style file) ≡ Some span → AmendsBlock style a file span edit }
     ensures neighbours { (a : Amendments) (file : List ℕ) (edit : Edit) → neighbour_amendment_of a file ≡ Ok (Some edit) → AmendsNeighbour a file edit }
 {}
 
-/// The block that amending writes is the new file's header block, and reading it gives what was written, where each of its
-/// texts reads as what it is and its lines are the contents of lines.
+/// The block that amending writes is the new file's header block, and reading it gives what was
+/// written, where each of its texts reads as what it is and its lines are the contents of lines.
 pub fn amended_blocks_read_back()
     ensures { (style : Style) (a : Amendments) (file : List ℕ) (edit : Edit) (span : HeaderSpan) (info : Info) (form : Form) (marks : LineMarks)
         → amendment_of style a file ≡ Ok (Some edit) → option_map (span_in file) (header_of style file) ≡ Some span → IsBlockText style (kind_of_file file) info form marks edit.text

@@ -3,8 +3,8 @@ use crate::annotation::HeaderRefusal;
 use std::alloc::AllocError;
 use thiserror::Error;
 
-/// Why licensing information of a file is not amended, in the order in which the reasons are looked for, but that a
-/// neighbour is first asked whether it is text.
+/// Why licensing information of a file is not amended, in the order in which the reasons are looked
+/// for, but that a neighbour is first asked whether it is text.
 #[derive(Debug, Drop, Error)]
 pub enum AmendHeaderRefusal {
     /// A licence would leave the grammar.

@@ -1,8 +1,8 @@
 -- What the amendments don't name stays.
-use Rattle.std.proofs.Common.{◌≡◌, ◌≢◌, ℕ, zero, suc, ◌+◌, ◌-◌, ◌<◌, ◌≤◌, Bool, true, false, List, [], ◌∷◌, ◌++◌, length, take, drop, map, Option, Some, None, refl, sym, ap, subst, ◌∙◌, arith, cond, inl, inr, ◌⊎◌}
-use Rattle.std.specs.Prelude.{Contains, filter, filter_map, flat_map, fold, nat_eq, nat_lt, not, ◌&&◌, ◌||◌, unwrap_or}
+use Rattle.std.proofs.Common.{◌≡◌, ◌≢◌, ℕ, zero, suc, ◌-◌, ◌<◌, Bool, true, false, List, [], ◌∷◌, ◌++◌, take, drop, map, Option, Some, None, refl, sym, ap, subst, ◌∙◌, arith, cond, inl, inr}
+use Rattle.std.specs.Prelude.{Contains, filter_map, flat_map, fold, nat_eq, nat_lt, not, ◌&&◌, ◌||◌, unwrap_or}
 use Rattle.std.specs.Option.{option_map, option_map_or, option_and_then, is_none}
-use Rattle.std.specs.List.{AllByRecursion, list_any, cons_option}
+use Rattle.std.specs.List.{AllByRecursion, cons_option}
 use Rattle.std.specs.Str.{bytes_eq}
 use Rattle.std.proofs.lemmas.Bool.{false_from_ne_true, ltb-true, eq-eqb}
 use Rattle.std.proofs.lemmas.List.{take-append-drop}
@@ -11,14 +11,13 @@ use Rattle.reuse_notice.specs.declared.expressions.Token.{Token}
 use Rattle.reuse_notice.specs.declared.replacements.Replacement.{Replacement}
 use Rattle.reuse_notice.specs.declared.amendments.Amendments.{Amendments}
 use Rattle.reuse_notice.specs.declared.infos.Info.{Info}
-use Rattle.reuse_notice.specs.declared.prefixes.Prefix.{Prefix}
 use Rattle.reuse_notice.specs.declared.tags.Years.{Years}
 use Rattle.reuse_notice.specs.Prefixes.{prefix_text}
-use Rattle.reuse_notice.specs.Expressions.{token_at, token_len}
+use Rattle.reuse_notice.specs.Expressions.{token_len}
 use Rattle.reuse_notice.specs.ExpressionSteps.{fault_of}
 use Rattle.reuse_notice.specs.Pieces.{pieces_from, pieces_of, is_identifier}
 use Rattle.reuse_notice.specs.Sets.{set_of}
-use Rattle.reuse_notice.specs.Tags.{NoticeText, notice_of}
+use Rattle.reuse_notice.specs.Tags.{NoticeText}
 use Rattle.reuse_notice.specs.Adding.{notice_written}
 use Rattle.reuse_notice.specs.Keeping.{Include}
 use Rattle.reuse_notice.specs.Merging.{says, same_years}

@@ -1,5 +1,5 @@
 -- Texts without those that are removed (this project's own).
-use Rattle.std.specs.Prelude.{ℕ, Bool, not, List, filter}
+use Rattle.std.specs.Prelude.{ℕ, not, List, filter}
 use Rattle.std.specs.List.{list_any}
 use Rattle.std.specs.Str.{bytes_eq}
 

@@ -1,5 +1,5 @@
 -- Amendments as they are asked for, and the answer of a call that may leave the grammar (this project's own).
-use Rattle.std.specs.Prelude.{◌≡◌, ℕ, List, [], ◌∷◌, ◌++◌, Option, None, Some, Result, Ok, Err}
+use Rattle.std.specs.Prelude.{◌≡◌, ℕ, List, [], Option, None, Some, Result, Ok, Err}
 use Rattle.reuse_notice.specs.declared.replacements.Replacement.{Replacement}
 use Rattle.reuse_notice.specs.declared.amendments.Amendments.{Amendments}
 use Rattle.reuse_notice.specs.declared.amendments.AmendRefusal.{AmendRefusal}

@@ -1,5 +1,5 @@
 -- What amendments don't name (this project's own).
-use Rattle.std.specs.Prelude.{◌≡◌, ◌≢◌, ℕ, false, List, Option, None, Some}
+use Rattle.std.specs.Prelude.{◌≡◌, ◌≢◌, ℕ, false, List, None, Some}
 use Rattle.std.specs.List.{AllByRecursion}
 use Rattle.reuse_notice.specs.declared.replacements.Replacement.{Replacement}
 use Rattle.reuse_notice.specs.declared.amendments.Amendments.{Amendments}

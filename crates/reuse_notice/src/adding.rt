@@ -156,7 +156,7 @@ fn has_control(text: &[u8]) -> bool
 }
 
 // Whether some bytes stand in a text.
-fn has_part(text: &[u8], part: &[u8]) -> bool
+pub(crate) fn has_part(text: &[u8], part: &[u8]) -> bool
     ensures { result ≡ holds part.now text.now }
 {
     for i in 0..text.len() {

@@ -14,8 +14,9 @@ pub fn licences_are_their_pieces()
     ensures { (text : List ℕ) → flat_map (λ p. p.0) (pieces_of text) ≡ text }
 {}
 
-/// What the amendments don't name stays: each licence none of whose tokens is replaced, so that no identifier is
-/// replaced within another; each contributor, and each notice of a holder, byte for byte.
+/// What the amendments don't name stays: each licence none of whose tokens is replaced, so that no
+/// identifier is replaced within another; each contributor, and each notice of a holder, byte for
+/// byte.
 pub fn unnamed_information_stays()
     ensures licences { (a : Amendments) (info new : Info) (value : List ℕ) → amended a info ≡ Some new → IsOtherLicence a value → Contains info.licences value → Contains new.licences value }
     ensures contributors { (a : Amendments) (info new : Info) (text : List ℕ) → amended a info ≡ Some new → IsOtherContributor a text → Contains info.contributors text → Contains new.contributors text }
@@ -28,7 +29,8 @@ pub fn amended_years_include_the_old()
     ensures { (a : Amendments) (notice : NoticeText) (holder : List ℕ) → Include (years_amended a notice holder) notice.years }
 {}
 
-/// Information says the same exactly where the notices, the contributors and the licences are the same.
+/// Information says the same exactly where the notices, the contributors and the licences are the
+/// same.
 pub fn the_same_is_said_by_the_same()
     ensures { (info other : Info) → (says_the_same info other ≡ true) ↔ ((info.notices ≡ other.notices) × (info.contributors ≡ other.contributors) × (info.licences ≡ other.licences)) }
 {}

@@ -181,7 +181,8 @@ fn amend_prefix(amendments: &Amendments, notice: Notice<'_>, holder: &[u8]) -> P
     }
 }
 
-// The text of a notice with this prefix, these years and this holder: its own, if it says them already.
+// The text of a notice with this prefix, these years and this holder: its own, if it says them
+// already.
 fn write_saying(
     alloc: Global,
     notice: Notice<'_>,

@@ -1,6 +1,6 @@
-//! What a command changes in the licensing information of a file: which licences, holders and contributors
-//! are replaced or removed, and which years and prefixes the notices get. The replaced texts are made fit to be
-//! written here, so that what is amended can be written and read back.
+//! What a command changes in the licensing information of a file: which licences, holders and
+//! contributors are replaced or removed, and which years and prefixes the notices get. The replaced
+//! texts are made fit to be written here, so that what is amended can be written and read back.
 ghost use Rattle.std.specs.Prelude.{◌≡◌, ◌++◌, ◌∷◌, [], IfErr, IfOk, IfSome, OnOk, OnErr, Some, true, false};
 ghost use Rattle.reuse_notice.specs.Tags.{year_of};
 ghost use Rattle.reuse_notice.specs.Adding.{without_spaces, is_bad_text, is_bad_year};
@@ -16,8 +16,9 @@ use reuse_text::Bytes;
 use std::alloc::{AllocError, Global};
 use thiserror::Error;
 
-/// Changes of licensing information. Licences, holders and contributors are replaced one after the other, in the
-/// order of the calls, and then removed; then notices get their years and their prefix.
+/// Changes of licensing information. Licences, holders and contributors are replaced one after the
+/// other, in the order of the calls, and then removed; then notices get their years and their
+/// prefix.
 #[derive(Debug, Drop)]
 pub struct Amendments {
     pub(crate) replaced_licences: Replacements,
@@ -75,11 +76,12 @@ impl Amendments {
         }
     }
 
-    /// Licences that are `old` become `new`, and so does each identifier `old` within an expression. Outer spaces
-    /// are dropped, here and below.
+    /// Licences that are `old` become `new`, and so does each identifier `old` within an
+    /// expression. Outer spaces are dropped, here and below.
     ///
     /// # Errors
-    /// `BadExpression` where `new` is no licence expression. On an error the amendments stay, here and below.
+    /// `BadExpression` where `new` is no licence expression. On an error the amendments stay, here
+    /// and below.
     pub fn replace_licence(
         &mut self,
         alloc: Global,
@@ -198,7 +200,8 @@ impl Amendments {
         self.prefix = Some(prefix);
     }
 
-    /// The year and the prefix are for the notices of this holder alone, in place of the one that was set before.
+    /// The year and the prefix are for the notices of this holder alone, in place of the one that
+    /// was set before.
     pub fn set_holder(&mut self, alloc: Global, holder: &str) -> Result<(), AllocError>
         ensures ok { OnOk result (self.new ≡ record self.old { holder = Some (without_spaces holder.now) }) }
         ensures err { OnErr result (self.new ≡ self.old) }

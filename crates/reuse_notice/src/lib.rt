@@ -14,6 +14,7 @@ mod merging;
 mod prefixes;
 mod replacements;
 mod replacing;
+mod sought;
 mod tags;
 mod text_lists;
 mod trims;
@@ -34,6 +35,7 @@ pub use laws::{
 };
 pub use prefixes::Prefix;
 pub use replacements::{Replacement, Replacements};
+pub use sought::may_change;
 pub use tags::{Notice, Tag, Years, read_tag};
 pub use text_lists::{TextSet, Texts};
 pub use trims::{trim_end_with, trim_start_with};

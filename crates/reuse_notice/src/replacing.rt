@@ -1,5 +1,5 @@
-//! An identifier of a licence expression, replaced by an expression. All else of the text stays byte for byte, and
-//! the result is answered only where it is an expression again.
+//! An identifier of a licence expression, replaced by an expression. All else of the text stays
+//! byte for byte, and the result is answered only where it is an expression again.
 ghost use Rattle.std.specs.Prelude.{◌≡◌, ◌++◌, ◌<◌, ◌≤◌, IfOk, length};
 ghost use Rattle.std.specs.Prelude.{◌&&◌, ◌||◌, not, if◌then◌else◌};
 ghost use Rattle.std.specs.Str.{bytes_eq};
@@ -103,7 +103,8 @@ fn replace_tokens(
     Ok(replaced)
 }
 
-// The new text for a piece that is the old one, where it may be replaced: behind WITH by an identifier alone.
+// The new text for a piece that is the old one, where it may be replaced: behind WITH by an
+// identifier alone.
 fn choose_piece<'a>(
     piece: &'a [u8],
     old: &[u8],
