@@ -5,7 +5,7 @@ use Rattle.std.specs.Str.{chars}
 use Rattle.std.specs.List.{Contains, list_any}
 use Rattle.std.specs.FinMap.{keys}
 use Rattle.std.specs.Cmp.Lexicographic.{nat_list_eq_equiv}
-use Rattle.std.proofs.lemmas.Bool.{false≢true, or_right}
+use Rattle.std.proofs.lemmas.Bool.{false≢true, false_from_ne_true, or_parts}
 use Rattle.std.proofs.lemmas.List.Elements.{All-nil, All-cons}
 use Rattle.std.proofs.lemmas.Map.Views.{Contains-from_any, list_any-from_Contains}
 use Rattle.std.proofs.lemmas.Slice.Eq.{bytes_eq-Decides}
@@ -18,8 +18,8 @@ use Rattle.reuse_notice.proofs.ClassLemmas.{In-append, In-left, In-right}
 use Rattle.reuse_notice.proofs.SetLemmas.{In, In-from_contains, Contains-from_in, In-set_of, set_of-has, sorted-set_of}
 use Rattle.reuse_tree.specs.Path.{lies_under}
 use Rattle.reuse_tree.specs.Files.{Files}
-use Rattle.reuse_session.specs.Choice.{is_listed, matches_one, is_chosen}
-use Rattle.reuse_session.specs.Chosen.{IsNamed, StandsBeneath, IsListed, MatchesNone, IsAskedFor}
+use Rattle.reuse_session.specs.Choice.{folders_above, leaves_out, is_listed, matches_one, is_chosen}
+use Rattle.reuse_session.specs.Chosen.{IsNamed, StandsBeneath, IsListed, LeavesIn, MatchesNone, IsAskedFor}
 use Rattle.reuse_session.specs.Command.{has_root, paths_among}
 use Rattle.reuse_session.specs.Covered.{is_covered}
 use Rattle.reuse_tree.specs.Listing.{ArePaths, is_folder}
@@ -27,36 +27,8 @@ use Rattle.reuse_session.specs.Worked.{expanded, worked_paths}
 use Rattle.reuse_session.specs.declared.command.Place.{Place}
 use Rattle.reuse_session.specs.declared.command.Place.TheVariants.{Root, Path}
 use Rattle.reuse_session.specs.declared.command.Scope.{Scope}
-
--- ---- elements
-
-module _ (test : List ℕ → Bool) (t : List ℕ) where
-  In-filter : (xs : List (List ℕ)) → In t (filter test xs) → In t xs × (test t ≡ true)
-  In-filter [] h = absurd h
-  In-filter (x ∷ xs) h = of_test (test x) refl h (In-filter xs)
-    where
-      of_test : (b : Bool) → test x ≡ b → In t (cond b (x ∷ filter test xs) (filter test xs)) → (In t (filter test xs) → In t xs × (test t ≡ true)) → In t (x ∷ xs) × (test t ≡ true)
-      of_test true e (inl is) later = (inl is, ap test is ∙ e)
-      of_test true e (inr k) later = let f = later k in (inr f.0, f.1)
-      of_test false e k later = let f = later k in (inr f.0, f.1)
-
-  filter-has : (xs : List (List ℕ)) → In t xs → test t ≡ true → In t (filter test xs)
-  filter-has [] h e = absurd h
-  filter-has (x ∷ xs) (inl is) e = of_test (test x) (ap test (sym is) ∙ e)
-    where
-      of_test : (b : Bool) → b ≡ true → In t (cond b (x ∷ filter test xs) (filter test xs))
-      of_test true h = inl is
-      of_test false h = absurd (false≢true h)
-  filter-has (x ∷ xs) (inr k) e = of_test (test x) (filter-has xs k e)
-    where
-      of_test : (b : Bool) → In t (filter test xs) → In t (cond b (x ∷ filter test xs) (filter test xs))
-      of_test true h = inr h
-      of_test false h = h
-
-  any_has : (xs : List (List ℕ)) → In t xs → test t ≡ true → list_any test xs ≡ true
-  any_has [] h e = absurd h
-  any_has (x ∷ xs) (inl is) e = ap (λ b. b || list_any test xs) (ap test (sym is) ∙ e)
-  any_has (x ∷ xs) (inr k) e = or_right (test x) (list_any test xs) (any_has xs k e)
+use Rattle.reuse_session.proofs.FoldersAbove.{above_under, under_above}
+use Rattle.reuse_session.proofs.Members.{In-filter, filter-has, any_has, any_from}
 
 -- ---- what stands in the place of places
 
@@ -146,22 +118,41 @@ test_from_listed : (listed : Option (List (List ℕ))) (path : List ℕ) → IsL
 test_from_listed None path h = refl
 test_from_listed (Some paths) path h = list_any-from_Contains nat_list_eq_equiv path paths h
 
+module _ (glob : List GlobPiece) (path : List ℕ) where
+  above : List ℕ → Bool
+  above folder = matches_glob glob (chars folder)
+
+  in_from_test : leaves_out glob path ≡ false → LeavesIn glob path
+  unfolding above
+  in_from_test e =
+      let parts = or_parts (above path) (list_any above (folders_above path)) e in (
+        λ m. false≢true (sym parts.0 ∙ test_from_match glob (chars path) m),
+        λ folder under m. false≢true (sym parts.1 ∙ any_has above folder (folders_above path) (under_above path folder under) (test_from_match glob (chars folder) m)),
+      )
+
+  test_from_in : LeavesIn glob path → leaves_out glob path ≡ false
+  unfolding above
+  test_from_in h = false_from_ne_true _ (λ e.
+      let found = any_from above (path ∷ folders_above path) e in
+      at_one found.0 found.1 (match_from_test glob (chars found.0) found.2))
+    where
+      at_one : (t : List ℕ) → In t (path ∷ folders_above path) → GlobMatches glob (chars t) → ⊥
+      at_one t (inl is) m = h.0 (subst (λ p. GlobMatches glob (chars p)) is m)
+      at_one t (inr k) m = h.1 t (above_under path t k) m
+
 none_from_test : (globs : List (List GlobPiece)) (path : List ℕ) → not (matches_one globs path) ≡ true → MatchesNone globs path
-none_from_test [] path e = All-nil (λ glob. ¬ GlobMatches glob (chars path))
-none_from_test (glob ∷ globs) path e = of_test (matches_glob glob (chars path)) refl e (none_from_test globs path)
+none_from_test [] path e = All-nil (λ glob. LeavesIn glob path)
+none_from_test (glob ∷ globs) path e = of_test (leaves_out glob path) refl e (none_from_test globs path)
   where
-    of_test : (b : Bool) → matches_glob glob (chars path) ≡ b → not (b || matches_one globs path) ≡ true → (not (matches_one globs path) ≡ true → MatchesNone globs path) → MatchesNone (glob ∷ globs) path
+    of_test : (b : Bool) → leaves_out glob path ≡ b → not (b || matches_one globs path) ≡ true → (not (matches_one globs path) ≡ true → MatchesNone globs path) → MatchesNone (glob ∷ globs) path
     of_test true is h rest = absurd (false≢true h)
-    of_test false is h rest =
-        All-cons (λ g. ¬ GlobMatches g (chars path)) glob globs (λ m. false≢true (sym is ∙ test_from_match glob (chars path) m)) (rest h)
+    of_test false is h rest = All-cons (λ g. LeavesIn g path) glob globs (in_from_test glob path is) (rest h)
 
 test_from_none : (globs : List (List GlobPiece)) (path : List ℕ) → MatchesNone globs path → not (matches_one globs path) ≡ true
 test_from_none [] path h = refl
-test_from_none (glob ∷ globs) path h = of_test (matches_glob glob (chars path)) refl (test_from_none globs path (λ k d low. h (suc k) d (omega (arith, low))))
-  where
-    of_test : (b : Bool) → matches_glob glob (chars path) ≡ b → not (matches_one globs path) ≡ true → not (b || matches_one globs path) ≡ true
-    of_test true is rest = absurd (h 0 glob (omega arith) (match_from_test glob (chars path) is))
-    of_test false is rest = rest
+test_from_none (glob ∷ globs) path h =
+    let rest : not (matches_one globs path) ≡ true = test_from_none globs path (λ k d low. h (suc k) d (omega (arith, low))) in
+    ap (λ b. not (b || matches_one globs path)) (test_from_in glob path (h 0 glob (omega arith))) ∙ rest
 
 asked_from_test : (scope : Scope) (path : List ℕ) → is_chosen scope path ≡ true → IsAskedFor scope path
 asked_from_test scope path e =

@@ -1,5 +1,5 @@
 -- Which of the files beneath folders a command is asked for (this project's own; the globs: REUSE Specification 3.3, "REUSE.toml").
-use Rattle.std.specs.Prelude.{ℕ, Bool, true, not, ◌&&◌, List, Option, Some, None}
+use Rattle.std.specs.Prelude.{ℕ, Bool, true, not, ◌&&◌, ◌==◌, List, [], ◌∷◌, ◌++◌, map, Option, Some, None, if◌then◌else◌}
 use Rattle.std.specs.List.{list_any}
 use Rattle.std.specs.Str.{chars}
 use Rattle.reuse_dep5.specs.declared.glob.GlobPiece.{GlobPiece}
@@ -13,11 +13,20 @@ abbrev pub is_listed : Option (List (List ℕ)) → List ℕ → Bool
 is_listed None path = true
 is_listed (Some paths) path = is_among paths path
 
--- one of the globs matches the path, by its characters
+-- the folders above a path: what stands before each of its slashes
+abbrev pub folders_above : List ℕ → List (List ℕ)
+folders_above [] = []
+folders_above (byte ∷ path) = (if byte == 47 then [] ∷ [] else []) ++ map (λ folder. byte ∷ folder) (folders_above path)
+
+-- the glob matches the path, or that of a folder above it, by its characters
+abbrev pub leaves_out : List GlobPiece → List ℕ → Bool
+leaves_out glob path = list_any (λ place. matches_glob glob (chars place)) (path ∷ folders_above path)
+
+-- one of the globs does
 abbrev pub matches_one : List (List GlobPiece) → List ℕ → Bool
-matches_one globs path = list_any (λ glob. matches_glob glob (chars path)) globs
+matches_one globs path = list_any (λ glob. leaves_out glob path) globs
 
 -- the file is worked where it stands beneath a folder: it is covered, it is listed, where there is a list, and no glob that is excluded
--- matches it
+-- matches it or a folder above it
 abbrev pub is_chosen : Scope → List ℕ → Bool
 is_chosen scope path = is_covered path && is_listed scope.listed path && not (matches_one scope.excluded path)

@@ -27,9 +27,13 @@ abbrev pub IsListed : Option (List (List ℕ)) → List ℕ → Type 0
 IsListed None path = Unit {0}
 IsListed (Some paths) path = Contains paths path
 
--- no glob matches the path
+-- the glob matches neither the path nor that of a folder above it
+abbrev pub LeavesIn : List GlobPiece → List ℕ → Type 0
+LeavesIn glob path = ¬ GlobMatches glob (chars path) × ((folder : List ℕ) → lies_under path folder ≡ true → ¬ GlobMatches glob (chars folder))
+
+-- no glob leaves the path out
 abbrev pub MatchesNone : List (List GlobPiece) → List ℕ → Type 0
-MatchesNone globs path = All (λ glob. ¬ GlobMatches glob (chars path)) globs
+MatchesNone globs path = All (λ glob. LeavesIn glob path) globs
 
 -- covered, listed and not excluded
 abbrev pub IsAskedFor : Scope → List ℕ → Type 0

@@ -1,9 +1,10 @@
 //! Which of the files beneath folders a command is asked for.
 ghost use Rattle.std.specs.Prelude.{◌≡◌};
+ghost use Rattle.std.specs.List.{list_any};
 ghost use Rattle.std.specs.Str.{chars};
 ghost use Rattle.reuse_dep5.specs.GlobMatch.{matches_glob};
 ghost use Rattle.reuse_notice.specs.Sets.{set_of};
-ghost use Rattle.reuse_session.specs.Choice.{matches_one};
+ghost use Rattle.reuse_session.specs.Choice.{folders_above, leaves_out, matches_one};
 ghost use Rattle.reuse_tree.specs.Listing.{is_among};
 
 use crate::places::sorted;
@@ -49,16 +50,34 @@ impl PathList {
 /// Globs, each as in a `path` of a `REUSE.toml`.
 pub type Globs = Items<Glob>;
 
-// Whether one of the globs matches the path.
+// Whether one of the globs matches the path, or that of a folder above it.
 pub(crate) fn matches_one(globs: &Globs, path: &PathText) -> bool
     ensures { result ≡ matches_one globs.now path.now }
 {
-    globs.as_slice().iter().any(|glob| matches_path(glob, path))
+    globs.as_slice().iter().any(|glob| leaves_out(glob, path))
 }
 
-// Whether the glob matches the path, by its characters.
-fn matches_path(glob: &Glob, path: &PathText) -> bool
-    ensures { result ≡ matches_glob glob.now (chars path.now) }
+fn leaves_out(glob: &Glob, path: &PathText) -> bool
+    ensures { result ≡ leaves_out glob.now path.now }
 {
-    glob_matches(glob, path.text())
+    matches_text(glob, path.text()) || matches_above(glob, path)
+}
+
+fn matches_text(glob: &Glob, text: &str) -> bool
+    ensures { result ≡ matches_glob glob.now (chars text.now) }
+{
+    glob_matches(glob, text)
+}
+
+// Whether the glob matches that of a folder above the path.
+fn matches_above(glob: &Glob, path: &PathText) -> bool
+    ensures { result ≡ list_any (λ folder. matches_glob glob.now (chars folder)) (folders_above path.now) }
+{
+    let text = path.text();
+    for (at, byte) in text.as_bytes().iter().enumerate() {
+        if *byte == b'/' && matches_text(glob, &text[..at]) {
+            return true;
+        }
+    }
+    false
 }

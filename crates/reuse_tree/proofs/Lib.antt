@@ -25,7 +25,7 @@ pub mod SmallDigits
 pub mod StoppedReading
 pub mod WrittenEntries
 pub mod WrittenTexts
-mod ClashLemmas
+pub mod ClashLemmas
 pub mod AtChange
 pub mod Differ
 pub mod DifferingPaths

@@ -1,0 +1,67 @@
+-- The folders above a path are those that it lies under.
+use Rattle.std.proofs.Common.{◌≡◌, ◌==◌, ◌<◌, ◌||◌, inl, inr, ℕ, Bool, true, false, cond, List, [], ◌∷◌, ◌++◌, length, take, get_or, map, refl, sym, ap, subst, ◌∙◌}
+use Rattle.std.specs.List.{list_any}
+use Rattle.std.specs.Str.{bytes_eq}
+use Rattle.std.proofs.lemmas.Bool.{eqb-true, false≢true, false_from_ne_true}
+use Rattle.std.proofs.lemmas.Slice.Eq.{bytes_eq-Decides}
+use Rattle.reuse_notice.proofs.ClassLemmas.{In-append, In-right, In-from_map}
+use Rattle.reuse_notice.proofs.SetLemmas.{In}
+use Rattle.reuse_tree.specs.Path.{lies_under}
+use Rattle.reuse_tree.proofs.ClashLemmas.{part_found, no_part}
+use Rattle.reuse_tree.proofs.ListingLemmas.{under_from_test, test_from_under}
+use Rattle.reuse_session.specs.Choice.{folders_above}
+use Rattle.reuse_session.proofs.Members.{any_has, any_from}
+
+mapped_has : (byte : ℕ) (xs : List (List ℕ)) (t : List ℕ) → In t xs → In (byte ∷ t) (map (λ x. byte ∷ x) xs)
+mapped_has byte [] t h = absurd h
+mapped_has byte (x ∷ xs) t (inl is) = inl (ap (λ l. byte ∷ l) is)
+mapped_has byte (x ∷ xs) t (inr h) = inr (mapped_has byte xs t h)
+
+above_has : (folder rest : List ℕ) → In folder (folders_above (folder ++ 47 ∷ rest))
+above_has [] rest = inl refl
+above_has (byte ∷ folder) rest =
+    In-right (cond (byte == 47) ([] ∷ []) []) (map (λ f. byte ∷ f) (folders_above (folder ++ 47 ∷ rest))) (byte ∷ folder)
+    (mapped_has byte (folders_above (folder ++ 47 ∷ rest)) folder (above_has folder rest))
+
+above_is : (path folder : List ℕ) → In folder (folders_above path) → (rest : List ℕ) × (path ≡ folder ++ 47 ∷ rest)
+above_is [] folder h = absurd h
+above_is (byte ∷ path) folder h = elim (In-append (cond (byte == 47) ([] ∷ []) []) (map (λ f. byte ∷ f) (folders_above path)) folder h) [
+    | inl here ↦ at_slash (byte == 47) refl here
+    | inr later ↦
+        (let found = In-from_map (λ f. byte ∷ f) (folders_above path) folder later in
+        let inner = above_is path found.0 found.1 in
+        (inner.0, ap (λ l. byte ∷ l) inner.1 ∙ ap (λ f. f ++ 47 ∷ inner.0) (sym found.2)))
+  ]
+  where
+    at_slash : (b : Bool) → (byte == 47) ≡ b → In folder (cond b ([] ∷ []) []) → (rest : List ℕ) × (byte ∷ path ≡ folder ++ 47 ∷ rest)
+    at_slash true is (inl e) = (path, ap (λ (x : ℕ). x ∷ path) (eqb-true byte 47 is) ∙ ap (λ f. f ++ 47 ∷ path) (sym e))
+    at_slash true is (inr none) = absurd none
+    at_slash false is none = absurd none
+
+pub above_under : (path folder : List ℕ) → In folder (folders_above path) → lies_under path folder ≡ true
+above_under path folder h = test_from_under path folder (above_is path folder h)
+
+pub under_above : (path folder : List ℕ) → lies_under path folder ≡ true → In folder (folders_above path)
+under_above path folder e =
+    let under = under_from_test path folder e in
+    subst (λ p. In folder (folders_above p)) (sym under.1) (above_has folder under.0)
+
+-- ---- what a walk along the slashes of a path finds
+
+or_none : (b : Bool) → (b || false) ≡ b
+or_none true = refl
+or_none false = refl
+
+module _ (test : List ℕ → Bool) (path : List ℕ) where
+  pub slash_found : (k : ℕ) → k < length path → get_or path k 0 ≡ 47 → test (take k path) ≡ true → list_any test (folders_above path) ≡ true
+  slash_found k low slash is =
+      let alone : (bytes_eq (take k path) (take k path) || false) ≡ true = or_none _ ∙ (bytes_eq-Decides (take k path) (take k path)).1 refl in
+      let under : lies_under path (take k path) ≡ true = sym (or_none _) ∙ part_found (take k path ∷ []) path k low slash alone in
+      any_has test (take k path) (folders_above path) (under_above path (take k path) under) is
+
+  pub no_slash_found : ((k : ℕ) → k < length path → get_or path k 0 ≡ 47 → test (take k path) ≡ false) → list_any test (folders_above path) ≡ false
+  no_slash_found none = false_from_ne_true _ (λ e.
+      let found = any_from test (folders_above path) e in
+      let other : (k : ℕ) → k < length path → get_or path k 0 ≡ 47 → (bytes_eq (take k path) found.0 || false) ≡ false = λ k low slash. or_none _ ∙ false_from_ne_true _ (λ yes.
+          false≢true (sym (none k low slash) ∙ ap test ((bytes_eq-Decides (take k path) found.0).0 yes) ∙ found.2)) in
+      false≢true (sym (no_part (found.0 ∷ []) path other) ∙ or_none _ ∙ above_under path found.0 found.1))
