@@ -109,8 +109,18 @@ chooses src/p.png src/data.json src/trace.log by --exclude '**.py' --exclude '**
 chooses a.py 'back\slash.py' by --files-from "$room/list" --exclude 'src/**' --exclude '**é.py' --exclude 'a\*.py' --exclude '?*' --exclude $'line*' --exclude 'two*' --exclude '.*' \
   --exclude run --exclude empty.py .
 chooses a.py by --files-from - --exclude 'back\\*' --exclude '* *.py' . < <(printf '%s\n' a.py 'back\slash.py' 'two words.py')
+# a folder is left out whole, however it is written, and at any depth
+for folder in src src/ ./src 'src/**' 'src/.' '**/src' 's*' 'src/*'; do
+  chooses a.py by --files-from - --exclude "$folder" . <<< $'a.py\nsrc/b.py\nsrc/deep/c.c'
+done
+chooses a.py src/b.py by --files-from - --exclude '**/deep' . <<< $'a.py\nsrc/b.py\nsrc/deep/c.c'
+chooses a.py src/b.py src/deep/c.c by --files-from - --exclude deep --exclude '*/src' --exclude 'a.py/x' . <<< $'a.py\nsrc/b.py\nsrc/deep/c.c'
+chooses src/b.py by --exclude src src/b.py
 
 # Faults
+for glob in '' . ./ / /src src//b.py .. src/../a.py '**/..'; do
+  refuses "reuse-undo: bad glob: $glob" --exclude "$glob" .
+done
 refuses "reuse-undo: $room/none: cannot be read" --files-from "$room/none" .
 refuses "reuse-undo: $room: cannot be read" --files-from "$room" .
 truncate -s 268435457 "$room/long"

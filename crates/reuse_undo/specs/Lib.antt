@@ -4,6 +4,7 @@ pub mod DiffText
 pub mod FileLists
 pub mod FolderFault
 pub mod FolderPlaces
+pub mod Globs
 pub mod Honesty
 pub mod Hunks
 pub mod KeptOut

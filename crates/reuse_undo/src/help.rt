@@ -22,8 +22,9 @@ DIR/.reuse/styles.toml gives styles to the tree's own names. Its lines are `vers
 or ending a style, as `\".proto\" = \"c\"`, or `\".blend\" = \"uncommentable\"`.
 
 FILE lists paths relative to the root, one a line, or, where FILE holds a NUL, one between two NULs. What is listed
-and isn't a file beneath a PATH is passed over. GLOB is a glob as in REUSE.toml, of whole paths relative to the root:
-`*` is any run without `/`, `**` any run. A PATH that is a file itself is annotated all the same.
+and isn't a file beneath a PATH is passed over. GLOB is a glob as in REUSE.toml, of paths relative to the root: `*`
+is any run without `/`, `**` any run, `**/` in front also none. It leaves out what it matches, and what lies in a folder
+that it matches. A PATH that is a file itself is annotated all the same.
 
 Examples: the licence and this year's copyright for all files beneath src, and for all files that git tracks:
   reuse-undo annotate --copyright \"Jane Doe\" --license MIT --recursive src

@@ -9,6 +9,7 @@ mod disk;
 mod fault;
 mod file_list;
 mod findings;
+mod glob_word;
 mod help;
 mod line;
 mod lines;

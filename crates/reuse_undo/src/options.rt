@@ -220,7 +220,7 @@ const ANNOTATE: &[Argument] = &[
         None,
         Takes::Values("GLOB"),
         Rule::Requires("recursive"),
-        "Of the files beneath folders, none that GLOB matches; may be repeated",
+        "Of the files beneath folders, none that GLOB matches or that lies in a folder that it matches; may be repeated",
     ),
     Argument(
         "force-dot-license",

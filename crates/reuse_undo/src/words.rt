@@ -2,12 +2,12 @@
 use crate::arguments::whole;
 use crate::date::year_of;
 use crate::disk::Syncs;
+use crate::glob_word::globs_of_word;
 use crate::line::{Action, Deed, Line, LineFault, Telling};
 use crate::place_word::place_of_word;
 use crate::prefix_name::prefix_of_name;
 use clap::error::ErrorKind;
 use clap::{ArgMatches, Error};
-use reuse_dep5::Glob;
 use reuse_header::{Form, How, Style};
 use reuse_notice::{Additions, Prefix};
 use reuse_session::{Command, Globs, Ids, Moment, Place, Places, Scope, Unknown};
@@ -267,8 +267,8 @@ fn read_scope(alloc: Global, matches: &ArgMatches<'_>) -> Result<Scope, LineFaul
 fn read_globs(alloc: Global, matches: &ArgMatches<'_>) -> Result<Globs, LineFault> {
     let mut globs = Vec::new(alloc);
     for text in matches.get_strs("exclude").unwrap_or(&[]) {
-        match Glob::read(alloc, text)? {
-            Some(glob) => globs.push(glob)?,
+        match globs_of_word(alloc, text)? {
+            Some(found) => globs.extend(found)?,
             None => return Err(LineFault::BadGlob(String::from_str(alloc, text)?)),
         }
     }
