@@ -177,6 +177,22 @@ mounted() {
   printf '%s\n' 'changed mounted/a.py' "$header" 755 'undone mounted/a.py' x a.py | cmp -s - "$room/out" || fail "below a mount: $(cat "$room/out")"
 }
 
+# Where the system doesn't show open folders, they are sought by their paths, and a note tells.
+without_proc() {
+  local script='mount -t tmpfs none /proc && "$2" -v --root "$1" annotate -l MIT -r . && "$2" undo --root "$1"'
+  anew
+  mkdir "$tree/in"
+  echo x > "$tree/in/a.py"
+  if ! unshare -m mount -t tmpfs none /proc 2> "$room/error"; then
+    echo 'without_proc: not tried, since no mount can be made'
+    return
+  fi
+  unshare -m bash -c "$script" bash "$tree" "$program" > "$room/out" 2>&1 || fail "without /proc: $(cat "$room/out")"
+  printf '%s\n' 'changed in/a.py' 'reuse-undo: note: 1 file changed; reuse-undo undo takes that back' \
+    'reuse-undo: note: there is no /proc: no other program may move folders or make links here meanwhile' 'undone in/a.py' |
+    cmp -s - "$room/out" || fail "without /proc: $(cat "$room/out")"
+}
+
 # The root may stand anywhere.
 roots() {
   anew
@@ -188,7 +204,7 @@ roots() {
   tells 0 $'changed a.py\n' annotate -l MIT a.py
 }
 
-for group in empty names not_utf8 links bits in_the_way mounted roots read_only; do
+for group in empty names not_utf8 links bits in_the_way mounted without_proc roots read_only; do
   $group
   echo "$group: as stated"
 done

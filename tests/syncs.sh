@@ -1,7 +1,8 @@
 #!/usr/bin/env bash
 # Which system calls make a run lasting, and in which order, by strace. The data of each new file is
 # synced before its rename. Behind the entry, the pending head, the files and the last head each
-# folder that got or lost a name is synced, once. A call that writes nothing makes no sync, and
+# folder that got or lost a name is synced, once. Behind the files that isn't the journal's, which
+# lost the names of new files alone. A call that writes nothing makes no sync, and
 # neither does one with --no-sync. A file system that can't sync folders counts as synced. No sync
 # follows one that failed, and a note names what couldn't be synced. Prints how many runs were
 # traced; ends with status 1 at the first fault.
@@ -25,19 +26,36 @@ trace() {
   # The braces keep bash from telling each kill.
   {
     strace -f -qq -y -o "$room/trace" "${options[@]}" \
-      -e trace=fsync,fdatasync,sync,syncfs,sync_file_range,rename,unlink,mkdir,rmdir \
+      -e trace=openat,fcntl,fsync,fdatasync,sync,syncfs,sync_file_range,rename,unlink,mkdir,rmdir \
       "$program" -v --root "$tree" "${@:2}" > "$room/out" 2>&1
   } 2> /dev/null
+}
+
+# In what strace wrote, the folders in place of the handles that lead to them. Openings are left out.
+named() {
+  awk '
+    match($0, / = [0-9]+<[^>]*>$/) {
+      split(substr($0, RSTART + 3, RLENGTH - 4), opened, "<")
+      folder[opened[1]] = opened[2]
+    }
+    / (openat|fcntl)\(/ { next }
+    {
+      while (match($0, "/proc/self/fd/[0-9]+")) {
+        handle = substr($0, RSTART + 14, RLENGTH - 14)
+        $0 = substr($0, 1, RSTART - 1) folder[handle] substr($0, RSTART + RLENGTH)
+      }
+      print
+    }' "$room/trace"
 }
 
 # What that run asked for, a line each, with paths below the root: `data` of a file that is synced,
 # `folder` of a folder that is, and else the call. Kills and calls that are killed are left out.
 traced() {
-  sed -E -e '/^[0-9]+ \+\+\+/d' -e '/= \?$/d' -e 's/^[0-9]+ +//' -e "s#$tree/?##g" \
-    -e 's/ = (0|-1 .*)$//' \
+  named | sed -E -e '/^[0-9]+ \+\+\+/d' -e '/= \?$/d' -e 's/^[0-9]+ +//' -e "s#$tree/?##g" \
+    -e 's/ *= (0|-1 .*)$//' \
     -e 's/^fdatasync\([0-9]+<(.*)>\)$/data \1/' -e 's/^fsync\([0-9]+<(.*)>\)$/folder \1/' \
     -e 's/^rename\("(.*)", "(.*)"\)$/rename \1 \2/' \
-    -e 's/^(unlink|rmdir|mkdir)\("([^"]*)".*\)$/\1 \2/' -e 's/^folder $/folder ./' "$room/trace"
+    -e 's/^(unlink|rmdir|mkdir)\("([^"]*)".*\)$/\1 \2/' -e 's/^folder $/folder ./'
 }
 
 # Spells out what these lines say: `put PATH` writes a file, `barrier FOLDER..` syncs folders.
@@ -84,11 +102,11 @@ barrier . .reuse .reuse/undo
 put .reuse/undo/head.json
 barrier .reuse/undo
 put src/a.py
-barrier .reuse/undo src
+barrier src
 put .reuse/undo/head.json
 barrier .reuse/undo
 CALLS
-  local one=('put src/a.py' 'barrier .reuse/undo src')
+  local one=('put src/a.py' 'barrier src')
   makes "${annotate[@]}" -l ISC src/a.py < <(step 000002 "${one[@]}")
   makes undo < <(replay "${one[@]}")
   makes redo < <(replay "${one[@]}")
@@ -100,19 +118,19 @@ folders() {
   files a/x.py 'x\n' a/y.py 'x\n' b/deep/z.py 'x\n' c.py 'x\n'
   "$program" --root "$tree" "${annotate[@]}" c.py > "$room/out"
   makes "${annotate[@]}" -r a b < <(step 000002 'put a/x.py' 'put a/y.py' 'put b/deep/z.py' \
-    'barrier .reuse/undo a b/deep')
+    'barrier a b/deep')
   mkdir -p "$room/texts"
   echo 'Permission is granted' > "$room/texts/MIT.txt"
   makes download --texts "$room/texts" MIT < <(step 000003 'mkdir LICENSES' \
-    'put LICENSES/MIT.txt' 'barrier . .reuse/undo LICENSES')
-  makes undo < <(replay 'unlink LICENSES/MIT.txt' 'barrier .reuse/undo LICENSES')
+    'put LICENSES/MIT.txt' 'barrier . LICENSES')
+  makes undo < <(replay 'unlink LICENSES/MIT.txt' 'barrier LICENSES')
   # A folder without files gives way to a file.
   mkdir -p "$tree/LICENSES/MIT.txt/in"
   makes redo < <(replay 'rmdir LICENSES/MIT.txt/in' 'rmdir LICENSES/MIT.txt' \
-    'put LICENSES/MIT.txt' 'barrier .reuse/undo LICENSES')
+    'put LICENSES/MIT.txt' 'barrier LICENSES')
   make_dep5 "$tree"
   makes convert-dep5 < <(step 000004 'unlink .reuse/dep5' 'put REUSE.toml' \
-    'barrier . .reuse .reuse/undo')
+    'barrier . .reuse')
 }
 
 # Calls that write nothing
@@ -145,7 +163,7 @@ set_back() {
   killed_at 3 "${annotate[@]}" -r .
   makes log << CALLS
 barrier .reuse/undo
-barrier .reuse/undo in src
+barrier in src
 unlink $new
 put .reuse/undo/head.json
 barrier .reuse/undo
@@ -157,7 +175,7 @@ barrier .reuse/undo
 unlink $new
 put in/c.py
 put src/a.py
-barrier .reuse/undo in src
+barrier in src
 put .reuse/undo/head.json
 barrier .reuse/undo
 CALLS
@@ -167,7 +185,7 @@ CALLS
   rmdir "$tree/LICENSES"
   makes log << CALLS
 barrier .reuse/undo
-barrier . .reuse/undo
+barrier .
 unlink $new
 put .reuse/undo/head.json
 barrier .reuse/undo
@@ -196,17 +214,16 @@ faults() {
   fails_at fdatasync 2 'write .reuse/undo/head.json'
   fails_at fsync 2 'sync .reuse/undo'
   fails_at fdatasync 3 'write src/a.py'
-  fails_at fsync 3 'sync .reuse/undo'
-  fails_at fsync 4 'sync src'
+  fails_at fsync 3 'sync src'
   fails_at fdatasync 4 'write .reuse/undo/head.json'
-  fails_at fsync 5 'sync .reuse/undo'
+  fails_at fsync 4 'sync .reuse/undo'
   # Where folders can't be synced
   for error in EINVAL EOPNOTSUPP; do
     rm -rf "$tree"
     cp -a "$room/kept" "$tree"
     trace -e inject=fsync:error=$error -- "${annotate[@]}" src/a.py ||
       fail "$error: $(< "$room/out")"
-    [[ $(grep -c INJECTED "$room/trace") == 5 ]] || fail "$error: $(< "$room/trace")"
+    [[ $(grep -c INJECTED "$room/trace") == 4 ]] || fail "$error: $(< "$room/trace")"
     runs=$((runs + 1))
   done
 }

@@ -8,12 +8,13 @@ mod empty_folders;
 mod failure;
 mod fault;
 mod folder;
+mod handle;
 mod kept_out;
-mod known;
 mod listing;
 mod new_file;
 mod place;
 mod syncs;
+mod trail;
 
 pub use failure::Failure;
 use failure::LastFailure;
@@ -53,6 +54,11 @@ impl<R: Files<File = File> + AllocGlobal + Clone + Drop> DiskStore<R> {
             failure: LastFailure::none(),
             calls: CallRecord::new(),
         }
+    }
+
+    /// Whether folders are sought by their paths, since the system doesn't show open ones.
+    pub fn is_by_path(&self) -> bool {
+        self.folder.is_by_path()
     }
 
     /// The last call that failed, where one did since the last asking.

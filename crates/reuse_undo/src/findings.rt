@@ -71,6 +71,8 @@ pub struct Findings {
     pub failure: Option<Failure>,
     /// The root, where it was no folder.
     pub missing_root: Option<String>,
+    /// Whether folders were sought by their paths, since the system doesn't show open ones.
+    pub is_by_path: bool,
 }
 
 impl Findings {
@@ -97,6 +99,7 @@ impl Findings {
             is_table_empty: false,
             unrecognised: 0,
             failure: None,
+            is_by_path: false,
         }
     }
 
@@ -109,6 +112,7 @@ impl Findings {
         outcome: &Result<usize, Fault>,
     ) {
         self.failure = folder.take_failure();
+        self.is_by_path = folder.is_by_path();
         if self.begun.is_some() {
             self.is_set_back = has_settled(alloc, &mut folder);
         }

@@ -167,6 +167,12 @@ pub fn note_call(rt: &impl Eprint, findings: &Findings, outcome: &Result<usize, 
             "REUSE.toml says nothing of any file, since .reuse/dep5 has no paragraph with Files",
         );
     }
+    if findings.is_by_path {
+        note(
+            rt,
+            "there is no /proc: no other program may move folders or make links here meanwhile",
+        );
+    }
     if let Some(folder) = &findings.above {
         let _ = eprintln!(rt;
             "reuse-undo: note: a folder above has a journal too: --root {folder}"

@@ -1,66 +1,57 @@
-//! Making folders, and removing those that hold nothing but folders.
+//! Removing folders that hold nothing but folders.
 use crate::disk::fault::{FolderFault, Obstacle};
 use crate::disk::listing::{MOST_NAMES, push_text};
-use crate::disk::place::{Found, FullPath};
-use crate::disk::syncs::Unsynced;
-use std::alloc::Global;
-use std::fs::{self, DirEntry};
+use crate::disk::place::folder_and_name;
+use crate::disk::trail::Trail;
+use std::alloc::{AllocError, Global};
+use std::fs::{self, DirEntry, File};
 use std::rt::Files;
 
-/// Makes the folders above the path that are missing, but not the root. Each gives a name to the one above it.
-pub fn make_folders(
-    rt: &impl Files,
-    alloc: Global,
-    full: &FullPath,
-    unsynced: &mut Unsynced,
-) -> Result<(), FolderFault> {
-    let mut above = 0usize;
-    for (end, slash) in full.path().match_indices('/') {
-        match full.look_up_to(rt, end)? {
-            Found::Folder => {}
-            Found::Nothing => {
-                unsynced.note(alloc, full.path().get(..above).unwrap_or(""))?;
-                fs::create_dir(rt, full.up_to(end))?;
-            }
-            Found::File(_) | Found::Other => {
-                return Err(FolderFault::Device(Obstacle::Foreign));
-            }
-        }
-        above = end.saturating_add(slash.len());
+/// The path of this name in a folder, both below the root.
+pub fn path_in(alloc: Global, folder: &str, name: &str) -> Result<String, AllocError> {
+    let mut path = String::from_str(alloc, folder)?;
+    if !folder.is_empty() {
+        path.push('/')?;
     }
-    Ok(())
+    path.push_str(name)?;
+    Ok(path)
 }
 
-/// Adds a folder. Anything else is in the way.
+/// Adds a folder that lies in this one. Anything else is in the way.
 fn push_folder<R: Files>(
     alloc: Global,
+    folder: &str,
     entry: &DirEntry<R>,
     folders: &mut Vec<String>,
 ) -> Result<(), FolderFault> {
     if !entry.file_type()?.is_dir() {
         return Err(FolderFault::Device(Obstacle::Foreign));
     }
-    push_text(alloc, folders, entry.path().as_str())?;
+    let path = path_in(alloc, folder, entry.file_name())?;
+    folders.push(path).map_err(AllocError::from)?;
     Ok(())
 }
 
 /// Adds the folders that lie in this one. Where anything else lies in it, that is in the way.
-fn push_folders<R: Files + AllocGlobal + Clone + Drop>(
+fn push_folders<R: Files<File = File> + AllocGlobal + Clone + Drop>(
     rt: &R,
     alloc: Global,
+    trail: &mut Trail,
     folder: &str,
     folders: &mut Vec<String>,
 ) -> Result<(), FolderFault> {
-    for entry in fs::read_dir(rt, folder)? {
-        push_folder(alloc, &entry?, folders)?;
+    let opened = trail.enter_seen(rt, alloc, folder)?;
+    for entry in fs::read_dir(rt, opened.path())? {
+        push_folder(alloc, folder, &entry?, folders)?;
     }
     Ok(())
 }
 
 /// The folder and all below it, each above those that lie in it, where there is nothing else.
-fn folders_below<R: Files + AllocGlobal + Clone + Drop>(
+fn folders_below<R: Files<File = File> + AllocGlobal + Clone + Drop>(
     rt: &R,
     alloc: Global,
+    trail: &mut Trail,
     folder: &str,
 ) -> Result<Vec<String>, FolderFault> {
     let mut folders = Vec::new(alloc);
@@ -70,20 +61,24 @@ fn folders_below<R: Files + AllocGlobal + Clone + Drop>(
             return Ok(folders);
         };
         let folder = String::from_str(alloc, folder.as_str())?;
-        push_folders(rt, alloc, folder.as_str(), &mut folders)?;
+        push_folders(rt, alloc, trail, folder.as_str(), &mut folders)?;
     }
     Err(FolderFault::Device(Obstacle::TooManyNames))
 }
 
-/// Removes the folder and those below it. Where anything but folders lies in one, nothing is removed.
-pub fn remove_folders<R: Files + AllocGlobal + Clone + Drop>(
+/// Removes the folder and those below it. Where anything but folders lies in one, nothing is
+/// removed.
+pub fn remove_folders<R: Files<File = File> + AllocGlobal + Clone + Drop>(
     rt: &R,
     alloc: Global,
+    trail: &mut Trail,
     folder: &str,
 ) -> Result<(), FolderFault> {
-    let folders = folders_below(rt, alloc, folder)?;
+    let folders = folders_below(rt, alloc, trail, folder)?;
     for folder in folders.iter().rev() {
-        fs::remove_dir(rt, folder.as_str())?;
+        let (above, name) = folder_and_name(folder.as_str());
+        let above = trail.enter_seen(rt, alloc, above)?;
+        fs::remove_dir(rt, above.path_of(alloc, name)?.as_str())?;
     }
     Ok(())
 }

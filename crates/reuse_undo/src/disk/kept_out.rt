@@ -7,8 +7,12 @@ ghost use Rattle.std.specs.Str.{str_eq_ignore_ascii_case};
 ghost use Rattle.reuse_undo.specs.Places.{between_slashes};
 ghost use Rattle.reuse_undo.specs.KeptOut.{is_control_folder, is_name_kept_out, begins_journal, is_number, is_new_name, begins_new, is_new_in_reuse, is_new, is_foreign, is_kept_out, is_folder_kept_out};
 
-/// The file that is written before it is given its name. Where several are written at once, the others have a dot and a number behind that name.
-pub const NEW: &str = ".reuse/undo/new";
+/// The folder of the journal.
+pub const JOURNAL: &str = ".reuse/undo";
+
+/// The name there of the file that is written before it is given its own. Where several are written at once, the others have a dot and a number
+/// behind it.
+pub const NEW: &str = "new";
 
 /// The name of that file where it is written beside the one that it is to be, since the journal's folder lies on another device.
 pub const NEW_BESIDE: &str = ".reuse-undo-new";

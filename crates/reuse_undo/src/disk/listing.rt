@@ -1,17 +1,17 @@
 //! The files below a folder.
-ghost use Rattle.std.specs.Prelude.{◌≡◌, All, false, map, IfOk};
-ghost use Rattle.std.specs.List.Sorted.{IsSortedByKey};
+ghost use Rattle.std.specs.Prelude.{◌≡◌, All, false, IfOk};
+ghost use Rattle.std.specs.List.Sorted.{IsSorted};
 ghost use Rattle.std.specs.Ordering.{nat_cmp};
 ghost use Rattle.std.specs.Cmp.Lexicographic.{slice_cmp};
 ghost use Rattle.reuse_undo.specs.KeptOut.{is_kept_out};
 
+use crate::disk::empty_folders::path_in;
 use crate::disk::fault::{FolderFault, Obstacle};
 use crate::disk::kept_out::{is_folder_kept_out, is_kept_out};
-use crate::disk::known::KnownFile;
-use crate::disk::place::{FileStatus, FullPath};
+use crate::disk::trail::Trail;
 use reuse_tree::PathText;
 use std::alloc::{AllocError, Global};
-use std::fs::{self, DirEntry};
+use std::fs::{self, DirEntry, File};
 use std::rt::Files;
 
 /// A listing that finds more names than this fails.
@@ -28,8 +28,8 @@ pub fn push_text(alloc: Global, texts: &mut Vec<String>, text: &str) -> Result<(
 struct Listing {
     names: usize,
     folders: Vec<String>,
-    files: Vec<KnownFile>,
-    ghost in_tree: { All (λ file. is_kept_out file.path ≡ false) files.items },
+    files: Vec<PathText>,
+    ghost in_tree: { All (λ path. is_kept_out path ≡ false) files.items },
 }
 
 impl Listing {
@@ -48,11 +48,11 @@ impl Listing {
         self.folders.pop()
     }
 
-    /// Takes in one name. Links, devices and pipes are left out.
+    /// Takes in one name of this folder. Links, devices and pipes are left out.
     fn take<R: Files>(
         &mut self,
         alloc: Global,
-        root: &str,
+        folder: &str,
         entry: &DirEntry<R>,
     ) -> Result<(), FolderFault> {
         if self.names >= MOST_NAMES {
@@ -60,79 +60,66 @@ impl Listing {
         }
         self.names += 1;
         let metadata = entry.metadata()?;
-        let start = root.len().saturating_add(1);
-        let path = entry.path().as_str().get(start..).unwrap_or("");
+        let whole = path_in(alloc, folder, entry.file_name())?;
+        let text = whole.as_str();
         if metadata.is_dir() {
-            if !is_folder_kept_out(path) {
-                push_text(alloc, &mut self.folders, path)?;
+            if !is_folder_kept_out(text) {
+                self.folders.push(whole).map_err(AllocError::from)?;
             }
-        } else if metadata.is_file() && !is_kept_out(path) {
-            let path = PathText::new(alloc, path)?;
-            let status = FileStatus::of(&metadata);
-            let file = KnownFile { path, status };
-            self.files.push(file).map_err(AllocError::from)?;
+        } else if metadata.is_file() && !is_kept_out(text) {
+            let path = PathText::new(alloc, text)?;
+            self.files.push(path).map_err(AllocError::from)?;
         }
         Ok(())
     }
 
     /// Takes in the names of one folder, which is the root where it is empty.
-    fn take_folder<R: Files + AllocGlobal + Clone + Drop>(
+    fn take_folder<R: Files<File = File> + AllocGlobal + Clone + Drop>(
         &mut self,
         rt: &R,
         alloc: Global,
-        root: &str,
+        trail: &mut Trail,
         folder: &str,
     ) -> Result<(), FolderFault> {
-        let full = FullPath::new(alloc, root, folder)?;
-        for entry in fs::read_dir(rt, full.text())? {
-            self.take(alloc, root, &entry?)?;
+        let opened = trail.enter_seen(rt, alloc, folder)?;
+        for entry in fs::read_dir(rt, opened.path())? {
+            self.take(alloc, folder, &entry?)?;
         }
         Ok(())
     }
 
-    /// What was found, in byte order of the paths.
-    fn into_files(self) -> Vec<KnownFile>
-        ensures sorted { IsSortedByKey (λ file. file.path) (slice_cmp nat_cmp) result.items }
-        ensures kept_out { All (λ file. is_kept_out file.path ≡ false) result.items }
+    /// What was found, in byte order.
+    fn into_paths(self) -> Vec<PathText>
+        ensures sorted { IsSorted (slice_cmp nat_cmp) result.items }
+        ensures kept_out { All (λ path. is_kept_out path ≡ false) result.items }
     {
         let mut files = self.files;
-        files.sort_unstable_by(|one, other| one.path.cmp(&other.path));
+        files.sort_unstable();
         files
     }
 }
 
-/// The regular files below this folder, which is the root where it is empty, in byte order of their paths. `last` becomes the folder that was
-/// looked at last, where a listing that fails has failed.
-pub fn list_below<R: Files + AllocGlobal + Clone + Drop>(
+/// The paths of the regular files below this folder, which is the root where it is empty, in byte
+/// order. `last` becomes the folder that was looked at last, where a listing that fails has failed.
+pub fn list_below<R: Files<File = File> + AllocGlobal + Clone + Drop>(
     rt: &R,
     alloc: Global,
-    root: &str,
+    trail: &mut Trail,
     folder: &str,
     last: &mut String,
-) -> Result<Vec<KnownFile>, FolderFault>
-    ensures sorted { IfOk result (λ files. IsSortedByKey (λ file. file.path) (slice_cmp nat_cmp) files.items) }
-    ensures kept_out { IfOk result (λ files. All (λ file. is_kept_out file.path ≡ false) files.items) }
+) -> Result<Vec<PathText>, FolderFault>
+    ensures sorted { IfOk result (λ paths. IsSorted (slice_cmp nat_cmp) paths.items) }
+    ensures kept_out { IfOk result (λ paths. All (λ path. is_kept_out path ≡ false) paths.items) }
 {
     let mut listing = Listing::of(alloc, folder)?;
     for _ in 0..=MOST_NAMES {
         match listing.next_folder() {
             Some(folder) => {
                 *last = folder;
-                listing.take_folder(rt, alloc, root, last.as_str())?;
+                listing.take_folder(rt, alloc, trail, last.as_str())?;
             }
-            None => return Ok(listing.into_files()),
+            None => return Ok(listing.into_paths()),
         }
     }
     Err(FolderFault::Device(Obstacle::TooManyNames))
-}
-
-/// The paths of the files.
-pub fn paths_of(alloc: Global, files: &[KnownFile]) -> Result<Vec<PathText>, AllocError>
-    ensures { IfOk result (λ paths. paths.items ≡ map (λ file. file.path) files.now) }
-{
-    let mut paths = Vec::with_capacity(alloc, files.len())?;
-    for file in files {
-        paths.push(file.path.try_clone(alloc)?)?;
-    }
-    Ok(paths)
 }

@@ -1,6 +1,7 @@
-//! Making lasting what was written, so that it outlives a loss of power. The data of a new file is synced before the file is given
-//! its name. Which folders got or lost a name is noted, and a barrier syncs each of them once. The system reports a fault of a sync
-//! once, and may then drop what it could not write: so a store whose sync has failed believes no later one.
+//! Making lasting what was written, so that it outlives a loss of power. The data of a new file is
+//! synced before the file is given its name. Which folders got or lost a name is noted, and a
+//! barrier syncs each of them once. The system reports a fault of a sync once, and may then drop
+//! what it could not write: so a store whose sync has failed believes no later one.
 ghost use Rattle.std.specs.Prelude.{◌≡◌, IfErr, IfSome, IsOk, None, OnOk, Some};
 ghost use Rattle.std.specs.BTreeSet.{IsEmpty};
 ghost use Rattle.std.specs.Option.{unwrap_or};
@@ -9,16 +10,15 @@ ghost use Rattle.reuse_undo.specs.declared.disk.fault.Obstacle.{Obstacle};
 ghost use Rattle.reuse_undo.specs.declared.disk.fault.Obstacle.TheVariants.{System};
 
 use crate::disk::fault::{FolderFault, Obstacle};
-use crate::disk::place::{FullPath, above};
+use crate::disk::kept_out::JOURNAL;
+use crate::disk::place::folder_and_name;
+use crate::disk::trail::Trail;
 use reuse_tree::Change;
 use std::alloc::{AllocError, Global};
 use std::collections::BTreeSet;
-use std::fs::{self, File};
-use std::io::{self, ErrorKind};
+use std::fs::File;
+use std::io;
 use std::rt::Files;
-
-/// The folder of the journal.
-const JOURNAL: &str = ".reuse/undo/";
 
 /// Whether what is written is made lasting.
 #[derive(Clone, Copy, Debug, PartialEq, Eq)]
@@ -33,8 +33,12 @@ pub enum Syncs {
 #[derive(Drop)]
 pub struct Unsynced {
     syncs: Syncs,
-    /// The folders that got or lost a name since the last barrier. Each has a slash at its end, and the root is empty.
+    /// The folders that got or lost a name since the last barrier; the root is empty.
     folders: BTreeSet<String>,
+    /// Whether a barrier has made the journal's names lasting. Those that came or went since then
+    /// are in a folder that is noted. Names of new files there, which are renamed away, are of no
+    /// account.
+    is_journal_lasting: bool,
     /// Why the first sync that failed did so.
     failed: Option<Obstacle>,
     /// The folder that was synced last, or the file whose sync failed.
@@ -51,6 +55,7 @@ impl Unsynced {
         Unsynced {
             syncs,
             folders: BTreeSet::new(alloc),
+            is_journal_lasting: false,
             failed: None,
             last: String::new(alloc),
         }
@@ -61,7 +66,7 @@ impl Unsynced {
         self.last.as_str()
     }
 
-    /// This folder, which has a slash at its end, is to get or lose a name.
+    /// This folder, which is empty for the root, is to get or lose a name.
     pub fn note(&mut self, alloc: Global, folder: &str) -> Result<(), AllocError>
         ensures syncs { self.new.syncs ≡ self.old.syncs }
         ensures failed { self.new.failed ≡ self.old.failed }
@@ -110,13 +115,13 @@ impl Unsynced {
         let _ = self.last.push_str(path);
     }
 
-    /// A barrier: makes lasting the names in the journal's folder, in the folders above the paths of the changes, and in all folders
-    /// that are noted.
+    /// A barrier: makes lasting the names in the journal's folder, in the folders above the paths
+    /// of the changes, and in all folders that are noted.
     pub fn sync<R: Files<File = File>>(
         &mut self,
         rt: &R,
         alloc: Global,
-        root: &str,
+        trail: &mut Trail,
         changes: &[Change],
     ) -> Result<(), FolderFault>
         ensures left_out { self.old.syncs ≡ Syncs.LeftOut → IsOk result }
@@ -131,9 +136,12 @@ impl Unsynced {
         if let Some(obstacle) = self.failed {
             return Err(FolderFault::Device(obstacle));
         }
-        let synced = self.sync_all(rt, alloc, root, changes);
+        let synced = self.sync_all(rt, alloc, trail, changes);
         match synced {
-            Ok(()) => self.folders.clear(),
+            Ok(()) => {
+                self.folders.clear();
+                self.is_journal_lasting = true;
+            }
             Err(FolderFault::Device(obstacle)) => self.fail(obstacle),
             Err(FolderFault::Clash | FolderFault::Memory) => {}
         }
@@ -144,62 +152,48 @@ impl Unsynced {
         &mut self,
         rt: &R,
         alloc: Global,
-        root: &str,
+        trail: &mut Trail,
         changes: &[Change],
     ) -> Result<(), FolderFault>
         ensures failed { self.new.failed ≡ self.old.failed }
     {
         self.note_changes(alloc, changes)?;
-        let there = self.folders_there(rt, alloc, root)?;
+        let there = self.folders_there(rt, alloc, trail)?;
         for folder in &there {
-            self.set_last(folder.strip_suffix('/').unwrap_or(""));
-            sync_folder(rt, &FullPath::new(alloc, root, folder.as_str())?)?;
+            self.set_last(folder.as_str());
+            trail.enter_seen(rt, alloc, folder.as_str())?.sync()?;
         }
         Ok(())
     }
 
-    /// Notes the journal's folder and the folders above the paths of the changes.
+    /// Notes the journal's folder, if it isn't known to be lasting, and the folders above the paths
+    /// of the changes.
     fn note_changes(&mut self, alloc: Global, changes: &[Change]) -> Result<(), AllocError>
         ensures failed { self.new.failed ≡ self.old.failed }
     {
-        self.note(alloc, JOURNAL)?;
+        if !self.is_journal_lasting {
+            self.note(alloc, JOURNAL)?;
+        }
         for change in changes {
-            self.note(alloc, above(change.path().text()))?;
+            self.note(alloc, folder_and_name(change.path().text()).0)?;
         }
         Ok(())
     }
 
-    /// The folders that are noted, each once. In place of one that isn't there stands the nearest one above it that is.
-    fn folders_there(
+    /// The folders that are noted, each once. In place of one that isn't there stands the nearest
+    /// one above it that is.
+    fn folders_there<R: Files<File = File>>(
         &self,
-        rt: &impl Files,
+        rt: &R,
         alloc: Global,
-        root: &str,
+        trail: &mut Trail,
     ) -> Result<BTreeSet<String>, FolderFault> {
         let mut there = BTreeSet::new(alloc);
         for folder in &self.folders {
-            let full = FullPath::new(alloc, root, folder.as_str())?;
-            let nearest = String::from_str(alloc, full.nearest_folder(rt)?)?;
+            trail.enter(rt, alloc, folder.as_str())?;
+            let nearest = String::from_str(alloc, trail.path())?;
             there.insert(nearest).map_err(AllocError::from)?;
         }
         Ok(there)
-    }
-}
-
-/// Whether folders can't be synced there at all, as on some file systems.
-fn is_without_sync(error: &io::Error) -> bool {
-    matches!(
-        error.kind(),
-        ErrorKind::InvalidInput | ErrorKind::Unsupported
-    )
-}
-
-fn sync_folder<R: Files<File = File>>(rt: &R, folder: &FullPath) -> Result<(), FolderFault> {
-    let opened = fs::open(rt, folder.text())?;
-    match opened.sync_all() {
-        Err(error) if !is_without_sync(&error) => {
-            Err(FolderFault::Device(Obstacle::System(error)))
-        }
-        Ok(()) | Err(_) => Ok(()),
     }
 }

@@ -1,0 +1,209 @@
+//! The folders that are open: the root, and those along the path that was worked in last. Calls
+//! come in the order of their paths, so most find their folder open. A folder is opened through the
+//! handle of the one above it.
+use crate::disk::empty_folders::path_in;
+use crate::disk::fault::{FolderFault, Obstacle};
+use crate::disk::handle::{Below, OpenFolder};
+use crate::disk::place::{Found, Place};
+use crate::disk::syncs::Unsynced;
+use std::alloc::{AllocError, Global};
+use std::fs::{self, File};
+use std::rt::Files;
+
+/// How many folders are open at most. Where a path has more, those next to the root are closed.
+const MOST_OPEN: usize = 16;
+
+/// An open folder along the trail, and its path below the root, which is empty for the root.
+#[derive(Drop)]
+struct Step {
+    path: String,
+    folder: OpenFolder,
+}
+
+/// The root and the open folders along a path, each below the one before it.
+#[derive(Drop)]
+pub struct Trail {
+    /// The path of the root.
+    root: String,
+    /// The first one is the root. There is none until the root is asked for.
+    steps: Vec<Step>,
+}
+
+impl Trail {
+    /// The trail that begins at the root of this path. Nothing is asked of the system yet.
+    pub fn new(alloc: Global, root: String) -> Trail {
+        Trail {
+            root,
+            steps: Vec::new(alloc),
+        }
+    }
+
+    /// The folder that was entered last.
+    pub fn current(&self) -> Result<&OpenFolder, FolderFault> {
+        match self.steps.last() {
+            Some(step) => Ok(&step.folder),
+            None => Err(FolderFault::Device(Obstacle::NoRoot)),
+        }
+    }
+
+    /// The path of that folder, which is empty for the root.
+    pub fn path(&self) -> &str {
+        match self.steps.last() {
+            Some(step) => step.path.as_str(),
+            None => "",
+        }
+    }
+
+    /// Opens the root, and closes the folders that aren't on the way to this one.
+    fn go_back(
+        &mut self,
+        rt: &impl Files<File = File>,
+        alloc: Global,
+        folder: &str,
+    ) -> Result<(), FolderFault> {
+        if self.steps.is_empty() {
+            let root = OpenFolder::root(rt, alloc, self.root.as_str())?;
+            self.push(String::new(alloc), root)?;
+        }
+        for _ in 0..self.steps.len() {
+            if rest_below(self.path(), folder).is_some() {
+                break;
+            }
+            self.steps.pop();
+        }
+        Ok(())
+    }
+
+    /// What of the path of a folder lies below the one that was entered last.
+    fn rest_of<'a>(&self, folder: &'a str) -> &'a str {
+        rest_below(self.path(), folder).unwrap_or("")
+    }
+
+    fn push(&mut self, path: String, folder: OpenFolder) -> Result<(), AllocError> {
+        if self.steps.len() >= MOST_OPEN {
+            self.steps.remove(1);
+        }
+        self.steps.push(Step { path, folder })?;
+        Ok(())
+    }
+
+    /// Takes a step into the folder of this name in the one that was entered last.
+    fn step_into(
+        &mut self,
+        alloc: Global,
+        name: &str,
+        folder: OpenFolder,
+    ) -> Result<(), AllocError> {
+        let path = path_in(alloc, self.path(), name)?;
+        self.push(path, folder)
+    }
+
+    /// Enters the folder at this path, which is empty for the root. If a part of the path is no
+    /// folder, what a path below it is; the folder that was entered last is then the one that this
+    /// part would lie in.
+    pub fn enter(
+        &mut self,
+        rt: &impl Files<File = File>,
+        alloc: Global,
+        folder: &str,
+    ) -> Result<Option<Place>, FolderFault> {
+        self.go_back(rt, alloc, folder)?;
+        for name in self.rest_of(folder).split_terminator('/') {
+            match self.current()?.open_below(rt, alloc, name)? {
+                Below::Folder(folder) => self.step_into(alloc, name, folder)?,
+                Below::Other(found) => return Ok(Some(found.into_place_below())),
+            }
+        }
+        Ok(None)
+    }
+
+    /// Enters the folder at this path where it is to be there.
+    ///
+    /// # Errors
+    /// `Changing` if a part of the path is no folder; else what the system says.
+    pub fn enter_seen(
+        &mut self,
+        rt: &impl Files<File = File>,
+        alloc: Global,
+        folder: &str,
+    ) -> Result<&OpenFolder, FolderFault> {
+        match self.enter(rt, alloc, folder)? {
+            None => self.current(),
+            Some(_) => Err(FolderFault::Device(Obstacle::Changing)),
+        }
+    }
+
+    /// Enters the folder at this path, and makes those on the way that are missing. Each gives a
+    /// name to the one above it.
+    ///
+    /// # Errors
+    /// `Foreign` if a part of the path is no folder; else what the system says.
+    pub fn make(
+        &mut self,
+        rt: &impl Files<File = File>,
+        alloc: Global,
+        folder: &str,
+        unsynced: &mut Unsynced,
+    ) -> Result<(), FolderFault> {
+        self.go_back(rt, alloc, folder)?;
+        for name in self.rest_of(folder).split_terminator('/') {
+            match self.open_or_make(rt, alloc, name, unsynced)? {
+                Below::Folder(folder) => self.step_into(alloc, name, folder)?,
+                Below::Other(_) => return Err(FolderFault::Device(Obstacle::Foreign)),
+            }
+        }
+        Ok(())
+    }
+
+    fn open_or_make(
+        &self,
+        rt: &impl Files<File = File>,
+        alloc: Global,
+        name: &str,
+        unsynced: &mut Unsynced,
+    ) -> Result<Below, FolderFault> {
+        let above = self.current()?;
+        match above.open_below(rt, alloc, name)? {
+            Below::Other(Found::Nothing) => {
+                unsynced.note(alloc, self.path())?;
+                fs::create_dir(rt, above.path_of(alloc, name)?.as_str())?;
+                above.open_below(rt, alloc, name)
+            }
+            below => Ok(below),
+        }
+    }
+
+    /// Fails if another folder than the open one stands at the path of the root, or none.
+    pub fn check_root(&self, rt: &impl Files, alloc: Global) -> Result<(), FolderFault> {
+        match self.steps.first() {
+            Some(step) => step.folder.check_root(rt, alloc, self.root.as_str()),
+            None => Err(FolderFault::Device(Obstacle::NoRoot)),
+        }
+    }
+
+    /// Whether folders are sought by their paths, since the system doesn't show open ones.
+    pub fn is_by_path(&self) -> bool {
+        match self.steps.first() {
+            Some(step) => !step.folder.is_shown(),
+            None => false,
+        }
+    }
+
+    /// Closes all folders but the root, so that each is looked at anew.
+    pub fn close(&mut self) {
+        self.steps.truncate(1);
+    }
+}
+
+/// What of a path lies below this folder, without a slash before it, or none where the path isn't
+/// the folder and doesn't lie below it.
+fn rest_below<'a>(folder: &str, path: &'a str) -> Option<&'a str> {
+    if folder.is_empty() {
+        return Some(path);
+    }
+    let rest = path.strip_prefix(folder)?;
+    if rest.is_empty() {
+        return Some(rest);
+    }
+    rest.strip_prefix('/')
+}
