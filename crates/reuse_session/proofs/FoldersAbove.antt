@@ -26,12 +26,12 @@ above_has (byte ∷ folder) rest =
 above_is : (path folder : List ℕ) → In folder (folders_above path) → (rest : List ℕ) × (path ≡ folder ++ 47 ∷ rest)
 above_is [] folder h = absurd h
 above_is (byte ∷ path) folder h = elim (In-append (cond (byte == 47) ([] ∷ []) []) (map (λ f. byte ∷ f) (folders_above path)) folder h) [
-    | inl here ↦ at_slash (byte == 47) refl here
-    | inr later ↦
-        (let found = In-from_map (λ f. byte ∷ f) (folders_above path) folder later in
-        let inner = above_is path found.0 found.1 in
-        (inner.0, ap (λ l. byte ∷ l) inner.1 ∙ ap (λ f. f ++ 47 ∷ inner.0) (sym found.2)))
-  ]
+  | inl here ↦ at_slash (byte == 47) refl here
+  | inr later ↦
+      (let found = In-from_map (λ f. byte ∷ f) (folders_above path) folder later in
+      let inner = above_is path found.0 found.1 in
+      (inner.0, ap (λ l. byte ∷ l) inner.1 ∙ ap (λ f. f ++ 47 ∷ inner.0) (sym found.2)))
+]
   where
     at_slash : (b : Bool) → (byte == 47) ≡ b → In folder (cond b ([] ∷ []) []) → (rest : List ℕ) × (byte ∷ path ≡ folder ++ 47 ∷ rest)
     at_slash true is (inl e) = (path, ap (λ (x : ℕ). x ∷ path) (eqb-true byte 47 is) ∙ ap (λ f. f ++ 47 ∷ path) (sym e))
@@ -63,5 +63,5 @@ module _ (test : List ℕ → Bool) (path : List ℕ) where
   no_slash_found none = false_from_ne_true _ (λ e.
       let found = any_from test (folders_above path) e in
       let other : (k : ℕ) → k < length path → get_or path k 0 ≡ 47 → (bytes_eq (take k path) found.0 || false) ≡ false = λ k low slash. or_none _ ∙ false_from_ne_true _ (λ yes.
-          false≢true (sym (none k low slash) ∙ ap test ((bytes_eq-Decides (take k path) found.0).0 yes) ∙ found.2)) in
+      false≢true (sym (none k low slash) ∙ ap test ((bytes_eq-Decides (take k path) found.0).0 yes) ∙ found.2)) in
       false≢true (sym (no_part (found.0 ∷ []) path other) ∙ or_none _ ∙ above_under path found.0 found.1))

@@ -133,8 +133,7 @@ reverts_by store number skip_moved when held old new (Err (Interrupted cause)) h
     (λ (run : RunBack store number skip_moved when (Err (Interrupted cause)) old new).
     let listed = is_listed number old (Err (Interrupted cause)) stands.whole absent (is_no_absence cause number) in
     let step = listed_step store.files old held stands number listed run.0 (run.1 honest) in
-    let Stops = (λ (cs : List Change) (late : List (List ℕ)). StopsAfterRun (Revert cs late skip_moved) when held (store.files (store_of new))) in
-    (
+    let Stops = (λ (cs : List Change) (late : List (List ℕ)). StopsAfterRun (Revert cs late skip_moved) when held (store.files (store_of new))) in (
       step.0,
       step.1,
       step.2,

@@ -95,7 +95,7 @@ foretold_back held state holds number skip_moved answer previews =
       changes,
       led_to_tree held state holds back.0 number back.1 back.2,
       back.3 ∙ run_alike held state holds (Revert changes (touched_later number held.journal.done changes) skip_moved)
-      ∙ ap (λ late. run_fates state (Revert changes late skip_moved)) (later_as_machine held state holds number changes),
+          ∙ ap (λ late. run_fates state (Revert changes late skip_moved)) (later_as_machine held state holds number changes),
     )) previews
 
 -- a preview answers what the machine says

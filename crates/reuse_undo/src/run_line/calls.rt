@@ -9,9 +9,7 @@ ghost use Rattle.reuse_undo.specs.Requests.{IsLook};
 ghost use Rattle.reuse_undo.specs.RunLine.{as_told, CallLeaves, Meets, Previews, PreviewsRevert, HasCallClash, KeepsFolder};
 
 use crate::request::{Request, Told};
-use reuse_session::{
-    Answer, Call, Event, Fates, Refusal, Reply, Reverted, Session, Shown,
-};
+use reuse_session::{Answer, Call, Event, Fates, Refusal, Reply, Reverted, Session, Shown};
 use reuse_tree::Store;
 use std::alloc::Global;
 
