@@ -14,6 +14,7 @@ pub mod Outputs
 pub mod Peeks
 pub mod Places
 pub mod PrefixNames
+pub mod Recoveries
 pub mod Requests
 pub mod RowLines
 pub mod RunLine

@@ -16,7 +16,7 @@ fn print_path<W: Write>(out: &mut W, word: &str, path: &PathText) -> io::Result<
 }
 
 /// Prints a line for each path: the word, a space and the path.
-fn print_paths<W: Write>(out: &mut W, word: &str, paths: &[PathText]) -> io::Result<()>
+pub fn print_paths<W: Write>(out: &mut W, word: &str, paths: &[PathText]) -> io::Result<()>
     ensures { OnOk result (Appends (W.contents out.old) (W.contents out.new) (lines_of word.now paths.now)) }
 {
     for path in paths {

@@ -23,6 +23,7 @@ mod place_word;
 mod prefix_name;
 mod progress;
 mod reading;
+mod recovering;
 mod request;
 mod rows;
 mod run_line;
