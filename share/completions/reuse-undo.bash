@@ -87,11 +87,12 @@ _reuse_undo() {
       annotate)
         _reuse_undo_of '--copyright --license --contributor --year --exclude-year --style --copyright-prefix --copyright-style
           --merge-copyrights --single-line --multi-line --no-replace --recursive --files-from --exclude --force-dot-license --fallback-dot-license
-          --skip-unrecognised --skip-existing --dry-run --diff --root --verbose --no-sync --help'
+          --skip-unrecognised --skip-existing --exit-non-zero-on-change --dry-run --check --diff --json --root --verbose --no-sync --help'
         ;;
-      download) _reuse_undo_of '--texts --dry-run --diff --root --verbose --no-sync --help' ;;
-      convert-dep5 | undo | redo) _reuse_undo_of '--dry-run --diff --root --verbose --no-sync --help' ;;
-      revert) _reuse_undo_of '--dry-run --diff --skip-moved --root --verbose --no-sync --help' ;;
+      download) _reuse_undo_of '--texts --dry-run --check --diff --json --root --verbose --no-sync --help' ;;
+      convert-dep5) _reuse_undo_of '--exit-non-zero-on-change --dry-run --check --diff --json --root --verbose --no-sync --help' ;;
+      undo | redo) _reuse_undo_of '--dry-run --check --diff --json --root --verbose --no-sync --help' ;;
+      revert) _reuse_undo_of '--dry-run --check --diff --json --skip-moved --root --verbose --no-sync --help' ;;
       log) _reuse_undo_of '--json --root --verbose --no-sync --help' ;;
       show) _reuse_undo_of '--diff --json --root --verbose --no-sync --help' ;;
       *) ;;

@@ -106,7 +106,9 @@ complete -c reuse-undo -n '__reuse_undo_subcommand_is download' -a '(__reuse_und
 
 for word in annotate convert-dep5 download undo redo revert
     complete -c reuse-undo -n "__reuse_undo_subcommand_is $word" -s n -l dry-run -d 'Print what would change, and make no step'
-    complete -c reuse-undo -n "__reuse_undo_subcommand_is $word" -l diff -d 'With --dry-run, tell it as a diff too'
+    complete -c reuse-undo -n "__reuse_undo_subcommand_is $word" -l check -d 'A dry run, with status 1 if a file would change'
+    complete -c reuse-undo -n "__reuse_undo_subcommand_is $word" -l diff -d 'With --dry-run or --check, print a diff too'
+    complete -c reuse-undo -n "__reuse_undo_subcommand_is $word" -l json -d 'With --dry-run or --check, print JSON objects'
 end
 complete -c reuse-undo -n '__reuse_undo_subcommand_is revert' -l skip-moved -d 'Leave a file where the step cannot be taken back'
 complete -c reuse-undo -n '__reuse_undo_subcommand_is revert' -a '(__reuse_undo_steps done)'

@@ -1,5 +1,5 @@
 -- The lines that an answer is printed as.
-use Rattle.std.specs.Prelude.{◌≡◌, ℕ, List, [], ◌∷◌, ◌++◌, codes, length}
+use Rattle.std.specs.Prelude.{◌≡◌, ℕ, List, [], ◌∷◌, ◌++◌, Bool, true, false, codes, count_by, length}
 use Rattle.reuse_tree.specs.Change.{path_of}
 use Rattle.reuse_tree.specs.declared.change.Change.{Change}
 use Rattle.reuse_tree.specs.declared.change.Change.TheVariants.{Make, Drop, Splice}
@@ -69,7 +69,12 @@ changed_text (path ∷ paths) = lines_of (codes "changed") (path ∷ paths)
 abbrev pub reverted_text : Reverted → List ℕ
 reverted_text reverted = changed_text reverted.changed ++ lines_of (codes "skipped") reverted.skipped
 
--- how many paths a reply tells that changed
+-- whether a path would change
+abbrev pub would_change : Fate → Bool
+would_change (Changes path) = true
+would_change fate = false
+
+-- how many paths a reply tells that changed, or that would change
 abbrev pub path_count : Reply → ℕ
 path_count Opened = 0
 path_count (Changed paths) = length paths
@@ -77,4 +82,4 @@ path_count NothingChanged = 0
 path_count (Undone paths) = length paths
 path_count (Redone paths) = length paths
 path_count (Log rows) = 0
-path_count (Preview fates) = 0
+path_count (Preview fates) = count_by would_change fates

@@ -1,8 +1,18 @@
 -- What the program exits with.
-use Rattle.std.specs.Prelude.{ℕ}
+use Rattle.std.specs.Prelude.{ℕ, zero, suc, Result, Ok, Err}
 use Rattle.reuse_notice.specs.declared.adding.NoticeRefusal.TheVariants as notices
+use Rattle.reuse_undo.specs.declared.fault.Fault.{Fault}
+use Rattle.reuse_undo.specs.declared.line.ChangeStatus.{ChangeStatus}
+use Rattle.reuse_undo.specs.declared.line.ChangeStatus.TheVariants.{Zero, One}
 use Rattle.reuse_undo.specs.declared.line.LineFault.{LineFault}
 use Rattle.reuse_undo.specs.declared.line.LineFault.TheVariants.{Usage, Help, BadPath, BadAdditions, BadGlob, Unreadable, Memory}
+
+-- after a call, by how many paths changed, or would change in a dry run: 1 where it was refused or failed, and 1 where a path changed and that is asked for
+abbrev pub call_status_of : ChangeStatus → Result ℕ Fault → ℕ
+call_status_of on_change (Err fault) = 1
+call_status_of on_change (Ok zero) = 0
+call_status_of Zero (Ok (suc others)) = 0
+call_status_of One (Ok (suc others)) = 1
 
 -- 0 where help was asked for, 1 where memory ran out, and 2 where the words are wrong, or the list of files that they name can't be read
 abbrev pub line_status_of : LineFault → ℕ

@@ -50,7 +50,7 @@ IsToldText Json (Shown shown) text = IsShownObject shown text
 IsToldText Diff told text = (lines : List ℕ) × (diff : List ℕ) × IsLinesText told lines × ((diff ≡ []) ⊎ IsDrawn told) × (text ≡ lines ++ diff)
 IsToldText telling told text = IsLinesText told text
 
--- how many paths an answer tells that changed
+-- how many paths an answer tells that changed, or that would change
 abbrev pub told_count : Told → ℕ
 told_count (Reply reply) = path_count reply
 told_count (Shown shown) = 0
@@ -89,7 +89,7 @@ abbrev pub IsWanted : Telling → Result Told Refusal → Type 0
 IsWanted telling (Ok told) = IsForeseen telling told
 IsWanted telling (Err refusal) = ⊥
 
--- a preview with a refusal is a fault; of every other answer the paths that changed are counted
+-- a preview with a refusal is a fault; of every other answer the paths are counted that changed, or would change
 abbrev pub Accepts : Told → Result ℕ Fault → Type 0
 Accepts told (Ok count) = (count ≡ told_count told) × WouldBeMade told
 Accepts told (Err (WouldRefuse fates)) = (told ≡ Reply (Preview fates)) × (is_refused fates ≡ true)

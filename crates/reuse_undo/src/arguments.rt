@@ -79,15 +79,27 @@ fn with_arguments<'a>(
     Ok(command)
 }
 
+fn group_of<'a>(alloc: Global, choice: Choice) -> Result<ArgGroup<'a>, AllocError> {
+    let (name, one, other, both) = match choice {
+        Choice::OneOf(name, one, other) => (name, one, other, false),
+        Choice::AnyOf(name, one, other) => (name, one, other, true),
+    };
+    Ok(
+        ArgGroup::new(alloc, name)
+            .arg(one)?
+            .arg(other)?
+            .multiple(both),
+    )
+}
+
 fn with_choices<'a>(
     alloc: Global,
     command: Command<'a>,
     choices: &[Choice],
 ) -> Result<Command<'a>, AllocError> {
     let mut command = command;
-    for (name, one, other) in choices {
-        let choice = ArgGroup::new(alloc, name).arg(one)?.arg(other)?;
-        command = command.group(choice)?;
+    for choice in choices {
+        command = command.group(group_of(alloc, *choice)?)?;
     }
     Ok(command)
 }

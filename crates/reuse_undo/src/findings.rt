@@ -32,8 +32,10 @@ pub enum Task {
     Undo,
     /// To make a step again.
     Redo,
-    /// To take a step back by a new one, or to tell what that would do.
+    /// To take a step back by a new one.
     Revert,
+    /// To tell what that would do.
+    PreviewRevert,
     /// To change nothing.
     Look,
 }
@@ -45,7 +47,8 @@ impl Task {
             Action::Do(Deed::ConvertDep5) => Task::Conversion,
             Action::Do(Deed::Undo) => Task::Undo,
             Action::Do(Deed::Redo) => Task::Redo,
-            Action::Do(Deed::Revert { .. }) | Action::Foretell(Deed::Revert { .. }) => Task::Revert,
+            Action::Do(Deed::Revert { .. }) => Task::Revert,
+            Action::Foretell(Deed::Revert { .. }) => Task::PreviewRevert,
             Action::Foretell(_) | Action::Log | Action::Show(_) => Task::Look,
         }
     }

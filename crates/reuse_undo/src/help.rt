@@ -1,7 +1,7 @@
 //! The texts of the help, above and below its lists.
 
 pub const ABOUT: &str =
-    "Adds licensing information to the files of a source tree, and takes it back.";
+    "Add licensing information to the files of a source tree, and take it back.";
 
 pub const AFTER: &str = "\
 Each command that changes something is one step: undo takes it back and redo makes it again, byte
@@ -12,26 +12,33 @@ Examples:
   reuse-undo annotate -c \"Jane Doe\" -l MIT -r src --dry-run --diff
   reuse-undo undo
 
-Status: 0 on success, 1 where a call was refused, 2 where the words are wrong.";
+Status: 0 on success, 1 if a call was refused, 2 if the words are wrong. With --check it is 1 too
+if a file would change, and with --exit-non-zero-on-change if one changed.";
 
 pub const AFTER_ANNOTATE: &str = "\
-PATHs are relative to the root. A file that can't hold a comment gets its information in PATH.license. Where one
-file is refused, none is changed.
+PATHs are relative to the root. A file that can't hold a comment gets its information in
+PATH.license. If one file is refused, none is changed.
 
-DIR/.reuse/styles.toml gives styles to the tree's own names. Its lines are `version = 1`, `[styles]`, and for each name
-or ending a style, as `\".proto\" = \"c\"`, or `\".blend\" = \"uncommentable\"`.
+DIR/.reuse/styles.toml gives styles to the tree's own names. Its lines are `version = 1`,
+`[styles]`, and for each name or ending a style, such as `\".proto\" = \"c\"` or
+`\".blend\" = \"uncommentable\"`.
 
-FILE lists paths relative to the root, one a line, or, where FILE holds a NUL, one between two NULs. What is listed
-and isn't a file beneath a PATH is passed over. GLOB is a glob as in REUSE.toml, of paths relative to the root: `*`
-is any run without `/`, `**` any run, `**/` in front also none. It leaves out what it matches, and what lies in a folder
-that it matches. A PATH that is a file itself is annotated all the same.
+FILE lists paths relative to the root, one a line, or, if FILE holds a NUL, one between two NULs.
+What is listed and isn't a file beneath a PATH is passed over. GLOB is a glob as in REUSE.toml, of
+paths relative to the root: `*` is any run without `/`, `**` any run, `**/` in front also none. It
+leaves out what it matches, and what lies in a folder that it matches. A PATH that is a file itself
+is annotated all the same.
 
-Examples: the licence and this year's copyright for all files beneath src, and for all files that git tracks:
+Examples: the licence and this year's copyright for all files beneath src, for all files that git
+tracks, and a check of these in CI:
   reuse-undo annotate --copyright \"Jane Doe\" --license MIT --recursive src
-  git ls-files -z | reuse-undo annotate -c \"Jane Doe\" -l MIT -r --files-from - .";
+  git ls-files -z | reuse-undo annotate -c \"Jane Doe\" -l MIT -r --files-from - .
+  git ls-files -z | reuse-undo annotate -c \"Jane Doe\" -l MIT -r --skip-existing --check \\
+    --files-from - .";
 
 pub const AFTER_DOWNLOAD: &str = "\
-Nothing is fetched from a network: the text of ID is DIR/ID.txt. DIR is relative to the working folder.
+Nothing is fetched from a network: the text of ID is DIR/ID.txt. DIR is relative to the working
+folder.
 
 Example:
   reuse-undo download --texts ~/license-list-data/text MIT";
@@ -43,34 +50,37 @@ Example:
   reuse-undo convert-dep5";
 
 pub const AFTER_UNDO: &str = "\
-It is refused, and changes nothing, where a file of the step isn't as the step left it.
+The call is refused, and changes nothing, if a file of the step isn't as the step left it.
 
 Example:
   reuse-undo --root ~/demo undo";
 
 pub const AFTER_REDO: &str = "\
-It is refused, and changes nothing, where a file of the step isn't as it was before the step.
+The call is refused, and changes nothing, if a file of the step isn't as it was before the step.
 
 Example:
   reuse-undo redo";
 
 pub const AFTER_REVERT: &str = "\
-It makes a new step, which undo takes back in turn. Of each file of step NUMBER what the step wrote must stand where it
-was written, whatever follows it; a file that the step made must be as it was made, and where it removed one none must
-be. Where the step only took bytes away, the file must be as the step left it. Where one file isn't so, none is changed.
+This makes a new step, which undo takes back in turn. In each file of step NUMBER, what the step
+wrote must stand where it was written, whatever follows it. A file that the step made must be as it
+was made, and where it removed a file there must be none. If the step only took bytes away, the file
+must be as the step left it. If one file isn't so, none is changed.
 
 Example:
   reuse-undo revert 3 --dry-run --diff";
 
 pub const AFTER_SHOW: &str = "\
-The first line is that of `log`. A line `made PATH`, `removed PATH` or `changed PATH` follows for each path.
+The first line is that of `log`. A line `made PATH`, `removed PATH` or `changed PATH` follows for
+each path.
 
 Example:
   reuse-undo show 3 --diff";
 
 pub const AFTER_LOG: &str = "\
-A line is NUMBER DATE COMMAND COUNT STATE: the step's number, its date in UTC, the command, how many paths it
-changed, and `done` or `undone`. The steps done come first, in order; the first one undone is the next that redo makes.
+A line is NUMBER DATE COMMAND COUNT STATE: the step's number, its date in UTC, the command, how many
+paths it changed, and `done` or `undone`. The steps done come first, in order; the first one undone
+is the next that redo makes.
 
 Example:
   reuse-undo log";

@@ -1,6 +1,7 @@
 //! What a command line asks for.
 ghost use Rattle.std.specs.Prelude.{◌≡◌, if◌then◌else◌};
 ghost use Rattle.reuse_undo.specs.declared.line.Action.TheVariants as actions;
+ghost use Rattle.reuse_undo.specs.declared.line.ChangeStatus.TheVariants as statuses;
 
 use reuse_notice::NoticeRefusal;
 use reuse_session::{Command, Ids, Moment};
@@ -77,6 +78,28 @@ pub enum Telling {
     Json,
 }
 
+/// The status of a call that changed a path, or that would change one and was only looked at.
+#[derive(Clone, Copy, PartialEq, Eq)]
+pub enum ChangeStatus {
+    /// 0, as if nothing had changed.
+    Zero,
+    /// 1, as if the call had been refused.
+    One,
+}
+
+impl ChangeStatus {
+    /// 1 if that is asked for.
+    pub fn of(is_asked: bool) -> ChangeStatus
+        ensures { result ≡ (if is_asked then statuses.One else statuses.Zero) }
+    {
+        if is_asked {
+            ChangeStatus::One
+        } else {
+            ChangeStatus::Zero
+        }
+    }
+}
+
 /// A command line that was read.
 #[derive(Drop)]
 pub struct Line {
@@ -84,6 +107,7 @@ pub struct Line {
     pub root: String,
     pub action: Action,
     pub telling: Telling,
+    pub change_status: ChangeStatus,
     /// When the line was read.
     pub moment: Moment,
 }

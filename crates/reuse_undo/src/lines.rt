@@ -1,7 +1,7 @@
 //! The lines that an answer is printed as.
-ghost use Rattle.std.specs.Prelude.{◌≡◌, OnOk};
+ghost use Rattle.std.specs.Prelude.{◌≡◌, OnOk, count_by};
 ghost use Rattle.std.specs.Io.KnownBytes.{Appends};
-ghost use Rattle.reuse_undo.specs.Lines.{line_of, lines_of, fate_line, fate_lines, change_lines, kind_word, path_count, IsReplyText, IsShownText, changed_text, reverted_text};
+ghost use Rattle.reuse_undo.specs.Lines.{line_of, lines_of, fate_line, fate_lines, would_change, change_lines, kind_word, path_count, IsReplyText, IsShownText, changed_text, reverted_text};
 ghost use Rattle.reuse_undo.specs.RowLines.{AppendsSome};
 
 use crate::rows::{print_row, print_rows};
@@ -107,7 +107,7 @@ fn print_reverted_paths<W: Write>(out: &mut W, paths: &[PathText]) -> io::Result
     }
 }
 
-/// How many paths a reply tells that changed.
+/// How many paths a reply tells that changed, or that would change.
 pub fn path_count(reply: &Reply) -> usize
     ensures { result ≡ path_count reply.now }
 {
@@ -115,6 +115,25 @@ pub fn path_count(reply: &Reply) -> usize
         Reply::Changed(paths) | Reply::Undone(paths) | Reply::Redone(paths) => {
             paths.as_slice().len()
         }
-        Reply::NothingChanged | Reply::Log(_) | Reply::Preview(_) | Reply::Opened => 0,
+        Reply::Preview(fates) => change_count(fates.as_slice()),
+        Reply::NothingChanged | Reply::Log(_) | Reply::Opened => 0,
     }
+}
+
+fn change_count(fates: &[Fate]) -> usize
+    ensures { result ≡ count_by would_change fates.now }
+{
+    let mut count = 0;
+    for fate in fates {
+        if would_change(fate) {
+            count += 1;
+        }
+    }
+    count
+}
+
+fn would_change(fate: &Fate) -> bool
+    ensures { result ≡ would_change fate.now }
+{
+    matches!(fate, Fate::Changes(_))
 }

@@ -35,7 +35,7 @@ use disk::{DiskStore, Syncs};
 use fault::Fault;
 use file_list::with_list;
 use findings::Findings;
-use line::{Deed, Line, LineFault, Telling};
+use line::{ChangeStatus, Deed, Line, LineFault, Telling};
 use lock::lock_root;
 use notes::{note_call, note_words};
 use on_folder::run_on_folder;
@@ -43,7 +43,7 @@ use output::Output;
 use progress::{ClearedOutput, Progress};
 use request::{Request, request_of};
 use reuse_session::{Fate, LicenceTexts, Moment};
-use status::{exit_status, line_status};
+use status::{call_status, line_status};
 use std::alloc::{AllocError, Global};
 use std::fs::File;
 use std::io::{ErrorKind, IsTerminal};
@@ -127,7 +127,7 @@ fn folder_at<R: Files<File = File> + AllocGlobal + Clone + Drop>(
 /// What comes of a line that is carried out.
 #[derive(Drop)]
 struct CarriedOut {
-    /// How many paths the answer tells.
+    /// How many paths changed, or would change in a dry run.
     outcome: Result<usize, Fault>,
     /// What notes tell, where they are asked for.
     findings: Option<Findings>,
@@ -258,7 +258,7 @@ fn tell_fault(rt: &impl Eprint, fault: &Fault) {
 }
 
 /// Tells the fault of a line that was carried out, and the notes; the status.
-fn tell_outcome(rt: &impl Eprint, carried_out: &CarriedOut) -> u8 {
+fn tell_outcome(rt: &impl Eprint, carried_out: &CarriedOut, on_change: ChangeStatus) -> u8 {
     let outcome = &carried_out.outcome;
     if let Err(fault) = outcome {
         tell_fault(rt, fault);
@@ -266,10 +266,7 @@ fn tell_outcome(rt: &impl Eprint, carried_out: &CarriedOut) -> u8 {
     if let Some(findings) = &carried_out.findings {
         note_call(rt, findings, outcome);
     }
-    match outcome {
-        Ok(_) => 0,
-        Err(fault) => exit_status(fault),
-    }
+    call_status(outcome, on_change)
 }
 
 /// What the words say that the program was called with.
@@ -317,8 +314,9 @@ fn run<R: Runtime + Files<File = File> + AllocGlobal>(
     };
     match whole_line(rt, alloc, said) {
         Ok(line) => {
+            let on_change = line.change_status;
             let carried_out = carry_out(rt, alloc, line, extras);
-            let status = tell_outcome(rt, &carried_out);
+            let status = tell_outcome(rt, &carried_out, on_change);
             drop(carried_out);
             status
         }

@@ -38,7 +38,7 @@ fn advice(refusal: &Refusal, is_begun: bool, task: Task) -> Option<&'static str>
             "a stopped run had begun to change this file, and it was changed since: put it back as it was before that run, \
             or as that run would have left it",
         ),
-        Refusal::Moved(_) if task == Task::Revert => Some(
+        Refusal::Moved(_) if matches!(task, Task::Revert | Task::PreviewRevert) => Some(
             "what the step wrote doesn't stand in this file as it did: take that change back and call again, \
             or leave the file as it is with --skip-moved",
         ),

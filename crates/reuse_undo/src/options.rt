@@ -52,8 +52,14 @@ pub struct Argument(
     pub &'static str,
 );
 
-/// Of these two options at most one is asked for; both have a name.
-pub type Choice = (&'static str, &'static str, &'static str);
+/// Two options of one purpose, which has a name of its own.
+#[derive(Clone, Copy)]
+pub enum Choice {
+    /// At most one of the two may be asked for.
+    OneOf(&'static str, &'static str, &'static str),
+    /// Both may be asked for.
+    AnyOf(&'static str, &'static str, &'static str),
+}
 
 /// A subcommand: its name, what it does, what the help ends with, its arguments in the order of the help, and its choices.
 #[derive(Clone, Copy)]
@@ -72,14 +78,14 @@ pub const BEFORE: &[Argument] = &[
         None,
         Takes::Default(".", "DIR"),
         Rule::Global,
-        "The root of the source tree",
+        "Work on the source tree below DIR",
     ),
     Argument(
         "verbose",
         Some('v'),
         Takes::Nothing,
         Rule::Global,
-        "Print notes on standard error, as on a terminal: what a fault is about and what to do",
+        "Print notes on standard error, as on a terminal",
     ),
     Argument(
         "no-sync",
@@ -90,21 +96,52 @@ pub const BEFORE: &[Argument] = &[
     ),
 ];
 
-/// What each subcommand that makes a step has, to tell it beforehand, and to tell that as a diff.
+/// What each subcommand that makes a step has: to look at it beforehand, and how that is printed.
 const DRY_RUN: Argument = Argument(
     "dry-run",
     Some('n'),
     Takes::Nothing,
     Rule::Free,
-    "Print what would change, with the refusal of each path, and make no step",
+    "Print what would change and what is refused, and make no step",
+);
+
+const CHECK: Argument = Argument(
+    "check",
+    None,
+    Takes::Nothing,
+    Rule::Free,
+    "As --dry-run, with status 1 if a file would change",
 );
 
 const DIFF: Argument = Argument(
     "diff",
     None,
     Takes::Nothing,
-    Rule::Requires("dry-run"),
-    "With --dry-run, print a diff of what would change, too",
+    Rule::Requires("look"),
+    "With --dry-run or --check, print a diff of what would change",
+);
+
+const LOOK_JSON: Argument = Argument(
+    "json",
+    None,
+    Takes::Nothing,
+    Rule::Requires("look"),
+    "With --dry-run or --check, print JSON objects; not with --diff",
+);
+
+/// A dry run may be asked for by either name, and is printed in one way.
+const LOOK: Choice = Choice::AnyOf("look", "dry-run", "check");
+
+const PRINTED: Choice = Choice::OneOf("printed", "diff", "json");
+
+const LOOKS: &[Choice] = &[LOOK, PRINTED];
+
+const EXIT_NON_ZERO: Argument = Argument(
+    "exit-non-zero-on-change",
+    None,
+    Takes::Nothing,
+    Rule::Free,
+    "Exit with status 1 if a file changes",
 );
 
 const NUMBER: Argument = Argument(
@@ -112,7 +149,7 @@ const NUMBER: Argument = Argument(
     None,
     Takes::Number,
     Rule::Required,
-    "The number of a step, as log tells it",
+    "The number of a step, as printed by log",
 );
 
 const JSON: Argument = Argument(
@@ -129,49 +166,49 @@ const ANNOTATE: &[Argument] = &[
         Some('c'),
         Takes::Values("TEXT"),
         Rule::Free,
-        "A copyright holder; may be repeated",
+        "Add a copyright holder; may be repeated",
     ),
     Argument(
         "license",
         Some('l'),
         Takes::Values("EXPR"),
         Rule::Free,
-        "An SPDX licence expression; may be repeated",
+        "Add an SPDX licence expression; may be repeated",
     ),
     Argument(
         "contributor",
         None,
         Takes::Values("TEXT"),
         Rule::Free,
-        "A contributor; may be repeated",
+        "Add a contributor; may be repeated",
     ),
     Argument(
         "year",
         Some('y'),
         Takes::Values("YEAR"),
         Rule::Free,
-        "The year of the copyright, by default this one; repeated, the ends of a range",
+        "Write YEAR; repeated, a range [default: the current year in UTC]",
     ),
     Argument(
         "exclude-year",
         None,
         Takes::Nothing,
         Rule::Free,
-        "Write no year",
+        "Write no year; not with --year",
     ),
     Argument(
         "style",
         Some('s'),
         Takes::Style,
         Rule::Free,
-        "The comment style of all PATHs, in place of that of their names",
+        "Write comments of this style, whatever the names of PATHs",
     ),
     Argument(
         "copyright-prefix",
         None,
         Takes::Prefix,
         Rule::Alias("copyright-style"),
-        "What a copyright notice begins with, by default spdx",
+        "Begin notices this way [default: spdx]",
     ),
     Argument(
         "merge-copyrights",
@@ -185,14 +222,14 @@ const ANNOTATE: &[Argument] = &[
         None,
         Takes::Nothing,
         Rule::Free,
-        "Write single-line comments",
+        "Write single-line comments; not with --multi-line",
     ),
     Argument(
         "multi-line",
         None,
         Takes::Nothing,
         Rule::Free,
-        "Write multi-line comments",
+        "Write multi-line comments; not with --single-line",
     ),
     Argument(
         "no-replace",
@@ -213,14 +250,14 @@ const ANNOTATE: &[Argument] = &[
         None,
         Takes::Value("FILE"),
         Rule::Requires("recursive"),
-        "Of the files beneath folders, those that FILE lists; `-` is standard input",
+        "Take beneath folders only what FILE lists; `-`: standard input",
     ),
     Argument(
         "exclude",
         None,
         Takes::Values("GLOB"),
         Rule::Requires("recursive"),
-        "Of the files beneath folders, none that GLOB matches or that lies in a folder that it matches; may be repeated",
+        "Exclude files beneath folders that GLOB matches, itself or by a folder; may be repeated",
     ),
     Argument(
         "force-dot-license",
@@ -234,21 +271,21 @@ const ANNOTATE: &[Argument] = &[
         None,
         Takes::Nothing,
         Rule::Free,
-        "Write PATH.license where the style of PATH is unknown",
+        "Write PATH.license if PATH's style is unknown",
     ),
     Argument(
         "skip-unrecognised",
         None,
         Takes::Nothing,
         Rule::Free,
-        "Skip a PATH whose style is unknown",
+        "Skip PATH if its style is unknown; not with --fallback-dot-license",
     ),
     Argument(
         "skip-existing",
         None,
         Takes::Nothing,
         Rule::Free,
-        "Skip a PATH that has licensing information where it would be written",
+        "Skip PATH if the place to be written has licensing information",
     ),
     Argument(
         "PATH",
@@ -258,7 +295,10 @@ const ANNOTATE: &[Argument] = &[
         "A file, or with --recursive a folder; `.` is the root",
     ),
     DRY_RUN,
+    CHECK,
     DIFF,
+    LOOK_JSON,
+    EXIT_NON_ZERO,
 ];
 
 const DOWNLOAD: &[Argument] = &[
@@ -267,7 +307,7 @@ const DOWNLOAD: &[Argument] = &[
         None,
         Takes::Value("DIR"),
         Rule::Required,
-        "The folder of the licence texts",
+        "Take the text of ID from the file DIR/ID.txt",
     ),
     Argument(
         "ID",
@@ -277,18 +317,22 @@ const DOWNLOAD: &[Argument] = &[
         "The identifier of a licence",
     ),
     DRY_RUN,
+    CHECK,
     DIFF,
+    LOOK_JSON,
 ];
 
 const REVERT: &[Argument] = &[
     DRY_RUN,
+    CHECK,
     DIFF,
+    LOOK_JSON,
     Argument(
         "skip-moved",
         None,
         Takes::Nothing,
         Rule::Free,
-        "Leave a file as it is where the step can't be taken back",
+        "Leave a file as it is if the step can't be taken back there",
     ),
     NUMBER,
 ];
@@ -299,62 +343,64 @@ const SHOW: &[Argument] = &[
         None,
         Takes::Nothing,
         Rule::Excludes("json"),
-        "Print the lines that the step took away and wrote",
+        "Print the lines that the step took away and wrote; not with --json",
     ),
     JSON,
     NUMBER,
 ];
 
-/// The form of the comments, and what is done where a style is unknown.
-const CHOICES: &[Choice] = &[
-    ("form", "single-line", "multi-line"),
-    ("unknown", "fallback-dot-license", "skip-unrecognised"),
+/// The form of the comments, what is done if a style is unknown, and those of each dry run.
+const ANNOTATE_CHOICES: &[Choice] = &[
+    Choice::OneOf("form", "single-line", "multi-line"),
+    Choice::OneOf("unknown", "fallback-dot-license", "skip-unrecognised"),
+    LOOK,
+    PRINTED,
 ];
 
-/// The subcommands that make steps, those that take them back and make them again, and those that tell of them.
+/// The subcommands that make steps, those that take them back and make them again, and those that print them.
 pub const SUBCOMMANDS: &[Subcommand] = &[
     Subcommand(
         "annotate",
-        "Adds copyright and licensing information to files",
+        "Add copyright and licensing information to files",
         AFTER_ANNOTATE,
         ANNOTATE,
-        CHOICES,
+        ANNOTATE_CHOICES,
     ),
     Subcommand(
         "convert-dep5",
-        "Puts a REUSE.toml in the place of .reuse/dep5",
+        "Put a REUSE.toml in the place of .reuse/dep5",
         AFTER_CONVERT,
-        &[DRY_RUN, DIFF],
-        &[],
+        &[DRY_RUN, CHECK, DIFF, LOOK_JSON, EXIT_NON_ZERO],
+        LOOKS,
     ),
     Subcommand(
         "download",
-        "Copies licence texts into LICENSES",
+        "Copy licence texts into LICENSES",
         AFTER_DOWNLOAD,
         DOWNLOAD,
-        &[],
+        LOOKS,
     ),
     Subcommand(
         "undo",
-        "Takes the last step back",
+        "Take the last step back",
         AFTER_UNDO,
-        &[DRY_RUN, DIFF],
-        &[],
+        &[DRY_RUN, CHECK, DIFF, LOOK_JSON],
+        LOOKS,
     ),
     Subcommand(
         "redo",
-        "Makes the step again that was undone last",
+        "Make the step again that was undone last",
         AFTER_REDO,
-        &[DRY_RUN, DIFF],
-        &[],
+        &[DRY_RUN, CHECK, DIFF, LOOK_JSON],
+        LOOKS,
     ),
     Subcommand(
         "revert",
-        "Takes the step NUMBER back, by a new step",
+        "Take the step NUMBER back, by a new step",
         AFTER_REVERT,
         REVERT,
-        &[],
+        LOOKS,
     ),
-    Subcommand("log", "Lists the steps", AFTER_LOG, &[JSON], &[]),
-    Subcommand("show", "Prints what a step changed", AFTER_SHOW, SHOW, &[]),
+    Subcommand("log", "List the steps", AFTER_LOG, &[JSON], &[]),
+    Subcommand("show", "Print what a step changed", AFTER_SHOW, SHOW, &[]),
 ];

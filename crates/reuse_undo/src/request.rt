@@ -41,6 +41,7 @@ pub fn request_of(line: Line, texts: LicenceTexts) -> Request
         root: _,
         action,
         telling: _,
+        change_status: _,
         moment,
     } = line;
     match action {

@@ -1,16 +1,20 @@
 //! What the program exits with.
 ghost use Rattle.std.specs.Prelude.{◌≡◌};
-ghost use Rattle.reuse_undo.specs.Statuses.{line_status_of};
+ghost use Rattle.reuse_undo.specs.Statuses.{call_status_of, line_status_of};
 
 use crate::fault::Fault;
-use crate::line::LineFault;
+use crate::line::{ChangeStatus, LineFault};
 use reuse_notice::NoticeRefusal;
 
-/// After a line that was not carried out.
-pub fn exit_status(_fault: &Fault) -> u8
-    ensures { result ≡ 1 }
+/// After a call: its outcome is how many paths changed, or would change in a dry run.
+pub fn call_status(outcome: &Result<usize, Fault>, on_change: ChangeStatus) -> u8
+    ensures { result ≡ call_status_of on_change outcome.now }
 {
-    1
+    match (outcome, on_change) {
+        (Err(_), _) => 1,
+        (Ok(1..), ChangeStatus::One) => 1,
+        (Ok(_), _) => 0,
+    }
 }
 
 /// After words that are no line.

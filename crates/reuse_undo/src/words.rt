@@ -3,7 +3,7 @@ use crate::arguments::whole;
 use crate::date::year_of;
 use crate::disk::Syncs;
 use crate::glob_word::globs_of_word;
-use crate::line::{Action, Deed, Line, LineFault, Telling};
+use crate::line::{Action, ChangeStatus, Deed, Line, LineFault, Telling};
 use crate::place_word::place_of_word;
 use crate::prefix_name::prefix_of_name;
 use clap::error::ErrorKind;
@@ -102,6 +102,7 @@ fn read_line(alloc: Global, matches: &ArgMatches<'_>, moment: Moment) -> Result<
             root,
             action: read_action(alloc, name, inner, moment)?,
             telling: read_telling(name, inner),
+            change_status: ChangeStatus::of(is_change_told(inner)),
             moment,
         }),
         None => Err(unread(alloc, "no subcommand")?),
@@ -136,7 +137,17 @@ fn read_action(
         },
         _ => return Err(unread(alloc, "a subcommand that nothing reads")?),
     };
-    Ok(Action::of(deed, matches.get_flag("dry-run")))
+    Ok(Action::of(deed, is_dry_run(matches)))
+}
+
+/// Whether the call is only looked at.
+fn is_dry_run(matches: &ArgMatches<'_>) -> bool {
+    matches.get_flag("dry-run") || matches.get_flag("check")
+}
+
+/// Whether the status says that a path changed, or would change.
+fn is_change_told(matches: &ArgMatches<'_>) -> bool {
+    matches.get_flag("check") || matches.get_flag("exit-non-zero-on-change")
 }
 
 /// The number of a step. The command line gives one that fits.

@@ -17,8 +17,8 @@ use reuse_tree::Change;
 use std::alloc::Global;
 use std::io::{self, Write};
 
-/// Prints an answer, and behind it the diff where one is wanted; how many paths it tells that changed. A preview of a call that would be
-/// refused is a fault.
+/// Prints an answer, and behind it the diff where one is wanted; how many paths it tells that changed, or that would
+/// change. A preview of a call that would be refused is a fault.
 pub fn finish<O: Sink>(
     out: &mut O,
     alloc: Global,
@@ -143,7 +143,7 @@ fn print_objects<W: Write>(out: &mut W, alloc: Global, told: &Told) -> io::Resul
     }
 }
 
-// How many paths an answer tells that changed, unless it is a preview with a refusal.
+// How many paths an answer tells that changed, or would change, unless it is a preview with a refusal.
 fn accept(told: Told) -> Result<usize, Fault>
     ensures { Accepts told result }
 {
@@ -161,7 +161,7 @@ fn accept_fates(fates: Fates) -> Result<usize, Fault>
     if is_refused(fates.as_slice()) {
         Err(Fault::WouldRefuse(fates))
     } else {
-        Ok(0)
+        Ok(path_count(&Reply::Preview(fates)))
     }
 }
 
