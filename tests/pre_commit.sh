@@ -63,7 +63,19 @@ hook() {
   [[ $(reuse-undo log | wc -l) == 1 ]] || fail "the hook's steps: $(reuse-undo log)"
   reuse-undo undo > "$room/out"
   begins a.py x
+  hook_makes_a_neighbour
   echo "pre-commit: the hook annotates staged files without a header, and no others"
+}
+
+# The hook stops a commit whose files all stay as they are, where it made a neighbour.
+hook_makes_a_neighbour() {
+  git reset -q --hard
+  printf '\0211\0' > q.png
+  git add q.png
+  if git commit -q -m neighbour > "$room/out" 2>&1; then fail 'a file without its neighbour is committed'; fi
+  [[ $(git status --porcelain) == $'A  q.png\n?? q.png.license' ]] || fail "the hook changes $(git status --porcelain)"
+  git add -A
+  git commit -q -m neighbour > "$room/out" 2>&1 || fail "a neighbour is not committed: $(cat "$room/out")"
 }
 
 # The alias annotates what git knows.
@@ -96,14 +108,14 @@ PYTHON
 # The check, by itself and called by each snippet, prints a file without a header and fails; once
 # all files have one it passes. It changes nothing.
 check() {
-  local name call calls=('sh check-headers.sh' 'steps .github/workflows/headers.yml'
+  local name call calls=("bash $room/check" 'steps .github/workflows/headers.yml'
     'steps .gitlab-ci.yml' 'pre-commit run --all-files' 'make headers')
   for name in apt-get wget; do printf '#!/bin/sh\n' > "$room/bin/$name"; done
   printf '#!/bin/sh\nexec "$@"\n' > "$room/bin/sudo"
   chmod +x "$room/bin"/*
   repository a.py 'x\n' data.xyz 'x\n'
   mkdir -p .github/workflows
-  block 'sh check' > check-headers.sh
+  block 'sh check' > "$room/check"
   block 'yaml github' > .github/workflows/headers.yml
   block 'yaml gitlab' > .gitlab-ci.yml
   block 'yaml pre-commit check' > .pre-commit-config.yaml
