@@ -1,12 +1,17 @@
--- The JSON objects that rows and steps are printed as.
-use Rattle.std.specs.Prelude.{◌≡◌, ℕ, List, [], ◌∷◌, ◌++◌, codes, map}
+-- The JSON objects that rows, steps and dry runs are printed as.
+use Rattle.std.specs.Prelude.{◌≡◌, ℕ, List, [], ◌∷◌, ◌++◌, codes, map, Option, None, Some}
 use Rattle.jiff.specs.Types.{Date}
 use Rattle.jiff.specs.Words.{date_text}
-use Rattle.serde_json.specs.Data.{Data, string, boolean}
+use Rattle.serde_json.specs.Data.{Data, null, string, boolean}
 use Rattle.serde_json.specs.Written.{compact_text}
 use Rattle.reuse_tree.specs.Change.{path_of}
 use Rattle.reuse_tree.specs.declared.change.Change.{Change}
 use Rattle.reuse_tree.specs.Json.{count, object_of, array_of}
+use Rattle.reuse_session.specs.Command.{place_text}
+use Rattle.reuse_session.specs.declared.fate.Fate.{Fate}
+use Rattle.reuse_session.specs.declared.fate.Fate.TheVariants.{Changes, Unchanged, Skipped, Refused}
+use Rattle.reuse_session.specs.declared.reply.Refusal.{Refusal}
+use Rattle.reuse_session.specs.declared.reply.Refusal.TheVariants as refusals
 use Rattle.reuse_session.specs.declared.reply.Row.{Row}
 use Rattle.reuse_session.specs.declared.reply.Shown.{Shown}
 use Rattle.reuse_undo.specs.Dates.{IsDateOf}
@@ -46,3 +51,41 @@ AreRowObjects rows text = AreJoined IsRowObject rows text
 -- the object of a step, on a line
 abbrev pub IsShownObject : Shown → List ℕ → Type 0
 IsShownObject shown text = (date : Date) × (IsDateOf shown.row.when date × (text ≡ object_line (shown_value shown date)))
+
+-- what would become of a path
+abbrev pub outcome_value : List ℕ → List ℕ → Data
+outcome_value outcome path = object_of ((codes "outcome", string outcome) ∷ (codes "path", string path) ∷ [])
+
+-- the path that a refusal names
+abbrev pub refused_path : Refusal → Option (List ℕ)
+refused_path (refusals.NoSuchPath path) = Some path
+refused_path (refusals.IsFolder place) = Some (place_text place)
+refused_path (refusals.NotCovered path) = Some path
+refused_path (refusals.TooLong path) = Some path
+refused_path (refusals.Unrecognised path) = Some path
+refused_path (refusals.Header path fault) = Some path
+refused_path (refusals.Exists path) = Some path
+refused_path (refusals.Clash path) = Some path
+refused_path (refusals.Moved path) = Some path
+refused_path (refusals.BadJournal path) = Some path
+refused_path refusal = None
+
+abbrev pub path_value : Option (List ℕ) → Data
+path_value (Some path) = string path
+path_value None = null
+
+-- a refusal, with its path, if it names one, and the text of its reason
+abbrev pub refused_value : Refusal → List ℕ → Data
+refused_value refusal reason =
+    object_of ((codes "outcome", string (codes "refused")) ∷ (codes "path", path_value (refused_path refusal)) ∷ (codes "reason", string reason) ∷ [])
+
+-- the object of what would become of a path, on a line
+abbrev pub IsFateObject : Fate → List ℕ → Type 0
+IsFateObject (Changes path) text = text ≡ object_line (outcome_value (codes "would change") path)
+IsFateObject (Unchanged path) text = text ≡ object_line (outcome_value (codes "unchanged") path)
+IsFateObject (Skipped path) text = text ≡ object_line (outcome_value (codes "skipped") path)
+IsFateObject (Refused refusal) text = (reason : List ℕ) × (text ≡ object_line (refused_value refusal reason))
+
+-- one for each
+abbrev pub AreFateObjects : List Fate → List ℕ → Type 0
+AreFateObjects fates text = AreJoined IsFateObject fates text

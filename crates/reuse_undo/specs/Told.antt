@@ -13,7 +13,7 @@ use Rattle.reuse_undo.specs.declared.line.Telling.TheVariants.{Diff, Json}
 use Rattle.reuse_undo.specs.declared.request.Told.{Told}
 use Rattle.reuse_undo.specs.declared.request.Told.TheVariants.{Reply, Shown, Reverted}
 use Rattle.reuse_undo.specs.Lines.{IsReplyText, IsShownText, reverted_text, path_count}
-use Rattle.reuse_undo.specs.Objects.{AreRowObjects, IsShownObject}
+use Rattle.reuse_undo.specs.Objects.{AreFateObjects, AreRowObjects, IsShownObject}
 use Rattle.reuse_undo.specs.Outputs.{AppendsFront}
 use Rattle.reuse_undo.specs.RowLines.{AppendsSome}
 
@@ -43,9 +43,10 @@ IsDrawn (Reply (Preview fates)) = is_refused fates ≡ false
 IsDrawn (Shown shown) = Unit {0}
 IsDrawn told = ⊥
 
--- what an answer is printed as: in lines; in lines with some diff behind them, where there can be one; or rows and steps as objects, and all else in lines
+-- what an answer is printed as: in lines; in lines with some diff behind them, where there can be one; or rows, steps and dry runs as objects, and all else in lines
 abbrev pub IsToldText : Telling → Told → List ℕ → Type 0
 IsToldText Json (Reply (Log rows)) text = AreRowObjects rows text
+IsToldText Json (Reply (Preview fates)) text = AreFateObjects fates text
 IsToldText Json (Shown shown) text = IsShownObject shown text
 IsToldText Diff told text = (lines : List ℕ) × (diff : List ℕ) × IsLinesText told lines × ((diff ≡ []) ⊎ IsDrawn told) × (text ≡ lines ++ diff)
 IsToldText telling told text = IsLinesText told text

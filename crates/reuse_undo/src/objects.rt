@@ -1,17 +1,17 @@
-//! The JSON objects that rows and steps are printed as.
-ghost use Rattle.std.specs.Prelude.{◌≡◌, false, IfOk, OnOk};
+//! The JSON objects that rows, steps and dry runs are printed as.
+ghost use Rattle.std.specs.Prelude.{◌≡◌, false, option_map, IfOk, OnOk, List, ℕ};
 ghost use Rattle.std.specs.Io.KnownBytes.{Appends};
 ghost use Rattle.serde_json.specs.View.{view};
 ghost use Rattle.serde_json.specs.Written.{has_float};
-ghost use Rattle.reuse_undo.specs.Objects.{row_value, shown_value, change_value, changes_value, object_line, AreRowObjects, IsRowObject, IsShownObject};
+ghost use Rattle.reuse_undo.specs.Objects.{row_value, shown_value, change_value, changes_value, outcome_value, refused_path, refused_value, object_line, AreFateObjects, AreRowObjects, IsFateObject, IsRowObject, IsShownObject};
 ghost use Rattle.reuse_undo.specs.RowLines.{AppendsSome};
 
 use crate::date::date_of;
 use crate::lines::kind_word;
 use crate::rows::command_word;
 use jiff::civil::Date;
-use reuse_session::{Row, Shown};
-use reuse_tree::Change;
+use reuse_session::{Fate, Refusal, Row, Shown};
+use reuse_tree::{Change, PathText};
 use serde_json::{Value, json};
 use std::alloc::{AllocError, Global};
 use std::io::{self, Write};
@@ -95,4 +95,91 @@ fn change_value(alloc: Global, change: &Change) -> Result<Value, AllocError>
     ensures { IfOk result (λ value. view value ≡ change_value change.now) }
 {
     json!(in alloc; {"kind": kind_word(change), "path": change.path().text()})
+}
+
+/// Prints an object for what would become of each path, on a line of its own.
+pub fn print_fate_objects<W: Write>(out: &mut W, alloc: Global, fates: &[Fate]) -> io::Result<()>
+    ensures { OnOk result (AppendsSome (W.contents out.old) (W.contents out.new) (AreFateObjects fates.now)) }
+{
+    for fate in fates {
+        print_fate_object(out, alloc, fate)?;
+    }
+    Ok(())
+}
+
+fn print_fate_object<W: Write>(out: &mut W, alloc: Global, fate: &Fate) -> io::Result<()>
+    ensures { OnOk result (AppendsSome (W.contents out.old) (W.contents out.new) (IsFateObject fate.now)) }
+{
+    match fate {
+        Fate::Changes(path) => print_outcome(out, alloc, "would change", path),
+        Fate::Unchanged(path) => print_outcome(out, alloc, "unchanged", path),
+        Fate::Skipped(path) => print_outcome(out, alloc, "skipped", path),
+        Fate::Refused(refusal) => print_refused(out, alloc, refusal),
+    }
+}
+
+fn print_outcome<W: Write>(
+    out: &mut W,
+    alloc: Global,
+    outcome: &str,
+    path: &PathText,
+) -> io::Result<()>
+    ensures { OnOk result (Appends (W.contents out.old) (W.contents out.new) (object_line (outcome_value outcome.now path.now))) }
+{
+    let value = outcome_value(alloc, outcome, path)?;
+    print_value(out, alloc, &value)
+}
+
+fn outcome_value(alloc: Global, outcome: &str, path: &PathText) -> Result<Value, AllocError>
+    ensures { IfOk result (λ value. view value ≡ outcome_value outcome.now path.now) }
+{
+    json!(in alloc; {"outcome": outcome, "path": path.text()})
+}
+
+// Prints a refusal with its text.
+fn print_refused<W: Write>(out: &mut W, alloc: Global, refusal: &Refusal) -> io::Result<()>
+    ensures { OnOk result (AppendsSome (W.contents out.old) (W.contents out.new) (IsFateObject (Fate.Refused refusal.now))) }
+{
+    let reason = format!(in alloc; "{refusal}")?;
+    print_reason(out, alloc, refusal, reason.as_str())
+}
+
+fn print_reason<W: Write>(
+    out: &mut W,
+    alloc: Global,
+    refusal: &Refusal,
+    reason: &str,
+) -> io::Result<()>
+    ensures { OnOk result (Appends (W.contents out.old) (W.contents out.new) (object_line (refused_value refusal.now reason.now))) }
+{
+    let value = refused_value(alloc, refusal, reason)?;
+    print_value(out, alloc, &value)
+}
+
+fn refused_value(alloc: Global, refusal: &Refusal, reason: &str) -> Result<Value, AllocError>
+    ensures { IfOk result (λ value. view value ≡ refused_value refusal.now reason.now) }
+{
+    match refused_path(refusal) {
+        Some(path) => { json!(in alloc; {"outcome": "refused", "path": path, "reason": reason}) }
+        None => json!(in alloc; {"outcome": "refused", "path": null, "reason": reason}),
+    }
+}
+
+// The path that a refusal names.
+fn refused_path(refusal: &Refusal) -> Option<&str>
+    ensures { option_map (λ path. path.now) result ≡ refused_path refusal.now }
+{
+    match refusal {
+        Refusal::IsFolder(place) => Some(place.text()),
+        Refusal::NoSuchPath(path)
+        | Refusal::NotCovered(path)
+        | Refusal::TooLong(path)
+        | Refusal::Unrecognised(path)
+        | Refusal::Header(path, _)
+        | Refusal::Exists(path)
+        | Refusal::Clash(path)
+        | Refusal::Moved(path)
+        | Refusal::BadJournal(path) => Some(path.text()),
+        _ => None,
+    }
 }

@@ -101,7 +101,7 @@ fn read_line(alloc: Global, matches: &ArgMatches<'_>, moment: Moment) -> Result<
         Some((name, inner)) => Ok(Line {
             root,
             action: read_action(alloc, name, inner, moment)?,
-            telling: read_telling(name, inner),
+            telling: read_telling(inner),
             change_status: ChangeStatus::of(is_change_told(inner)),
             moment,
         }),
@@ -155,11 +155,10 @@ fn read_number(matches: &ArgMatches<'_>) -> u32 {
     matches.get_one("NUMBER").unwrap_or(0)
 }
 
-fn read_telling(name: &str, matches: &ArgMatches<'_>) -> Telling {
-    let has_json = name == "log" || name == "show";
-    if has_json && matches.get_flag("json") {
+fn read_telling(matches: &ArgMatches<'_>) -> Telling {
+    if matches.get_flag("json") {
         Telling::Json
-    } else if name != "log" && matches.get_flag("diff") {
+    } else if matches.get_flag("diff") {
         Telling::Diff
     } else {
         Telling::Lines

@@ -9,7 +9,7 @@ use crate::diff::print_record;
 use crate::fault::{Fault, in_memory};
 use crate::line::Telling;
 use crate::lines::{path_count, print_reply, print_reverted, print_shown};
-use crate::objects::{print_row_objects, print_shown_object};
+use crate::objects::{print_fate_objects, print_row_objects, print_shown_object};
 use crate::output::{Sink, write_text};
 use crate::request::Told;
 use reuse_session::{Fate, Fates, Reply};
@@ -131,12 +131,13 @@ fn print_lines<W: Write>(out: &mut W, told: &Told) -> io::Result<()>
     }
 }
 
-// Rows and steps as objects, and all else in lines.
+// Rows, steps and dry runs as objects, and all else in lines.
 fn print_objects<W: Write>(out: &mut W, alloc: Global, told: &Told) -> io::Result<()>
     ensures { OnOk result (AppendsSome (W.contents out.old) (W.contents out.new) (IsToldText Telling.Json told.now)) }
 {
     match told {
         Told::Reply(Reply::Log(rows)) => print_row_objects(out, alloc, rows.as_slice()),
+        Told::Reply(Reply::Preview(fates)) => print_fate_objects(out, alloc, fates.as_slice()),
         Told::Shown(shown) => print_shown_object(out, alloc, shown),
         Told::Reply(reply) => print_reply(out, reply),
         Told::Reverted(reverted) => print_reverted(out, reverted),
