@@ -1,7 +1,8 @@
 //! The command line that clap reads, made from the tables of options and subcommands.
 use crate::help::{ABOUT, AFTER};
-use crate::options::{Argument, BEFORE, Choice, Rule, SUBCOMMANDS, Subcommand, Takes};
+use crate::options::{Argument, BEFORE, Choice, Rule, Subcommand, Takes};
 use crate::prefix_name::prefix_names;
+use crate::subcommands::SUBCOMMANDS;
 use clap::builder::ValueParser;
 use clap::{Arg, ArgAction, ArgGroup, Command};
 use reuse_header::style_names;

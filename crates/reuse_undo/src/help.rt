@@ -70,6 +70,15 @@ must be as the step left it. If one file isn't so, none is changed.
 Example:
   reuse-undo revert 3 --dry-run --diff";
 
+pub const AFTER_RECOVER: &str = "\
+Each file that is as the step left it is set back, and each that is as before the step stays. If a
+file is neither, since it was edited after the run was stopped, it is refused as `PATH: moved`, and
+none is changed. With --skip-moved such files are left as they are, and the others are set back. The
+history then lists the steps that were done before. If no step is half made, nothing is changed.
+
+Example:
+  reuse-undo recover --skip-moved";
+
 pub const AFTER_SHOW: &str = "\
 The first line is that of `log`. A line `made PATH`, `removed PATH` or `changed PATH` follows for
 each path.

@@ -112,6 +112,24 @@ pub struct Line {
     pub moment: Moment,
 }
 
+/// What words ask for.
+#[derive(Drop)]
+pub enum Asked {
+    /// What a session answers.
+    Line(Line),
+    /// To set back what a stopped run left pending.
+    Recover(Recovery),
+}
+
+/// Where the pending step is to be set back, and how.
+#[derive(Drop)]
+pub struct Recovery {
+    /// The folder of the tree, relative to the working folder.
+    pub root: String,
+    /// Whether the paths that can't be set back are left as they are.
+    pub skip_moved: bool,
+}
+
 /// Why words are no line.
 #[derive(Debug, Drop, Error)]
 pub enum LineFault {

@@ -28,6 +28,7 @@ mod request;
 mod rows;
 mod run_line;
 mod status;
+mod subcommands;
 mod texts;
 mod words;
 
@@ -35,10 +36,10 @@ use disk::{DiskStore, Syncs};
 use fault::Fault;
 use file_list::with_list;
 use findings::Findings;
-use line::{ChangeStatus, Deed, Line, LineFault, Telling};
+use line::{Asked, ChangeStatus, Deed, Line, LineFault, Recovery, Telling};
 use lock::lock_root;
 use notes::{note_call, note_words};
-use on_folder::run_on_folder;
+use on_folder::{recover_on_folder, run_on_folder};
 use output::Output;
 use progress::{ClearedOutput, Progress};
 use request::{Request, request_of};
@@ -202,6 +203,50 @@ fn answer<R: Files<File = File> + AllocGlobal + Clock + Print + Eprint + Clone +
     answered
 }
 
+/// Sets the pending step back in a folder, while no other run works there, and prints what became of it.
+fn recover_folder<R: Files<File = File> + AllocGlobal + Clock + Print + Eprint + Clone + Drop>(
+    rt: &R,
+    alloc: Global,
+    recovery: Recovery,
+    extras: Extras,
+) -> CarriedOut {
+    let lock = match lock_root(rt, recovery.root.as_str()) {
+        Ok(lock) => lock,
+        Err(fault) => {
+            drop(recovery);
+            return CarriedOut::fault(fault);
+        }
+    };
+    let outcome = recover_locked(rt, alloc, &recovery, extras);
+    drop(recovery);
+    drop(lock);
+    CarriedOut {
+        outcome,
+        findings: None,
+    }
+}
+
+fn recover_locked<R: Files<File = File> + AllocGlobal + Clock + Print + Eprint + Clone + Drop>(
+    rt: &R,
+    alloc: Global,
+    recovery: &Recovery,
+    extras: Extras,
+) -> Result<usize, Fault> {
+    let folder = folder_at(rt, alloc, recovery.root.as_str(), extras.syncs)?;
+    let progress = Progress::new(rt.clone()?, extras.progress);
+    let mut out = Output::new(ClearedOutput::new(&progress));
+    let (folder, outcome) = recover_on_folder(
+        folder,
+        &progress,
+        alloc,
+        recovery.skip_moved,
+        &mut out,
+    );
+    drop(folder);
+    progress.clear();
+    outcome
+}
+
 fn found_before<R: Files<File = File> + AllocGlobal + Clone + Drop>(
     rt: &R,
     alloc: Global,
@@ -277,15 +322,21 @@ fn said_in<R: Env + AllocGlobal>(rt: &R, alloc: Global, moment: Moment) -> Said 
     }
 }
 
-/// The line that was read, with the list of files that it names.
-fn whole_line<R: Files + Input>(rt: &R, alloc: Global, said: Said) -> Result<Line, LineFault> {
+/// What was asked for, with the list of files that the line names.
+fn whole_asked<R: Files + Input>(rt: &R, alloc: Global, said: Said) -> Result<Asked, LineFault> {
     let Said {
         verbose: _,
         syncs: _,
         files_from,
-        line,
+        asked,
     } = said;
-    with_list(rt, alloc, line?, files_from)
+    match asked? {
+        Asked::Line(line) => Ok(Asked::Line(with_list(rt, alloc, line, files_from)?)),
+        asked => {
+            drop(files_from);
+            Ok(asked)
+        }
+    }
 }
 
 /// Tells why the words are no line, and what to do about that where notes are asked for; the status.
@@ -300,6 +351,28 @@ fn tell_words(rt: &(impl Print + Eprint), fault: &LineFault, notes: bool) -> u8 
     }
 }
 
+/// Carries out what was asked for, and tells what came of it; the status.
+fn run_asked<R: Runtime + Files<File = File> + AllocGlobal>(
+    rt: &R,
+    alloc: Global,
+    asked: Asked,
+    extras: Extras,
+) -> u8 {
+    let (carried_out, on_change) = match asked {
+        Asked::Line(line) => {
+            let on_change = line.change_status;
+            (carry_out(rt, alloc, line, extras), on_change)
+        }
+        Asked::Recover(recovery) => (
+            recover_folder(rt, alloc, recovery, extras),
+            ChangeStatus::Zero,
+        ),
+    };
+    let status = tell_outcome(rt, &carried_out, on_change);
+    drop(carried_out);
+    status
+}
+
 fn run<R: Runtime + Files<File = File> + AllocGlobal>(
     rt: &R,
     alloc: Global,
@@ -312,14 +385,8 @@ fn run<R: Runtime + Files<File = File> + AllocGlobal>(
         progress: at_terminal,
         syncs: said.syncs,
     };
-    match whole_line(rt, alloc, said) {
-        Ok(line) => {
-            let on_change = line.change_status;
-            let carried_out = carry_out(rt, alloc, line, extras);
-            let status = tell_outcome(rt, &carried_out, on_change);
-            drop(carried_out);
-            status
-        }
+    match whole_asked(rt, alloc, said) {
+        Ok(asked) => run_asked(rt, alloc, asked, extras),
         Err(fault) => {
             let status = tell_words(rt, &fault, extras.notes);
             drop(fault);

@@ -1,11 +1,13 @@
 //! Carries out on a folder what a line asks for.
 ghost use Rattle.reuse_undo.specs.CarriedOut.{CarriesOut};
+ghost use Rattle.reuse_undo.specs.Recoveries.{RecoversOn};
 
 use crate::disk::DiskStore;
 use crate::fault::Fault;
 use crate::line::Telling;
 use crate::output::Sink;
 use crate::progress::Progress;
+use crate::recovering::run_recover;
 use crate::request::Request;
 use crate::run_line::run_request;
 use reuse_tree::{Store, WatchedStore};
@@ -28,5 +30,26 @@ pub fn run_on_folder<R: Files<File = File> + AllocGlobal + Clock + Eprint + Clon
 {
     let watched = WatchedStore::new(folder, progress);
     let (watched, outcome) = run_request(alloc, request, telling, watched, out);
+    (watched.into_inner(), outcome)
+}
+
+/// Sets back what a stopped run left pending in the folder, and writes a line for each path that was set back or left; how many were set
+/// back. The folder is given back as a store.
+pub fn recover_on_folder<
+    R: Files<File = File> + AllocGlobal + Clock + Eprint + Clone + Drop,
+    O: Sink,
+>(
+    folder: DiskStore<R>,
+    progress: &Progress<R>,
+    alloc: Global,
+    skip_moved: bool,
+    out: &mut O,
+) -> (DiskStore<R>, Result<usize, Fault>)
+    // As on any store, for whatever files the folder holds.
+    ensures { ⟦<DiskStore<R> as Store>⟧.honest result.0
+        → RecoversOn skip_moved (⟦<DiskStore<R> as Store>⟧.files folder) (⟦<DiskStore<R> as Store>⟧.files result.0) (O.contents out.old) (O.contents out.new) result.1 }
+{
+    let watched = WatchedStore::new(folder, progress);
+    let (watched, outcome) = run_recover(alloc, watched, skip_moved, out);
     (watched.into_inner(), outcome)
 }

@@ -1,8 +1,4 @@
 //! The options and subcommands of the command line, with their help, as tables.
-use crate::help::{
-    AFTER_ANNOTATE, AFTER_CONVERT, AFTER_DOWNLOAD, AFTER_LOG, AFTER_REDO, AFTER_REVERT, AFTER_SHOW,
-    AFTER_UNDO,
-};
 
 /// What a part of the command line takes.
 #[derive(Clone, Copy)]
@@ -97,7 +93,7 @@ pub const BEFORE: &[Argument] = &[
 ];
 
 /// What each subcommand that makes a step has: to look at it beforehand, and how that is printed.
-const DRY_RUN: Argument = Argument(
+pub const DRY_RUN: Argument = Argument(
     "dry-run",
     Some('n'),
     Takes::Nothing,
@@ -105,7 +101,7 @@ const DRY_RUN: Argument = Argument(
     "Print what would change and what is refused, and make no step",
 );
 
-const CHECK: Argument = Argument(
+pub const CHECK: Argument = Argument(
     "check",
     None,
     Takes::Nothing,
@@ -113,7 +109,7 @@ const CHECK: Argument = Argument(
     "As --dry-run, with status 1 if a file would change",
 );
 
-const DIFF: Argument = Argument(
+pub const DIFF: Argument = Argument(
     "diff",
     None,
     Takes::Nothing,
@@ -121,7 +117,7 @@ const DIFF: Argument = Argument(
     "With --dry-run or --check, print a diff of what would change",
 );
 
-const LOOK_JSON: Argument = Argument(
+pub const LOOK_JSON: Argument = Argument(
     "json",
     None,
     Takes::Nothing,
@@ -134,9 +130,9 @@ const LOOK: Choice = Choice::AnyOf("look", "dry-run", "check");
 
 const PRINTED: Choice = Choice::OneOf("printed", "diff", "json");
 
-const LOOKS: &[Choice] = &[LOOK, PRINTED];
+pub const LOOKS: &[Choice] = &[LOOK, PRINTED];
 
-const EXIT_NON_ZERO: Argument = Argument(
+pub const EXIT_NON_ZERO: Argument = Argument(
     "exit-non-zero-on-change",
     None,
     Takes::Nothing,
@@ -152,7 +148,7 @@ const NUMBER: Argument = Argument(
     "The number of a step, as printed by log",
 );
 
-const JSON: Argument = Argument(
+pub const JSON: Argument = Argument(
     "json",
     None,
     Takes::Nothing,
@@ -160,7 +156,7 @@ const JSON: Argument = Argument(
     "Print a JSON object on each line",
 );
 
-const ANNOTATE: &[Argument] = &[
+pub const ANNOTATE: &[Argument] = &[
     Argument(
         "copyright",
         Some('c'),
@@ -301,7 +297,7 @@ const ANNOTATE: &[Argument] = &[
     EXIT_NON_ZERO,
 ];
 
-const DOWNLOAD: &[Argument] = &[
+pub const DOWNLOAD: &[Argument] = &[
     Argument(
         "texts",
         None,
@@ -322,7 +318,7 @@ const DOWNLOAD: &[Argument] = &[
     LOOK_JSON,
 ];
 
-const REVERT: &[Argument] = &[
+pub const REVERT: &[Argument] = &[
     DRY_RUN,
     CHECK,
     DIFF,
@@ -337,7 +333,15 @@ const REVERT: &[Argument] = &[
     NUMBER,
 ];
 
-const SHOW: &[Argument] = &[
+pub const RECOVER: &[Argument] = &[Argument(
+    "skip-moved",
+    None,
+    Takes::Nothing,
+    Rule::Free,
+    "Leave a file as it is if it can't be set back",
+)];
+
+pub const SHOW: &[Argument] = &[
     Argument(
         "diff",
         None,
@@ -350,57 +354,9 @@ const SHOW: &[Argument] = &[
 ];
 
 /// The form of the comments, what is done if a style is unknown, and those of each dry run.
-const ANNOTATE_CHOICES: &[Choice] = &[
+pub const ANNOTATE_CHOICES: &[Choice] = &[
     Choice::OneOf("form", "single-line", "multi-line"),
     Choice::OneOf("unknown", "fallback-dot-license", "skip-unrecognised"),
     LOOK,
     PRINTED,
-];
-
-/// The subcommands that make steps, those that take them back and make them again, and those that print them.
-pub const SUBCOMMANDS: &[Subcommand] = &[
-    Subcommand(
-        "annotate",
-        "Add copyright and licensing information to files",
-        AFTER_ANNOTATE,
-        ANNOTATE,
-        ANNOTATE_CHOICES,
-    ),
-    Subcommand(
-        "convert-dep5",
-        "Put a REUSE.toml in the place of .reuse/dep5",
-        AFTER_CONVERT,
-        &[DRY_RUN, CHECK, DIFF, LOOK_JSON, EXIT_NON_ZERO],
-        LOOKS,
-    ),
-    Subcommand(
-        "download",
-        "Copy licence texts into LICENSES",
-        AFTER_DOWNLOAD,
-        DOWNLOAD,
-        LOOKS,
-    ),
-    Subcommand(
-        "undo",
-        "Take the last step back",
-        AFTER_UNDO,
-        &[DRY_RUN, CHECK, DIFF, LOOK_JSON],
-        LOOKS,
-    ),
-    Subcommand(
-        "redo",
-        "Make the step again that was undone last",
-        AFTER_REDO,
-        &[DRY_RUN, CHECK, DIFF, LOOK_JSON],
-        LOOKS,
-    ),
-    Subcommand(
-        "revert",
-        "Take the step NUMBER back, by a new step",
-        AFTER_REVERT,
-        REVERT,
-        LOOKS,
-    ),
-    Subcommand("log", "List the steps", AFTER_LOG, &[JSON], &[]),
-    Subcommand("show", "Print what a step changed", AFTER_SHOW, SHOW, &[]),
 ];

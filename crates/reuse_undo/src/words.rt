@@ -3,7 +3,7 @@ use crate::arguments::whole;
 use crate::date::year_of;
 use crate::disk::Syncs;
 use crate::glob_word::globs_of_word;
-use crate::line::{Action, ChangeStatus, Deed, Line, LineFault, Telling};
+use crate::line::{Action, Asked, ChangeStatus, Deed, Line, LineFault, Recovery, Telling};
 use crate::place_word::place_of_word;
 use crate::prefix_name::prefix_of_name;
 use clap::error::ErrorKind;
@@ -23,7 +23,7 @@ pub struct Said {
     pub syncs: Syncs,
     /// The file that lists the files of an annotation, where one is named.
     pub files_from: Option<String>,
-    pub line: Result<Line, LineFault>,
+    pub asked: Result<Asked, LineFault>,
 }
 
 impl Said {
@@ -33,7 +33,7 @@ impl Said {
             verbose: false,
             syncs: Syncs::Kept,
             files_from: None,
-            line: Err(fault),
+            asked: Err(fault),
         }
     }
 }
@@ -49,7 +49,7 @@ pub fn words_to_command(alloc: Global, words: &[String], moment: Moment) -> Said
                 verbose: matches.get_flag("verbose"),
                 syncs: read_syncs(&matches),
                 files_from,
-                line: read_line(alloc, &matches, moment),
+                asked: read_asked(alloc, &matches, moment),
             },
             Err(error) => Said::fault(LineFault::from(error)),
         },
@@ -95,8 +95,22 @@ fn fault_of(alloc: Global, error: &Error) -> Result<LineFault, AllocError> {
     }
 }
 
+fn read_asked(alloc: Global, matches: &ArgMatches<'_>, moment: Moment) -> Result<Asked, LineFault> {
+    match matches.subcommand() {
+        Some(("recover", inner)) => Ok(Asked::Recover(Recovery {
+            root: read_root(alloc, matches)?,
+            skip_moved: inner.get_flag("skip-moved"),
+        })),
+        _ => Ok(Asked::Line(read_line(alloc, matches, moment)?)),
+    }
+}
+
+fn read_root(alloc: Global, matches: &ArgMatches<'_>) -> Result<String, AllocError> {
+    String::from_str(alloc, matches.get_str("root").unwrap_or("."))
+}
+
 fn read_line(alloc: Global, matches: &ArgMatches<'_>, moment: Moment) -> Result<Line, LineFault> {
-    let root = String::from_str(alloc, matches.get_str("root").unwrap_or("."))?;
+    let root = read_root(alloc, matches)?;
     match matches.subcommand() {
         Some((name, inner)) => Ok(Line {
             root,

@@ -1,0 +1,64 @@
+//! The subcommands of the command line, as a table.
+use crate::help::{
+    AFTER_ANNOTATE, AFTER_CONVERT, AFTER_DOWNLOAD, AFTER_LOG, AFTER_RECOVER, AFTER_REDO,
+    AFTER_REVERT, AFTER_SHOW, AFTER_UNDO,
+};
+use crate::options::{
+    ANNOTATE, ANNOTATE_CHOICES, CHECK, DIFF, DOWNLOAD, DRY_RUN, EXIT_NON_ZERO, JSON, LOOK_JSON,
+    LOOKS, RECOVER, REVERT, SHOW, Subcommand,
+};
+
+/// The subcommands that make steps, those that take them back and make them again, and those that print them.
+pub const SUBCOMMANDS: &[Subcommand] = &[
+    Subcommand(
+        "annotate",
+        "Add copyright and licensing information to files",
+        AFTER_ANNOTATE,
+        ANNOTATE,
+        ANNOTATE_CHOICES,
+    ),
+    Subcommand(
+        "convert-dep5",
+        "Put a REUSE.toml in the place of .reuse/dep5",
+        AFTER_CONVERT,
+        &[DRY_RUN, CHECK, DIFF, LOOK_JSON, EXIT_NON_ZERO],
+        LOOKS,
+    ),
+    Subcommand(
+        "download",
+        "Copy licence texts into LICENSES",
+        AFTER_DOWNLOAD,
+        DOWNLOAD,
+        LOOKS,
+    ),
+    Subcommand(
+        "undo",
+        "Take the last step back",
+        AFTER_UNDO,
+        &[DRY_RUN, CHECK, DIFF, LOOK_JSON],
+        LOOKS,
+    ),
+    Subcommand(
+        "redo",
+        "Make the step again that was undone last",
+        AFTER_REDO,
+        &[DRY_RUN, CHECK, DIFF, LOOK_JSON],
+        LOOKS,
+    ),
+    Subcommand(
+        "revert",
+        "Take the step NUMBER back, by a new step",
+        AFTER_REVERT,
+        REVERT,
+        LOOKS,
+    ),
+    Subcommand(
+        "recover",
+        "Set back a step that a stopped run left half made",
+        AFTER_RECOVER,
+        RECOVER,
+        &[],
+    ),
+    Subcommand("log", "List the steps", AFTER_LOG, &[JSON], &[]),
+    Subcommand("show", "Print what a step changed", AFTER_SHOW, SHOW, &[]),
+];
