@@ -93,6 +93,7 @@ _reuse_undo() {
       convert-dep5) _reuse_undo_of '--exit-non-zero-on-change --dry-run --check --diff --json --root --verbose --no-sync --help' ;;
       undo | redo) _reuse_undo_of '--dry-run --check --diff --json --root --verbose --no-sync --help' ;;
       revert) _reuse_undo_of '--dry-run --check --diff --json --skip-moved --root --verbose --no-sync --help' ;;
+      recover) _reuse_undo_of '--skip-moved --root --verbose --no-sync --help' ;;
       log) _reuse_undo_of '--json --root --verbose --no-sync --help' ;;
       show) _reuse_undo_of '--diff --json --root --verbose --no-sync --help' ;;
       *) ;;
@@ -100,8 +101,8 @@ _reuse_undo() {
     return
   fi
   case $subcommand in
-    '') _reuse_undo_of 'annotate convert-dep5 download undo redo revert log show help' ;;
-    help) _reuse_undo_of 'annotate convert-dep5 download undo redo revert log show' ;;
+    '') _reuse_undo_of 'annotate convert-dep5 download undo redo revert recover log show help' ;;
+    help) _reuse_undo_of 'annotate convert-dep5 download undo redo revert recover log show' ;;
     revert) _reuse_undo_steps done ;;
     show) _reuse_undo_steps ;;
     annotate) _reuse_undo_paths "$root" ;;

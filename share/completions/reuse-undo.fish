@@ -73,10 +73,11 @@ complete -c reuse-undo -n '__reuse_undo_subcommand_is ""' -a download -d 'Copy l
 complete -c reuse-undo -n '__reuse_undo_subcommand_is ""' -a undo -d 'Take the last step back'
 complete -c reuse-undo -n '__reuse_undo_subcommand_is ""' -a redo -d 'Make the step again that was undone last'
 complete -c reuse-undo -n '__reuse_undo_subcommand_is ""' -a revert -d 'Take a step back by a new one'
+complete -c reuse-undo -n '__reuse_undo_subcommand_is ""' -a recover -d 'Set back a step that a stopped run left half made'
 complete -c reuse-undo -n '__reuse_undo_subcommand_is ""' -a log -d 'List the steps'
 complete -c reuse-undo -n '__reuse_undo_subcommand_is ""' -a show -d 'Tell what a step changed'
 complete -c reuse-undo -n '__reuse_undo_subcommand_is ""' -a help -d 'Print help'
-complete -c reuse-undo -n '__reuse_undo_subcommand_is help' -a 'annotate convert-dep5 download undo redo revert log show'
+complete -c reuse-undo -n '__reuse_undo_subcommand_is help' -a 'annotate convert-dep5 download undo redo revert recover log show'
 
 set -l annotate -c reuse-undo -n '__reuse_undo_subcommand_is annotate'
 set -l prefixes 'spdx spdx-c spdx-symbol spdx-string spdx-string-c spdx-string-symbol string string-c string-symbol symbol'
@@ -110,6 +111,7 @@ for word in annotate convert-dep5 download undo redo revert
     complete -c reuse-undo -n "__reuse_undo_subcommand_is $word" -l diff -d 'With --dry-run or --check, print a diff too'
     complete -c reuse-undo -n "__reuse_undo_subcommand_is $word" -l json -d 'With --dry-run or --check, print JSON objects'
 end
+complete -c reuse-undo -n '__reuse_undo_subcommand_is recover' -l skip-moved -d 'Leave a file where it cannot be set back'
 complete -c reuse-undo -n '__reuse_undo_subcommand_is revert' -l skip-moved -d 'Leave a file where the step cannot be taken back'
 complete -c reuse-undo -n '__reuse_undo_subcommand_is revert' -a '(__reuse_undo_steps done)'
 complete -c reuse-undo -n '__reuse_undo_subcommand_is log' -l json -d 'Print a JSON object on each line'

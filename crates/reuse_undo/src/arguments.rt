@@ -2,7 +2,7 @@
 use crate::help::{ABOUT, AFTER};
 use crate::options::{Argument, BEFORE, Choice, Rule, Subcommand, Takes};
 use crate::prefix_name::prefix_names;
-use crate::subcommands::SUBCOMMANDS;
+use crate::subcommands::{HISTORY, STEPS};
 use clap::builder::ValueParser;
 use clap::{Arg, ArgAction, ArgGroup, Command};
 use reuse_header::style_names;
@@ -123,6 +123,15 @@ fn with_subcommands<'a>(
     Ok(command)
 }
 
+// The tables are large: each is added by a function of its own, so that no proof reads both.
+fn with_steps<'a>(alloc: Global, command: Command<'a>) -> Result<Command<'a>, AllocError> {
+    with_subcommands(alloc, command, STEPS)
+}
+
+fn with_history<'a>(alloc: Global, command: Command<'a>) -> Result<Command<'a>, AllocError> {
+    with_subcommands(alloc, command, HISTORY)
+}
+
 /// The whole command line.
 pub fn whole<'a>(alloc: Global) -> Result<Command<'a>, AllocError> {
     let command = Command::new(alloc, "reuse-undo")
@@ -132,5 +141,5 @@ pub fn whole<'a>(alloc: Global) -> Result<Command<'a>, AllocError> {
         .after_help(AFTER)
         .subcommand_required(true);
     let command = with_arguments(alloc, command, BEFORE)?;
-    with_subcommands(alloc, command, SUBCOMMANDS)
+    with_history(alloc, with_steps(alloc, command)?)
 }

@@ -1,4 +1,4 @@
-//! The subcommands of the command line, as a table.
+//! The subcommands of the command line, as tables.
 use crate::help::{
     AFTER_ANNOTATE, AFTER_CONVERT, AFTER_DOWNLOAD, AFTER_LOG, AFTER_RECOVER, AFTER_REDO,
     AFTER_REVERT, AFTER_SHOW, AFTER_UNDO,
@@ -8,8 +8,8 @@ use crate::options::{
     LOOKS, RECOVER, REVERT, SHOW, Subcommand,
 };
 
-/// The subcommands that make steps, those that take them back and make them again, and those that print them.
-pub const SUBCOMMANDS: &[Subcommand] = &[
+/// The subcommands that make steps, and those that take them back and make them again.
+pub const STEPS: &[Subcommand] = &[
     Subcommand(
         "annotate",
         "Add copyright and licensing information to files",
@@ -52,6 +52,10 @@ pub const SUBCOMMANDS: &[Subcommand] = &[
         REVERT,
         LOOKS,
     ),
+];
+
+/// The subcommands of the history: one that sets back what a stopped run left, and those that print the steps.
+pub const HISTORY: &[Subcommand] = &[
     Subcommand(
         "recover",
         "Set back a step that a stopped run left half made",
