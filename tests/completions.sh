@@ -102,7 +102,7 @@ completes annotate --copyright-prefix '' gives $(help_values copyright-prefix)
 completes an gives annotate
 completes --ro gives --root
 completes --root ../there und gives undo
-completes help re gives redo revert
+completes help re gives recover redo revert
 completes help log -- gives
 completes annotate --co gives --contributor --copyright --copyright-prefix --copyright-style
 completes annotate --s gives --single-line --skip-existing --skip-unrecognised --style

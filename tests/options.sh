@@ -21,7 +21,7 @@ settings() {
   writes '-l|MIT|k.c' k.c 'x\n' to k.c "// $tag\nx\n"
   writes '-l|MIT|--multi-line|k.c' k.c 'x\n' to k.c "/*\n * $tag */\n\nx\n"
   writes '-l|MIT|--recursive|src' src/a.py 'x\n' src/deep/b.py 'x\n' to src/a.py "$tagged" src/deep/b.py "$tagged"
-  writes '-l|MIT|--recursive|-s|python|--exclude|**a|--exclude=*|.' a.py 'x\n' src/a 'x\n' src/b.py 'x\n' src/deep/ba 'x\n' to src/b.py "$tagged"
+  writes '-l|MIT|--recursive|-s|python|--exclude|**a|--exclude=a*|.' a.py 'x\n' src/a 'x\n' src/b.py 'x\n' src/deep/ba 'x\n' to src/b.py "$tagged"
   for option in -n --dry-run; do
     stays "-l|MIT|$option|a.py" 0 'would change a.py\n' a.py 'x\n'
     tells log 0 ''

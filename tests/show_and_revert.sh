@@ -111,6 +111,11 @@ holds a.py "${header}x = 1\nx = 2\n"
 # What a step took away comes back once.
 refuses 'a.py: moved' revert 4
 holds a.py "${header}x = 1\nx = 2\n"
+# What a later step touched is left, until that is taken back.
+refuses 'a.py: moved' revert 1
+prints $'nothing changed\nskipped a.py\nskipped b.c\nskipped p.png.license\nskipped sub/d.py' revert 1 --skip-moved
+prints $'undone a.py\nundone b.c\nundone p.png.license\nundone sub/d.py' undo
+prints $'undone a.py\nundone b.c\nundone p.png.license\nundone sub/d.py' undo
 # Files that can't be taken back
 printf '# me\n' | cat - "$tree/b.c" > "$room/new"
 cp "$room/new" "$tree/b.c"

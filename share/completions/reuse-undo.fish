@@ -111,6 +111,9 @@ for word in annotate convert-dep5 download undo redo revert
     complete -c reuse-undo -n "__reuse_undo_subcommand_is $word" -l diff -d 'With --dry-run or --check, print a diff too'
     complete -c reuse-undo -n "__reuse_undo_subcommand_is $word" -l json -d 'With --dry-run or --check, print JSON objects'
 end
+for word in annotate convert-dep5
+    complete -c reuse-undo -n "__reuse_undo_subcommand_is $word" -l exit-non-zero-on-change -d 'Exit with status 1 if a file changes'
+end
 complete -c reuse-undo -n '__reuse_undo_subcommand_is recover' -l skip-moved -d 'Leave a file where it cannot be set back'
 complete -c reuse-undo -n '__reuse_undo_subcommand_is revert' -l skip-moved -d 'Leave a file where the step cannot be taken back'
 complete -c reuse-undo -n '__reuse_undo_subcommand_is revert' -a '(__reuse_undo_steps done)'
