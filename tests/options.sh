@@ -74,7 +74,7 @@ words() {
   local before line
   files a.py 'x\n'
   before=$(files_of "$tree")
-  for line in '--help=Adds licensing information' 'annotate|--help=Adds copyright and licensing information'; do
+  for line in '--help=Add licensing information' 'annotate|--help=Add copyright and licensing information'; do
     run "${line%=*}"
     [[ $status == 0 && $out == "${line#*=}"* && ! $error ]] || differs "$line"
   done

@@ -92,16 +92,16 @@ for section in 'Options of all subcommands' 'Dry runs' $(grep -vx help "$room/su
     Dry*) cp "$room/in_manual" "$room/in_dry_runs" && continue ;;
     *)
       in_help "$section" | grep -vxFf "$room/in_each" > "$room/in_help" || true
-      case $section in log | show) ;; *) cat "$room/in_dry_runs" >> "$room/in_manual" ;; esac
+      case $section in recover | log | show) ;; *) cat "$room/in_dry_runs" >> "$room/in_manual" ;; esac
       ;;
   esac
   same "options of help and of the manual page, $section" "$room/in_help" "$room/in_manual"
   compared=$((compared + $(wc -l < "$room/in_help")))
 done
 
-# Texts of refusals; two are of calls that the program doesn't make alone, a dry run tells the refusals in place of one, and why styles are bad
+# Texts of refusals; three are of calls that the program doesn't make, or not alone, a dry run tells the refusals in place of one, and why styles are bad
 # isn't told, nor is what a folder's fault was, but in notes
-sed -nE 's/.*#\[error\("(.*)"(, .*)?\)\]$/\1/p' $(find "$top"/crates/*/src -name '*.rt' | grep -vE 'test|style_refusal|disk/fault') | grep -vxE 'device fault|not a good journal text|would be refused' \
+sed -nE 's/.*#\[error\("(.*)"(, .*)?\)\]$/\1/p' $(find "$top"/crates/*/src -name '*.rt' | grep -vE 'test|style_refusal|disk/fault') | grep -vxE 'device fault|not a good journal text|would be refused|nothing left' \
   | sed -E 's/\{[^}]*\}/\n/g' | sed -E 's/^[: ]+//; s/[: ]+$//' | grep . | sort -u > "$room/refusals"
 while IFS= read -r text; do grep -qF -- "$text" "$room/manual" || fail "the manual page: the refusal $text is not told"; done < "$room/refusals"
 
