@@ -1,5 +1,5 @@
 -- What amending makes of a file: the edit that writes its amended information in the place of the old block, none where
--- nothing changes, or the first refusal (docs/SPECIFICATION.md, "What amend writes").
+-- nothing changes, or the first refusal (docs/RULES.md, "What amend writes").
 use Rattle.std.specs.Prelude.{◌≡◌, ℕ, true, List, [], Option, None, Some, Result, Ok, Err, if◌then◌else◌}
 use Rattle.std.specs.Option.{option_map, option_map_or}
 use Rattle.reuse_notice.specs.declared.infos.Info.{Info}

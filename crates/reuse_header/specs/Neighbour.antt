@@ -1,5 +1,5 @@
 -- What annotating makes of a neighbour file, the one that has another's licensing information (REUSE Specification
--- 3.3, `.license` files; their blocks: docs/SPECIFICATION.md, "The header block of a file"). All that stands between its
+-- 3.3, `.license` files; their blocks: docs/RULES.md, "The header block of a file"). All that stands between its
 -- mark and its first barrier line is its block, without marks of a comment.
 use Rattle.std.specs.Prelude.{ℕ, Bool, not, ◌&&◌, ◌==◌, nat_le, List, [], ◌∷◌, Result, Err, if◌then◌else◌}
 use Rattle.std.specs.List.{list_any}

@@ -1,5 +1,5 @@
 -- The split of a file's lines into those before its header block, the block's, and those after it (REUSE Specification
--- 3.3, "Comment headers"; which block it is: docs/SPECIFICATION.md, "The header block of a file").
+-- 3.3, "Comment headers"; which block it is: docs/RULES.md, "The header block of a file").
 use Rattle.std.specs.Prelude.{◌≡◌, ℕ, zero, suc, ◌+◌, ◌<◌, ◌≤◌, Bool, true, false, List, [], ◌∷◌, ◌++◌, length, drop, flat_map, Option, None, Some}
 use Rattle.std.specs.List.{list_any}
 use Rattle.reuse_text.specs.Text.{line_bytes, file_lines}

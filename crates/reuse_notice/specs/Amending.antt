@@ -1,4 +1,4 @@
--- What amendments make of the licensing information of a file (this project's own; docs/SPECIFICATION.md, "What amend
+-- What amendments make of the licensing information of a file (this project's own; docs/RULES.md, "What amend
 -- writes").
 use Rattle.std.specs.Prelude.{ℕ, Bool, true, false, not, ◌&&◌, ◌||◌, nat_lt, List, [], ◌∷◌, ◌++◌, map, filter_map, fold, Option, None, Some, unwrap_or, if◌then◌else◌, codes}
 use Rattle.std.specs.Option.{option_map, option_map_or, option_and_then, is_none}

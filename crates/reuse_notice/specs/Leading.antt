@@ -1,5 +1,5 @@
 -- What a merge makes of the notices of one holder (the reuse tool's manual page of `annotate`, `--merge-copyrights`; the
--- details: docs/SPECIFICATION.md, "Licensing information").
+-- details: docs/RULES.md, "Licensing information").
 use Rattle.std.specs.Prelude.{◌≡◌, ℕ, ◌≤◌, false, List, Option, None, Some, Contains, ◌⊎◌}
 use Rattle.std.specs.declared.cmp.Ordering.TheVariants.{Less}
 use Rattle.reuse_notice.specs.declared.tags.Years.{Years}

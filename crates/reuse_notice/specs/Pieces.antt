@@ -1,4 +1,4 @@
--- A licence expression cut into its tokens and the bytes between them (docs/SPECIFICATION.md, "Licence expressions").
+-- A licence expression cut into its tokens and the bytes between them (docs/RULES.md, "Licence expressions").
 use Rattle.std.specs.Prelude.{ℕ, zero, suc, ◌-◌, ◌==◌, Bool, true, false, ◌&&◌, List, [], ◌∷◌, length, take}
 use Rattle.std.specs.List.{list_any}
 use Rattle.reuse_notice.specs.declared.expressions.Token.{Token}

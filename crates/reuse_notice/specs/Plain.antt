@@ -1,4 +1,4 @@
--- Texts that a line of a comment can hold (docs/SPECIFICATION.md, "Licensing information"), and that are UTF-8.
+-- Texts that a line of a comment can hold (docs/RULES.md, "Licensing information"), and that are UTF-8.
 use Rattle.std.specs.Prelude.{◌≡◌, ◌≢◌, ℕ, false, List, [], All, IsUtf8}
 use Rattle.std.specs.List.{list_any}
 use Rattle.reuse_notice.specs.declared.adding.Additions.{Additions}

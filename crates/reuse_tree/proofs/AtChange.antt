@@ -23,17 +23,6 @@ use Rattle.reuse_tree.proofs.Walk.{leads_more}
 pub left_here : {A : Type 0} (xs : List A) (i : ℕ) (lt : i < length xs) (x : A) (is : x ≡ get_or xs i x) → drop i xs ≡ x ∷ drop (i + 1) xs
 left_here xs i lt x is = drop_more xs i x lt ∙ ap (λ y. y ∷ drop (i + 1) xs) (sym is)
 
--- a walk that only read so far has the paths of the files where one of the changes makes a file this way
-pub record ReadsBeside {S : Type 0} (store : Ghosts S) (old now : S) (way : Way) (changes : List Change) (paths : List (List ℕ)) : Type 0 where
-  pub reads : OnlyReads store old now
-  pub heeded : store.honest now → list_any (makes way) changes ≡ true → paths ≡ keys (store.files old)
-
-pub reads_on : {S : Type 0} {store : Ghosts S} {old now next : S} {way : Way} {changes : List Change} {paths : List (List ℕ)} → ReadsBeside store old now way changes paths → OnlyReads store now next → ReadsBeside store old next way changes paths
-reads_on {S} {store} {old} {now} {next} beside more = record {
-  reads = reads_more store old now next beside.reads more;
-  heeded = λ honest. beside.heeded (more.was_honest honest);
-}
-
 -- a walk over the changes of an entry, so many of them by now, asks for one put or removal for each, counts no bytes and leaves the
 -- folder of the journal
 pub record StaysBeside {S : Type 0} (store : Ghosts S) (old now : S) (changes : List Change) (count : ℕ) : Type 0 where
@@ -73,17 +62,15 @@ module _ (changes : List Change) (i : ℕ) (lt : i < length changes) (change : C
     of_tree = at_change (λ c. is_of_tree (path_of c) ≡ true) good.of_tree;
   }
 
-  -- a test of it beside the paths that are to be heeded holds of the files with which the walk began
-  pub tested_from : (Holds : Files → Type 0) (way : Way) (old now : Files) (heeded paths : List (List ℕ)) → IsEntry changes → now ≡ old → heeded ≡ paths → (list_any (makes way) changes ≡ true → paths ≡ keys old)
-      → (IsProper change → IsSmall change → is_of_tree (path_of change) ≡ true → (makes way change ≡ true → heeded ≡ keys now) → Holds now) → Holds old
-  tested_from Holds way old now heeded paths good same passed heeds test =
+  -- a test of it holds of the files with which the walk began
+  pub tested_from : (Holds : Files → Type 0) (old now : Files) → IsEntry changes → now ≡ old → (IsProper change → IsSmall change → is_of_tree (path_of change) ≡ true → Holds now) → Holds old
+  tested_from Holds old now good same test =
       let of = of_entry good in
-      subst Holds same (test of.proper of.small of.of_tree
-      (λ made. passed ∙ heeds (list_any_at (makes way) changes i change lt (subst (λ c. makes way c ≡ true) is made)) ∙ ap keys (sym same)))
+      subst Holds same (test of.proper of.small of.of_tree)
 
-  pub tested : {S : Type 0} {store : Ghosts S} {old now : S} {way : Way} {paths : List (List ℕ)} (heeded : List (List ℕ)) (Holds : Files → Type 0) → IsEntry changes → ReadsBeside store old now way changes paths → store.honest now → heeded ≡ paths
-      → (IsProper change → IsSmall change → is_of_tree (path_of change) ≡ true → (makes way change ≡ true → heeded ≡ keys (store.files now)) → Holds (store.files now)) → Holds (store.files old)
-  tested {S} {store} {old} {now} {way} {paths} heeded Holds good beside honest passed = tested_from Holds way (store.files old) (store.files now) heeded paths good (beside.reads.files honest) passed (beside.heeded honest)
+  pub tested : {S : Type 0} {store : Ghosts S} {old now : S} (Holds : Files → Type 0) → IsEntry changes → OnlyReads store old now → store.honest now
+      → (IsProper change → IsSmall change → is_of_tree (path_of change) ≡ true → Holds (store.files now)) → Holds (store.files old)
+  tested {S} {store} {old} {now} Holds good reads honest passed = tested_from Holds (store.files old) (store.files now) good (reads.files honest) passed
 
   -- one more passes, or it is the first that doesn't
   pub passes : (Holds : Change → Type 0) → All Holds (take i changes) → Holds change → All Holds (take (i + 1) changes)

@@ -20,6 +20,7 @@ pub mod JoinedTexts
 pub mod JsonParts
 pub mod JsonPrinting
 pub mod ListingLemmas
+pub mod NeedLemmas
 pub mod PlainTexts
 pub mod SmallDigits
 pub mod StoppedReading
@@ -39,3 +40,9 @@ pub mod TurnLemmas
 pub mod MadeLemmas
 pub mod NotedMoves
 pub mod Lasting
+pub mod WrittenInTurn
+pub mod WriteLeaves
+pub mod Batches
+pub mod BatchReading
+pub mod BatchWriting
+pub mod WatchedWrites

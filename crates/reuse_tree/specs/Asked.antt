@@ -2,6 +2,8 @@
 use Rattle.std.specs.Prelude.{◌≡◌, List, ℕ, Option, Result}
 use Rattle.reuse_tree.specs.declared.change.Change.{Change}
 use Rattle.reuse_tree.specs.declared.fault.StoreFault.{StoreFault}
+use Rattle.reuse_tree.specs.declared.file_write.FileWrite.{FileWrite}
+use Rattle.reuse_tree.specs.declared.parts.Parts.{Parts}
 use Rattle.reuse_tree.specs.Files.{Files}
 use Rattle.reuse_tree.specs.Lasting.{WithOrWithout}
 use Rattle.reuse_tree.specs.declared.store.Store.{Ghosts}
@@ -26,6 +28,14 @@ IsPut store path bytes old new answer = laws.IsPut store.files store.may_be stor
 -- one removal
 abbrev pub IsRemoval : {S : Type 0} → Ghosts S → List ℕ → S → S → Result (Unit {0}) StoreFault → Type 0
 IsRemoval store path old new answer = laws.IsRemoval store.files store.may_be store.failures store.written store.moves store.honest path old new answer
+
+-- one write, which is a put or a removal
+abbrev pub IsWrite : {S : Type 0} → Ghosts S → List ℕ → Option Parts → S → S → Result (Unit {0}) StoreFault → Type 0
+IsWrite store path file old new answer = laws.IsWrite store.files store.may_be store.failures store.written store.moves store.honest path file old new answer
+
+-- writes, one after the other
+abbrev pub AreWrites : {S : Type 0} → Ghosts S → List FileWrite → S → S → Result (Unit {0}) StoreFault → Type 0
+AreWrites store writes old new answer = laws.AreWrites store.files store.may_be store.failures store.written store.moves store.honest writes old new answer
 
 -- one barrier
 abbrev pub IsBarrier : {S : Type 0} → Ghosts S → List Change → S → S → Result (Unit {0}) StoreFault → Type 0

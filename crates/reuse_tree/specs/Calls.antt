@@ -7,9 +7,10 @@ use Rattle.reuse_tree.specs.declared.fault.StoreFault.{StoreFault}
 use Rattle.reuse_tree.specs.declared.fault.StoreFault.TheVariants.{Device, Clash, Memory}
 use Rattle.reuse_tree.specs.declared.store.Reading.{Reading}
 
--- a call of a store and what it answered; `took` tells of a put or a removal that failed whether it took effect
+-- a call of a store and what it answered; `pruned` has the folders that a listing was to pass over, and `took` tells of a put or a
+-- removal that failed whether it took effect
 pub data Call : Type 0 where
-  ListCall : (answer : Result (List (List ℕ)) StoreFault) → Call
+  ListCall : (folders pruned : List (List ℕ)) (answer : Result (List (List ℕ)) StoreFault) → Call
   ReadCall : (path : List ℕ) (limit : ℕ) (answer : Result Reading StoreFault) → Call
   PutCall : (path bytes : List ℕ) (answer : Result (Unit {0}) StoreFault) (took : Bool) → Call
   RemoveCall : (path : List ℕ) (answer : Result (Unit {0}) StoreFault) (took : Bool) → Call
@@ -42,7 +43,7 @@ failure_of (Err Memory) = 0
 -- how often the device failed
 abbrev pub failures_of : List Call → ℕ
 failures_of [] = 0
-failures_of (ListCall answer ∷ calls) = failures_of calls + failure_of answer
+failures_of (ListCall folders pruned answer ∷ calls) = failures_of calls + failure_of answer
 failures_of (ReadCall path limit answer ∷ calls) = failures_of calls + failure_of answer
 failures_of (PutCall path bytes answer took ∷ calls) = failures_of calls + failure_of answer
 failures_of (RemoveCall path answer took ∷ calls) = failures_of calls + failure_of answer
@@ -51,7 +52,7 @@ failures_of (SyncCall changes answer ∷ calls) = failures_of calls + failure_of
 -- how many bytes were handed to `put` for paths under `.reuse/undo/`
 abbrev pub written_of : List Call → ℕ
 written_of [] = 0
-written_of (ListCall answer ∷ calls) = written_of calls
+written_of (ListCall folders pruned answer ∷ calls) = written_of calls
 written_of (ReadCall path limit answer ∷ calls) = written_of calls
 written_of (PutCall path bytes answer took ∷ calls) = written_of calls + counted path bytes
 written_of (RemoveCall path answer took ∷ calls) = written_of calls
@@ -60,7 +61,7 @@ written_of (SyncCall changes answer ∷ calls) = written_of calls
 -- how many puts and removals there were
 abbrev pub moves_of : List Call → ℕ
 moves_of [] = 0
-moves_of (ListCall answer ∷ calls) = moves_of calls
+moves_of (ListCall folders pruned answer ∷ calls) = moves_of calls
 moves_of (ReadCall path limit answer ∷ calls) = moves_of calls
 moves_of (PutCall path bytes answer took ∷ calls) = moves_of calls + 1
 moves_of (RemoveCall path answer took ∷ calls) = moves_of calls + 1

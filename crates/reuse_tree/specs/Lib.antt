@@ -25,3 +25,4 @@ pub mod Tree
 pub mod Listing
 pub mod Clash
 pub mod Turn
+pub mod Batch

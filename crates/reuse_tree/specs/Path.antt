@@ -1,5 +1,5 @@
 -- Paths of a tree, as bytes.
-use Rattle.std.specs.Prelude.{ℕ, Bool, not, ◌&&◌, List, length, nat_eq, nat_lt, nat_le, ◌==◌, slice_index, codes}
+use Rattle.std.specs.Prelude.{ℕ, Bool, not, ◌&&◌, List, [], ◌∷◌, ◌++◌, map, length, nat_eq, nat_lt, nat_le, ◌==◌, slice_index, codes, if◌then◌else◌}
 use Rattle.std.specs.List.{slice_split, starts_with, list_all}
 use Rattle.std.specs.Str.{bytes_eq}
 
@@ -22,6 +22,11 @@ is_path path = nat_lt 0 (length path) && nat_le (length path) 4096 && has_no_nul
 -- whether the path lies under the folder, at any depth: the folder's bytes, and then a slash
 abbrev pub lies_under : List ℕ → List ℕ → Bool
 lies_under path folder = starts_with nat_eq path folder && (slice_index path (length folder) == 47)
+
+-- the folders above a path: what stands before each of its slashes
+abbrev pub folders_above : List ℕ → List (List ℕ)
+folders_above [] = []
+folders_above (byte ∷ path) = (if byte == 47 then [] ∷ [] else []) ++ map (λ folder. byte ∷ folder) (folders_above path)
 
 -- the folder of the journal
 abbrev pub journal_folder : List ℕ

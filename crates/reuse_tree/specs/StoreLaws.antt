@@ -1,12 +1,15 @@
 -- What the calls of a store answer and leave, over the members of its trait: what each path holds, what a loss of power may leave, the
 -- three counts, and honesty.
-use Rattle.std.specs.Prelude.{◌≡◌, ◌≢◌, ◌⊎◌, ℕ, ◌+◌, ◌<◌, ◌≤◌, List, Result, Err, MatchResult, IfErr, OnOk, IsErrOf}
+use Rattle.std.specs.Prelude.{◌≡◌, ◌≢◌, ◌⊎◌, ℕ, ◌+◌, ◌<◌, ◌≤◌, List, [], ◌∷◌, Option, Some, None, Result, Ok, Err, MatchResult, IfErr, OnOk, IsErrOf}
 use Rattle.std.specs.FinMap.{insert, remove}
 use Rattle.reuse_tree.specs.Files.{Files, Clashes}
 use Rattle.reuse_tree.specs.Lasting.{IsCertain}
+use Rattle.reuse_tree.specs.Parts.{joined}
 use Rattle.reuse_tree.specs.Store.{counted, Puts, PutFails, RemoveFails}
 use Rattle.reuse_tree.specs.declared.change.Change.{Change}
 use Rattle.reuse_tree.specs.declared.fault.StoreFault.{StoreFault}
+use Rattle.reuse_tree.specs.declared.file_write.FileWrite.{FileWrite}
+use Rattle.reuse_tree.specs.declared.parts.Parts.{Parts}
 use Rattle.reuse_tree.specs.declared.fault.StoreFault.TheVariants.{Device, Clash}
 
 -- nothing but listings and readings were asked for, or barriers: no file changed, nothing was written or moved, and a loss of power may
@@ -57,3 +60,18 @@ pub record IsRemoval {S : Type 0} (files_of : S → Files) (MayBe : S → Files 
 pub record IsBarrier {S : Type 0} (files_of : S → Files) (MayBe : S → Files → Type 0) (IsHonest : S → Type 0) (changes : List Change) (old new : S) (answer : Result (Unit {0}) StoreFault) : Type 0 where
   pub kept : IsHonest old → answer ≢ Err Clash → IsHonest new
   pub ok : OnOk answer ((left : Files) → MayBe new left → (kept : Files) × MayBe old kept × IsCertain changes (files_of new) kept left)
+
+-- the path was to hold these parts joined, or no file, and this was answered
+abbrev pub IsWrite : {S : Type 0} → (S → Files) → (S → Files → Type 0) → (S → ℕ) → (S → ℕ) → (S → ℕ) → (S → Type 0) → List ℕ → Option Parts → S → S → Result (Unit {0}) StoreFault → Type 0
+IsWrite files_of MayBe failures_of written_of moves_of IsHonest path None old new answer =
+    IsRemoval files_of MayBe failures_of written_of moves_of IsHonest path old new answer × IsLater failures_of written_of moves_of IsHonest old new
+IsWrite files_of MayBe failures_of written_of moves_of IsHonest path (Some parts) old new answer =
+    IsPut files_of MayBe failures_of written_of moves_of IsHonest path (joined parts) old new answer × IsLater failures_of written_of moves_of IsHonest old new
+
+-- each path was to hold what it is given, one after the other, up to the first write that failed, and this was answered
+abbrev pub AreWrites : {S : Type 0} → (S → Files) → (S → Files → Type 0) → (S → ℕ) → (S → ℕ) → (S → ℕ) → (S → Type 0) → List FileWrite → S → S → Result (Unit {0}) StoreFault → Type 0
+AreWrites files_of MayBe failures_of written_of moves_of IsHonest [] old new answer = (new ≡ old) × (answer ≡ Ok tt)
+AreWrites files_of MayBe failures_of written_of moves_of IsHonest (write ∷ writes) old new answer =
+    (IsWrite files_of MayBe failures_of written_of moves_of IsHonest write.path.now write.file old new answer × (fault : StoreFault) × (answer ≡ Err fault))
+    ⊎ ((mid : _) × IsWrite files_of MayBe failures_of written_of moves_of IsHonest write.path.now write.file old mid (Ok tt)
+    × AreWrites files_of MayBe failures_of written_of moves_of IsHonest writes mid new answer)

@@ -3,7 +3,7 @@ ghost use Rattle.std.specs.Prelude.{◌≡◌, ◌≤◌, ◌+◌, ◌↔◌, Is
 ghost use Rattle.reuse_tree.specs.FaultyStore.{left_after};
 ghost use Rattle.reuse_tree.specs.Parts.{joined};
 
-use crate::{CallRecord, Change, Parts, PathText, Reading, Store, StoreFault};
+use crate::{CallRecord, Change, Parts, PathText, Pruning, Reading, Store, StoreFault};
 use std::alloc::Global;
 
 /// A store that passes some calls on to the one inside, and then fails the next with `Device`: each from there on where faults stay, and else
@@ -66,7 +66,7 @@ impl<S: Store + Drop, const STAYS: bool> FaultyStore<S, STAYS> {
         ensures counts { (written_of self.new.failed.calls ≡ written_of self.old.failed.calls) × (moves_of self.new.failed.calls ≡ moves_of self.old.failed.calls) }
     {
         self.takes_effect = false;
-        self.failed.note_list(&Err(StoreFault::Device));
+        self.failed.note_list(&[], &Err(StoreFault::Device));
         Err(StoreFault::Device)
     }
 }
@@ -95,6 +95,7 @@ impl<S: Store + Drop, const STAYS: bool> Store for FaultyStore<S, STAYS> {
     ghost use Rattle.std.specs.Prelude.{◌≢◌, MatchResult, IfOk};
     ghost use Rattle.std.specs.FinMap as map;
     ghost use Rattle.reuse_tree.specs.Store.{reading_of};
+    ghost use Rattle.reuse_tree.specs.Listing.{listed_paths};
     ghost use Rattle.reuse_tree.specs.Asked.{OnlyReads, IsLater, FailsAsRead, IsPut, IsRemoval, IsBarrier};
     ghost use Rattle.reuse_tree.specs.FaultyStore.{with_faults, ReadsWithFaults, WritesWithFaults};
 
@@ -110,18 +111,24 @@ impl<S: Store + Drop, const STAYS: bool> Store for FaultyStore<S, STAYS> {
 
     ghost honest = { (with_faults S.Store).honest };
 
-    fn list(&mut self, alloc: Global) -> Result<Vec<PathText>, StoreFault>
-        ensures kept { S.honest self.old.inner → MatchResult result (λ paths. paths.items ≡ map.keys (S.files self.old.inner) → S.honest self.new.inner) (λ fault. fault ≢ StoreFault.Clash → S.honest self.new.inner) }
-        ensures paths { S.honest self.new.inner → IfOk result (λ paths. paths.items ≡ map.keys (S.files self.old.inner)) }
+    fn list<P: Pruning>(
+        &mut self,
+        alloc: Global,
+        folders: &[PathText],
+        pruning: &P,
+    ) -> Result<Vec<PathText>, StoreFault>
+        ensures kept { S.honest self.old.inner
+            → MatchResult result (λ paths. paths.items ≡ listed_paths (S.files self.old.inner) folders.now (P.prunes pruning.now) → S.honest self.new.inner) (λ fault. fault ≢ StoreFault.Clash → S.honest self.new.inner) }
+        ensures paths { S.honest self.new.inner → IfOk result (λ paths. paths.items ≡ listed_paths (S.files self.old.inner) folders.now (P.prunes pruning.now)) }
         ensures fails { FailsAsRead (with_faults S.Store) self.old self.new result }
         ensures reads { OnlyReads (with_faults S.Store) self.old self.new }
         ensures asks { ReadsWithFaults STAYS self.old self.new result }
     {
         if !is_due(&mut self.left, STAYS) {
-            return self.inner.list(alloc);
+            return self.inner.list(alloc, folders, pruning);
         }
         let answer = Err(StoreFault::Device);
-        self.failed.note_list(&answer);
+        self.failed.note_list(folders, &answer);
         answer
     }
 

@@ -8,8 +8,9 @@ ghost use Rattle.std.specs.Ordering.{nat_cmp};
 ghost use Rattle.reuse_tree.specs.Path.{lies_under};
 ghost use Rattle.reuse_tree.specs.Files.{AreFiles};
 ghost use Rattle.reuse_tree.specs.Parts.{joined};
+ghost use Rattle.reuse_tree.specs.Listing.{listed_paths};
 
-use crate::{Parts, PathText, Reading, StoreFault};
+use crate::{Parts, PathText, Pruning, Reading, StoreFault, is_wanted};
 use reuse_text::Bytes;
 use std::alloc::{AllocError, Global};
 use std::collections::BTreeMap;
@@ -34,13 +35,20 @@ impl FileMap {
         }
     }
 
-    /// All paths, in byte order.
-    pub(crate) fn list(&self, alloc: Global) -> Result<Vec<PathText>, AllocError>
-        ensures { IfOk result (λ paths. paths.items ≡ map.keys (files_of self.now)) }
+    /// In byte order, the paths that are one of these folders or lie under one, and under no folder that is pruned.
+    pub(crate) fn list<P: Pruning>(
+        &self,
+        alloc: Global,
+        folders: &[PathText],
+        pruning: &P,
+    ) -> Result<Vec<PathText>, AllocError>
+        ensures { IfOk result (λ paths. paths.items ≡ listed_paths (files_of self.now) folders.now (P.prunes pruning.now)) }
     {
-        let mut paths = Vec::with_capacity(alloc, self.contents.len())?;
+        let mut paths = Vec::new(alloc);
         for path in self.contents.keys() {
-            paths.push(path.try_clone(alloc)?)?;
+            if is_wanted(folders, pruning, path) {
+                paths.push(path.try_clone(alloc)?)?;
+            }
         }
         Ok(paths)
     }

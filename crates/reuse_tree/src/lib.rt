@@ -1,6 +1,7 @@
 //! Paths, changes of one file, the store that holds a tree of files, and the texts of the journal.
 #![tactic(auto)]
 
+mod at_path;
 mod cause;
 mod change;
 mod clash;
@@ -9,6 +10,7 @@ mod digest;
 mod fault;
 mod faulty;
 mod file_map;
+mod file_write;
 mod items;
 pub mod journal;
 pub mod laws;
@@ -18,12 +20,14 @@ mod moment;
 mod parts;
 mod path;
 pub mod perform;
+mod pruning;
 mod record;
 mod store;
 pub mod turn;
 mod watched;
 mod way;
 
+pub use at_path::{is_clash_at, is_folder_at};
 pub use cause::Cause;
 pub use change::{Change, ChangeState};
 pub use clash::is_clash;
@@ -31,16 +35,18 @@ pub use command_name::CommandName;
 pub use digest::{Digest, Seal};
 pub use fault::StoreFault;
 pub use faulty::{FaultyStore, FuseStore, OnceStore};
+pub use file_write::FileWrite;
 pub use items::Items;
 pub use journal::{
     Changes, DecodeFault, Entry, EntryChanges, EntryNumbers, Head, Pending, PendingWay,
     decode_entry, decode_head, encode_entry, encode_head, is_too_many,
 };
-pub use listing::{is_among, is_folder, paths_beneath};
+pub use listing::{is_among, is_folder, is_pruned, is_wanted, paths_beneath};
 pub use memory::MemoryStore;
 pub use moment::Moment;
 pub use parts::Parts;
 pub use path::{PathError, PathText};
+pub use pruning::{NoPruning, Pruning};
 pub use record::CallRecord;
 pub use store::{Reading, Store};
 pub use watched::{Asked, WatchedStore, Watcher};

@@ -1,13 +1,15 @@
 //! Paths in byte order: what stands at a path.
-ghost use Rattle.std.specs.Prelude.{◌≡◌, ◌≤◌, [], ◌∷◌, ◌++◌, IfOk, true, false, length, filter};
-ghost use Rattle.std.specs.List.{prefix_len};
+ghost use Rattle.std.specs.Prelude.{◌≡◌, ◌≤◌, ◌||◌, [], ◌∷◌, ◌++◌, IfOk, true, false, length, filter};
+ghost use Rattle.std.specs.Str.{bytes_eq};
+ghost use Rattle.std.specs.List.{list_any, prefix_len};
 ghost use Rattle.reuse_tree.specs.Path.{lies_under};
 ghost use Rattle.std.specs.Ordering.{nat_cmp, is_lt};
 ghost use Rattle.std.specs.Cmp.Lexicographic.{slice_cmp};
 ghost use Rattle.std.specs.List.Sorted.{IsPartitionPoint};
-ghost use Rattle.reuse_tree.specs.Listing.{ArePaths, is_among, is_folder_of};
+ghost use Rattle.reuse_tree.specs.Listing.{ArePaths, is_among, is_asked, is_folder_of, is_pruned, is_wanted};
 
 use crate::path::PathText;
+use crate::pruning::Pruning;
 use reuse_text::Bytes;
 use std::alloc::{AllocError, Global};
 use std::cmp::Ordering;
@@ -79,4 +81,43 @@ fn count_beneath(paths: &[PathText], folder: &PathText) -> usize
         }
     }
     paths.len()
+}
+
+/// Whether a listing of these folders has the path: it is asked for, and not pruned.
+pub fn is_wanted<P: Pruning>(folders: &[PathText], pruning: &P, path: &PathText) -> bool
+    ensures { result ≡ is_wanted folders.now (P.prunes pruning.now) path.now }
+{
+    is_asked(folders, path) && !is_pruned(pruning, path)
+}
+
+// Whether the path is one of these folders or lies under one. Where no folder is given, each path is asked for.
+fn is_asked(folders: &[PathText], path: &PathText) -> bool
+    ensures { result ≡ is_asked folders.now path.now }
+{
+    folders.is_empty() || is_at_or_under_one(folders, path)
+}
+
+fn is_at_or_under_one(folders: &[PathText], path: &PathText) -> bool
+    ensures { result ≡ list_any (λ folder. bytes_eq path.now folder || lies_under path.now folder) folders.now }
+{
+    folders.iter().any(|folder| is_at_or_under(path, folder))
+}
+
+fn is_at_or_under(path: &PathText, folder: &PathText) -> bool
+    ensures { result ≡ (bytes_eq path.now folder.now || lies_under path.now folder.now) }
+{
+    path.as_bytes() == folder.as_bytes() || path.lies_under(folder)
+}
+
+/// Whether a folder above the path is pruned.
+pub fn is_pruned<P: Pruning>(pruning: &P, path: &PathText) -> bool
+    ensures { result ≡ is_pruned (P.prunes pruning.now) path.now }
+{
+    let text = path.text();
+    for (at, byte) in text.as_bytes().iter().enumerate() {
+        if *byte == b'/' && pruning.prunes(&text[..at]) {
+            return true;
+        }
+    }
+    false
 }

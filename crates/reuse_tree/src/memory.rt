@@ -3,7 +3,7 @@ ghost use Rattle.std.specs.Prelude.{◌≡◌, ◌≢◌, ⊤, refl, IfErr, OnOk
 ghost use Rattle.std.specs.FinMap as map;
 
 use crate::file_map::FileMap;
-use crate::{CallRecord, Change, Parts, PathText, Reading, Store, StoreFault};
+use crate::{CallRecord, Change, Parts, PathText, Pruning, Reading, Store, StoreFault};
 use std::alloc::Global;
 
 /// Files in memory, which nobody else writes. It never fails but for memory, and knows no loss of power.
@@ -78,10 +78,15 @@ impl Store for MemoryStore {
 
     ghost honest = { λ _. ⊤ };
 
-    fn list(&mut self, alloc: Global) -> Result<Vec<PathText>, StoreFault> {
+    fn list<P: Pruning>(
+        &mut self,
+        alloc: Global,
+        folders: &[PathText],
+        pruning: &P,
+    ) -> Result<Vec<PathText>, StoreFault> {
         match &self.files {
             None => Ok(Vec::new(alloc)),
-            Some(files) => Ok(files.list(alloc)?),
+            Some(files) => Ok(files.list(alloc, folders, pruning)?),
         }
     }
 

@@ -1,17 +1,24 @@
 //! Makes the changes of an entry in a store, one after the other.
-ghost use Rattle.std.specs.Prelude.{◌≡◌, ◌≢◌, ◌↔◌, ◌+◌, ◌<◌, ◌≤◌, ℕ, [], length, take, IsTrue, IfOk, OnOk, IsErrOf, OnErr, true, false};
-ghost use Rattle.std.specs.FinMap as map;
-ghost use Rattle.std.specs.List.{All, list_any};
+ghost use Rattle.std.specs.Prelude.{◌≡◌, ◌≢◌, ◌↔◌, ◌⊎◌, ◌+◌, ◌<◌, ◌≤◌, ℕ, [], length, take, IsTrue, IfOk, IfErr, OnOk, IsErrOf, OnErr, true};
+ghost use Rattle.std.specs.List.{All, AllZip};
 ghost use Rattle.reuse_tree.specs.Files.{tree_of};
+ghost use Rattle.reuse_tree.specs.Batch.{IsFrontOf, IsReadIn, IsReadReady, MakesRead};
 ghost use Rattle.reuse_tree.specs.Change.{path_of, IsProper};
 ghost use Rattle.reuse_tree.specs.Tree.{is_of_tree, undo_folder_of};
-ghost use Rattle.reuse_tree.specs.Entry.{makes, IsSmall, IsEntry, LeadsBy, CanBeMade, CanGo};
+ghost use Rattle.reuse_tree.specs.Entry.{IsSmall, IsEntry, LeadsBy, CanBeMade, CanGo};
 ghost use Rattle.reuse_tree.specs.Asked.{OnlyReads, IsLater, FailsAsRead, IsSynced, Leaves};
 ghost use Rattle.reuse_tree.specs.Lasting.{IsMidway};
 
-use crate::turn::{can_turn, makes, turn};
-use crate::{Cause, Change, PathText, Store, StoreFault, Way, is_clash};
-use std::alloc::Global;
+use crate::turn::{can_turn, makes, turned};
+use crate::{Cause, Change, FileWrite, Reading, Store, StoreFault, Way, is_clash_at};
+use reuse_text::LONGEST_FILE;
+use std::alloc::{AllocError, Global};
+
+/// How many files a batch writes at most: all of them are open until their data is synced.
+const MOST_IN_BATCH: usize = 256;
+
+/// A batch takes no more files once those that it has read have so many bytes together.
+const MOST_BYTES: usize = 8_388_608;
 
 /// Makes the changes of an entry in order, this way, and behind them a barrier over their paths. Its caller has tested that each can be
 /// made.
@@ -39,48 +46,81 @@ pub fn perform<S: Store>(
     ensures moves { S.moves store.new ≤ S.moves store.old + length changes.now }
     ensures later { IsLater S.Store store.old store.new }
 {
-    for change in changes {
-        turn(alloc, store, change, way)?;
+    let mut rest = changes;
+    while !rest.is_empty() {
+        let batch = read_batch(alloc, store, rest)?;
+        let writes = writes_of(alloc, &batch, way)?;
+        store.write_all(alloc, &writes)?;
+        rest = &rest[batch.len()..];
     }
     Ok(store.sync(alloc, changes)?)
 }
 
-/// Whether one of the changes makes a file this way.
-pub fn makes_any(changes: &[Change], way: Way) -> bool
-    ensures { result ≡ list_any (makes way) changes.now }
-{
-    changes.iter().any(|change| makes(change, way))
+// A change, and what its path held when it was read.
+#[derive(Drop)]
+struct ReadChange<'a> {
+    change: &'a Change,
+    reading: Reading,
 }
 
-/// The paths of the store where one of the changes makes a file this way, and else none.
-pub fn paths_to_heed<S: Store>(
+// Reads the files of the first changes: of as many as one batch writes.
+fn read_batch<'a, S: Store>(
     alloc: Global,
     store: &mut S,
-    changes: &[Change],
-    way: Way,
-) -> Result<Vec<PathText>, StoreFault>
-    ensures paths { S.honest store.new → list_any (makes way) changes.now ≡ true → IfOk result (λ paths. paths.items ≡ map.keys (S.files store.old)) }
-    ensures none { list_any (makes way) changes.now ≡ false → IfOk result (λ paths. paths.items ≡ []) }
+    changes: &'a [Change],
+) -> Result<Vec<ReadChange<'a>>, StoreFault>
+    ensures some { changes.now ≢ [] → IfOk result (λ batch. 0 < length batch.items) }
+    ensures changes { IfOk result (λ batch. IsFrontOf changes.now batch.items) }
+    ensures readings { S.honest store.new → IfOk result (λ batch. All (IsReadIn (S.files store.old)) batch.items) }
     ensures fails { FailsAsRead S.Store store.old store.new result }
     ensures reads { OnlyReads S.Store store.old store.new }
 {
-    if makes_any(changes, way) {
-        store.list(alloc)
-    } else {
-        Ok(Vec::new(alloc))
+    let mut batch = Vec::new(alloc);
+    let mut bytes = 0_usize;
+    for change in changes {
+        let reading = store.read(alloc, change.path(), LONGEST_FILE)?;
+        bytes = bytes.saturating_add(reading.len());
+        let read = ReadChange { change, reading };
+        batch.push(read).map_err(AllocError::from)?;
+        if batch.len() >= MOST_IN_BATCH || bytes >= MOST_BYTES {
+            return Ok(batch);
+        }
     }
+    Ok(batch)
 }
 
-/// Whether the change can be made now, this way, beside files of these paths.
+// The writes that make these changes this way where their paths hold what was read.
+fn writes_of<'a>(
+    alloc: Global,
+    batch: &'a [ReadChange<'a>],
+    way: Way,
+) -> Result<Vec<FileWrite<'a>>, Cause>
+    ensures writes { IfOk result (λ writes. AllZip (MakesRead way) batch.now writes.items) }
+    ensures moved { All (λ read. IsProper read.change.now) batch.now → All (λ read. IsSmall read.change.now) batch.now
+        → result ≡ Err Cause.Moved → ¬ (All (IsReadReady way) batch.now) }
+    ensures cause { IfErr result (λ cause. (cause ≡ Cause.Moved) ⊎ (cause ≡ Cause.Memory)) }
+{
+    let mut writes = Vec::new(alloc);
+    for read in batch {
+        let Some(file) = read.reading.file() else {
+            return Err(Cause::Moved);
+        };
+        let path = read.change.path();
+        let file = turned(read.change, way, file)?;
+        let write = FileWrite { path, file };
+        writes.push(write).map_err(AllocError::from)?;
+    }
+    Ok(writes)
+}
+
+/// Whether the change can be made now, this way.
 pub fn can_be_made<S: Store>(
     alloc: Global,
     store: &mut S,
     change: &Change,
     way: Way,
-    paths: &[PathText],
 ) -> Result<bool, StoreFault>
     ensures ok { S.honest store.new → IsProper change.now → IsSmall change.now → is_of_tree (path_of change.now) ≡ true
-        → (makes way change.now ≡ true → paths.now ≡ map.keys (S.files store.old))
         → IfOk result (λ yes. IsTrue yes ↔ CanBeMade way (tree_of (S.files store.old)) change.now) }
     ensures fails { FailsAsRead S.Store store.old store.new result }
     ensures reads { OnlyReads S.Store store.old store.new }
@@ -89,7 +129,7 @@ pub fn can_be_made<S: Store>(
         return Ok(false);
     }
     if makes(change, way) {
-        return Ok(!is_clash(alloc, paths, change.path())?);
+        return Ok(!is_clash_at(alloc, store, change.path())?);
     }
     Ok(true)
 }

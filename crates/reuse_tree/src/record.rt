@@ -1,5 +1,5 @@
 //! The calls of a store, which only contracts see.
-ghost use Rattle.std.specs.Prelude.{◌≡◌, ◌++◌, Bool, List, [], ◌∷◌};
+ghost use Rattle.std.specs.Prelude.{◌≡◌, ◌++◌, ℕ, Bool, List, [], ◌∷◌};
 ghost use Rattle.std.specs.Borrow.{ftrue};
 ghost use Rattle.std.specs.FinMap as map;
 ghost use Rattle.std.specs.Coded.{coded_list, coded_ℕ, coded_bool};
@@ -8,7 +8,7 @@ ghost use Rattle.reuse_tree.specs.Parts.{joined};
 ghost use Rattle.std.specs.Result.{result_map_both};
 ghost use Rattle.reuse_tree.specs.Calls.{Call, Start, took_effect};
 ghost use Rattle.reuse_tree.specs.Calls.Call.{ListCall, ReadCall, PutCall, RemoveCall, SyncCall};
-ghost use Rattle.reuse_tree.specs.CallParts.{call_of, barrier_of};
+ghost use Rattle.reuse_tree.specs.CallParts.{call_of, listing_of, barrier_of};
 
 use crate::{Change, Parts, PathText, Reading, StoreFault};
 use std::marker::{Model, PhantomData};
@@ -16,8 +16,6 @@ use std::marker::{Model, PhantomData};
 // Which call was made, and how it was answered.
 #[derive(Clone, Copy)]
 enum CallKind {
-    Listed,
-    ListFailed(StoreFault),
     ReadAbsent,
     ReadFound,
     ReadTooLong,
@@ -26,6 +24,13 @@ enum CallKind {
     PutFailed(StoreFault),
     Removed,
     RemoveFailed(StoreFault),
+}
+
+// How a listing was answered.
+#[derive(Clone, Copy)]
+enum ListingKind {
+    Listed,
+    ListFailed(StoreFault),
 }
 
 // How a barrier was answered.
@@ -62,13 +67,23 @@ impl CallRecord {
         }
     }
 
-    /// Notes a call of `list` and its answer.
-    pub fn note_list(&mut self, answer: &Result<Vec<PathText>, StoreFault>)
-        ensures { self.new ≡ record self.old { calls = ListCall (result_map_both (λ paths. paths.items) (λ fault. fault) answer.now) ∷ self.old.calls } }
+    /// Notes a call of `list` for these folders and its answer. Which folders it was to pass over is a ghost value:
+    /// the contract holds at every one.
+    pub fn note_list(&mut self, folders: &[PathText], answer: &Result<Vec<PathText>, StoreFault>)
+        ghost pruned: { List (List ℕ) }
+        ensures { self.new ≡ record self.old {
+          calls = ListCall folders.now pruned (result_map_both (λ paths. paths.items) (λ fault. fault) answer.now) ∷ self.old.calls;
+        } }
     {
         match answer {
-            Ok(paths) => self.note(&CallKind::Listed, b"", b"", b"", b"", 0, paths.as_slice()),
-            Err(fault) => self.note(&CallKind::ListFailed(*fault), b"", b"", b"", b"", 0, &[]),
+            Ok(paths) => {
+                let paths = paths.as_slice();
+                self.note_listing(&ListingKind::Listed, folders, paths)
+            }
+            Err(fault) => {
+                let kind = ListingKind::ListFailed(*fault);
+                self.note_listing(&kind, folders, &[])
+            }
         }
     }
 
@@ -78,19 +93,17 @@ impl CallRecord {
     {
         let path = path.as_bytes();
         match answer {
-            Ok(Reading::Absent) => {
-                self.note(&CallKind::ReadAbsent, path, b"", b"", b"", limit, &[])
-            }
+            Ok(Reading::Absent) => { self.note(&CallKind::ReadAbsent, path, b"", b"", b"", limit) }
             Ok(Reading::Found(bytes)) => {
                 let bytes = bytes.as_slice();
-                self.note(&CallKind::ReadFound, path, bytes, b"", b"", limit, &[])
+                self.note(&CallKind::ReadFound, path, bytes, b"", b"", limit)
             }
             Ok(Reading::TooLong) => {
-                self.note(&CallKind::ReadTooLong, path, b"", b"", b"", limit, &[])
+                self.note(&CallKind::ReadTooLong, path, b"", b"", b"", limit)
             }
             Err(fault) => {
                 let kind = CallKind::ReadFailed(*fault);
-                self.note(&kind, path, b"", b"", b"", limit, &[])
+                self.note(&kind, path, b"", b"", b"", limit)
             }
         }
     }
@@ -106,10 +119,10 @@ impl CallRecord {
             back,
         } = parts;
         match answer {
-            Ok(()) => self.note(&CallKind::Put, path, front, middle, back, 0, &[]),
+            Ok(()) => self.note(&CallKind::Put, path, front, middle, back, 0),
             Err(fault) => {
                 let kind = CallKind::PutFailed(*fault);
-                self.note(&kind, path, front, middle, back, 0, &[])
+                self.note(&kind, path, front, middle, back, 0)
             }
         }
     }
@@ -120,8 +133,8 @@ impl CallRecord {
     {
         let path = path.as_bytes();
         match answer {
-            Ok(()) => self.note(&CallKind::Removed, path, b"", b"", b"", 0, &[]),
-            Err(fault) => self.note(&CallKind::RemoveFailed(*fault), path, b"", b"", b"", 0, &[]),
+            Ok(()) => self.note(&CallKind::Removed, path, b"", b"", b"", 0),
+            Err(fault) => self.note(&CallKind::RemoveFailed(*fault), path, b"", b"", b"", 0),
         }
     }
 
@@ -134,6 +147,12 @@ impl CallRecord {
             Err(fault) => self.note_barrier(&BarrierKind::SyncFailed(*fault), changes),
         }
     }
+
+    // Notes a listing by its kind.
+    fn note_listing(&mut self, _kind: &ListingKind, _folders: &[PathText], _paths: &[PathText])
+        ghost pruned: { List (List ℕ) }
+        ensures { self.new ≡ record self.old { calls = listing_of _kind.now _folders.now pruned _paths.now ∷ self.old.calls } }
+    {}
 
     // Notes a barrier by its kind.
     fn note_barrier(&mut self, _kind: &BarrierKind, _changes: &[Change])
@@ -149,10 +168,9 @@ impl CallRecord {
         _middle: &[u8],
         _back: &[u8],
         _limit: usize,
-        _paths: &[PathText],
     )
         ensures { self.new ≡ record self.old {
-          calls = call_of _kind.now _path.now (_front.now ++ _middle.now ++ _back.now) _limit _paths.now (took_effect self.old.fates self.old.calls) ∷ self.old.calls;
+          calls = call_of _kind.now _path.now (_front.now ++ _middle.now ++ _back.now) _limit (took_effect self.old.fates self.old.calls) ∷ self.old.calls;
         } }
     {}
 }

@@ -4,8 +4,9 @@ ghost use Rattle.std.specs.Option.{option_copied};
 ghost use Rattle.std.specs.FinMap as map;
 ghost use Rattle.reuse_tree.specs.Files.{Files, AreFiles};
 ghost use Rattle.reuse_tree.specs.Parts.{joined};
+ghost use Rattle.reuse_tree.specs.Listing.{listed_paths};
 
-use crate::{Change, Parts, PathText, StoreFault};
+use crate::{Change, FileWrite, Parts, PathText, Pruning, StoreFault};
 use reuse_text::Bytes;
 use std::alloc::Global;
 
@@ -22,6 +23,14 @@ pub enum Reading {
 
 impl Reading {
     ghost use Rattle.reuse_tree.specs.Store.{reading_of};
+
+    /// How many bytes were read.
+    pub(crate) fn len(&self) -> usize {
+        match self {
+            Reading::Found(bytes) => bytes.len(),
+            Reading::Absent | Reading::TooLong => 0,
+        }
+    }
 
     /// What the path holds, or none where that is a file longer than the limit.
     pub fn file(&self) -> Option<Option<&[u8]>>
@@ -40,7 +49,7 @@ impl Reading {
 /// the call; what is said of `may_be`, `failures`, `written` and `moves` holds always.
 pub trait Store {
     ghost use Rattle.reuse_tree.specs.Store.{reading_of};
-    ghost use Rattle.reuse_tree.specs.StoreLaws.{OnlyReads, IsLater, FailsAsRead, IsPut, IsRemoval, IsBarrier};
+    ghost use Rattle.reuse_tree.specs.StoreLaws.{OnlyReads, IsLater, FailsAsRead, IsPut, IsRemoval, IsWrite, AreWrites, IsBarrier};
 
     /// What each path holds.
     ghost files: { Self → Files };
@@ -62,10 +71,17 @@ pub trait Store {
     /// removal that the device or want of memory failed may have lost it.
     ghost honest: { Self → Type 0 };
 
-    /// All paths, in byte order.
-    fn list(&mut self, alloc: Global) -> Result<Vec<PathText>, StoreFault>
-        ensures kept { honest self.old → MatchResult result (λ paths. paths.items ≡ map.keys (files self.old) → honest self.new) (λ fault. fault ≢ StoreFault.Clash → honest self.new) }
-        ensures paths { honest self.new → IfOk result (λ paths. paths.items ≡ map.keys (files self.old)) }
+    /// In byte order, the paths that are one of these folders or lie under one, and under no folder that is pruned. Where no folder
+    /// is given, the whole tree is listed.
+    fn list<P: Pruning>(
+        &mut self,
+        alloc: Global,
+        folders: &[PathText],
+        pruning: &P,
+    ) -> Result<Vec<PathText>, StoreFault>
+        ensures kept { honest self.old
+            → MatchResult result (λ paths. paths.items ≡ listed_paths (files self.old) folders.now (P.prunes pruning.now) → honest self.new) (λ fault. fault ≢ StoreFault.Clash → honest self.new) }
+        ensures paths { honest self.new → IfOk result (λ paths. paths.items ≡ listed_paths (files self.old) folders.now (P.prunes pruning.now)) }
         ensures fails { FailsAsRead failures honest self.old self.new result }
         ensures reads { OnlyReads files may_be failures written moves honest self.old self.new };
 
@@ -93,6 +109,26 @@ pub trait Store {
     fn remove(&mut self, alloc: Global, path: &PathText) -> Result<(), StoreFault>
         ensures removes { IsRemoval files may_be failures written moves honest path.now self.old self.new result }
         ensures later { IsLater failures written moves honest self.old self.new };
+
+    /// Makes the path hold what it is given, by one put or removal.
+    fn write(&mut self, alloc: Global, write: &FileWrite) -> Result<(), StoreFault>
+        ensures { IsWrite files may_be failures written moves honest write.now.path.now write.now.file self.old self.new result }
+    {
+        match write.file {
+            Some(parts) => self.put_parts(alloc, write.path, parts),
+            None => self.remove(alloc, write.path),
+        }
+    }
+
+    /// Makes each path hold what it is given, one after the other, up to the first that fails. A store may prepare them together.
+    fn write_all(&mut self, alloc: Global, writes: &[FileWrite]) -> Result<(), StoreFault>
+        ensures { AreWrites files may_be failures written moves honest writes.now self.old self.new result }
+    {
+        for write in writes {
+            self.write(alloc, write)?;
+        }
+        Ok(())
+    }
 
     /// A barrier: makes lasting what the files of the journal hold now, and what the paths of these changes hold, whoever wrote them.
     fn sync(&mut self, alloc: Global, changes: &[Change]) -> Result<(), StoreFault>

@@ -67,7 +67,7 @@ pub fn can_turn<S: Store>(
 // What the path of the change holds once it is gone through this way, where it holds this now. It takes no memory and calls no store,
 // so that it is no cause to stop once a put has started. It tests range and length alone: a file that was tested by its seal isn't
 // hashed again.
-fn turned<'a>(
+pub(crate) fn turned<'a>(
     change: &'a Change,
     way: Way,
     file: Option<&'a [u8]>,
@@ -120,62 +120,6 @@ fn put_turned<S: Store>(
         None => store.remove(alloc, path)?,
     }
     Ok(())
-}
-
-// Makes the change this way, where its path holds this, and can be made so.
-fn turn_from<S: Store>(
-    alloc: Global,
-    store: &mut S,
-    change: &Change,
-    way: Way,
-    file: Option<&[u8]>,
-) -> Result<(), Cause>
-    requires { S.honest store.now → IsReady way change.now (map.get (S.files store.now) (path_of change.now)) }
-    ensures ok { S.honest store.new → map.get (S.files store.old) (path_of change.now) ≡ option_copied file.entry
-        → OnOk result (LeadsByOneChange way change.now (S.files store.old) (S.files store.new)) }
-    ensures err { S.honest store.new → map.get (S.files store.old) (path_of change.now) ≡ option_copied file.entry
-        → OnErr result ((S.files store.new ≡ S.files store.old) ⊎ LeadsByOneChange way change.now (S.files store.old) (S.files store.new)) }
-    ensures moved { IsProper change.now → result ≡ Err Cause.Moved → ¬ (IsReady way change.now (option_copied file.entry)) }
-    ensures clash { S.honest store.new → map.get (S.files store.old) (path_of change.now) ≡ option_copied file.entry
-        → result ≡ Err Cause.Clash → (makes way change.now ≡ true) × Clashes (S.files store.old) (path_of change.now) }
-    ensures device { IsErrOf result Cause.Device → S.failures store.old < S.failures store.new }
-    ensures left { S.honest store.new → map.get (S.files store.old) (path_of change.now) ≡ option_copied file.entry
-        → MaySet S.Store (path_of change.now) (TurnsBy way change.now (map.get (S.files store.old) (path_of change.now))) store.old store.new }
-    ensures written { is_of_tree (path_of change.now) ≡ true → S.written store.new ≡ S.written store.old }
-    ensures moves { S.moves store.new ≤ S.moves store.old + 1 }
-    ensures later { IsLater S.Store store.old store.new }
-{
-    let after = turned(change, way, file)?;
-    put_turned(alloc, store, change, after)
-}
-
-/// Makes the change this way, by one read and one put or removal. Its caller has tested that it can be made, by the seal where there is
-/// one; here range and length are tested again.
-pub(crate) fn turn<S: Store>(
-    alloc: Global,
-    store: &mut S,
-    change: &Change,
-    way: Way,
-) -> Result<(), Cause>
-    requires { S.honest store.now → IsReady way change.now (map.get (S.files store.now) (path_of change.now)) }
-    ensures ok { S.honest store.new → OnOk result (LeadsByOneChange way change.now (S.files store.old) (S.files store.new)) }
-    // A call that fails leaves the file as it was, or as the change makes it.
-    ensures err { S.honest store.new → OnErr result ((S.files store.new ≡ S.files store.old) ⊎ LeadsByOneChange way change.now (S.files store.old) (S.files store.new)) }
-    ensures moved { S.honest store.new → IsProper change.now → IsSmall change.now → result ≡ Err Cause.Moved
-        → ¬ (IsReady way change.now (map.get (S.files store.old) (path_of change.now))) }
-    ensures clash { S.honest store.new → result ≡ Err Cause.Clash → (makes way change.now ≡ true) × Clashes (S.files store.old) (path_of change.now) }
-    ensures device { IsErrOf result Cause.Device → S.failures store.old < S.failures store.new }
-    // After a loss of power its path holds what it might before, or what the change makes.
-    ensures left { S.honest store.new → MaySet S.Store (path_of change.now) (TurnsBy way change.now (map.get (S.files store.old) (path_of change.now))) store.old store.new }
-    ensures written { is_of_tree (path_of change.now) ≡ true → S.written store.new ≡ S.written store.old }
-    ensures moves { S.moves store.new ≤ S.moves store.old + 1 }
-    ensures later { IsLater S.Store store.old store.new }
-{
-    let reading = store.read(alloc, change.path(), LONGEST_FILE)?;
-    match reading.file() {
-        Some(file) => turn_from(alloc, store, change, way, file),
-        None => Err(Cause::Moved),
-    }
 }
 
 /// Takes the change back, where it is made, by one read and one put or removal. It notes that these have started before it calls one.

@@ -3,8 +3,10 @@ ghost use Rattle.std.specs.Prelude.{◌≡◌};
 
 use crate::change::Change;
 use crate::fault::StoreFault;
+use crate::file_write::FileWrite;
 use crate::parts::Parts;
 use crate::path::PathText;
+use crate::pruning::Pruning;
 use crate::store::{Reading, Store};
 use std::alloc::Global;
 
@@ -55,6 +57,17 @@ impl<'a, S: Store + Drop, W: Watcher> WatchedStore<'a, S, W> {
     }
 }
 
+// Tells the watcher of each of these writes.
+fn announce<W: Watcher>(alloc: Global, watcher: &W, writes: &[FileWrite]) {
+    for write in writes {
+        let asked = match write.file {
+            Some(_) => Asked::Write,
+            None => Asked::Remove,
+        };
+        watcher.before(alloc, asked);
+    }
+}
+
 impl<S: Store + Drop, W: Watcher> Store for WatchedStore<'_, S, W> {
     ghost files = { λ store. S.files store.inner };
 
@@ -68,9 +81,14 @@ impl<S: Store + Drop, W: Watcher> Store for WatchedStore<'_, S, W> {
 
     ghost honest = { λ store. S.honest store.inner };
 
-    fn list(&mut self, alloc: Global) -> Result<Vec<PathText>, StoreFault> {
+    fn list<P: Pruning>(
+        &mut self,
+        alloc: Global,
+        folders: &[PathText],
+        pruning: &P,
+    ) -> Result<Vec<PathText>, StoreFault> {
         self.watcher.before(alloc, Asked::List);
-        let paths = self.inner.list(alloc)?;
+        let paths = self.inner.list(alloc, folders, pruning)?;
         self.watcher.after(alloc, Some(paths.len()));
         Ok(paths)
     }
@@ -102,6 +120,13 @@ impl<S: Store + Drop, W: Watcher> Store for WatchedStore<'_, S, W> {
     fn remove(&mut self, alloc: Global, path: &PathText) -> Result<(), StoreFault> {
         self.watcher.before(alloc, Asked::Remove);
         self.inner.remove(alloc, path)?;
+        self.watcher.after(alloc, None);
+        Ok(())
+    }
+
+    fn write_all(&mut self, alloc: Global, writes: &[FileWrite]) -> Result<(), StoreFault> {
+        announce(alloc, self.watcher, writes);
+        self.inner.write_all(alloc, writes)?;
         self.watcher.after(alloc, None);
         Ok(())
     }

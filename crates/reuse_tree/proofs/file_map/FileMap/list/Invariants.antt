@@ -1,7 +1,10 @@
-use Rattle.std.proofs.Common.{◌≡◌, ◌++◌}
+use Rattle.std.proofs.Common.{◌≡◌, ◌++◌, filter}
 use Rattle.std.specs.BTreeMap.{keys}
+use Rattle.reuse_tree.specs.Listing.{is_wanted}
 use Rattle.reuse_tree.proofs.file_map.FileMap.list.Given as goal
 
--- the paths so far, and those that are left
+-- the paths so far, and those that are wanted of what is left
 abbrev pub invariant-loop-path : goal.invariant-loop-path
-invariant-loop-path l = l.paths.items ++ l.path-iterator ≡ keys l.fn.self.contents
+invariant-loop-path g l =
+    let wanted = is_wanted l.folders (g.P.Pruning.prunes l.pruning) in
+    l.paths.items ++ filter wanted l.path-iterator ≡ filter wanted (keys l.fn.self.contents)

@@ -1,4 +1,4 @@
-use Rattle.std.proofs.Common.{rules, ◌∙◌, refl}
+use Rattle.std.proofs.Common.{rules}
 use Rattle.reuse_tree.specs.FileMap.{files_in}
 use Rattle.reuse_tree.specs.Parts.{joined}
 use Rattle.reuse_tree.proofs.Lasting.{left_by_put}

@@ -1,4 +1,3 @@
-use Rattle.std.proofs.Common.{refl}
 use Rattle.reuse_tree.specs.FileMap.{files_in}
 use Rattle.reuse_tree.proofs.Lasting.{certain_alone}
 use Rattle.reuse_tree.proofs.memory.MemoryStoreStore.sync.Goals as goal

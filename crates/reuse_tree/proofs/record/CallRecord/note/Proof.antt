@@ -22,7 +22,6 @@ use Rattle.reuse_tree.specs.CallParts.{call_of}
 use Rattle.reuse_tree.specs.declared.record.CallRecord.{CallRecord}
 use Rattle.reuse_tree.specs.contracts.record.CallRecord.{the_row as R}
 use Rattle.reuse_tree.specs.contracts.record.CallKind.{the_row as K}
-use Rattle.reuse_tree.specs.contracts.path.PathText.{the_row as P}
 use Rattle.reuse_tree.specs.contracts.record.CallRecord.note as f
 use Rattle.reuse_tree.proofs.record.CallRecord.note.Statement.{statement}
 use Rattle.reuse_tree.proofs.record.CallRecord.note.Code as code
@@ -42,10 +41,7 @@ stayed = (
             stay_none_slice (5 ∷ []) tt (plain (λ _. u8)) yes,
             (
               stay_none (λ _. u64) yes,
-              (
-                stay_none_slice (6 ∷ []) tt (plain (λ _. P)) yes,
-                tt,
-              ),
+              tt,
             ),
           ),
         ),
@@ -58,25 +54,25 @@ pub note_spec : {M : Type 1} → statement M
 note_spec 𝓤 𝓛 𝓜 𝓡 wired =
     let c = f.clauses 𝓛 𝓜.mem 𝓡.returns in let W = walk_of 𝓛 f.ended stayed c in
     proved 𝓛 f.ended stayed c 𝓜 𝓡
-    (Goes-ref 𝓛 7 0 tt (plain (λ _. R)), (Goes-none_ref 𝓛 7 (1 ∷ []) tt (plain (λ _. K)) yes, (Goes-none_slice 𝓛 7 (2 ∷ []) tt (plain (λ _. u8)) yes, (Goes-none_slice 𝓛 7 (3 ∷ []) tt (plain (λ _. u8)) yes, (Goes-none_slice 𝓛 7 (4 ∷ []) tt (plain (λ _. u8)) yes, (Goes-none_slice 𝓛 7 (5 ∷ []) tt (plain (λ _. u8)) yes, (Goes-none 𝓛 7 (λ _. u64) yes (λ κs x f. refl), (Goes-none_slice 𝓛 7 (6 ∷ []) tt (plain (λ _. P)) yes, tt))))))))
+    (Goes-ref 𝓛 6 0 tt (plain (λ _. R)), (Goes-none_ref 𝓛 6 (1 ∷ []) tt (plain (λ _. K)) yes, (Goes-none_slice 𝓛 6 (2 ∷ []) tt (plain (λ _. u8)) yes, (Goes-none_slice 𝓛 6 (3 ∷ []) tt (plain (λ _. u8)) yes, (Goes-none_slice 𝓛 6 (4 ∷ []) tt (plain (λ _. u8)) yes, (Goes-none_slice 𝓛 6 (5 ∷ []) tt (plain (λ _. u8)) yes, (Goes-none 𝓛 6 (λ _. u64) yes (λ κs x f. refl), tt)))))))
     f.Key.name code.function (code.unfolded 𝓤 𝓛.H 𝓜 𝓡 wired)
-    (λ κs. (mut_vals, (shr_vals, (shr_slice_vals, (shr_slice_vals, (shr_slice_vals, (shr_slice_vals, (uint_vals w64, (shr_slice_vals, tt)))))))))
-    (λ κs. (mut_Tells (named 0) κs.0 R, (shr_Tells (named 1) κs.1.0 K, (shr_slice_Tells (named 2) κs.1.1.0 u8, (shr_slice_Tells (named 3) κs.1.1.1.0 u8, (shr_slice_Tells (named 4) κs.1.1.1.1.0 u8, (shr_slice_Tells (named 5) κs.1.1.1.1.1.0 u8, (uint_Tells w64, (shr_slice_Tells (named 6) κs.1.1.1.1.1.1.0 P, tt)))))))))
+    (λ κs. (mut_vals, (shr_vals, (shr_slice_vals, (shr_slice_vals, (shr_slice_vals, (shr_slice_vals, (uint_vals w64, tt))))))))
+    (λ κs. (mut_Tells (named 0) κs.0 R, (shr_Tells (named 1) κs.1.0 K, (shr_slice_Tells (named 2) κs.1.1.0 u8, (shr_slice_Tells (named 3) κs.1.1.1.0 u8, (shr_slice_Tells (named 4) κs.1.1.1.1.0 u8, (shr_slice_Tells (named 5) κs.1.1.1.1.1.0 u8, (uint_Tells w64, tt))))))))
     (λ κs qs bounds a _ are.
     let b = a.0.ref_ptr.0 in let o = a.0.ref_ptr.1 in let h = a.0.now in
-    let noted : CallRecord = record h { calls = call_of a.1.0.now a.1.1.0.now (a.1.1.1.0.now ++ a.1.1.1.1.0.now ++ a.1.1.1.1.1.0.now) a.1.1.1.1.1.1.0 a.1.1.1.1.1.1.1.0.now (took_effect h.fates h.calls) ∷ h.calls } in
-    let y : W.Ghost = ((κs, qs, bounds, a, (mut_vals a.0, (shr_vals a.1.0, (shr_slice_vals a.1.1.0, (shr_slice_vals a.1.1.1.0, (shr_slice_vals a.1.1.1.1.0, (shr_slice_vals a.1.1.1.1.1.0, (uint_vals w64 a.1.1.1.1.1.1.0, (shr_slice_vals a.1.1.1.1.1.1.1.0, tt))))))))), tt) in
-    let others : Item 𝓤 = ‵ (flft κs.1.0 qs.1.0) ⊛ (‵ (flft κs.1.1.0 qs.1.1.0) ⊛ (‵ (flft κs.1.1.1.0 qs.1.1.1.0) ⊛ (‵ (flft κs.1.1.1.1.0 qs.1.1.1.1.0) ⊛ (‵ (flft κs.1.1.1.1.1.0 qs.1.1.1.1.1.0) ⊛ (‵ (flft κs.1.1.1.1.1.1.0 qs.1.1.1.1.1.1.0) ⊛ ‵ ftrue))))) in
+    let noted : CallRecord = record h { calls = call_of a.1.0.now a.1.1.0.now (a.1.1.1.0.now ++ a.1.1.1.1.0.now ++ a.1.1.1.1.1.0.now) a.1.1.1.1.1.1.0 (took_effect h.fates h.calls) ∷ h.calls } in
+    let y : W.Ghost = ((κs, qs, bounds, a, (mut_vals a.0, (shr_vals a.1.0, (shr_slice_vals a.1.1.0, (shr_slice_vals a.1.1.1.0, (shr_slice_vals a.1.1.1.1.0, (shr_slice_vals a.1.1.1.1.1.0, (uint_vals w64 a.1.1.1.1.1.1.0, tt)))))))), tt) in
+    let others : Item 𝓤 = ‵ (flft κs.1.0 qs.1.0) ⊛ (‵ (flft κs.1.1.0 qs.1.1.0) ⊛ (‵ (flft κs.1.1.1.0 qs.1.1.1.0) ⊛ (‵ (flft κs.1.1.1.1.0 qs.1.1.1.1.0) ⊛ (‵ (flft κs.1.1.1.1.1.0 qs.1.1.1.1.1.0) ⊛ ‵ ftrue)))) in
     qed 𝓛 (((‵ (flft κs.0 qs.0) ⊛ others) ⊛ ‵ (owns (types_at f.signature.params κs) a y.0.4)) ∷ ‵ ftrue ∷ []) ∵
     split ! $ split ! $ move ! (2 ∷ []) $ fsplit ! $ fsplit3 ! $ drop ! $ move ! (0 ∷ 1 ∷ 3 ∷ []) $
     -- [the loan's value; its borrow; the token; what the other parameters own; the other tokens]
     enter ! _ _ _ _ _ $ alloc_all ! (λ l. pass_all ! refl
-    ((tt, tt), ((tt, tt), ((tt, (tt, (record { fits = are.1.1.0.0.1.0 }, tt))), ((tt, (tt, (record { fits = are.1.1.1.0.0.1.0 }, tt))), ((tt, (tt, (record { fits = are.1.1.1.1.0.0.1.0 }, tt))), ((tt, (tt, (record { fits = are.1.1.1.1.1.0.0.1.0 }, tt))), ((tt, record { fits = are.1.1.1.1.1.1.0.1 }), ((tt, (tt, (record { fits = are.1.1.1.1.1.1.1.0.0.1.0 }, tt))), tt)))))))) $
+    ((tt, tt), ((tt, tt), ((tt, (tt, (record { fits = are.1.1.0.0.1.0 }, tt))), ((tt, (tt, (record { fits = are.1.1.1.0.0.1.0 }, tt))), ((tt, (tt, (record { fits = are.1.1.1.1.0.0.1.0 }, tt))), ((tt, (tt, (record { fits = are.1.1.1.1.1.0.0.1.0 }, tt))), ((tt, record { fits = are.1.1.1.1.1.1.0.1 }), tt))))))) $
     opens ! tt R {h = h} b o (λ vs.
     sets ! (of_opd ! (unit_lit !)) refl (tt, tt) $
     move ! (1 ∷ []) $ use1 𝓛 (‵ (R.own_val noted vs)) (id⊢ 𝓤 _) $ move ! (1 ∷ 0 ∷ []) $ closes ! tt R noted vs b o $
     returns ! (look_at ! 0 refl) $ free_all ! refl $ keep ! (0 ∷ 1 ∷ 2 ∷ 3 ∷ 4 ∷ []) $
-    suffices ! _ (ends_at 𝓛 f.ended stayed c y vunit tt (noted, (tt, (tt, (tt, (tt, (tt, (tt, (tt, tt)))))))) (tt, (tt, (tt, (tt, (tt, (tt, (tt, (tt, tt))))))))) $
+    suffices ! _ (ends_at 𝓛 f.ended stayed c y vunit tt (noted, (tt, (tt, (tt, (tt, (tt, (tt, tt))))))) (tt, (tt, (tt, (tt, (tt, (tt, (tt, tt)))))))) $
     says ! refl $
     move ! (2 ∷ 4 ∷ []) $ join ! $ frame ! $ feq_i ! (List Val) (vptr b o ∷ []) (vptr b o ∷ []) refl $ fjoin3 ! $ fjoin ! $
     feq_i ! (List Val) (vunit ∷ []) (vunit ∷ []) refl $ move ! (1 ∷ 0 ∷ []) $ done !)))
