@@ -28,6 +28,7 @@ use Rattle.reuse_header.specs.declared.annotation.How.{How}
 use Rattle.reuse_session.specs.TreeStyles.{OwnNames}
 use Rattle.reuse_notice.specs.declared.adding.Additions.{Additions}
 use Rattle.reuse_session.specs.declared.command.Scope.{Scope}
+use Rattle.reuse_session.specs.Shown.{ShowsPair}
 use Rattle.reuse_session.specs.Plan.{IsPlan, IsRefusalOf, CarriesOutEdit, MakesEdit, MakesEach, MakesEdits}
 use Rattle.reuse_tree.proofs.ListingLemmas.{under_from_test}
 use Rattle.reuse_session.proofs.Outcomes.{ok_edits, no_edit, some_edit}
@@ -190,17 +191,17 @@ module _ (at : List ℕ → Result (Option Edit) Refusal) (tree : Files) (all : 
 
 -- ---- a path without a file
 
-module _ (tree : Files) (path : List ℕ) (paths : List (List ℕ)) (are : paths ≡ keys tree) where
+module _ (tree : Files) (path : List ℕ) (paths : List (List ℕ)) (same : is_among paths path ≡ is_among (keys tree) path) where
   pub is_absent : is_among paths path ≡ false → get tree path ≡ None
-  is_absent none = none_from_test (get tree path) (sym (among_keys tree path) ∙ ap (λ ps. is_among ps path) (sym are) ∙ none)
-
-  pub absent_answer : (how : How) (scope : Scope) (additions : Additions) (own : OwnNames) (b : Bool) → is_among paths path ≡ false → is_folder_of paths path ≡ b → annotated_at how scope additions own tree path ≡ cond b (refused (refusals.IsFolder (place.Path path))) (refused (refusals.NoSuchPath path))
-  absent_answer how scope additions own b none folder =
-      ap (annotated_where how scope additions own tree path) (is_absent none)
-      ∙ ap (λ t. cond t (refused (refusals.IsFolder (place.Path path))) (refused (refusals.NoSuchPath path))) (ap (λ ps. is_folder_of ps path) (sym are) ∙ folder)
+  is_absent none = none_from_test (get tree path) (sym (among_keys tree path) ∙ sym same ∙ none)
 
   pub some_file : is_among paths path ≡ true → IsSome (get tree path)
-  some_file there = sym (among_keys tree path) ∙ ap (λ ps. is_among ps path) (sym are) ∙ there
+  some_file there = sym (among_keys tree path) ∙ sym same ∙ there
+
+pub absent_answer : (tree : Files) (path : List ℕ) (paths : List (List ℕ)) → ShowsPair paths tree path → (how : How) (scope : Scope) (additions : Additions) (own : OwnNames) (b : Bool) → is_among paths path ≡ false → is_folder_of paths path ≡ b → annotated_at how scope additions own tree path ≡ cond b (refused (refusals.IsFolder (place.Path path))) (refused (refusals.NoSuchPath path))
+absent_answer tree path paths are how scope additions own b none folder =
+    ap (annotated_where how scope additions own tree path) (is_absent tree path paths are.there none)
+    ∙ ap (λ t. cond t (refused (refusals.IsFolder (place.Path path))) (refused (refusals.NoSuchPath path))) (sym (are.folder (sym are.there ∙ none)) ∙ folder)
 
 -- ---- the plan
 

@@ -18,7 +18,8 @@ use Rattle.reuse_notice.proofs.ClassLemmas.{In-append, In-left, In-right}
 use Rattle.reuse_notice.proofs.SetLemmas.{In, In-from_contains, Contains-from_in, In-set_of, set_of-has, sorted-set_of}
 use Rattle.reuse_tree.specs.Path.{lies_under}
 use Rattle.reuse_tree.specs.Files.{Files}
-use Rattle.reuse_session.specs.Choice.{folders_above, leaves_out, is_listed, matches_one, is_chosen}
+use Rattle.reuse_tree.specs.Path.{folders_above}
+use Rattle.reuse_session.specs.Choice.{leaves_out, is_listed, matches_one, is_chosen}
 use Rattle.reuse_session.specs.Chosen.{IsNamed, StandsBeneath, IsListed, LeavesIn, MatchesNone, IsAskedFor}
 use Rattle.reuse_session.specs.Command.{has_root, paths_among}
 use Rattle.reuse_session.specs.Covered.{is_covered}
@@ -61,7 +62,7 @@ module _ (scope : Scope) (tree : Files) (t : List ℕ) where
   at_path path places false e (inl is) = inl (inl is, ap (is_folder tree) is ∙ e)
   at_path path places false e (inr h) = absurd h
 
-  from_expanded : (places : List Place) → In t (flat_map (expanded scope tree) places) → Worked places
+  pub from_expanded : (places : List Place) → In t (flat_map (expanded scope tree) places) → Worked places
   from_expanded [] h = absurd h
   from_expanded (Root ∷ places) h = elim (In-append (filter (is_chosen scope) (keys tree)) (flat_map (expanded scope tree) places) t h) [
     | inl k ↦ (let f = In-filter (is_chosen scope) t (keys tree) k in inr ((f.0, inl refl), f.1))

@@ -25,6 +25,7 @@ use Rattle.reuse_tree.specs.Listing.{ArePaths, is_among}
 use Rattle.reuse_session.specs.declared.reply.Refusal.{Refusal}
 use Rattle.reuse_session.specs.declared.reply.Refusal.TheVariants as refusals
 use Rattle.reuse_session.specs.Refused.{dep5_refusal}
+use Rattle.reuse_session.specs.Shown.{Shows}
 use Rattle.reuse_session.specs.Plan.{IsRefusalOf, MakesEdits}
 use Rattle.reuse_tree.proofs.ReadingLemmas.{absent_is, long_is}
 use Rattle.reuse_tree.proofs.Testing.{clashes_keys}
@@ -108,7 +109,7 @@ long_read tree e =
     ap (conversion_where tree) long.1 ∙ refused_by _ true (refusals.TooLong dep5_path) _ (longer LONGEST_FILE (length long.0) long.2)
 
 -- the dep5 is there and isn't too long; these are the paths of the tree
-module _ (tree : Files) (paths : List (List ℕ)) (bytes : List ℕ) (are : paths ≡ keys tree) (here : get tree dep5_path ≡ Some bytes) (short : length bytes ≤ LONGEST_FILE) where
+module _ (tree : Files) (paths : List (List ℕ)) (bytes : List ℕ) (are : Shows paths tree toml_path) (here : get tree dep5_path ≡ Some bytes) (short : length bytes ≤ LONGEST_FILE) where
   abbrev rest : Result (List Edit) Refusal
   rest = cond (is_some (get tree toml_path)) (Err (refusals.Exists toml_path)) (replaced_by tree bytes (converted bytes))
 
@@ -116,7 +117,7 @@ module _ (tree : Files) (paths : List (List ℕ)) (bytes : List ℕ) (are : path
   read = ap (conversion_where tree) here ∙ refused_by _ false (refusals.TooLong dep5_path) rest (not_longer LONGEST_FILE (length bytes) short)
 
   there : (b : Bool) → is_among paths toml_path ≡ b → is_some (get tree toml_path) ≡ b
-  there b e = sym (among_keys tree toml_path) ∙ ap (λ ps. is_among ps toml_path) (sym are) ∙ e
+  there b e = sym (among_keys tree toml_path) ∙ sym are.there ∙ e
 
   pub exists_answer : is_among paths toml_path ≡ true → conversion_edits tree ≡ Err (refusals.Exists toml_path)
   exists_answer e = read ∙ refused_by _ true (refusals.Exists toml_path) (replaced_by tree bytes (converted bytes)) (there true e)
@@ -134,7 +135,7 @@ module _ (tree : Files) (paths : List (List ℕ)) (bytes : List ℕ) (are : path
   module _ (text : List ℕ) (is : converted bytes ≡ Ok text) (absent : is_among paths toml_path ≡ false) where
     replaced : conversion_edits tree ≡ cond (is_clash_of paths toml_path) (Err (refusals.Clash toml_path)) (ok_edits (dropped dep5_path bytes ∷ made toml_path text ∷ []))
     replaced = passed absent ∙ ap (replaced_by tree bytes) is
-        ∙ ap (λ ps. cond (is_clash_of ps toml_path) (Err (refusals.Clash toml_path)) (ok_edits (dropped dep5_path bytes ∷ made toml_path text ∷ []))) (sym are)
+        ∙ ap (λ b. cond b (Err (refusals.Clash toml_path)) (ok_edits (dropped dep5_path bytes ∷ made toml_path text ∷ []))) (sym are.clash)
 
     pub clash_answer : is_clash_of paths toml_path ≡ true → conversion_edits tree ≡ Err (refusals.Clash toml_path)
     clash_answer e = replaced ∙ refused_by _ true (refusals.Clash toml_path) (ok_edits (dropped dep5_path bytes ∷ made toml_path text ∷ [])) e

@@ -20,6 +20,7 @@ use Rattle.reuse_session.specs.Licence.{is_id, licence_path, licence_id}
 use Rattle.reuse_session.specs.Downloads.{text_for, refusal_of_found, id_refusal, ids_refusal, licence_edit, unless_refused, download_of, download_edits}
 use Rattle.reuse_session.specs.DownloadPlan.{made_at}
 use Rattle.reuse_session.specs.Refused.{IsRefused}
+use Rattle.reuse_session.specs.Shown.{Shows}
 use Rattle.reuse_session.specs.Plan.{CarriesOutEdit, MakesEach, MakesEdits, IsRefusalOf}
 use Rattle.reuse_session.specs.declared.licence.LicenceText.{LicenceText}
 use Rattle.reuse_session.specs.declared.reply.Refusal.{Refusal}
@@ -204,14 +205,14 @@ none_due true b c x y z e f g = absurd (false≢true (sym e))
 none_due false true c x y z e f g = absurd (false≢true (sym f))
 none_due false false true x y z e f g = absurd (false≢true (sym g))
 
--- what was found for the id is a text that isn't too long; these are the paths of the tree, and that of the id
+-- what was found for the id is a text that isn't too long; these paths show what stands at its path
 module _ (tree : Files) (id path text : List ℕ) (paths : List (List ℕ)) (found : Option (List ℕ))
-    (are : paths ≡ keys tree) (here : path ≡ licence_path id) (is : found ≡ Some text) (short : length text ≤ LONGEST_FILE) where
+    (are : Shows paths tree path) (here : path ≡ licence_path id) (is : found ≡ Some text) (short : length text ≤ LONGEST_FILE) where
   there : (b : Bool) → is_among paths path ≡ b → is_some (get tree (licence_path id)) ≡ b
-  there b e = ap (λ p. is_some (get tree p)) (sym here) ∙ sym (among_keys tree path) ∙ ap (λ ps. is_among ps path) (sym are) ∙ e
+  there b e = ap (λ p. is_some (get tree p)) (sym here) ∙ sym (among_keys tree path) ∙ sym are.there ∙ e
 
   clashes : (b : Bool) → is_clash_of paths path ≡ b → is_clash tree (licence_path id) ≡ b
-  clashes b e = ap (is_clash tree) (sym here) ∙ ap (λ ps. is_clash_of ps path) (sym are) ∙ e
+  clashes b e = ap (is_clash tree) (sym here) ∙ sym are.clash ∙ e
 
   pub exists_answer : is_among paths path ≡ true → refusal_of_found tree id found ≡ Some (refusals.Exists path)
   exists_answer e =

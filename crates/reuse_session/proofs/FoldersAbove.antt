@@ -6,11 +6,8 @@ use Rattle.std.proofs.lemmas.Bool.{eqb-true, false≢true, false_from_ne_true}
 use Rattle.std.proofs.lemmas.Slice.Eq.{bytes_eq-Decides}
 use Rattle.reuse_notice.proofs.ClassLemmas.{In-append, In-right, In-from_map}
 use Rattle.reuse_notice.proofs.SetLemmas.{In}
-use Rattle.reuse_tree.specs.Path.{lies_under}
-use Rattle.reuse_tree.proofs.ClashLemmas.{part_found, no_part}
+use Rattle.reuse_tree.specs.Path.{lies_under, folders_above}
 use Rattle.reuse_tree.proofs.ListingLemmas.{under_from_test, test_from_under}
-use Rattle.reuse_session.specs.Choice.{folders_above}
-use Rattle.reuse_session.proofs.Members.{any_has, any_from}
 
 mapped_has : (byte : ℕ) (xs : List (List ℕ)) (t : List ℕ) → In t xs → In (byte ∷ t) (map (λ x. byte ∷ x) xs)
 mapped_has byte [] t h = absurd h
@@ -45,23 +42,3 @@ pub under_above : (path folder : List ℕ) → lies_under path folder ≡ true �
 under_above path folder e =
     let under = under_from_test path folder e in
     subst (λ p. In folder (folders_above p)) (sym under.1) (above_has folder under.0)
-
--- ---- what a walk along the slashes of a path finds
-
-or_none : (b : Bool) → (b || false) ≡ b
-or_none true = refl
-or_none false = refl
-
-module _ (test : List ℕ → Bool) (path : List ℕ) where
-  pub slash_found : (k : ℕ) → k < length path → get_or path k 0 ≡ 47 → test (take k path) ≡ true → list_any test (folders_above path) ≡ true
-  slash_found k low slash is =
-      let alone : (bytes_eq (take k path) (take k path) || false) ≡ true = or_none _ ∙ (bytes_eq-Decides (take k path) (take k path)).1 refl in
-      let under : lies_under path (take k path) ≡ true = sym (or_none _) ∙ part_found (take k path ∷ []) path k low slash alone in
-      any_has test (take k path) (folders_above path) (under_above path (take k path) under) is
-
-  pub no_slash_found : ((k : ℕ) → k < length path → get_or path k 0 ≡ 47 → test (take k path) ≡ false) → list_any test (folders_above path) ≡ false
-  no_slash_found none = false_from_ne_true _ (λ e.
-      let found = any_from test (folders_above path) e in
-      let other : (k : ℕ) → k < length path → get_or path k 0 ≡ 47 → (bytes_eq (take k path) found.0 || false) ≡ false = λ k low slash. or_none _ ∙ false_from_ne_true _ (λ yes.
-      false≢true (sym (none k low slash) ∙ ap test ((bytes_eq-Decides (take k path) found.0).0 yes) ∙ found.2)) in
-      false≢true (sym (no_part (found.0 ∷ []) path other) ∙ or_none _ ∙ above_under path found.0 found.1))

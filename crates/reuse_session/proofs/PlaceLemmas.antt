@@ -10,6 +10,8 @@ use Rattle.std.proofs.lemmas.List.Elements.{filter-append}
 use Rattle.reuse_tree.specs.Path.{lies_under}
 use Rattle.reuse_tree.specs.Files.{Files}
 use Rattle.reuse_session.specs.Choice.{is_chosen}
+use Rattle.reuse_tree.specs.Listing.{is_folder}
+use Rattle.reuse_session.specs.Shown.{ShowsBeneath}
 use Rattle.reuse_session.specs.Worked.{expanded}
 use Rattle.reuse_session.specs.declared.command.Place.{Place}
 use Rattle.reuse_session.specs.declared.command.Place.TheVariants.{Path}
@@ -30,15 +32,7 @@ expanded_more scope tree places i d old new low so is =
     ∙ ap (λ ys. flat_map (expanded scope tree) (take i places) ++ ys) (sym (append-nil (expanded scope tree (get_or places i d))))
     ∙ sym (flat_map-append (expanded scope tree) (take i places) (get_or places i d ∷ [])) ∙ ap (flat_map (expanded scope tree)) (sym (take_more places i d low))
 
--- where nothing is kept, nothing passes
-none_passes : (test : List ℕ → Bool) (ks : List (List ℕ)) → length (filter test ks) ≡ 0 → list_any test ks ≡ false
-none_passes test [] h = refl
-none_passes test (k ∷ ks) h = of_test (test k) h (none_passes test ks)
-  where
-    of_test : (b : Bool) → length (cond b (k ∷ filter test ks) (filter test ks)) ≡ 0 → (length (filter test ks) ≡ 0 → list_any test ks ≡ false) → (b || list_any test ks) ≡ false
-    of_test true h rest = absurd (omega (arith, h))
-    of_test false h rest = rest h
-
+-- where something is kept, it passes
 one_passes : (test : List ℕ → Bool) (ks : List (List ℕ)) → (length (filter test ks) ≡ 0 → ⊥) → list_any test ks ≡ true
 one_passes test [] h = absurd (h refl)
 one_passes test (k ∷ ks) h = of_test (test k) h (one_passes test ks)
@@ -47,17 +41,19 @@ one_passes test (k ∷ ks) h = of_test (test k) h (one_passes test ks)
     of_test true h rest = refl
     of_test false h rest = rest h
 
-module _ (scope : Scope) (tree : Files) (path : List ℕ) (beneath : List (List ℕ)) (are : beneath ≡ filter (λ other. lies_under other path) (keys tree)) where
+module _ (scope : Scope) (tree : Files) (path : List ℕ) (paths beneath : List (List ℕ)) (shows : ShowsBeneath scope paths tree path) (are : beneath ≡ filter (λ other. lies_under other path) paths) where
+  pub some_beneath : (length beneath ≡ 0 → ⊥) → is_folder tree path ≡ true
+  some_beneath h = shows.some (one_passes (λ other. lies_under other path) paths (λ e. h (ap length are ∙ e)))
+
   -- a path that is no folder
-  pub stands_alone : length beneath ≡ 0 → expanded scope tree (Path path) ≡ path ∷ []
-  stands_alone h =
-      ap (λ b. cond b (filter (is_chosen scope) (filter (λ other. lies_under other path) (keys tree))) (path ∷ [])) (none_passes (λ other. lies_under other path) (keys tree) (ap length (sym are) ∙ h))
+  pub stands_alone : is_folder tree path ≡ false → expanded scope tree (Path path) ≡ path ∷ []
+  stands_alone e = ap (λ b. cond b (filter (is_chosen scope) (filter (λ other. lies_under other path) (keys tree))) (path ∷ [])) e
 
   -- a folder
-  pub stands_for : (length beneath ≡ 0 → ⊥) → expanded scope tree (Path path) ≡ filter (is_chosen scope) beneath
-  stands_for h =
-      ap (λ b. cond b (filter (is_chosen scope) (filter (λ other. lies_under other path) (keys tree))) (path ∷ [])) (one_passes (λ other. lies_under other path) (keys tree) (λ e. h (ap length are ∙ e)))
-      ∙ ap (filter (is_chosen scope)) (sym are)
+  pub stands_for : is_folder tree path ≡ true → expanded scope tree (Path path) ≡ filter (is_chosen scope) beneath
+  stands_for e =
+      ap (λ b. cond b (filter (is_chosen scope) (filter (λ other. lies_under other path) (keys tree))) (path ∷ [])) e
+      ∙ sym shows.chosen ∙ ap (filter (is_chosen scope)) (sym are)
 
 pub not_zero : (n : ℕ) → (n == 0) ≡ false → n ≡ 0 → ⊥
 not_zero n h e = absurd (grind (arith, nat_tests))

@@ -175,8 +175,8 @@ module _ (tree : Files) (path file old new : List ℕ) (at rest : ℕ) (seal : O
 
 -- ---- on a tree
 
-pub stuck_by_clash : (tree : Files) (change : Change) → makes Undo change ≡ true → is_clash tree (path_of change) ≡ true → MakesEdit tree (found (taken_back_on tree change)) None
-stuck_by_clash tree change e f = ap₂ (λ a b. found (cond (a && b) None (taken_back change (get tree (path_of change))))) e f
+pub stuck_by_clash : (tree : Files) (change : Change) → (makes Undo change && is_clash tree (path_of change)) ≡ true → MakesEdit tree (found (taken_back_on tree change)) None
+stuck_by_clash tree change e = ap (λ b. found (cond b None (taken_back change (get tree (path_of change))))) e
 
 pub where_free : (tree : Files) (change : Change) → (makes Undo change && is_clash tree (path_of change)) ≡ false → taken_back_on tree change ≡ taken_back change (get tree (path_of change))
 where_free tree change e = ap (λ b. cond b None (taken_back change (get tree (path_of change)))) e

@@ -40,25 +40,25 @@ first_or_later {X} y xs x h = at h.0 h.1 h.2
 later : {X : Type 0} (y : X) (xs : List X) (x : X) → Contains xs x → Contains (y ∷ xs) x
 later y xs x h = (suc h.0, omega (arith, h.1), h.2)
 
-in_map : {X Y : Type 0} (f : X → Y) (xs : List X) (y : Y) → Contains (map f xs) y → (x : X) × Contains xs x × (y ≡ f x)
+pub in_map : {X Y : Type 0} (f : X → Y) (xs : List X) (y : Y) → Contains (map f xs) y → (x : X) × Contains xs x × (y ≡ f x)
 in_map f [] y h = absurd (omega (arith, h.1))
 in_map f (x ∷ xs) y h = elim (first_or_later (f x) (map f xs) y h) [
   | inl here ↦ (x, (0, omega arith, refl), sym here)
   | inr behind ↦ let r = in_map f xs y behind in (r.0, later x xs r.0 r.1, r.2)
 ]
 
-to_map : {X Y : Type 0} (f : X → Y) (xs : List X) (x : X) → Contains xs x → Contains (map f xs) (f x)
+pub to_map : {X Y : Type 0} (f : X → Y) (xs : List X) (x : X) → Contains xs x → Contains (map f xs) (f x)
 to_map f [] x h = absurd (omega (arith, h.1))
 to_map f (y ∷ xs) x h = elim (first_or_later y xs x h) [ inl here ↦ (0, omega arith, ap f here) | inr behind ↦ later (f y) (map f xs) (f x) (to_map f xs x behind) ]
 
-in_reverse : {X : Type 0} (xs : List X) (x : X) → Contains (reverse xs) x → Contains xs x
+pub in_reverse : {X : Type 0} (xs : List X) (x : X) → Contains (reverse xs) x → Contains xs x
 in_reverse {X} [] x h = absurd (omega (arith, h.1))
 in_reverse {X} (y ∷ xs) x h = elim (Contains-push_cases (reverse xs) y x (subst (λ l. Contains l x) (reverse-append (y ∷ []) xs) h)) [
   | inl before ↦ later y xs x (in_reverse xs x before)
   | inr same ↦ (0, omega arith, same)
 ]
 
-to_reverse : {X : Type 0} (xs : List X) (x : X) → Contains xs x → Contains (reverse xs) x
+pub to_reverse : {X : Type 0} (xs : List X) (x : X) → Contains xs x → Contains (reverse xs) x
 to_reverse xs x h = in_reverse (reverse xs) x (subst (λ l. Contains l x) (sym (reverse-reverse xs)) h)
 
 -- ---- what is remembered

@@ -18,6 +18,7 @@ use Rattle.reuse_session.specs.declared.target.Target.TheVariants.{Beside}
 use Rattle.reuse_session.specs.declared.reply.Refusal.{Refusal}
 use Rattle.reuse_session.specs.declared.reply.Refusal.TheVariants.{TooLong}
 use Rattle.reuse_tree.specs.Listing.{is_among}
+use Rattle.reuse_session.specs.Shown.{ShowsPair}
 use Rattle.reuse_session.specs.Annotate.{neighbour_of, goes_beside, goes_beside_unread, target_by_style, target_by_bytes}
 use Rattle.reuse_tree.proofs.TreeLemmas.{among_keys}
 
@@ -38,10 +39,10 @@ by_bytes scope own path bytes b h e =
 pub long_bytes : (scope : Scope) (own : OwnNames) (path bytes : List ℕ) → LONGEST_FILE < length bytes → target_by_bytes scope own path bytes ≡ Err (TooLong path)
 long_bytes scope own path bytes h = ap (λ t. cond t (refused (TooLong path)) (cond (not (is_text bytes)) (target Beside) (target_by_style scope own path scope.style))) (over (length bytes) h)
 
-pub beside_by : (tree : Files) (paths : List (List ℕ)) (path : List ℕ) (scope : Scope) (own : OwnNames) (r : Bool) → paths ≡ keys tree
+pub beside_by : (tree : Files) (paths : List (List ℕ)) (path : List ℕ) (scope : Scope) (own : OwnNames) (r : Bool) → ShowsPair paths tree path
     → r ≡ (is_among paths (neighbour_of path) || goes_beside_unread scope own path) → r ≡ goes_beside scope own tree path
 beside_by tree paths path scope own r are e =
-    e ∙ ap (λ b. b || goes_beside_unread scope own path) (ap (λ ps. is_among ps (neighbour_of path)) are ∙ among_keys tree (neighbour_of path))
+    e ∙ ap (λ b. b || goes_beside_unread scope own path) (are.beside ∙ among_keys tree (neighbour_of path))
 
 -- where the neighbour isn't there it is the place by what is asked for and by the name alone
 pub unread_by : (tree : Files) (path : List ℕ) (scope : Scope) (own : OwnNames) (r : Bool) → get tree (neighbour_of path) ≡ None → r ≡ goes_beside_unread scope own path → goes_beside scope own tree path ≡ r

@@ -1,11 +1,12 @@
 -- Which of the files beneath folders a command is asked for (this project's own; the globs: REUSE Specification 3.3, "REUSE.toml").
-use Rattle.std.specs.Prelude.{ℕ, Bool, true, not, ◌&&◌, ◌==◌, List, [], ◌∷◌, ◌++◌, map, Option, Some, None, if◌then◌else◌}
+use Rattle.std.specs.Prelude.{ℕ, Bool, true, false, not, ◌&&◌, ◌||◌, List, ◌∷◌, Option, Some, None}
 use Rattle.std.specs.List.{list_any}
 use Rattle.std.specs.Str.{chars}
 use Rattle.reuse_dep5.specs.declared.glob.GlobPiece.{GlobPiece}
 use Rattle.reuse_dep5.specs.GlobMatch.{matches_glob}
 use Rattle.reuse_session.specs.Covered.{is_covered}
-use Rattle.reuse_tree.specs.Listing.{is_among}
+use Rattle.reuse_tree.specs.Listing.{is_among, is_folder_of}
+use Rattle.reuse_tree.specs.Path.{folders_above}
 use Rattle.reuse_session.specs.declared.command.Scope.{Scope}
 
 -- the path is listed, where there is a list
@@ -13,10 +14,18 @@ abbrev pub is_listed : Option (List (List ℕ)) → List ℕ → Bool
 is_listed None path = true
 is_listed (Some paths) path = is_among paths path
 
--- the folders above a path: what stands before each of its slashes
-abbrev pub folders_above : List ℕ → List (List ℕ)
-folders_above [] = []
-folders_above (byte ∷ path) = (if byte == 47 then [] ∷ [] else []) ++ map (λ folder. byte ∷ folder) (folders_above path)
+-- no path of the list, where there is one, lies under the folder
+abbrev pub lists_none : Option (List (List ℕ)) → List ℕ → Bool
+lists_none None folder = false
+lists_none (Some paths) folder = not (is_folder_of paths folder)
+
+-- one of the globs matches that of the folder itself
+abbrev pub matches_folder : List (List GlobPiece) → List ℕ → Bool
+matches_folder globs folder = list_any (λ glob. matches_glob glob (chars folder)) globs
+
+-- a listing passes over the folder: no file beneath it is asked for, by the list or by a glob, and no path that is given lies under it
+abbrev pub is_passed_over : Scope → List (List ℕ) → List ℕ → Bool
+is_passed_over scope given folder = (lists_none scope.listed folder || matches_folder scope.excluded folder) && not (is_folder_of given folder)
 
 -- the glob matches the path, or that of a folder above it, by its characters
 abbrev pub leaves_out : List GlobPiece → List ℕ → Bool

@@ -1,5 +1,5 @@
 -- What convert-dep5 does on a tree: it puts a `REUSE.toml` in the place of `.reuse/dep5` (the reuse tool's manual page
--- of `convert-dep5`; the refusals: docs/SPECIFICATION.md).
+-- of `convert-dep5`; the refusals: docs/RULES.md).
 use Rattle.std.specs.Prelude.{ℕ, List, [], ◌∷◌, length, Option, Some, None, Result, Ok, Err, nat_lt, if◌then◌else◌, codes, is_some}
 use Rattle.std.specs.FinMap.{get}
 use Rattle.reuse_tree.specs.Files.{Files}

@@ -1,4 +1,4 @@
--- Which files annotate treats, by their paths (docs/SPECIFICATION.md, "Which files annotate writes").
+-- Which files annotate treats, by their paths (docs/RULES.md, "Which files annotate writes").
 use Rattle.std.specs.Prelude.{ℕ, Bool, not, ◌&&◌, ◌||◌, ◌==◌, nat_eq, List, length, codes, slice_index}
 use Rattle.std.specs.List.{after_last, starts_with, ends_with}
 use Rattle.std.specs.Str.{bytes_eq}

@@ -1,4 +1,4 @@
--- Why a header can't be written, as a refusal that names the file (docs/SPECIFICATION.md, "Refusals").
+-- Why a header can't be written, as a refusal that names the file (docs/RULES.md, "Refusals").
 use Rattle.std.specs.Prelude.{ℕ, List}
 use Rattle.reuse_header.specs.declared.annotation.HeaderRefusal.{HeaderRefusal}
 use Rattle.reuse_header.specs.declared.annotation.HeaderRefusal.TheVariants as header

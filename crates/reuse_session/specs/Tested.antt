@@ -1,7 +1,7 @@
 -- What is tested of each change of an entry, before one of them is made.
 use Rattle.reuse_tree.specs.Files.{Files}
 use Rattle.reuse_tree.specs.declared.change.Change.{Change}
-use Rattle.reuse_tree.specs.Entry.{opposite, CanBeMade, CanBeSetBack}
+use Rattle.reuse_tree.specs.Entry.{CanBeMade, CanBeSetBack}
 use Rattle.reuse_tree.specs.declared.way.Way.{Way}
 use Rattle.reuse_session.specs.declared.prepare.Aim.{Aim}
 use Rattle.reuse_session.specs.declared.prepare.Aim.TheVariants.{Go, SetBack}
@@ -10,8 +10,3 @@ use Rattle.reuse_session.specs.declared.prepare.Aim.TheVariants.{Go, SetBack}
 abbrev pub Passes : Aim → Way → Files → Change → Type 0
 Passes Go way tree = CanBeMade way tree
 Passes SetBack way tree = CanBeSetBack way tree
-
--- the way in which the aim makes changes
-abbrev pub aimed : Aim → Way → Way
-aimed Go way = way
-aimed SetBack way = opposite way

@@ -1,5 +1,5 @@
 -- The paths that a command goes through: those that it is given, and, in place of folders, the covered files beneath
--- them that it is asked for (the reuse tool's manual page of `annotate`, `--recursive`; the order: docs/SPECIFICATION.md).
+-- them that it is asked for (the reuse tool's manual page of `annotate`, `--recursive`; the order: docs/RULES.md).
 use Rattle.std.specs.Prelude.{ℕ, List, [], ◌∷◌, filter, flat_map, if◌then◌else◌}
 use Rattle.std.specs.FinMap.{keys}
 use Rattle.reuse_notice.specs.Sets.{set_of}

@@ -4,8 +4,9 @@ ghost use Rattle.std.specs.List.{list_any};
 ghost use Rattle.std.specs.Str.{chars};
 ghost use Rattle.reuse_dep5.specs.GlobMatch.{matches_glob};
 ghost use Rattle.reuse_notice.specs.Sets.{set_of};
-ghost use Rattle.reuse_session.specs.Choice.{folders_above, leaves_out, matches_one};
-ghost use Rattle.reuse_tree.specs.Listing.{is_among};
+ghost use Rattle.reuse_session.specs.Choice.{leaves_out, matches_folder, matches_one};
+ghost use Rattle.reuse_tree.specs.Path.{folders_above};
+ghost use Rattle.reuse_tree.specs.Listing.{is_among, is_folder_of};
 
 use crate::places::sorted;
 use reuse_dep5::{Glob, glob_matches};
@@ -45,6 +46,20 @@ impl PathList {
     {
         is_among(&self.paths, path.as_bytes())
     }
+
+    // Whether one of these lies under the folder of this text.
+    pub(crate) fn has_under(&self, folder: &str) -> bool
+        ensures { result ≡ is_folder_of self.now folder.now }
+    {
+        has_one_under(&self.paths, folder)
+    }
+}
+
+/// Whether one of the paths lies under the folder of this text.
+pub(crate) fn has_one_under(paths: &[PathText], folder: &str) -> bool
+    ensures { result ≡ is_folder_of paths.now folder.now }
+{
+    paths.iter().any(|path| path.lies_under_text(folder))
 }
 
 /// Globs, each as in a `path` of a `REUSE.toml`.
@@ -55,6 +70,16 @@ pub(crate) fn matches_one(globs: &Globs, path: &PathText) -> bool
     ensures { result ≡ matches_one globs.now path.now }
 {
     globs.as_slice().iter().any(|glob| leaves_out(glob, path))
+}
+
+// Whether one of the globs matches that of the folder of this text itself.
+pub(crate) fn matches_folder(globs: &Globs, folder: &str) -> bool
+    ensures { result ≡ matches_folder globs.now folder.now }
+{
+    globs
+        .as_slice()
+        .iter()
+        .any(|glob| matches_text(glob, folder))
 }
 
 fn leaves_out(glob: &Glob, path: &PathText) -> bool

@@ -1,6 +1,7 @@
 //! What a download would do.
 ghost use Rattle.std.specs.Prelude.{◌≡◌, Result, Ok, Err, Option, Some, None, IfOk, IfErr};
-ghost use Rattle.reuse_session.specs.Reading.{keys, tree_of, Files, ReadsAlone};
+ghost use Rattle.reuse_session.specs.Reading.{tree_of, Files, ReadsAlone};
+ghost use Rattle.reuse_session.specs.Shown.{ShowsLicences};
 ghost use Rattle.std.specs.Option.{option_map};
 ghost use Rattle.reuse_session.specs.Downloads.{id_refusal, download_edits};
 ghost use Rattle.reuse_session.specs.FatePlan.{Plans};
@@ -12,10 +13,9 @@ ghost use Rattle.reuse_session.specs.declared.reply.Refusal.{Refusal};
 
 use crate::fate::Fate;
 use crate::licence::LicenceText;
-use crate::plan_download::{download_changes, made_path, sorted_ids};
+use crate::plan_download::{download_changes, licence_paths, made_path, sorted_ids};
 use crate::planned::{Planned, as_fate, of_changes};
 use crate::reply::Refusal;
-use crate::tree_paths::tree_paths;
 use reuse_text::Bytes;
 use reuse_tree::{PathText, Store};
 use std::alloc::Global;
@@ -31,18 +31,18 @@ pub(crate) fn plan_download<S: Store>(
         (download_fates ids.now texts.now (tree_of (S.files store.old))) (download_edits ids.now texts.now (tree_of (S.files store.old)))) }
     ensures asks { ReadsAlone S.Store IsLookRefusal store.old store.new result }
 {
-    let paths = tree_paths(alloc, store)?;
+    let paths = licence_paths(alloc, store)?;
     download_on(alloc, &paths, ids, texts)
 }
 
-// What is found of a download on the tree that has these paths.
+// What is found of a download. `paths` show what stands at the path of each licence.
 fn download_on(
     alloc: Global,
     paths: &[PathText],
     ids: &[Bytes],
     texts: &[LicenceText],
 ) -> Result<Planned, Refusal>
-    ensures planned { (tree : Files) → paths.now ≡ keys tree → IfOk result (Plans tree (download_fates ids.now texts.now tree) (download_edits ids.now texts.now tree)) }
+    ensures planned { (tree : Files) → ShowsLicences paths.now tree → IfOk result (Plans tree (download_fates ids.now texts.now tree) (download_edits ids.now texts.now tree)) }
     ensures refusal { IfErr result (λ refusal. refusal ≡ Refusal.Memory) }
 {
     let sorted = sorted_ids(alloc, ids)?;
@@ -63,7 +63,7 @@ fn id_refusals(
     ids: &[Bytes],
     texts: &[LicenceText],
 ) -> Result<Vec<Fate>, Refusal>
-    ensures fates { (tree : Files) → paths.now ≡ keys tree → IfOk result (λ fates. fates.items ≡ id_refusals tree texts.now ids.now) }
+    ensures fates { (tree : Files) → ShowsLicences paths.now tree → IfOk result (λ fates. fates.items ≡ id_refusals tree texts.now ids.now) }
     ensures refusal { IfErr result (λ refusal. refusal ≡ Refusal.Memory) }
 {
     let mut fates = Vec::new(alloc);
@@ -82,7 +82,7 @@ fn id_fate(
     id: &Bytes,
     texts: &[LicenceText],
 ) -> Result<Option<Fate>, Refusal>
-    ensures fate { (tree : Files) → paths.now ≡ keys tree → IfOk result (λ found. found ≡ option_map fate.Refused (id_refusal tree texts.now id.now)) }
+    ensures fate { (tree : Files) → ShowsLicences paths.now tree → IfOk result (λ found. found ≡ option_map fate.Refused (id_refusal tree texts.now id.now)) }
     ensures refusal { IfErr result (λ refusal. refusal ≡ Refusal.Memory) }
 {
     match made_path(alloc, paths, id, texts) {

@@ -4,6 +4,7 @@ ghost use Rattle.std.specs.Option.{option_copied};
 ghost use Rattle.reuse_tree.specs.Head.{head_text, IsGoodHead, IsSoundHead};
 ghost use Rattle.reuse_session.specs.History.{Memory, head_listing, row_listing, rows_listing, remember_run, entries_ahead, remember_moved, numbers_after};
 ghost use Rattle.reuse_session.specs.Machine.{is_full};
+ghost use Rattle.reuse_session.specs.Forgetting.{all_numbers, entries_besides, first_unlisted, is_listed, is_one_of, memory_besides};
 ghost use Rattle.reuse_session.specs.Showing.{lists, entry_of, row_in};
 ghost use Rattle.reuse_session.specs.declared.history.ListedEntry.{ListedEntry};
 
@@ -149,6 +150,41 @@ impl History {
         numbers_back(alloc, &self.done[later..])
     }
 
+    /// The first of these numbers that no entry has, done or undone.
+    pub fn first_unlisted(&self, numbers: &[u32]) -> Option<u32>
+        ensures { result ≡ first_unlisted self.now numbers.now }
+    {
+        first_unlisted(self, numbers).copied()
+    }
+
+    // Whether an entry has the number, done or undone.
+    fn lists(&self, number: u32) -> bool
+        ensures { result ≡ is_listed self.now number }
+    {
+        lists(self.done.as_slice(), number) || lists(self.undone.as_slice(), number)
+    }
+
+    /// What is remembered without the entries of these numbers.
+    pub fn without(&self, alloc: Global, numbers: &[u32]) -> Result<History, AllocError>
+        ensures { IfOk result (λ history. history ≡ memory_besides numbers.now self.now) }
+    {
+        Ok(History {
+            done: entries_besides(Vec::from_slice(alloc, self.done.as_slice())?, numbers),
+            undone: entries_besides(Vec::from_slice(alloc, self.undone.as_slice())?, numbers),
+            used: self.used,
+        })
+    }
+
+    /// The numbers of all entries.
+    pub fn all_numbers(&self, alloc: Global) -> Result<Vec<u32>, AllocError>
+        ensures { IfOk result (λ numbers. numbers.items ≡ all_numbers self.now) }
+    {
+        let mut numbers = numbers_of(alloc, self.done.as_slice())?.into_vec();
+        let mut more = numbers_of(alloc, self.undone.as_slice())?.into_vec();
+        numbers.append(&mut more)?;
+        Ok(numbers)
+    }
+
     /// The row of the entry of this number, done or undone.
     pub fn row(&self, number: u32) -> Option<Row>
         ensures { result ≡ row_in self.now number }
@@ -240,6 +276,41 @@ fn without_last(alloc: Global, entries: &[ListedEntry]) -> Result<Vec<ListedEntr
     let mut list = Vec::from_slice(alloc, entries)?;
     list.pop();
     Ok(list)
+}
+
+// Whether one of the entries has the number.
+fn lists(entries: &[ListedEntry], number: u32) -> bool
+    ensures { result ≡ lists entries.now number }
+{
+    entries.iter().any(|entry| entry.number == number)
+}
+
+// The first of the numbers that no entry has.
+fn first_unlisted<'a>(history: &History, numbers: &'a [u32]) -> Option<&'a u32>
+    ensures { option_copied result ≡ first_unlisted history.now numbers.now }
+{
+    numbers.iter().find(|number| !history.lists(**number))
+}
+
+// The entries whose number is none of these.
+fn entries_besides(entries: Vec<ListedEntry>, numbers: &[u32]) -> Vec<ListedEntry>
+    ensures { result.items ≡ entries_besides numbers.now entries.items }
+{
+    let mut left = entries;
+    left.retain(|entry| is_besides(numbers, entry));
+    left
+}
+
+fn is_besides(numbers: &[u32], entry: &ListedEntry) -> bool
+    ensures { result ≡ not (is_one_of numbers.now entry.now.number) }
+{
+    !is_one_of(numbers, entry.number)
+}
+
+fn is_one_of(numbers: &[u32], number: u32) -> bool
+    ensures { result ≡ is_one_of numbers.now number }
+{
+    numbers.iter().any(|other| *other == number)
 }
 
 // The numbers of the entries.

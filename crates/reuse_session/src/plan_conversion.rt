@@ -1,6 +1,8 @@
 //! Plans a conversion: a `REUSE.toml` in the place of `.reuse/dep5`.
 ghost use Rattle.std.specs.Prelude.{◌≡◌, ◌<◌, ◌≤◌, IfOk, IfErr, Ok, Some, false, length, [], ◌∷◌};
-ghost use Rattle.reuse_session.specs.Reading.{get, keys, reading_of, tree_of, Files, IsOfPlan, ReadsAlone};
+ghost use Rattle.reuse_session.specs.Reading.{get, reading_of, tree_of, Files, IsOfPlan, OnlyReads, ReadsAlone};
+ghost use Rattle.reuse_session.specs.Shown.{Shows};
+ghost use Rattle.reuse_tree.specs.Asked.{FailsAsRead};
 ghost use Rattle.reuse_tree.specs.Change.{sealed_drop, sealed_make};
 ghost use Rattle.reuse_session.specs.Refused.{IsNoFault, dep5_refusal};
 ghost use Rattle.reuse_tree.specs.Listing.{is_among};
@@ -13,8 +15,9 @@ use crate::reply::Refusal;
 use crate::tree_paths::tree_paths;
 use reuse_dep5::{Dep5Refusal, convert_dep5};
 use reuse_text::{Bytes, LONGEST_FILE};
-use reuse_tree::{Change, PathText, Reading, Store, is_among, is_clash};
+use reuse_tree::{Change, NoPruning, PathText, Reading, Store, StoreFault, is_among, is_clash};
 use std::alloc::{AllocError, Global};
+use std::slice;
 
 /// The changes of a conversion, or its first refusal.
 pub(crate) fn plan_conversion<S: Store>(
@@ -25,19 +28,29 @@ pub(crate) fn plan_conversion<S: Store>(
     ensures asks { ReadsAlone S.Store IsOfPlan store.old store.new result }
 {
     let dep5 = known_path(alloc, ".reuse/dep5")?;
-    let paths = tree_paths(alloc, store)?;
+    let paths = toml_paths(alloc, store)?;
     let reading = store.read(alloc, &dep5, LONGEST_FILE)?;
     conversion_of(alloc, &paths, dep5, reading)
 }
 
-// The changes of a conversion, given what was read of the dep5, on the tree that has these paths.
+// The paths of the tree at `REUSE.toml` and beneath it: no other is looked at.
+fn toml_paths<S: Store>(alloc: Global, store: &mut S) -> Result<Vec<PathText>, StoreFault>
+    ensures paths { S.honest store.new → IfOk result (λ paths. Shows paths.items (tree_of (S.files store.old)) toml_path) }
+    ensures fails { FailsAsRead S.Store store.old store.new result }
+    ensures reads { OnlyReads S.Store store.old store.new }
+{
+    let toml = known_path(alloc, "REUSE.toml")?;
+    tree_paths(alloc, store, slice::from_ref(&toml), &NoPruning)
+}
+
+// The changes of a conversion, given what was read of the dep5. `paths` show what stands at `REUSE.toml`.
 fn conversion_of(
     alloc: Global,
     paths: &[PathText],
     dep5: PathText,
     reading: Reading,
 ) -> Result<Vec<Change>, Refusal>
-    ensures edits { (tree : Files) → paths.now ≡ keys tree → dep5 ≡ dep5_path → reading ≡ reading_of (get tree dep5_path) LONGEST_FILE
+    ensures edits { (tree : Files) → Shows paths.now tree toml_path → dep5 ≡ dep5_path → reading ≡ reading_of (get tree dep5_path) LONGEST_FILE
         → AnswersEdits tree (conversion_edits tree) result }
     ensures no_fault { IfErr result IsNoFault }
 {
@@ -55,7 +68,7 @@ fn replacement(
     dep5: PathText,
     bytes: Bytes,
 ) -> Result<Vec<Change>, Refusal>
-    ensures edits { (tree : Files) → paths.now ≡ keys tree → dep5 ≡ dep5_path → get tree dep5_path ≡ Some bytes → length bytes ≤ LONGEST_FILE
+    ensures edits { (tree : Files) → Shows paths.now tree toml_path → dep5 ≡ dep5_path → get tree dep5_path ≡ Some bytes → length bytes ≤ LONGEST_FILE
         → AnswersEdits tree (conversion_edits tree) result }
     ensures no_fault { IfErr result IsNoFault }
 {
@@ -79,7 +92,7 @@ fn changes_to(
     toml: PathText,
     new: Bytes,
 ) -> Result<Vec<Change>, Refusal>
-    ensures edits { (tree : Files) → paths.now ≡ keys tree → dep5 ≡ dep5_path → toml ≡ toml_path → get tree dep5_path ≡ Some old → length old ≤ LONGEST_FILE
+    ensures edits { (tree : Files) → Shows paths.now tree toml_path → dep5 ≡ dep5_path → toml ≡ toml_path → get tree dep5_path ≡ Some old → length old ≤ LONGEST_FILE
         → is_among paths.now toml_path ≡ false → converted old ≡ Ok new → length new ≤ LONGEST_FILE → AnswersEdits tree (conversion_edits tree) result }
     ensures no_fault { IfErr result IsNoFault }
 {

@@ -6,9 +6,12 @@ ghost use Rattle.reuse_session.specs.DownloadPlan.{made_at};
 ghost use Rattle.reuse_session.specs.Downloads.{text_for, refusal_of_found, id_refusal, ids_refusal, download_edits};
 ghost use Rattle.reuse_session.specs.Licence.{licence_path};
 ghost use Rattle.reuse_session.specs.Plan.{AnswersEdits};
-ghost use Rattle.reuse_session.specs.Reading.{keys, tree_of, Files, IsOfPlan, ReadsAlone};
+ghost use Rattle.reuse_session.specs.Reading.{tree_of, Files, IsOfPlan, OnlyReads, ReadsAlone};
+ghost use Rattle.reuse_session.specs.Shown.{ShowsLicences};
+ghost use Rattle.reuse_tree.specs.Asked.{FailsAsRead};
 ghost use Rattle.reuse_session.specs.Refused.{IsNoFault, IsRefused};
 
+use crate::known_path::known_path;
 use crate::licence::LicenceText;
 use crate::licence_file::{licence_id, licence_path, text_for};
 use crate::licence_id::as_id;
@@ -16,8 +19,9 @@ use crate::places::sorted;
 use crate::reply::Refusal;
 use crate::tree_paths::tree_paths;
 use reuse_text::{Bytes, LONGEST_FILE};
-use reuse_tree::{Change, PathText, Store, is_among, is_clash};
+use reuse_tree::{Change, NoPruning, PathText, Store, StoreFault, is_among, is_clash};
 use std::alloc::{AllocError, Global};
+use std::slice;
 
 /// The changes of a download, or its first refusal.
 pub(crate) fn plan_download<S: Store>(
@@ -29,18 +33,31 @@ pub(crate) fn plan_download<S: Store>(
     ensures edits { S.honest store.new → AnswersEdits (tree_of (S.files store.old)) (download_edits ids.now texts.now (tree_of (S.files store.old))) result }
     ensures asks { ReadsAlone S.Store IsOfPlan store.old store.new result }
 {
-    let paths = tree_paths(alloc, store)?;
+    let paths = licence_paths(alloc, store)?;
     download_changes(alloc, &paths, ids, texts)
 }
 
-/// The changes of a download on the tree that has these paths, or its first refusal.
+/// The paths of the tree at which licences stand, and what else is there: no other folder is looked at.
+pub(crate) fn licence_paths<S: Store>(
+    alloc: Global,
+    store: &mut S,
+) -> Result<Vec<PathText>, StoreFault>
+    ensures paths { S.honest store.new → IfOk result (λ paths. ShowsLicences paths.items (tree_of (S.files store.old))) }
+    ensures fails { FailsAsRead S.Store store.old store.new result }
+    ensures reads { OnlyReads S.Store store.old store.new }
+{
+    let licences = known_path(alloc, "LICENSES")?;
+    tree_paths(alloc, store, slice::from_ref(&licences), &NoPruning)
+}
+
+/// The changes of a download, or its first refusal. `paths` show what stands at the path of each licence.
 pub(crate) fn download_changes(
     alloc: Global,
     paths: &[PathText],
     ids: &[Bytes],
     texts: &[LicenceText],
 ) -> Result<Vec<Change>, Refusal>
-    ensures edits { (tree : Files) → paths.now ≡ keys tree → AnswersEdits tree (download_edits ids.now texts.now tree) result }
+    ensures edits { (tree : Files) → ShowsLicences paths.now tree → AnswersEdits tree (download_edits ids.now texts.now tree) result }
     ensures no_fault { IfErr result IsNoFault }
 {
     let ids = sorted_ids(alloc, ids)?;
@@ -70,15 +87,15 @@ fn copied_ids(alloc: Global, ids: &[Bytes]) -> Result<Vec<Bytes>, AllocError>
     Ok(copied)
 }
 
-// The paths of the files that are made of the ids' texts, or the first refusal. `paths` are those of the tree.
+// The paths of the files that are made of the ids' texts, or the first refusal. `paths` show what stands at the path of each licence.
 fn made_paths(
     alloc: Global,
     paths: &[PathText],
     ids: &[Bytes],
     texts: &[LicenceText],
 ) -> Result<Vec<PathText>, Refusal>
-    ensures made { (tree : Files) → paths.now ≡ keys tree → IfOk result (λ made. (made.items ≡ map licence_path ids.now) × (ids_refusal tree texts.now ids.now ≡ None)) }
-    ensures refused { (tree : Files) → paths.now ≡ keys tree → IfErr result (IsRefused (ids_refusal tree texts.now ids.now)) }
+    ensures made { (tree : Files) → ShowsLicences paths.now tree → IfOk result (λ made. (made.items ≡ map licence_path ids.now) × (ids_refusal tree texts.now ids.now ≡ None)) }
+    ensures refused { (tree : Files) → ShowsLicences paths.now tree → IfErr result (IsRefused (ids_refusal tree texts.now ids.now)) }
     ensures no_fault { IfErr result IsNoFault }
 {
     let mut made = Vec::new(alloc);
@@ -98,8 +115,8 @@ pub(crate) fn made_path(
     id: &Bytes,
     texts: &[LicenceText],
 ) -> Result<PathText, Refusal>
-    ensures made { (tree : Files) → paths.now ≡ keys tree → IfOk result (λ path. (path ≡ licence_path id.now) × (id_refusal tree texts.now id.now ≡ None)) }
-    ensures refused { (tree : Files) → paths.now ≡ keys tree → IfErr result (IsRefused (id_refusal tree texts.now id.now)) }
+    ensures made { (tree : Files) → ShowsLicences paths.now tree → IfOk result (λ path. (path ≡ licence_path id.now) × (id_refusal tree texts.now id.now ≡ None)) }
+    ensures refused { (tree : Files) → ShowsLicences paths.now tree → IfErr result (IsRefused (id_refusal tree texts.now id.now)) }
     ensures no_fault { IfErr result IsNoFault }
 {
     match as_id(id.as_slice()) {
@@ -122,8 +139,8 @@ fn path_for(
     path: PathText,
     found: Option<&Bytes>,
 ) -> Result<PathText, Refusal>
-    ensures made { (tree : Files) → paths.now ≡ keys tree → path ≡ licence_path id.now → IfOk result (λ made. (made ≡ path) × (refusal_of_found tree id.now (option_copied found.entry) ≡ None)) }
-    ensures refused { (tree : Files) → paths.now ≡ keys tree → path ≡ licence_path id.now → IfErr result (IsRefused (refusal_of_found tree id.now (option_copied found.entry))) }
+    ensures made { (tree : Files) → ShowsLicences paths.now tree → path ≡ licence_path id.now → IfOk result (λ made. (made ≡ path) × (refusal_of_found tree id.now (option_copied found.entry) ≡ None)) }
+    ensures refused { (tree : Files) → ShowsLicences paths.now tree → path ≡ licence_path id.now → IfErr result (IsRefused (refusal_of_found tree id.now (option_copied found.entry))) }
     ensures no_fault { IfErr result IsNoFault }
 {
     let Some(text) = found else {

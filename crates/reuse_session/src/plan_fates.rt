@@ -1,6 +1,7 @@
 //! What a run of a command would do, path by path.
 ghost use Rattle.std.specs.Prelude.{◌≡◌, ◌++◌, ◌∷◌, [], Result, Ok, Err, Option, Some, None, List, IfOk, IfErr, OnOk, not, ◌&&◌, if◌then◌else◌};
-ghost use Rattle.reuse_session.specs.Reading.{keys, tree_of, Files, OnlyReads, ReadsAlone, RefusedAsRead};
+ghost use Rattle.reuse_session.specs.Shown.{ShowsEach, ShowsOne, ShowsPair};
+ghost use Rattle.reuse_session.specs.Reading.{tree_of, Files, OnlyReads, ReadsAlone, RefusedAsRead};
 ghost use Rattle.reuse_session.specs.AnnotationPlan.{AddsPath, PlansPaths, PlansPlaces};
 ghost use Rattle.reuse_session.specs.Command.{has_root};
 ghost use Rattle.reuse_session.specs.Edit.{Edit};
@@ -18,7 +19,7 @@ use crate::annotation::Annotation;
 use crate::command::{Command, Place, Scope};
 use crate::download_fates::plan_download;
 use crate::fate::{Fate, Fates};
-use crate::places::{has_root, worked_paths};
+use crate::places::{Listing, find_worked, gives_root};
 use crate::plan::plan_path;
 use crate::plan_conversion::plan_conversion;
 use crate::plan_styles::read_styles;
@@ -26,7 +27,7 @@ use crate::planned::{Planned, of_changes, refused};
 use crate::reply::Refusal;
 use crate::revert_fates::plan_revert;
 use crate::skipped::is_skipped;
-use crate::tree_paths::tree_paths;
+use crate::tree_paths::pair_paths;
 use reuse_header::How;
 use reuse_notice::Additions;
 use reuse_tree::{Change, PathText, Store, is_too_many};
@@ -138,37 +139,62 @@ fn plan_places<S: Store>(
     if gives_root(places, asked.scope) {
         return refused(alloc, Refusal::IsFolder(Place::Root));
     }
-    let paths = tree_paths(alloc, store)?;
-    let worked = worked_paths(alloc, &paths, places, asked.scope)?;
-    plan_paths(alloc, store, &paths, &worked, asked)
+    let worked = find_worked(alloc, store, places, asked.scope)?;
+    plan_paths(alloc, store, &worked.paths, &worked.listing, asked)
 }
 
-// Whether the root is given where folders aren't gone through.
-fn gives_root(places: &[Place], scope: &Scope) -> bool
-    ensures { result ≡ (not scope.now.recursive && has_root places.now) }
-{
-    !scope.recursive && has_root(places)
-}
-
-// What is found at the worked paths. `paths` are those of the tree.
+// What is found at the worked paths.
 fn plan_paths<S: Store>(
     alloc: Global,
     store: &mut S,
-    paths: &[PathText],
     worked: &[PathText],
+    listing: &Listing,
     asked: &Annotation<'_>,
 ) -> Result<Planned, Refusal>
-    ensures planned { S.honest store.new → paths.now ≡ keys (tree_of (S.files store.old)) → IfOk result (PlansPaths asked.now (tree_of (S.files store.old)) worked.now) }
+    ensures planned { S.honest store.new → ShowsEach listing.now (tree_of (S.files store.old)) worked.now → IfOk result (PlansPaths asked.now (tree_of (S.files store.old)) worked.now) }
     ensures asks { ReadsAlone S.Store IsLookRefusal store.old store.new result }
 {
     let mut planned = Planned::new(alloc);
     for path in worked {
-        plan_next(alloc, store, &mut planned, paths, path, asked)?;
+        plan_one(alloc, store, &mut planned, path, listing, asked)?;
     }
     Ok(planned)
 }
 
-// Adds what is found at a path. `paths` are those of the tree.
+// Adds what is found at a path.
+fn plan_one<S: Store>(
+    alloc: Global,
+    store: &mut S,
+    planned: &mut Planned,
+    path: &PathText,
+    listing: &Listing,
+    asked: &Annotation<'_>,
+) -> Result<(), Refusal>
+    ensures adds { S.honest store.new → ShowsOne listing.now (tree_of (S.files store.old)) path.now → OnOk result (AddsPath asked.now (tree_of (S.files store.old)) path.now planned.old planned.new) }
+    ensures asks { ReadsAlone S.Store IsLookRefusal store.old store.new result }
+{
+    match listing {
+        Listing::Listed(paths) => plan_next(alloc, store, planned, paths.as_slice(), path, asked),
+        Listing::Alone => plan_alone(alloc, store, planned, path, asked),
+    }
+}
+
+// The same by looking at the path and its neighbour alone.
+fn plan_alone<S: Store>(
+    alloc: Global,
+    store: &mut S,
+    planned: &mut Planned,
+    path: &PathText,
+    asked: &Annotation<'_>,
+) -> Result<(), Refusal>
+    ensures adds { S.honest store.new → OnOk result (AddsPath asked.now (tree_of (S.files store.old)) path.now planned.old planned.new) }
+    ensures asks { ReadsAlone S.Store IsLookRefusal store.old store.new result }
+{
+    let paths = pair_paths(alloc, store, path)?;
+    plan_next(alloc, store, planned, &paths, path, asked)
+}
+
+// Adds what is found at a path. `paths` show it and its neighbour.
 fn plan_next<S: Store>(
     alloc: Global,
     store: &mut S,
@@ -177,7 +203,7 @@ fn plan_next<S: Store>(
     path: &PathText,
     asked: &Annotation<'_>,
 ) -> Result<(), Refusal>
-    ensures adds { S.honest store.new → paths.now ≡ keys (tree_of (S.files store.old)) → OnOk result (AddsPath asked.now (tree_of (S.files store.old)) path.now planned.old planned.new) }
+    ensures adds { S.honest store.new → ShowsPair paths.now (tree_of (S.files store.old)) path.now → OnOk result (AddsPath asked.now (tree_of (S.files store.old)) path.now planned.old planned.new) }
     ensures asks { ReadsAlone S.Store IsLookRefusal store.old store.new result }
 {
     match plan_path(alloc, store, paths, path, asked) {

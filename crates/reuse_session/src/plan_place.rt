@@ -1,6 +1,9 @@
 //! What annotate does at the place that was chosen.
 ghost use Rattle.std.specs.Prelude.{◌≡◌, ◌≤◌, ℕ, List, false, true, length, IfOk, IfErr, IfSome, IfNone, Some, None, Ok, Err, nat_lt};
-ghost use Rattle.reuse_session.specs.Reading.{get, keys, reading_of, Files};
+ghost use Rattle.reuse_session.specs.Reading.{get, reading_of, tree_of, Files, IsOfPlan, ReadsAlone};
+ghost use Rattle.reuse_session.specs.Covered.{is_covered};
+ghost use Rattle.reuse_session.specs.Shown.{ShowsPair};
+ghost use Rattle.reuse_tree.specs.Clash.{is_clash};
 ghost use Rattle.reuse_header.specs.declared.annotation.How.{How};
 ghost use Rattle.reuse_session.specs.TreeStyles.{OwnNames};
 ghost use Rattle.reuse_notice.specs.declared.adding.Additions.{Additions};
@@ -22,7 +25,7 @@ use reuse_header::{
     Style, annotate_file, annotate_neighbour, annotations_fit, find, neighbour_has_tag,
 };
 use reuse_text::{Bytes, LONGEST_FILE};
-use reuse_tree::{Change, PathError, PathText, Reading, is_clash, is_folder};
+use reuse_tree::{Change, PathError, PathText, Reading, Store, is_clash_at, is_folder};
 use std::alloc::Global;
 
 /// What is known of a file's change once the file was read.
@@ -34,13 +37,13 @@ pub(crate) enum Step {
     Beside,
 }
 
-/// The refusal of a path without a file. `paths` are those of the tree.
+/// The refusal of a path without a file. `paths` show what stands there.
 pub(crate) fn plan_absent(
     alloc: Global,
     paths: &[PathText],
     path: &PathText,
 ) -> Result<Option<Change>, Refusal>
-    ensures edit { (how : How) (scope : Scope) (additions : Additions) (own : OwnNames) (tree : Files) → paths.now ≡ keys tree → is_among paths.now path.now ≡ false → AnswersEdit tree (annotated_at how scope additions own tree path.now) result }
+    ensures edit { (how : How) (scope : Scope) (additions : Additions) (own : OwnNames) (tree : Files) → ShowsPair paths.now tree path.now → is_among paths.now path.now ≡ false → AnswersEdit tree (annotated_at how scope additions own tree path.now) result }
     ensures no_fault { IfErr result IsNoFault }
 {
     let refused = path.try_clone(alloc)?;
@@ -149,21 +152,35 @@ pub(crate) fn plan_neighbour(
     change_by(alloc, path, neighbour, bytes.as_slice(), made)
 }
 
-/// The change that makes a neighbour. `paths` are those of the tree.
-pub(crate) fn plan_new_neighbour(
+/// The change that makes a neighbour, which is looked at by itself.
+pub(crate) fn plan_new_neighbour<S: Store>(
     alloc: Global,
-    paths: &[PathText],
+    store: &mut S,
     path: &PathText,
     neighbour: PathText,
     asked: &Annotation<'_>,
 ) -> Result<Option<Change>, Refusal>
-    ensures edit { (tree : Files) → paths.now ≡ keys tree → neighbour ≡ neighbour_of path.now → get tree neighbour ≡ None
+    ensures edit { S.honest store.new → is_covered path.now ≡ true → neighbour ≡ neighbour_of path.now → get (tree_of (S.files store.old)) neighbour ≡ None
+        → AnswersEdit (tree_of (S.files store.old)) (neighbour_by asked.now (tree_of (S.files store.old)) path.now None) result }
+    ensures asks { ReadsAlone S.Store IsOfPlan store.old store.new result }
+{
+    if is_clash_at(alloc, store, &neighbour)? {
+        return Err(Refusal::Clash(neighbour));
+    }
+    make_neighbour(alloc, path, neighbour, asked)
+}
+
+// The change that makes a neighbour where nothing is in its way.
+fn make_neighbour(
+    alloc: Global,
+    path: &PathText,
+    neighbour: PathText,
+    asked: &Annotation<'_>,
+) -> Result<Option<Change>, Refusal>
+    ensures edit { (tree : Files) → neighbour ≡ neighbour_of path.now → get tree neighbour ≡ None → is_clash tree neighbour ≡ false
         → AnswersEdit tree (neighbour_by asked.now tree path.now None) result }
     ensures no_fault { IfErr result IsNoFault }
 {
-    if is_clash(alloc, paths, &neighbour)? {
-        return Err(Refusal::Clash(neighbour));
-    }
     // That what is made isn't too long.
     annotations_fit();
     let made = annotate_neighbour(alloc, b"", asked.additions, asked.how);

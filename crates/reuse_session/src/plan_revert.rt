@@ -1,9 +1,10 @@
 //! Plans a revert: takes the changes of a step back on whatever the tree is now.
-ghost use Rattle.std.specs.Prelude.{◌≡◌, ◌≢◌, ◌↔◌, ◌+◌, ◌++◌, ◌≤◌, ℕ, IfOk, IfErr, OnOk, IsSome, IsTrue, List, Ok, Option, Some, None, false, true, length};
-ghost use Rattle.std.specs.List.{list_any};
+ghost use Rattle.std.specs.Prelude.{◌≡◌, ◌≢◌, ◌↔◌, ◌&&◌, ◌+◌, ◌++◌, ◌≤◌, ℕ, IfOk, IfErr, OnOk, IsSome, IsTrue, List, Ok, Option, Some, None, false, true, length};
 ghost use Rattle.std.specs.Option.{option_to_list};
 ghost use Rattle.std.specs.Str.{bytes_eq};
+ghost use Rattle.reuse_tree.specs.Asked.{FailsAsRead};
 ghost use Rattle.reuse_tree.specs.Change.{path_of, IsProper};
+ghost use Rattle.reuse_tree.specs.Clash.{is_clash};
 ghost use Rattle.reuse_tree.specs.Entry.{makes, IsEntry, IsSmall};
 ghost use Rattle.reuse_tree.specs.EntryText.{HavePaths};
 ghost use Rattle.reuse_tree.specs.Tree.{is_of_tree};
@@ -13,16 +14,16 @@ ghost use Rattle.reuse_tree.specs.declared.way.Way.TheVariants.{Undo};
 ghost use Rattle.reuse_session.specs.Answer.{IsTestRefusal};
 ghost use Rattle.reuse_session.specs.Plan.{AnswersEdits, MakesEdit};
 ghost use Rattle.reuse_session.specs.Previews.{IsLookRefusal};
-ghost use Rattle.reuse_session.specs.Reading.{get, keys, reading_of, tree_of, Files, IsOfPlan, ReadsAlone};
+ghost use Rattle.reuse_session.specs.Reading.{get, reading_of, tree_of, Files, IsOfPlan, OnlyReads, ReadsAlone};
 ghost use Rattle.reuse_session.specs.Reverting.{has_digest, is_as_left, revert_edits, stands_as_written, stands_at, taken_back, taken_back_on, taken_back_unless};
 
 use crate::choice::PathList;
 use crate::reply::Refusal;
-use crate::tree_paths::tree_paths;
 use reuse_text::{Bytes, LONGEST_FILE};
-use reuse_tree::perform::makes_any;
 use reuse_tree::turn::makes;
-use reuse_tree::{Change, Digest, EntryChanges, PathText, Reading, Seal, Store, Way, is_clash};
+use reuse_tree::{
+    Change, Digest, EntryChanges, PathText, Reading, Seal, Store, StoreFault, Way, is_clash_at,
+};
 use std::alloc::{AllocError, Global};
 
 /// The changes of a revert, or its first refusal.
@@ -37,45 +38,24 @@ pub(crate) fn plan_revert<S: Store>(
     ensures entry { IsEntry changes.now × HavePaths changes.now }
     ensures asks { ReadsAlone S.Store IsOfPlan store.old store.new result }
 {
-    let changes = changes.as_slice();
-    match paths_to_heed(alloc, store, changes) {
-        Ok(paths) => take_all_back(alloc, store, &paths, changes, touched, skip_moved),
-        Err(refusal) => Err(refusal),
-    }
+    take_all_back(alloc, store, changes.as_slice(), touched, skip_moved)
 }
 
-// The paths of the tree where one of the changes makes a file as it is taken back, and else none.
-pub(crate) fn paths_to_heed<S: Store>(
-    alloc: Global,
-    store: &mut S,
-    changes: &[Change],
-) -> Result<Vec<PathText>, Refusal>
-    ensures paths { S.honest store.new → list_any (makes Undo) changes.now ≡ true → IfOk result (λ paths. paths.items ≡ keys (tree_of (S.files store.old))) }
-    ensures asks { ReadsAlone S.Store IsLookRefusal store.old store.new result }
-{
-    if makes_any(changes, Way::Undo) {
-        Ok(tree_paths(alloc, store)?)
-    } else {
-        Ok(Vec::new(alloc))
-    }
-}
-
-// The changes that take these of an entry back, or the first refusal. `paths` are those of the tree, where one of them makes a file.
+// The changes that take these of an entry back, or the first refusal.
 fn take_all_back<S: Store>(
     alloc: Global,
     store: &mut S,
-    paths: &[PathText],
     changes: &[Change],
     touched: &PathList,
     skip_moved: bool,
 ) -> Result<Vec<Change>, Refusal>
-    ensures edits { S.honest store.new → IsEntry changes.now → (list_any (makes Undo) changes.now ≡ true → paths.now ≡ keys (tree_of (S.files store.old)))
+    ensures edits { S.honest store.new → IsEntry changes.now
         → AnswersEdits (tree_of (S.files store.old)) (revert_edits changes.now touched.now skip_moved (tree_of (S.files store.old))) result }
     ensures asks { ReadsAlone S.Store IsOfPlan store.old store.new result }
 {
     let mut taken = Vec::new(alloc);
     for change in changes {
-        let back = match take_back_unless(alloc, store, paths, touched, change) {
+        let back = match take_back_unless(alloc, store, touched, change) {
             Ok(back) => back,
             Err(refusal) => return Err(refusal),
         };
@@ -108,43 +88,55 @@ fn add_back(
     }
 }
 
-// The change that takes a change back, if it can be taken back and no later step touched its path. `paths` are those of the tree, where
-// it makes a file.
+// The change that takes a change back, if it can be taken back and no later step touched its path.
 pub(crate) fn take_back_unless<S: Store>(
     alloc: Global,
     store: &mut S,
-    paths: &[PathText],
     touched: &PathList,
     change: &Change,
 ) -> Result<Option<Change>, Refusal>
     ensures edit { S.honest store.new → IsProper change.now → IsSmall change.now → is_of_tree (path_of change.now) ≡ true
-        → (makes Undo change.now ≡ true → paths.now ≡ keys (tree_of (S.files store.old)))
         → IfOk result (MakesEdit (tree_of (S.files store.old)) (Ok (taken_back_unless touched.now (tree_of (S.files store.old)) change.now))) }
     ensures asks { ReadsAlone S.Store IsLookRefusal store.old store.new result }
 {
     if touched.has(change.path()) {
         return Ok(None);
     }
-    take_back(alloc, store, paths, change)
+    take_back(alloc, store, change)
 }
 
-// The change that takes a change back, if it can be taken back. `paths` are those of the tree, where it makes a file.
+// The change that takes a change back, if it can be taken back.
 fn take_back<S: Store>(
     alloc: Global,
     store: &mut S,
-    paths: &[PathText],
     change: &Change,
 ) -> Result<Option<Change>, Refusal>
     ensures edit { S.honest store.new → IsProper change.now → IsSmall change.now → is_of_tree (path_of change.now) ≡ true
-        → (makes Undo change.now ≡ true → paths.now ≡ keys (tree_of (S.files store.old)))
         → IfOk result (MakesEdit (tree_of (S.files store.old)) (Ok (taken_back_on (tree_of (S.files store.old)) change.now))) }
     ensures asks { ReadsAlone S.Store IsLookRefusal store.old store.new result }
 {
-    if makes(change, Way::Undo) && is_clash(alloc, paths, change.path())? {
+    if makes_at_clash(alloc, store, change)? {
         return Ok(None);
     }
     let reading = store.read(alloc, change.path(), LONGEST_FILE)?;
     Ok(change_back(alloc, change, reading)?)
+}
+
+// Whether what takes the change back makes a file where none can be made.
+fn makes_at_clash<S: Store>(
+    alloc: Global,
+    store: &mut S,
+    change: &Change,
+) -> Result<bool, StoreFault>
+    ensures clash { S.honest store.new → is_of_tree (path_of change.now) ≡ true
+        → IfOk result (λ clash. clash ≡ (makes Undo change.now && is_clash (tree_of (S.files store.old)) (path_of change.now))) }
+    ensures fails { FailsAsRead S.Store store.old store.new result }
+    ensures reads { OnlyReads S.Store store.old store.new }
+{
+    if !makes(change, Way::Undo) {
+        return Ok(false);
+    }
+    is_clash_at(alloc, store, change.path())
 }
 
 // The change that takes a change back where its path holds what was read.

@@ -1,6 +1,5 @@
 //! The choice of where the licensing information of a file goes.
 ghost use Rattle.std.specs.Prelude.{◌≡◌, ◌≤◌, IfOk, IfErr, length};
-ghost use Rattle.std.specs.FinMap.{keys};
 ghost use Rattle.reuse_header.specs.Names.{kind_in, lookup};
 ghost use Rattle.reuse_tree.specs.Files.{Files};
 ghost use Rattle.reuse_text.specs.declared.TheConstants.{LONGEST_FILE};
@@ -8,6 +7,7 @@ ghost use Rattle.reuse_session.specs.Annotate.{neighbour_of, is_uncommentable, g
 ghost use Rattle.reuse_session.specs.AnnotationPlan.{own_of, place_by};
 ghost use Rattle.reuse_session.specs.Plan.{AnswersOf};
 ghost use Rattle.reuse_session.specs.Refused.{IsNoFault};
+ghost use Rattle.reuse_session.specs.Shown.{ShowsPair};
 
 use crate::annotation::Annotation;
 use crate::command::Unknown;
@@ -28,14 +28,14 @@ pub(crate) fn neighbour_of(alloc: Global, path: &PathText) -> Result<Bytes, Allo
 }
 
 /// Whether the neighbour is the place, whatever the file holds: it is there, that is asked for, or the name takes no comment and no
-/// style is asked for. `paths` are those of the tree.
+/// style is asked for. `paths` show whether it is there.
 pub(crate) fn goes_beside(
     alloc: Global,
     paths: &[PathText],
     path: &PathText,
     asked: &Annotation<'_>,
 ) -> Result<bool, AllocError>
-    ensures { (tree : Files) → paths.now ≡ keys tree → IfOk result (λ beside. beside ≡ goes_beside asked.now.scope.now (own_of asked.now) tree path.now) }
+    ensures { (tree : Files) → ShowsPair paths.now tree path.now → IfOk result (λ beside. beside ≡ goes_beside asked.now.scope.now (own_of asked.now) tree path.now) }
 {
     let neighbour = neighbour_of(alloc, path)?;
     Ok(is_among(paths, neighbour.as_slice()) || goes_beside_unread(path, asked))

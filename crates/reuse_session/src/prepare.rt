@@ -1,19 +1,18 @@
 //! Tests the changes of an entry before they are made.
 ghost use Rattle.std.specs.Prelude.{◌≡◌, ◌↔◌, ℕ, List, map, IsTrue, IfOk, IfErr, OnOk, true};
-ghost use Rattle.std.specs.FinMap as map;
 ghost use Rattle.std.specs.List.{All};
 ghost use Rattle.reuse_tree.specs.Files.{tree_of};
 ghost use Rattle.reuse_tree.specs.Change.{path_of, IsProper};
 ghost use Rattle.reuse_session.specs.Answer.{IsTestRefusal, RefusedAsRead};
 ghost use Rattle.reuse_tree.specs.Tree.{is_of_tree};
-ghost use Rattle.reuse_tree.specs.Entry.{makes, paths_of, IsSmall, IsEntry, CanBeMade, IsFirstStuck, IsFirstWithout};
-ghost use Rattle.reuse_session.specs.Tested.{aimed, Passes};
+ghost use Rattle.reuse_tree.specs.Entry.{paths_of, IsSmall, IsEntry, CanBeMade, IsFirstStuck, IsFirstWithout};
+ghost use Rattle.reuse_session.specs.Tested.{Passes};
 ghost use Rattle.reuse_tree.specs.Asked.{OnlyReads, FailsAsRead};
 
 use crate::reply::{Paths, Refusal};
-use reuse_tree::perform::{can_be_made, paths_to_heed};
+use reuse_tree::perform::can_be_made;
 use reuse_tree::turn::can_turn;
-use reuse_tree::{Change, PathText, Store, StoreFault, Way};
+use reuse_tree::{Change, Store, StoreFault, Way};
 use std::alloc::{AllocError, Global};
 
 /// The paths of the changes.
@@ -51,47 +50,34 @@ pub fn test_each<S: Store>(
     ensures fails { RefusedAsRead S.Store store.old store.new result }
     ensures reads { OnlyReads S.Store store.old store.new }
 {
-    let paths = paths_to_heed(alloc, store, changes, aimed(aim, way))?;
     for change in changes {
-        if !passes(alloc, store, change, way, aim, &paths)? {
+        if !passes(alloc, store, change, way, aim)? {
             return Err(Refusal::Moved(change.path().try_clone(alloc)?));
         }
     }
     Ok(())
 }
 
-// The way in which the aim makes changes.
-fn aimed(aim: Aim, way: Way) -> Way
-    ensures { result ≡ aimed aim way }
-{
-    match aim {
-        Aim::Go => way,
-        Aim::SetBack => way.opposite(),
-    }
-}
-
-// Whether the change is as the aim needs it, beside files of these paths.
+// Whether the change is as the aim needs it.
 fn passes<S: Store>(
     alloc: Global,
     store: &mut S,
     change: &Change,
     way: Way,
     aim: Aim,
-    paths: &[PathText],
 ) -> Result<bool, StoreFault>
     ensures ok { S.honest store.new → IsProper change.now → IsSmall change.now → is_of_tree (path_of change.now) ≡ true
-        → (makes (aimed aim way) change.now ≡ true → paths.now ≡ map.keys (S.files store.old))
         → IfOk result (λ yes. IsTrue yes ↔ Passes aim way (tree_of (S.files store.old)) change.now) }
     ensures fails { FailsAsRead S.Store store.old store.new result }
     ensures reads { OnlyReads S.Store store.old store.new }
 {
     match aim {
-        Aim::Go => can_be_made(alloc, store, change, way, paths),
+        Aim::Go => can_be_made(alloc, store, change, way),
         Aim::SetBack => {
             if can_turn(alloc, store, change, way)? {
                 return Ok(true);
             }
-            can_be_made(alloc, store, change, way.opposite(), paths)
+            can_be_made(alloc, store, change, way.opposite())
         }
     }
 }

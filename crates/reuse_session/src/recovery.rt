@@ -29,7 +29,7 @@ use crate::journal_files::{HeadPath, put_head, read_entry};
 use crate::opening::read_journal;
 use crate::reply::{Paths, Recovered, Refusal};
 use crate::roll_back::{roll_back, told};
-use reuse_tree::perform::{can_be_made, paths_to_heed};
+use reuse_tree::perform::can_be_made;
 use reuse_tree::turn::can_turn;
 use reuse_tree::{Change, PathText, Pending, Store, Way, is_among};
 use std::alloc::Global;
@@ -234,28 +234,25 @@ fn find_each<S: Store>(
     ensures fails { RefusedAsRead S.Store store.old store.new result }
     ensures reads { OnlyReads S.Store store.old store.new }
 {
-    let paths = paths_to_heed(alloc, store, changes, way.opposite())?;
     let mut found = Found {
         changed: Vec::new(alloc),
         skipped: Vec::new(alloc),
     };
     for change in changes {
-        find_next(alloc, store, &mut found, &paths, change, way)?;
+        find_next(alloc, store, &mut found, change, way)?;
     }
     Ok(found)
 }
 
-// Adds what is found at the path of a change, beside files of these paths.
+// Adds what is found at the path of a change.
 fn find_next<S: Store>(
     alloc: Global,
     store: &mut S,
     found: &mut Found,
-    paths: &[PathText],
     change: &Change,
     way: Way,
 ) -> Result<(), Refusal>
     ensures adds { S.honest store.new → IsProper change.now → IsSmall change.now → is_of_tree (path_of change.now) ≡ true
-        → (makes (opposite way) change.now ≡ true → paths.now ≡ map.keys (S.files store.old))
         → OnOk result (FindsNext way (tree_of (S.files store.old)) change.now found.old.changed.items found.new.changed.items found.old.skipped.items found.new.skipped.items) }
     ensures refusal { IfErr result IsPutRefusal }
     ensures fails { RefusedAsRead S.Store store.old store.new result }
@@ -265,7 +262,7 @@ fn find_next<S: Store>(
         return Ok(());
     }
     let path = change.path().try_clone(alloc)?;
-    if can_be_made(alloc, store, change, way.opposite(), paths)? {
+    if can_be_made(alloc, store, change, way.opposite())? {
         Ok(found.changed.push(path)?)
     } else {
         Ok(found.skipped.push(path)?)

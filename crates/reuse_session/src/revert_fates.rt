@@ -1,20 +1,18 @@
 //! What a revert would do.
-ghost use Rattle.std.specs.Prelude.{◌≡◌, ℕ, List, IfErr, IfOk, OnOk, Ok, map, true};
-ghost use Rattle.std.specs.List.{list_any};
-ghost use Rattle.reuse_tree.specs.Entry.{makes, IsEntry};
-ghost use Rattle.reuse_tree.specs.declared.way.Way.TheVariants.{Undo};
+ghost use Rattle.std.specs.Prelude.{◌≡◌, ℕ, List, IfErr, IfOk, OnOk, Ok, map};
+ghost use Rattle.reuse_tree.specs.Entry.{IsEntry};
 ghost use Rattle.reuse_session.specs.FatePlan.{back_at, Adds, Plans};
 ghost use Rattle.reuse_session.specs.Fates.{revert_fate};
 ghost use Rattle.reuse_session.specs.Plan.{MakesEdit};
 ghost use Rattle.reuse_session.specs.Previews.{IsLookRefusal};
-ghost use Rattle.reuse_session.specs.Reading.{keys, tree_of, Files, ReadsAlone};
+ghost use Rattle.reuse_session.specs.Reading.{tree_of, Files, ReadsAlone};
 ghost use Rattle.reuse_session.specs.Reverting.{revert_edits, taken_back_unless};
 
 use crate::choice::PathList;
-use crate::plan_revert::{paths_to_heed, take_back_unless};
+use crate::plan_revert::take_back_unless;
 use crate::planned::Planned;
 use crate::reply::Refusal;
-use reuse_tree::{Change, EntryChanges, PathText, Store};
+use reuse_tree::{Change, EntryChanges, Store};
 use std::alloc::Global;
 
 // What is found of a revert of these changes, where later steps touched these paths.
@@ -29,28 +27,25 @@ pub(crate) fn plan_revert<S: Store>(
         (map (revert_fate touched.now skip_moved (tree_of (S.files store.old))) changes.now) (revert_edits changes.now touched.now skip_moved (tree_of (S.files store.old)))) }
     ensures asks { ReadsAlone S.Store IsLookRefusal store.old store.new result }
 {
-    let changes = changes.as_slice();
-    let paths = paths_to_heed(alloc, store, changes)?;
-    plan_each(alloc, store, &paths, changes, touched, skip_moved)
+    plan_each(alloc, store, changes.as_slice(), touched, skip_moved)
 }
 
-// What is found of each of the changes. `paths` are those of the tree, where one of them makes a file.
+// What is found of each of the changes.
 fn plan_each<S: Store>(
     alloc: Global,
     store: &mut S,
-    paths: &[PathText],
     changes: &[Change],
     touched: &PathList,
     skip_moved: bool,
 ) -> Result<Planned, Refusal>
-    ensures planned { S.honest store.new → IsEntry changes.now → (list_any (makes Undo) changes.now ≡ true → paths.now ≡ keys (tree_of (S.files store.old)))
+    ensures planned { S.honest store.new → IsEntry changes.now
         → IfOk result (Plans (tree_of (S.files store.old))
         (map (revert_fate touched.now skip_moved (tree_of (S.files store.old))) changes.now) (revert_edits changes.now touched.now skip_moved (tree_of (S.files store.old)))) }
     ensures asks { ReadsAlone S.Store IsLookRefusal store.old store.new result }
 {
     let mut planned = Planned::new(alloc);
     for change in changes {
-        let back = take_back_unless(alloc, store, paths, touched, change)?;
+        let back = take_back_unless(alloc, store, touched, change)?;
         push_back(alloc, &mut planned, change, back, skip_moved)?;
     }
     Ok(planned)

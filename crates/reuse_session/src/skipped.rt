@@ -1,12 +1,13 @@
 //! Which of the files that annotate leaves as they are were skipped.
 ghost use Rattle.std.specs.Prelude.{◌≡◌, ◌≤◌, ◌&&◌, Ok, Err, None, true, is_some, length, IfOk, IfErr};
-ghost use Rattle.reuse_session.specs.Reading.{get, keys, tree_of, Files, ReadsAlone};
+ghost use Rattle.reuse_session.specs.Reading.{get, tree_of, Files, ReadsAlone};
 ghost use Rattle.reuse_header.specs.Header.{header_of};
 ghost use Rattle.reuse_session.specs.Annotate.{neighbour_of};
 ghost use Rattle.reuse_session.specs.AnnotationPlan.{annotated_by, beside_by, place_by, skipped_by};
 ghost use Rattle.reuse_session.specs.Covered.{is_covered};
 ghost use Rattle.reuse_session.specs.Fates.{has_tagged, is_skipped_at};
 ghost use Rattle.reuse_session.specs.Previews.{IsLookRefusal};
+ghost use Rattle.reuse_session.specs.Shown.{ShowsPair};
 
 use crate::annotation::Annotation;
 use crate::command::Scope;
@@ -20,7 +21,7 @@ use reuse_text::LONGEST_FILE;
 use reuse_tree::{PathText, Reading, Store};
 use std::alloc::Global;
 
-/// Whether a file was skipped that annotate leaves as it is. `paths` are those of the tree.
+/// Whether a file was skipped that annotate leaves as it is. `paths` show it and its neighbour.
 pub(crate) fn is_skipped<S: Store>(
     alloc: Global,
     store: &mut S,
@@ -28,7 +29,7 @@ pub(crate) fn is_skipped<S: Store>(
     path: &PathText,
     asked: &Annotation<'_>,
 ) -> Result<bool, Refusal>
-    ensures skipped { S.honest store.new → paths.now ≡ keys (tree_of (S.files store.old))
+    ensures skipped { S.honest store.new → ShowsPair paths.now (tree_of (S.files store.old)) path.now
         → annotated_by asked.now (tree_of (S.files store.old)) path.now ≡ Ok None
         → IfOk result (λ skipped. skipped ≡ skipped_by asked.now (tree_of (S.files store.old)) path.now) }
     ensures asks { ReadsAlone S.Store IsLookRefusal store.old store.new result }

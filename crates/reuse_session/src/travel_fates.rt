@@ -1,8 +1,7 @@
 //! What an undo or a redo would do, path by path.
 ghost use Rattle.std.specs.Prelude.{◌≡◌, IfOk, IfErr, true};
-ghost use Rattle.std.specs.FinMap as map;
 ghost use Rattle.reuse_tree.specs.Change.{path_of, IsProper};
-ghost use Rattle.reuse_tree.specs.Entry.{makes, IsEntry, IsSmall};
+ghost use Rattle.reuse_tree.specs.Entry.{IsEntry, IsSmall};
 ghost use Rattle.reuse_tree.specs.Tree.{is_of_tree};
 ghost use Rattle.reuse_session.specs.Fates.{IsFateOf, AreFatesOf};
 ghost use Rattle.reuse_session.specs.Previews.{IsLookRefusal};
@@ -10,8 +9,8 @@ ghost use Rattle.reuse_session.specs.Reading.{tree_of, OnlyReads, ReadsAlone, Re
 
 use crate::fate::{Fate, Fates};
 use crate::reply::Refusal;
-use reuse_tree::perform::{can_be_made, paths_to_heed};
-use reuse_tree::{Change, PathText, Store, Way};
+use reuse_tree::perform::can_be_made;
+use reuse_tree::{Change, Store, Way};
 use std::alloc::Global;
 
 /// The fates of the changes of an entry, gone through this way: each path changes, or is refused as `Moved`.
@@ -26,29 +25,26 @@ pub(crate) fn travel_fates<S: Store>(
     ensures reads { OnlyReads S.Store store.old store.new }
     ensures refusal { IfErr result IsLookRefusal }
 {
-    let paths = paths_to_heed(alloc, store, changes, way)?;
     let mut fates = Vec::new(alloc);
     for change in changes {
-        fates.push(change_fate(alloc, store, change, way, &paths)?)?;
+        fates.push(change_fate(alloc, store, change, way)?)?;
     }
     Ok(Fates::new(fates))
 }
 
-// The fate of a change, beside files of these paths.
+// The fate of a change.
 fn change_fate<S: Store>(
     alloc: Global,
     store: &mut S,
     change: &Change,
     way: Way,
-    paths: &[PathText],
 ) -> Result<Fate, Refusal>
     ensures fate { S.honest store.new → IsProper change.now → IsSmall change.now → is_of_tree (path_of change.now) ≡ true
-        → (makes way change.now ≡ true → paths.now ≡ map.keys (S.files store.old))
         → IfOk result (IsFateOf way (tree_of (S.files store.old)) change.now) }
     ensures asks { ReadsAlone S.Store IsLookRefusal store.old store.new result }
 {
     let path = change.path().try_clone(alloc)?;
-    if can_be_made(alloc, store, change, way, paths)? {
+    if can_be_made(alloc, store, change, way)? {
         Ok(Fate::Changes(path))
     } else {
         Ok(Fate::Refused(Refusal::Moved(path)))

@@ -1,19 +1,20 @@
 use Rattle.std.proofs.Common.{◌≡◌, ◌∙◌, Bool, cond, List, ℕ, Some, IsSome, sym, ap, subst, true, false, Ok, Err}
-use Rattle.std.specs.FinMap.{get, keys}
+use Rattle.std.specs.FinMap.{get}
 use Rattle.reuse_tree.specs.Files.{tree_of}
 use Rattle.reuse_text.specs.declared.TheConstants.{LONGEST_FILE}
 use Rattle.reuse_session.specs.declared.reply.Refusal.TheVariants as refusals
 use Rattle.reuse_session.specs.AnnotationPlan.{own_of, annotated_by, beside_by, place_by, edit_by_place}
 use Rattle.reuse_session.specs.declared.target.Target.TheVariants as target
 use Rattle.reuse_session.specs.Covered.{is_covered}
-use Rattle.reuse_tree.specs.Listing.{ArePaths, is_among}
+use Rattle.reuse_tree.specs.Listing.{is_among}
+use Rattle.reuse_session.specs.Shown.{ShowsPair}
 use Rattle.reuse_session.specs.Plan.{IsRefusalOf, MakesEdit, AnswersEdit}
 use Rattle.reuse_session.specs.Steps.{StepsTo}
 use Rattle.std.proofs.lemmas.Result.{err_from_is_err_and}
 use Rattle.reuse_tree.proofs.AskedLemmas.{reads_none}
 use Rattle.reuse_session.specs.Answer.{IsOfPlan}
 use Rattle.reuse_session.proofs.Asking.{no_fault, short, failed, later, plan_faults}
-use Rattle.reuse_tree.proofs.TreeLemmas.{keys_ascend, read_there}
+use Rattle.reuse_tree.proofs.TreeLemmas.{read_there}
 use Rattle.reuse_session.proofs.Annotating.{some_file}
 use Rattle.reuse_session.proofs.EditLemmas.{some_bytes, uncovered_is, covered_is}
 use Rattle.reuse_session.proofs.plan.plan_path.Given.{Over}
@@ -23,16 +24,14 @@ use Rattle.reuse_session.proofs.plan.plan_path.Goals as goal
 pub returns-then-not-is_among-clause-edit : goal.returns-then-not-is_among-clause-edit
 returns-then-not-is_among-clause-edit g c honest are =
     let tree = tree_of (g.S.Store.files c.args.store.now) in
-    let sorted : ArePaths c.args.paths.now = subst ArePaths (sym are) (keys_ascend (tree_of (g.S.Store.files c.args.store.now))) in
-    c.plan_absent.ensures.edit c.args.asked.now.how.now c.args.asked.now.scope.now c.args.asked.now.additions.now (own_of c.args.asked.now) tree are (sym (c.is_among.ensures sorted ∙ ap (is_among c.args.paths.now) c.as_bytes.ensures.bytes) ∙ c.if-not-is_among.true)
+    c.plan_absent.ensures.edit c.args.asked.now.how.now c.args.asked.now.scope.now c.args.asked.now.additions.now (own_of c.args.asked.now) tree are (sym (c.is_among.ensures are.ordered ∙ ap (is_among c.args.paths.now) c.as_bytes.ensures.bytes) ∙ c.if-not-is_among.true)
 
 -- the tree has a file at the path where it is among those of the tree
-module _ (g : Over) (c : After-is_covered g) (are : c.args.paths.now ≡ keys (tree_of (g.S.Store.files c.args.store.now))) where
+module _ (g : Over) (c : After-is_covered g) (are : ShowsPair c.args.paths.now (tree_of (g.S.Store.files c.args.store.now)) c.args.path.now) where
   some : IsSome (get (tree_of (g.S.Store.files c.args.store.now)) c.args.path.now)
   some =
-      let sorted : ArePaths c.args.paths.now = subst ArePaths (sym are) (keys_ascend (tree_of (g.S.Store.files c.args.store.now))) in
-      let there = sym (c.is_among.ensures sorted ∙ ap (is_among c.args.paths.now) c.as_bytes.ensures.bytes) ∙ c.if-not-is_among.false in
-      some_file (tree_of (g.S.Store.files c.args.store.now)) c.args.path.now c.args.paths.now are there
+      let there = sym (c.is_among.ensures are.ordered ∙ ap (is_among c.args.paths.now) c.as_bytes.ensures.bytes) ∙ c.if-not-is_among.false in
+      some_file (tree_of (g.S.Store.files c.args.store.now)) c.args.path.now c.args.paths.now are.there there
 
   found : (bytes : List ℕ) × (get (tree_of (g.S.Store.files c.args.store.now)) c.args.path.now ≡ Some bytes)
   found = some_bytes (get (tree_of (g.S.Store.files c.args.store.now)) c.args.path.now) some
@@ -40,8 +39,12 @@ module _ (g : Over) (c : After-is_covered g) (are : c.args.paths.now ≡ keys (t
   covered : is_covered c.args.path.now ≡ c.is_covered.result
   covered = ap is_covered (sym c.as_bytes-2.ensures.bytes) ∙ sym c.is_covered.ensures
 
+-- it is covered
+is_so : (g : Over) (c : In_ok-goes_beside g) → is_covered c.args.path.now ≡ true
+is_so g c = ap is_covered (sym c.as_bytes-2.ensures.bytes) ∙ sym c.is_covered.ensures ∙ c.if-not-is_covered.false
+
 -- what is due at a covered file, whether it goes beside or not
-due : (g : Over) (c : In_ok-goes_beside g) → c.args.paths.now ≡ keys (tree_of (g.S.Store.files c.args.store.now)) → (bytes : List ℕ) → get (tree_of (g.S.Store.files c.args.store.now)) c.args.path.now ≡ Some bytes
+due : (g : Over) (c : In_ok-goes_beside g) → ShowsPair c.args.paths.now (tree_of (g.S.Store.files c.args.store.now)) c.args.path.now → (bytes : List ℕ) → get (tree_of (g.S.Store.files c.args.store.now)) c.args.path.now ≡ Some bytes
     → (beside : Bool) → c.in_ok-goes_beside.field-0 ≡ beside
     → annotated_by c.args.asked.now (tree_of (g.S.Store.files c.args.store.now)) c.args.path.now
     ≡ edit_by_place c.args.asked.now (tree_of (g.S.Store.files c.args.store.now)) c.args.path.now bytes (cond beside (Ok target.Beside) (place_by c.args.asked.now c.args.path.now bytes))
@@ -60,7 +63,7 @@ pub returns-then-branch-clause-edit : goal.returns-then-branch-clause-edit
 returns-then-branch-clause-edit g c honest are =
     let at = goal.at.returns-then-branch-clause-edit g c in
     let file = found g at.After-is_covered are in
-    subst (λ r. AnswersEdit (tree_of (g.S.Store.files c.args.store.now)) r c.plan_beside.result) (sym (due g at.In_ok-goes_beside are file.0 file.1 true c.if-branch.true)) (c.plan_beside.ensures.edit honest are)
+    subst (λ r. AnswersEdit (tree_of (g.S.Store.files c.args.store.now)) r c.plan_beside.result) (sym (due g at.In_ok-goes_beside are file.0 file.1 true c.if-branch.true)) (c.plan_beside.ensures.edit honest are (is_so g at.In_ok-goes_beside))
 
 pub returns-in-Ok-Done-clause-edit : goal.returns-in-Ok-Done-clause-edit
 returns-in-Ok-Done-clause-edit g c honest are =
@@ -83,7 +86,7 @@ returns-in-Ok-Beside-clause-edit g c honest are =
     subst (λ r. AnswersEdit tree r c.plan_beside-in-Ok-Beside.result)
     (sym (due g at.In_ok-goes_beside are file.0 file.1 false c.if-branch.false ∙ ap (edit_by_place c.args.asked.now tree c.args.path.now file.0) aim))
     (subst (λ f. AnswersEdit (tree_of f) (beside_by c.args.asked.now (tree_of f) c.args.path.now) c.plan_beside-in-Ok-Beside.result) same
-    (c.plan_beside-in-Ok-Beside.ensures.edit honest (are ∙ ap (λ f. keys (tree_of f)) (sym same))))
+    (c.plan_beside-in-Ok-Beside.ensures.edit honest (subst (λ f. ShowsPair c.args.paths.now (tree_of f) c.args.path.now) (sym same) are) (is_so g at.In_ok-goes_beside)))
 
 pub returns-in-Err-clause-edit : goal.returns-in-Err-clause-edit
 returns-in-Err-clause-edit g c honest are =

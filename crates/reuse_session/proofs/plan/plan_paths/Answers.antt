@@ -1,5 +1,6 @@
 use Rattle.std.proofs.Common.{◌≡◌, ◌+◌, ◌∷◌, ◌∙◌, drop, sym, ap, subst}
-use Rattle.std.specs.FinMap.{keys}
+use Rattle.reuse_session.specs.Shown.{ShowsEach, ShowsOne}
+use Rattle.reuse_session.proofs.ShownLemmas.{one_of_each}
 use Rattle.reuse_tree.specs.Files.{tree_of}
 use Rattle.reuse_tree.proofs.AskedLemmas.{reads_more}
 use Rattle.reuse_session.specs.AnnotationPlan.{annotated_by}
@@ -7,29 +8,31 @@ use Rattle.reuse_session.specs.Plan.{MakesEdit, IsRefusalOf}
 use Rattle.reuse_session.proofs.Annotating.{SoFar, after_path, at_refusal}
 use Rattle.reuse_tree.proofs.AtChange.{left_here}
 use Rattle.reuse_session.proofs.plan.plan_paths.Given.{Over}
-use Rattle.reuse_session.proofs.plan.plan_paths.Goals.{After-plan_path}
+use Rattle.reuse_session.proofs.plan.plan_paths.Goals.{After-plan_one}
 use Rattle.reuse_session.proofs.plan.plan_paths.Goals as goal
 
-module _ (g : Over) (c : After-plan_path g) (honest : g.S.Store.honest c.plan_path.new.store) (are : c.args.paths.now ≡ keys (tree_of (g.S.Store.files c.args.store.now))) where
+module _ (g : Over) (c : After-plan_one g) (honest : g.S.Store.honest c.plan_one.new.store) (are : ShowsEach c.args.listing.now (tree_of (g.S.Store.files c.args.store.now)) c.args.worked.now) where
   same : g.S.Store.files c.loop-path.store ≡ g.S.Store.files c.args.store.now
-  same = c.loop-path.invariant.reads.files (c.plan_path.ensures.asks.reads.was_honest honest)
+  same = c.loop-path.invariant.reads.files (c.plan_one.ensures.asks.reads.was_honest honest)
 
-  -- the paths are those of the tree still
-  are_still : c.args.paths.now ≡ keys (tree_of (g.S.Store.files c.loop-path.store))
-  are_still = are ∙ ap (λ f. keys (tree_of f)) (sym same)
+  -- the path is shown still
+  are_still : ShowsOne c.args.listing.now (tree_of (g.S.Store.files c.loop-path.store)) c.path-item.result
+  are_still =
+      subst (λ f. ShowsOne c.args.listing.now (tree_of f) c.path-item.result) (sym same)
+      (one_of_each c.args.listing.now (tree_of (g.S.Store.files c.args.store.now)) c.args.worked.now are c.loop-path.path-index c.path-item.result c.loop-path-test.true c.path-item.is)
 
   so_far : SoFar (annotated_by c.args.asked.now (tree_of (g.S.Store.files c.args.store.now))) (tree_of (g.S.Store.files c.args.store.now)) c.args.worked.now
       (c.path-item.result ∷ drop (c.loop-path.path-index + 1) c.args.worked.now) c.loop-path.changes.items
   so_far =
       subst (λ left. SoFar (annotated_by c.args.asked.now (tree_of (g.S.Store.files c.args.store.now))) (tree_of (g.S.Store.files c.args.store.now)) c.args.worked.now left c.loop-path.changes.items)
       (left_here c.args.worked.now c.loop-path.path-index c.loop-path-test.true c.path-item.result c.path-item.is)
-      (c.loop-path.invariant.so_far (c.plan_path.ensures.asks.reads.was_honest honest) are)
+      (c.loop-path.invariant.so_far (c.plan_one.ensures.asks.reads.was_honest honest) are)
 
 pub loop-path-preserved : goal.loop-path-preserved
 loop-path-preserved g c = record {
-  reads = reads_more g.S.Store _ _ _ c.loop-path.invariant.reads c.plan_path.ensures.asks.reads;
+  reads = reads_more g.S.Store _ _ _ c.loop-path.invariant.reads c.plan_one.ensures.asks.reads;
   so_far = λ h are.
-      let read = (goal.at.loop-path-preserved g c).After-plan_path in
+      let read = (goal.at.loop-path-preserved g c).After-plan_one in
       let at = annotated_by c.args.asked.now in
       let tree = tree_of (g.S.Store.files c.args.store.now) in
       let rest = drop (c.loop-path.path-index + 1) c.args.worked.now in
@@ -40,7 +43,7 @@ loop-path-preserved g c = record {
 
 pub returns-in-Err-clause-edits : goal.returns-in-Err-clause-edits
 returns-in-Err-clause-edits g c h are =
-    let read = (goal.at.returns-in-Err-clause-edits g c).After-plan_path in
+    let read = (goal.at.returns-in-Err-clause-edits g c).After-plan_one in
     let at = annotated_by c.args.asked.now in
     at_refusal (at (tree_of (g.S.Store.files c.args.store.now))) (tree_of (g.S.Store.files c.args.store.now)) c.args.worked.now c.path-item.result (drop (c.loop-path.path-index + 1) c.args.worked.now) c.loop-path.changes.items
     c.in-Err.refusal (so_far g read h are) (subst (λ f. IsRefusalOf (at (tree_of f) c.path-item.result) c.in-Err.refusal) (same g read h are) (c.in-Err.ensures.edit h (are_still g read h are)))

@@ -1,5 +1,5 @@
-use Rattle.std.proofs.Common.{◌≡◌, drop}
-use Rattle.std.specs.FinMap.{keys}
+use Rattle.std.proofs.Common.{drop}
+use Rattle.reuse_session.specs.Shown.{ShowsEach}
 use Rattle.reuse_tree.specs.Files.{tree_of}
 use Rattle.reuse_tree.specs.Asked.{OnlyReads}
 use Rattle.reuse_session.specs.AnnotationPlan.{annotated_by}
@@ -10,6 +10,6 @@ use Rattle.reuse_session.proofs.plan.plan_paths.Given as goal
 abbrev pub invariant-loop-path : goal.invariant-loop-path
 invariant-loop-path g l = record {
   reads : OnlyReads g.S.Store l.initial.store l.store;
-  so_far : g.S.Store.honest l.store → l.paths ≡ keys (tree_of (g.S.Store.files l.initial.store))
+  so_far : g.S.Store.honest l.store → ShowsEach l.listing (tree_of (g.S.Store.files l.initial.store)) l.worked
       → SoFar (annotated_by l.asked (tree_of (g.S.Store.files l.initial.store))) (tree_of (g.S.Store.files l.initial.store)) l.worked (drop l.path-index l.worked) l.changes.items;
 }

@@ -1,20 +1,39 @@
-use Rattle.std.proofs.Common.{◌≡◌, ◌∙◌, false, cond, not, ◌&&◌, Err, sym, ap, subst}
-use Rattle.reuse_tree.specs.Files.{tree_of}
+use Rattle.std.proofs.Common.{◌≡◌, ◌∙◌, Bool, List, Result, cond, Err, sym, ap, subst}
+use Rattle.reuse_tree.specs.Files.{Files, tree_of}
+use Rattle.reuse_session.specs.Answer.{IsOfPlan}
 use Rattle.reuse_session.specs.AnnotationPlan.{edits_by, worked_by}
-use Rattle.reuse_session.specs.Command.{has_root}
+use Rattle.reuse_session.specs.Edit.{Edit}
 use Rattle.reuse_session.specs.Plan.{AnswersEdits}
+use Rattle.reuse_session.specs.Shown.{ShowsEach}
+use Rattle.reuse_session.specs.declared.annotation.Annotation.{Annotation}
+use Rattle.reuse_session.specs.declared.command.Place.{Place}
 use Rattle.reuse_session.specs.declared.command.Place.TheVariants as place
+use Rattle.reuse_session.specs.declared.reply.Refusal.{Refusal}
 use Rattle.reuse_session.specs.declared.reply.Refusal.TheVariants.{IsFolder}
+use Rattle.reuse_session.proofs.Asking.{later}
 use Rattle.reuse_session.proofs.plan.plan_places.Goals as goal
 
-pub returns-in-Ok-Unknown-clause-edits : goal.returns-in-Ok-Unknown-clause-edits
-returns-in-Ok-Unknown-clause-edits g c honest =
-    let before = c.plan_listed-in-Ok-Unknown.ensures.asks.reads.was_honest honest in
-    let same = c.plan_given.ensures.asks.reads.files before in
-    let rootless : (not c.args.asked.now.scope.now.recursive && has_root c.args.places.now) ≡ false =
-    ap (λ r. not r && has_root c.args.places.now) c.if-asked.false ∙ sym c.has_root.ensures ∙ c.if-has_root.false in
+-- what is changed, by whether the root is given where folders aren't gone through
+abbrev edits_where : Annotation → Files → List Place → Bool → Result (List Edit) Refusal
+edits_where asked tree places root = cond root (Err (IsFolder place.Root)) (edits_by asked tree (worked_by asked tree places))
+
+pub returns-then-gives_root-clause-edits : goal.returns-then-gives_root-clause-edits
+returns-then-gives_root-clause-edits g c honest =
+    ap (edits_where c.args.asked.now (tree_of (g.S.Store.files c.args.store.now)) c.args.places.now) (sym c.gives_root.ensures ∙ c.if-gives_root.true)
+
+pub returns-in-Ok-clause-edits : goal.returns-in-Ok-clause-edits
+returns-in-Ok-clause-edits g c honest =
+    let asked = c.args.asked.now in
+    let places = c.args.places.now in
     let tree = tree_of (g.S.Store.files c.args.store.now) in
-    let edits = edits_by c.args.asked.now tree (worked_by c.args.asked.now tree c.args.places.now) in
-    subst (λ b. AnswersEdits tree (cond b (Err (IsFolder place.Root)) edits) c.plan_listed-in-Ok-Unknown.result) (sym rootless)
-    (subst (λ f. AnswersEdits (tree_of f) (edits_by c.args.asked.now (tree_of f) (worked_by c.args.asked.now (tree_of f) c.args.places.now)) c.plan_listed-in-Ok-Unknown.result) same
-    (c.plan_listed-in-Ok-Unknown.ensures.edits honest))
+    let read = c.plan_paths.ensures.asks.reads.was_honest honest in
+    let same = ap tree_of (c.in-Ok.ensures.asks.reads.files read) in
+    let worked = c.deref.ensures.value ∙ c.in-Ok.ensures.paths read in
+    let shown = subst (λ t. ShowsEach c.in-Ok.worked.listing t c.deref.result.now) (sym same)
+    (subst (ShowsEach c.in-Ok.worked.listing tree) (sym c.deref.ensures.value) (c.in-Ok.ensures.shown read)) in
+    subst (λ b. AnswersEdits tree (edits_where asked tree places b) c.plan_paths.result) (sym (sym c.gives_root.ensures ∙ c.if-gives_root.false))
+    (subst (λ t. AnswersEdits t (edits_by asked t (worked_by asked tree places)) c.plan_paths.result) same
+    (subst (λ ps. AnswersEdits (tree_of (g.S.Store.files c.find_worked.new.store)) (edits_by asked (tree_of (g.S.Store.files c.find_worked.new.store)) ps) c.plan_paths.result) worked (c.plan_paths.ensures.edits honest shown)))
+
+pub returns-in-Ok-clause-asks : goal.returns-in-Ok-clause-asks
+returns-in-Ok-clause-asks g c = later g.S.Store IsOfPlan _ _ _ _ c.in-Ok.ensures.asks.reads c.plan_paths.ensures.asks

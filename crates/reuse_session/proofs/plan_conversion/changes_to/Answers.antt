@@ -2,21 +2,17 @@ use Rattle.std.proofs.Common.{◌∙◌, [], ◌∷◌, sym, ap, ap₂, subst, E
 use Rattle.reuse_tree.specs.Change.{sealed_drop, sealed_make}
 use Rattle.reuse_tree.specs.Clash.{is_clash_of}
 use Rattle.reuse_session.specs.Conversion.{conversion_edits}
-use Rattle.reuse_tree.specs.Listing.{ArePaths}
 use Rattle.reuse_session.specs.Plan.{MakesEdits}
 use Rattle.reuse_session.specs.declared.reply.Refusal.TheVariants as refusals
-use Rattle.reuse_tree.proofs.TreeLemmas.{keys_ascend}
 use Rattle.reuse_session.proofs.Converting.{clash_answer, made_answer}
 use Rattle.reuse_session.proofs.plan_conversion.changes_to.Goals as goal
 
 pub returns-then-branch-clause-edits : goal.returns-then-branch-clause-edits
 returns-then-branch-clause-edits c tree are here there found short absent is fits =
-    let sorted : ArePaths c.args.paths.now = subst ArePaths (sym are) (keys_ascend tree) in
-    clash_answer tree c.args.paths.now c.args.old are found short c.args.new is absent (ap (is_clash_of c.args.paths.now) (sym there) ∙ sym (c.in_ok-is_clash.ensures sorted) ∙ c.if-branch.true)
+    clash_answer tree c.args.paths.now c.args.old are found short c.args.new is absent (ap (is_clash_of c.args.paths.now) (sym there) ∙ sym (c.in_ok-is_clash.ensures are.ordered) ∙ c.if-branch.true)
     ∙ ap (λ p. Err (refusals.Clash p)) (sym there)
 
 pub returns-clause-edits : goal.returns-clause-edits
 returns-clause-edits c tree are here there found short absent is fits =
-    let sorted : ArePaths c.args.paths.now = subst ArePaths (sym are) (keys_ascend tree) in
     subst (MakesEdits tree (conversion_edits tree)) (sym (c.in_ok-both_changes.ensures ∙ ap₂ (λ p q. sealed_drop p c.args.old ∷ sealed_make q c.args.new ∷ []) here there))
-    (made_answer tree c.args.paths.now c.args.old are found short c.args.new is absent (ap (is_clash_of c.args.paths.now) (sym there) ∙ sym (c.in_ok-is_clash.ensures sorted) ∙ c.if-branch.false) fits)
+    (made_answer tree c.args.paths.now c.args.old are found short c.args.new is absent (ap (is_clash_of c.args.paths.now) (sym there) ∙ sym (c.in_ok-is_clash.ensures are.ordered) ∙ c.if-branch.false) fits)

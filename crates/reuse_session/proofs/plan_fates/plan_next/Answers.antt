@@ -1,5 +1,5 @@
 use Rattle.std.proofs.Common.{◌≡◌, ◌∙◌, None, Ok, sym, ap, subst}
-use Rattle.std.specs.FinMap.{keys}
+use Rattle.reuse_session.specs.Shown.{ShowsPair}
 use Rattle.reuse_tree.specs.Files.{tree_of}
 use Rattle.reuse_session.specs.AnnotationPlan.{annotated_by, skipped_by}
 use Rattle.reuse_session.specs.FatePlan.{Adds}
@@ -24,7 +24,7 @@ returns-in_ok-push_idle-in-Ok-None-clause-adds g c honest are =
     let same = c.plan_path.ensures.asks.reads.files before in
     let given = annotated_by c.args.asked.now tree c.args.path.now in
     let none : given ≡ Ok None = subst (MakesEdit tree given) c.in-Ok-None.field-0-is (c.in-Ok-None.ensures.edit before are) in
-    let skipped = c.in_ok-skipped-in-Ok-None.ensures.skipped honest (are ∙ ap (λ f. keys (tree_of f)) (sym same))
+    let skipped = c.in_ok-skipped-in-Ok-None.ensures.skipped honest (subst (λ f. ShowsPair c.args.paths.now (tree_of f) c.args.path.now) (sym same) are)
     (subst (λ f. annotated_by c.args.asked.now (tree_of f) c.args.path.now ≡ Ok None) (sym same) none) in
     let is = skipped ∙ ap (λ f. skipped_by c.args.asked.now (tree_of f) c.args.path.now) same in
     subst (λ e. Adds (tree_of (g.S.Store.files c.args.store.now)) e (fate_by c.args.path.now (skipped_by c.args.asked.now (tree_of (g.S.Store.files c.args.store.now)) c.args.path.now) e) c.args.planned.now c.push_idle.new.self) (sym none)

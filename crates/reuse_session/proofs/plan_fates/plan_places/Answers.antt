@@ -1,5 +1,5 @@
 use Rattle.std.proofs.Common.{Bool, List, Result, ◌∷◌, [], cond, Ok, Err, IfOk, map, ap, sym, subst, ◌∙◌}
-use Rattle.std.specs.FinMap.{keys}
+use Rattle.reuse_session.specs.Shown.{ShowsEach}
 use Rattle.reuse_tree.specs.Files.{Files, tree_of}
 use Rattle.reuse_session.specs.AnnotationPlan.{own_of, told_by, edits_by, worked_by, edits_of_places, PlansPaths}
 use Rattle.reuse_session.specs.FatePlan.{Plans}
@@ -39,9 +39,10 @@ returns-clause-planned g c honest =
     let places = c.args.places.now in
     let tree = tree_of (g.S.Store.files c.args.store.now) in
     let read = c.plan_paths.ensures.asks.reads.was_honest honest in
-    let listed = c.in_ok-paths.ensures.paths read in
-    let same = ap tree_of (c.in_ok-paths.ensures.reads.files read) in
-    let worked = c.deref-3.ensures.value ∙ c.in_ok-worked.ensures tree (c.deref.ensures.value ∙ listed) in
-    let planned = c.plan_paths.ensures.planned honest (c.deref-2.ensures.value ∙ listed ∙ ap keys (sym same)) in
+    let same = ap tree_of (c.in_ok-worked.ensures.asks.reads.files read) in
+    let worked = c.deref.ensures.value ∙ c.in_ok-worked.ensures.paths read in
+    let shown = subst (λ t. ShowsEach c.in_ok-worked.worked.listing t c.deref.result.now) (sym same)
+    (subst (ShowsEach c.in_ok-worked.worked.listing tree) (sym c.deref.ensures.value) (c.in_ok-worked.ensures.shown read)) in
     subst (λ b. IfOk c.plan_paths.result (Plans tree (told_where asked tree places b) (edits_where asked tree places b))) (sym (sym c.gives_root.ensures ∙ c.if-gives_root.false))
-    (subst (λ t. IfOk c.plan_paths.result (PlansPaths asked t (worked_by asked tree places))) same (subst (λ ps. IfOk c.plan_paths.result (PlansPaths asked (tree_of (g.S.Store.files c.tree_paths.new.store)) ps)) worked planned))
+    (subst (λ t. IfOk c.plan_paths.result (PlansPaths asked t (worked_by asked tree places))) same
+    (subst (λ ps. IfOk c.plan_paths.result (PlansPaths asked (tree_of (g.S.Store.files c.find_worked.new.store)) ps)) worked (c.plan_paths.ensures.planned honest shown)))

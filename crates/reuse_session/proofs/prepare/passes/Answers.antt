@@ -1,5 +1,5 @@
 use Rattle.std.proofs.Common.{◌≡◌, ◌↔◌, IfOk, inl, inr, ⊎_elim, Bool, true, false, IsTrue, ap, sym, refl, subst, ◌∙◌}
-use Rattle.std.specs.FinMap.{get, keys}
+use Rattle.std.specs.FinMap.{get}
 use Rattle.std.proofs.lemmas.Bool.{false≢true}
 use Rattle.std.proofs.lemmas.Result.{IfOk-weaker}
 use Rattle.reuse_tree.specs.Files.{Files, tree_of}
@@ -7,8 +7,8 @@ use Rattle.reuse_tree.specs.Change.{path_of}
 use Rattle.reuse_tree.specs.declared.change.Change.{Change}
 use Rattle.reuse_tree.specs.declared.way.Way.{Way}
 use Rattle.reuse_tree.specs.Tree.{is_of_tree}
-use Rattle.reuse_tree.specs.Entry.{IsReady, CanBeMade, CanBeSetBack, makes, opposite}
-use Rattle.reuse_session.specs.Tested.{aimed, Passes}
+use Rattle.reuse_tree.specs.Entry.{IsReady, CanBeMade, CanBeSetBack, opposite}
+use Rattle.reuse_session.specs.Tested.{Passes}
 use Rattle.reuse_session.specs.declared.prepare.Aim.{Aim}
 use Rattle.reuse_tree.proofs.OfTree.{tree_at}
 use Rattle.reuse_session.proofs.prepare.passes.Goals as goal
@@ -29,28 +29,27 @@ module _ (way : Way) (change : Change) (files : Files) (of_tree : is_of_tree (pa
       )
 
 pub returns-in-Go-clause-ok : goal.returns-in-Go-clause-ok
-returns-in-Go-clause-ok g c honest proper small of_tree paths =
+returns-in-Go-clause-ok g c honest proper small of_tree =
     subst (λ (aim : Aim). IfOk c.can_be_made.result (λ (b : Bool). IsTrue b ↔ Passes aim c.args.way (tree_of (g.S.Store.files c.args.store.now)) c.args.change.now)) (sym c.in-Go.is)
-    (c.can_be_made.ensures.ok honest proper small of_tree (λ makes_one. paths (subst (λ (aim : Aim). makes (aimed aim c.args.way) c.args.change.now ≡ true) (sym c.in-Go.is) makes_one)))
+    (c.can_be_made.ensures.ok honest proper small of_tree)
 
 pub returns-then-branch-clause-ok : goal.returns-then-branch-clause-ok
-returns-then-branch-clause-ok g c honest proper small of_tree paths =
+returns-then-branch-clause-ok g c honest proper small of_tree =
     let files = g.S.Store.files c.args.store.now in
     subst (λ (aim : Aim). IsTrue true ↔ Passes aim c.args.way (tree_of files) c.args.change.now) (sym c.in-SetBack.is)
     (λ _. not_made c.args.way c.args.change.now files of_tree c.in_ok-can_turn-in-SetBack.field-0 (c.in_ok-can_turn-in-SetBack.ensures.ok honest proper small) c.if-branch.true, λ _. refl)
 
 pub returns-else-branch-clause-ok : goal.returns-else-branch-clause-ok
-returns-else-branch-clause-ok g c honest proper small of_tree paths =
+returns-else-branch-clause-ok g c honest proper small of_tree =
     let files = g.S.Store.files c.args.store.now in
     let way = c.args.way in
     let change = c.args.change.now in
     let before = c.can_be_made-in-SetBack.ensures.reads.was_honest honest in
     let same = c.can_turn.ensures.reads.files before in
-    let heeds : makes (opposite way) change ≡ true → makes (aimed c.args.aim way) change ≡ true = subst (λ (aim : Aim). makes (aimed aim way) change ≡ true) (sym c.in-SetBack.is) in
     subst (λ (aim : Aim). IfOk c.can_be_made-in-SetBack.result (λ (b : Bool). IsTrue b ↔ Passes aim way (tree_of files) change)) (sym c.in-SetBack.is) (
     IfOk-weaker c.can_be_made-in-SetBack.result
     (λ (b : Bool). IsTrue b ↔ CanBeMade c.opposite.result (tree_of (g.S.Store.files c.can_turn.new.store)) change)
     (λ (b : Bool). IsTrue b ↔ CanBeSetBack way (tree_of files) change)
     (made way change files of_tree c.in_ok-can_turn-in-SetBack.field-0 (c.in_ok-can_turn-in-SetBack.ensures.ok before proper small) c.if-branch.false c.opposite.result c.opposite.ensures (g.S.Store.files c.can_turn.new.store) same)
-    (c.can_be_made-in-SetBack.ensures.ok honest proper small of_tree (λ makes_one. paths (heeds (subst (λ w. makes w change ≡ true) c.opposite.ensures makes_one)) ∙ ap keys (sym same)))
+    (c.can_be_made-in-SetBack.ensures.ok honest proper small of_tree)
     )

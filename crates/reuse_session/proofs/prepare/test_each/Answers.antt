@@ -1,13 +1,13 @@
 use Rattle.std.proofs.Common.{◌≡◌, ◌↔◌, true, IsTrue, arith, sym, subst, ◌∙◌, List, ℕ, ◌<◌, Result, Ok, Err, IfErr, ap}
-use Rattle.std.specs.List.{All, list_any}
+use Rattle.std.specs.List.{All}
 use Rattle.std.proofs.lemmas.Bool.{false≢true}
 use Rattle.std.proofs.lemmas.List.{take_all}
 use Rattle.reuse_tree.specs.Files.{tree_of}
 use Rattle.reuse_tree.specs.Change.{path_of}
-use Rattle.reuse_tree.specs.Entry.{IsEntry, makes}
+use Rattle.reuse_tree.specs.Entry.{IsEntry}
 use Rattle.reuse_session.specs.Tested.{Passes}
 use Rattle.std.proofs.lemmas.Result.{err_from_is_err_and}
-use Rattle.reuse_tree.proofs.AskedLemmas.{reads_more}
+use Rattle.reuse_tree.proofs.AskedLemmas.{reads_none, reads_more}
 use Rattle.reuse_tree.specs.declared.fault.StoreFault.{StoreFault}
 use Rattle.reuse_tree.specs.declared.fault.StoreFault.TheVariants as faults
 use Rattle.reuse_session.specs.declared.reply.Refusal.{Refusal}
@@ -15,7 +15,7 @@ use Rattle.reuse_session.specs.declared.reply.Refusal.TheVariants as refusals
 use Rattle.reuse_session.specs.Answer.{IsTestRefusal}
 use Rattle.reuse_session.specs.Cause.{refusal_of}
 use Rattle.reuse_session.proofs.Asking.{fails_behind, fails_otherwise}
-use Rattle.reuse_tree.proofs.AtChange.{reads_on, tested, passes, first_without}
+use Rattle.reuse_tree.proofs.AtChange.{tested, passes, first_without}
 use Rattle.reuse_session.proofs.prepare.test_each.Given.{Over}
 use Rattle.reuse_session.proofs.prepare.test_each.Goals.{In_ok-passes}
 use Rattle.reuse_session.proofs.prepare.test_each.Goals as goal
@@ -42,8 +42,8 @@ test_tells : (g : Over) (c : In_ok-passes g) → g.S.Store.honest c.passes.new.s
 test_tells g c honest good =
     let kept = c.loop-change.invariant in
     let before = c.passes.ensures.reads.was_honest honest in
-    tested c.args.changes.now c.loop-change.change-index c.loop-change-test.true c.change-item.result c.change-item.is c.deref.result.now
-    (λ files. IsTrue c.in_ok-passes.field-0 ↔ Passes c.args.aim c.args.way (tree_of files) c.change-item.result) good kept.walk before c.deref.ensures.value (c.in_ok-passes.ensures.ok honest)
+    tested c.args.changes.now c.loop-change.change-index c.loop-change-test.true c.change-item.result c.change-item.is
+    (λ files. IsTrue c.in_ok-passes.field-0 ↔ Passes c.args.aim c.args.way (tree_of files) c.change-item.result) good kept.reads before (c.in_ok-passes.ensures.ok honest)
 
 pub returns-then-not-branch-clause-moved : goal.returns-then-not-branch-clause-moved
 returns-then-not-branch-clause-moved g c honest good path e =
@@ -54,10 +54,7 @@ returns-then-not-branch-clause-moved g c honest good path e =
 
 pub loop-change-init : goal.loop-change-init
 loop-change-init g c = record {
-  walk = record {
-    reads = c.paths_to_heed.ensures.reads;
-    heeded = λ honest any. c.in_ok-paths.ensures.paths honest (subst (λ w. list_any (makes w) c.args.changes.now ≡ true) (sym c.aimed.ensures) any);
-  };
+  reads = reads_none g.S.Store _;
   ready = λ honest good k d lt. absurd (none_below k lt);
 }
 
@@ -66,7 +63,7 @@ loop-change-preserved g c =
     let kept = c.loop-change.invariant in
     let was_honest = c.passes.ensures.reads.was_honest in
     record {
-      walk = reads_on kept.walk c.passes.ensures.reads;
+      reads = reads_more g.S.Store _ _ _ kept.reads c.passes.ensures.reads;
       ready = λ honest good. passes c.args.changes.now c.loop-change.change-index c.loop-change-test.true c.change-item.result c.change-item.is (Passes c.args.aim c.args.way (tree_of (g.S.Store.files c.args.store.now)))
           (kept.ready (was_honest honest) good) ((test_tells g (goal.at.loop-change-preserved g c).In_ok-passes honest good).0 c.if-not-branch.false);
     }
@@ -80,28 +77,28 @@ pub returns-then-not-branch-clause-fails : goal.returns-then-not-branch-clause-f
 returns-then-not-branch-clause-fails g c = fails_otherwise g.S.Store _ _ (Err (refusals.Moved _)) tt
 
 pub returns-then-not-branch-clause-reads : goal.returns-then-not-branch-clause-reads
-returns-then-not-branch-clause-reads g c = reads_more g.S.Store _ _ _ c.loop-change.invariant.walk.reads c.passes.ensures.reads
+returns-then-not-branch-clause-reads g c = reads_more g.S.Store _ _ _ c.loop-change.invariant.reads c.passes.ensures.reads
 
 pub returns-clause-fails : goal.returns-clause-fails
 returns-clause-fails g c = fails_otherwise g.S.Store _ _ (Ok tt) tt
 
 pub returns-clause-reads : goal.returns-clause-reads
-returns-clause-reads g c = c.loop-change.invariant.walk.reads
+returns-clause-reads g c = c.loop-change.invariant.reads
 
 pub returns-in_err-passes-clause-fails : goal.returns-in_err-passes-clause-fails
 returns-in_err-passes-clause-fails g c =
-    let p = err_from_is_err_and c.from_residual-in_err-passes.result c.from_residual-in_err-passes.ensures.1 in
-    fails_behind g.S.Store _ _ _ c.in_err-passes.field-0.0 _ (p.1 ∙ ap (λ r. Err r) p.2) c.loop-change.invariant.walk.reads c.in_err-passes.ensures.fails
+    let p = err_from_is_err_and c.from_residual.result c.from_residual.ensures.1 in
+    fails_behind g.S.Store _ _ _ c.in_err-passes.field-0.0 _ (p.1 ∙ ap (λ r. Err r) p.2) c.loop-change.invariant.reads c.in_err-passes.ensures.fails
 
 pub returns-in_err-passes-clause-moved : goal.returns-in_err-passes-clause-moved
 returns-in_err-passes-clause-moved g c honest good path moved =
-    let p = err_from_is_err_and c.from_residual-in_err-passes.result c.from_residual-in_err-passes.ensures.1 in
+    let p = err_from_is_err_and c.from_residual.result c.from_residual.ensures.1 in
     absurd (not_moved c.in_err-passes.field-0.0 _ path (p.1 ∙ ap (λ r. Err r) p.2) moved)
 
 pub returns-in_err-passes-clause-refusal : goal.returns-in_err-passes-clause-refusal
 returns-in_err-passes-clause-refusal g c =
-    let p = err_from_is_err_and c.from_residual-in_err-passes.result c.from_residual-in_err-passes.ensures.1 in
+    let p = err_from_is_err_and c.from_residual.result c.from_residual.ensures.1 in
     is_of_test c.in_err-passes.field-0.0 _ (p.1 ∙ ap (λ r. Err r) p.2)
 
 pub returns-in_err-passes-clause-reads : goal.returns-in_err-passes-clause-reads
-returns-in_err-passes-clause-reads g c = reads_more g.S.Store _ _ _ c.loop-change.invariant.walk.reads c.passes.ensures.reads
+returns-in_err-passes-clause-reads g c = reads_more g.S.Store _ _ _ c.loop-change.invariant.reads c.passes.ensures.reads

@@ -2,8 +2,8 @@ use Rattle.std.proofs.Common.{take}
 use Rattle.std.specs.List.{All}
 use Rattle.reuse_tree.specs.Files.{tree_of}
 use Rattle.reuse_tree.specs.Entry.{IsEntry}
-use Rattle.reuse_session.specs.Tested.{aimed, Passes}
-use Rattle.reuse_tree.proofs.AtChange.{ReadsBeside}
+use Rattle.reuse_session.specs.Tested.{Passes}
+use Rattle.reuse_tree.specs.Asked.{OnlyReads}
 use Rattle.reuse_session.proofs.prepare.test_each.Given as goal
 
 -- the files stay, and the changes so far pass
@@ -11,6 +11,6 @@ abbrev pub invariant-loop-change : goal.invariant-loop-change
 invariant-loop-change g l =
     let store = g.S.Store in
     record {
-      walk : ReadsBeside store l.fn.store l.store (aimed l.aim l.way) l.changes l.paths.items;
+      reads : OnlyReads store l.fn.store l.store;
       ready : store.honest l.store → IsEntry l.changes → All (Passes l.aim l.way (tree_of (store.files l.fn.store))) (take l.change-index l.changes);
     }

@@ -1,7 +1,7 @@
 use Rattle.std.proofs.Common.{drop}
-use Rattle.reuse_tree.specs.Entry.{opposite, IsEntry}
+use Rattle.reuse_tree.specs.Entry.{IsEntry}
 use Rattle.reuse_tree.specs.Files.{tree_of}
-use Rattle.reuse_tree.proofs.AtChange.{ReadsBeside}
+use Rattle.reuse_tree.specs.Asked.{OnlyReads}
 use Rattle.reuse_session.proofs.Recovering.{AreFoundSoFar}
 use Rattle.reuse_session.proofs.recovery.find_each.Given as goal
 
@@ -10,6 +10,6 @@ abbrev pub invariant-loop-change : goal.invariant-loop-change
 invariant-loop-change g l =
     let store = g.S.Store in
     record {
-      walk : ReadsBeside store l.fn.store l.store (opposite l.way) l.changes l.paths.items;
+      reads : OnlyReads store l.fn.store l.store;
       found : store.honest l.store → IsEntry l.changes → AreFoundSoFar l.way (tree_of (store.files l.fn.store)) l.changes (drop l.change-index l.changes) l.found.changed.items l.found.skipped.items;
     }

@@ -18,11 +18,11 @@ returns-in_err-path-clause-asks g c =
     short g.S.Store IsLookRefusal _ _ _ (p.1 ∙ ap (λ r. Err r) p.2) tt (reads_none g.S.Store _)
 
 pub returns-then-branch-clause-fate : goal.returns-then-branch-clause-fate
-returns-then-branch-clause-fate g c honest proper small of_tree heeds = (c.in_ok-path.ensures ∙ c.path.ensures, (c.in_ok-can_be_made.ensures.ok honest proper small of_tree heeds).0 c.if-branch.true)
+returns-then-branch-clause-fate g c honest proper small of_tree = (c.in_ok-path.ensures ∙ c.path.ensures, (c.in_ok-can_be_made.ensures.ok honest proper small of_tree).0 c.if-branch.true)
 
 pub returns-else-branch-clause-fate : goal.returns-else-branch-clause-fate
-returns-else-branch-clause-fate g c honest proper small of_tree heeds =
-    (c.in_ok-path.ensures ∙ c.path.ensures, λ made. false≢true (sym c.if-branch.false ∙ (c.in_ok-can_be_made.ensures.ok honest proper small of_tree heeds).1 made))
+returns-else-branch-clause-fate g c honest proper small of_tree =
+    (c.in_ok-path.ensures ∙ c.path.ensures, λ made. false≢true (sym c.if-branch.false ∙ (c.in_ok-can_be_made.ensures.ok honest proper small of_tree).1 made))
 
 pub returns-in_err-can_be_made-clause-asks : goal.returns-in_err-can_be_made-clause-asks
 returns-in_err-can_be_made-clause-asks g c =

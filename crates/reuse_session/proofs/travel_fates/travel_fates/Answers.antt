@@ -2,7 +2,8 @@ use Rattle.std.proofs.Common.{take, ◌+◌, ◌++◌, ◌∷◌, [], arith, ap,
 use Rattle.std.proofs.lemmas.List.{take_more}
 use Rattle.reuse_tree.specs.Files.{tree_of}
 use Rattle.reuse_session.specs.Fates.{IsFateOf, AreFatesOf}
-use Rattle.reuse_tree.proofs.AtChange.{reads_on, tested, walked}
+use Rattle.reuse_tree.proofs.AtChange.{tested, walked}
+use Rattle.reuse_tree.proofs.AskedLemmas.{reads_more}
 use Rattle.reuse_session.proofs.Previewing.{fate_push}
 use Rattle.reuse_session.proofs.travel_fates.travel_fates.Goals as goal
 
@@ -14,11 +15,11 @@ loop-change-preserved g c =
     let was_honest = c.change_fate.ensures.asks.reads.was_honest in
     let start = g.S.Store.files c.args.store.now in
     record {
-      walk = reads_on kept.walk c.change_fate.ensures.asks.reads;
+      reads = reads_more g.S.Store _ _ _ kept.reads c.change_fate.ensures.asks.reads;
       told = λ honest good.
           let before = was_honest honest in
-          let here = tested c.args.changes.now i c.loop-change-test.true change c.change-item.is c.deref.result.now (λ files. IsFateOf c.args.way (tree_of files) change c.in_ok-change_fate.field-0)
-          good kept.walk before c.deref.ensures.value (c.in_ok-change_fate.ensures.fate honest) in
+          let here = tested c.args.changes.now i c.loop-change-test.true change c.change-item.is (λ files. IsFateOf c.args.way (tree_of files) change c.in_ok-change_fate.field-0)
+          good kept.reads before (c.in_ok-change_fate.ensures.fate honest) in
           subst (λ fs. AreFatesOf c.args.way (tree_of start) (take (i + 1) c.args.changes.now) fs) (sym c.in_ok-push.ensures.items)
           (subst (λ cs. AreFatesOf c.args.way (tree_of start) cs (c.loop-change.fates.items ++ c.in_ok-change_fate.field-0 ∷ [])) (ap (λ x. take i c.args.changes.now ++ x ∷ []) c.change-item.is ∙ sym (take_more c.args.changes.now i change c.loop-change-test.true))
           (fate_push c.args.way (tree_of start) (take i c.args.changes.now) c.loop-change.fates.items change c.in_ok-change_fate.field-0 (kept.told before good) here));
