@@ -1,5 +1,5 @@
 -- What is carried out on a store that hands each call on to one inside it is carried out on that one.
-use Rattle.std.proofs.Common.{◌≡◌, ◌∙◌, ◌<◌, ℕ, Bool, List, Option, Result, Ok, Err, sym, subst, arith}
+use Rattle.std.proofs.Common.{◌≡◌, ◌∙◌, ◌<◌, ℕ, Bool, List, Result, Ok, Err, sym, subst, arith}
 use Rattle.reuse_tree.specs.Asked.{OnlyReads}
 use Rattle.reuse_tree.specs.Files.{Files}
 use Rattle.reuse_tree.specs.declared.store.Store.{Ghosts}
@@ -57,7 +57,7 @@ no_diff_as P Q Same (Err fault) also is = tt
 rose_inside : {T : Type 0} (result : Result T Fault) (a b c d : ℕ) → a ≡ c → b ≡ d → IfRefused result (HasCause (a < b)) → IfRefused result (HasCause (c < d))
 rose_inside result a b c d old new told = subst (λ n. IfRefused result (HasCause (c < n))) new (subst (λ n. IfRefused result (HasCause (n < b))) old told)
 
-same_inside : {W S O : Type 0} (outer : Ghosts W) (inner : Ghosts S) (contents : O → Option (List ℕ)) (has_failed : O → Bool) (request : Request) (telling : Telling)
+same_inside : {W S O : Type 0} (outer : Ghosts W) (inner : Ghosts S) (contents : O → List ℕ) (has_failed : O → Bool) (request : Request) (telling : Telling)
     (before after : W) (old new : S) (out left : O) (result : Result ℕ Fault) → IsSameStore outer inner before old → IsSameStore outer inner after new
     → CarriesOut outer contents has_failed request telling before after out left result → CarriesOut inner contents has_failed request telling old new out left result
 same_inside outer inner contents has_failed request telling before after old new out left result b a carried =
@@ -82,7 +82,7 @@ same_inside outer inner contents has_failed request telling before after old new
     }
 
 -- where each whole store is as the one inside it
-pub carried_inside : {W S O : Type 0} (outer : Ghosts W) (inner : Ghosts S) (contents : O → Option (List ℕ)) (has_failed : O → Bool) (request : Request) (telling : Telling)
+pub carried_inside : {W S O : Type 0} (outer : Ghosts W) (inner : Ghosts S) (contents : O → List ℕ) (has_failed : O → Bool) (request : Request) (telling : Telling)
     (before after : W) (old new : S) (out left : O) (result : Result ℕ Fault) → CarriesOut outer contents has_failed request telling before after out left result
     → (inside : W → S) → ((whole : W) → IsSameStore outer inner whole (inside whole)) → inside before ≡ old → inside after ≡ new
     → CarriesOut inner contents has_failed request telling old new out left result

@@ -1,5 +1,5 @@
 -- What comes of a session's one call from a state of the machine, and what is told of it.
-use Rattle.std.proofs.Common.{◌≡◌, ◌⊎◌, inl, inr, ⊎_elim, ◌∙◌, ℕ, Bool, cond, List, Option, Some, Result, Ok, Err, IfOk, refl, sym, ap, subst, length}
+use Rattle.std.proofs.Common.{◌≡◌, ◌⊎◌, inl, inr, ⊎_elim, ◌∙◌, ℕ, Bool, cond, List, Some, Result, Ok, Err, IfOk, refl, sym, ap, subst, length}
 use Rattle.std.specs.List.{Contains}
 use Rattle.reuse_tree.specs.Files.{Files}
 use Rattle.reuse_session.specs.Answer.{TellsNoFault, IsFailure}
@@ -41,7 +41,7 @@ use Rattle.reuse_undo.specs.declared.line.Telling.{Telling}
 use Rattle.reuse_undo.specs.declared.request.Request.{Request}
 use Rattle.reuse_undo.specs.declared.request.Request.TheVariants as requests
 use Rattle.reuse_undo.specs.declared.request.Told.{Told}
-use Rattle.reuse_undo.specs.RowLines.{AppendsSome}
+use Rattle.reuse_undo.specs.Outputs.{AddsSome}
 use Rattle.reuse_undo.specs.RunLine.{Looks, Previews, CallLeadsTo, IsStopped, StepLeaves, CallLeaves, RevertsOn, PreviewsRevert, Meets, IsUnopened, IsMade, RequestLeaves, StepsBy, StepsBack, StepsBackBy, ForetellsBack, FollowsMachine, TellsAnswer, IfRefused}
 use Rattle.reuse_undo.specs.Told.{IsToldText, Finishes}
 use Rattle.reuse_undo.proofs.LookLemmas.{refused}
@@ -257,13 +257,13 @@ carries_as before after request answer same carries is = subst (λ (a : Result T
 -- ---- what is told
 
 -- of an answer that is printed
-pub told_of : (telling : Telling) (IsAnswer : Result Told Refusal → Type 0) (told : Told) (old new : Option (List ℕ)) (result : Result ℕ Fault) → IsAnswer (Ok told)
+pub told_of : (telling : Telling) (IsAnswer : Result Told Refusal → Type 0) (told : Told) (old new : List ℕ) (result : Result ℕ Fault) → IsAnswer (Ok told)
     → Finishes telling told old new result → TellsAnswer telling IsAnswer old new result
 told_of telling IsAnswer told old new (Ok count) is finished = (told, is, finished.1.1, finished.0, finished.1.0)
 told_of telling IsAnswer told old new (Err (faults.WouldRefuse fates)) is finished = (
   subst (λ t. IsAnswer (Ok t)) finished.1.0 is,
   finished.1.1,
-  subst (λ t. AppendsSome old new (IsToldText telling t)) finished.1.0 finished.0,
+  subst (λ t. AddsSome old new (IsToldText telling t)) finished.1.0 finished.0,
 )
 told_of telling IsAnswer told old new (Err (faults.NoDiff refusal)) is finished = ((told, is, finished.0), finished.1)
 told_of telling IsAnswer told old new (Err faults.Write) is finished = (told, is, finished.0, finished.1, finished.2)
@@ -272,7 +272,7 @@ told_of telling IsAnswer told old new (Err (faults.Refused refusal)) is finished
 told_of telling IsAnswer told old new (Err faults.InUse) is finished = absurd finished.1
 
 -- what is printed is no refusal
-pub no_refusal : (telling : Telling) (told : Told) (old new : Option (List ℕ)) (result : Result ℕ Fault) (Claim : Refusal → Type 0) → Finishes telling told old new result → IfRefused result Claim
+pub no_refusal : (telling : Telling) (told : Told) (old new : List ℕ) (result : Result ℕ Fault) (Claim : Refusal → Type 0) → Finishes telling told old new result → IfRefused result Claim
 no_refusal telling told old new (Ok count) Claim finished = tt
 no_refusal telling told old new (Err (faults.WouldRefuse fates)) Claim finished = tt
 no_refusal telling told old new (Err (faults.NoDiff refusal)) Claim finished = tt

@@ -4,11 +4,12 @@ use Rattle.std.proofs.lemmas.List.{take_more}
 use Rattle.std.proofs.KnownBytes.{Appends-trans}
 use Rattle.std.specs.Io.KnownBytes.{Appends}
 use Rattle.reuse_session.specs.declared.reply.Shown.{Shown}
-use Rattle.reuse_undo.specs.declared.line.Telling.TheVariants.{Diff}
+use Rattle.reuse_undo.specs.declared.line.OutputFormat.TheVariants.{Diff}
+use Rattle.reuse_undo.specs.declared.shown_name.Names.{Names}
 use Rattle.reuse_undo.specs.declared.request.Told.{Told}
 use Rattle.reuse_undo.specs.Lines.{change_lines, IsShownText}
 use Rattle.reuse_undo.specs.RowLines.{AreJoined, AppendsSome, IsRowLine}
-use Rattle.reuse_undo.specs.Told.{IsDrawn, IsLinesText, IsToldText}
+use Rattle.reuse_undo.specs.Told.{IsDrawn, IsLinesText, IsTextIn}
 
 AreJoined-push : {A : Type 0} (IsText : A → List ℕ → Type 0) (xs : List A) (x : A) (text line : List ℕ) → AreJoined IsText xs text → IsText x line
     → AreJoined IsText (xs ++ x ∷ []) (text ++ line)
@@ -36,11 +37,11 @@ AppendsSome-row IsText old mid new xs i x h is all one =
     (all.0 ++ one.0, (AreJoined-push IsText (take i xs) (get_or xs i x) all.0 one.0 all.1.0 line, Appends-trans old mid new all.0 one.0 all.1.1 one.1.1))
 
 -- the line of a row, and those of changes behind it
-pub AppendsSome-shown : (shown : Shown) (old mid new : Option (List ℕ)) → AppendsSome old mid (IsRowLine shown.row) → Appends mid new (change_lines shown.changes) → AppendsSome old new (IsShownText shown)
-AppendsSome-shown shown old mid new row rest =
-    (row.0 ++ change_lines shown.changes, ((row.0, row.1.0, refl), Appends-trans old mid new row.0 (change_lines shown.changes) row.1.1 rest))
+pub AppendsSome-shown : (names : Names) (shown : Shown) (old mid new : Option (List ℕ)) → AppendsSome old mid (IsRowLine shown.row) → Appends mid new (change_lines names shown.changes) → AppendsSome old new (IsShownText names shown)
+AppendsSome-shown names shown old mid new row rest =
+    (row.0 ++ change_lines names shown.changes, ((row.0, row.1.0, refl), Appends-trans old mid new row.0 (change_lines names shown.changes) row.1.1 rest))
 
 -- the lines of an answer, and a diff behind them
-pub AppendsSome-diff : (told : Told) (diff : List ℕ) (old mid new : Option (List ℕ)) → (diff ≡ []) ⊎ IsDrawn told → AppendsSome old mid (IsLinesText told) → Appends mid new diff
-    → AppendsSome old new (IsToldText Diff told)
-AppendsSome-diff told diff old mid new may lines rest = (lines.0 ++ diff, ((lines.0, diff, lines.1.0, may, refl), Appends-trans old mid new lines.0 diff lines.1.1 rest))
+pub AppendsSome-diff : (names : Names) (told : Told) (diff : List ℕ) (old mid new : Option (List ℕ)) → (diff ≡ []) ⊎ IsDrawn told → AppendsSome old mid (IsLinesText names told) → Appends mid new diff
+    → AppendsSome old new (IsTextIn Diff names told)
+AppendsSome-diff names told diff old mid new may lines rest = (lines.0 ++ diff, ((lines.0, diff, lines.1.0, may, refl), Appends-trans old mid new lines.0 diff lines.1.1 rest))

@@ -1,5 +1,5 @@
 -- What carrying out what a line asks for answers and leaves, on a store and what the answer is written to.
-use Rattle.std.specs.Prelude.{◌≡◌, ◌<◌, ◌≤◌, ℕ, Bool, List, Option, Result}
+use Rattle.std.specs.Prelude.{◌≡◌, ◌<◌, ◌≤◌, ℕ, Bool, List, Result}
 use Rattle.reuse_tree.specs.Asked.{OnlyReads}
 use Rattle.reuse_tree.specs.declared.store.Store.{Ghosts}
 use Rattle.reuse_session.specs.Answer.{HasCause}
@@ -16,7 +16,7 @@ use Rattle.reuse_undo.specs.declared.line.Telling.{Telling}
 use Rattle.reuse_undo.specs.declared.request.Request.{Request}
 
 -- The store went from `old` to `new`, what the answer is written to from `before` to `after`, and this is told.
-pub record CarriesOut {S O : Type 0} (store : Ghosts S) (contents : O → Option (List ℕ)) (has_failed : O → Bool)
+pub record CarriesOut {S O : Type 0} (store : Ghosts S) (contents : O → List ℕ) (has_failed : O → Bool)
     (request : Request) (telling : Telling) (old new : S) (before after : O) (result : Result ℕ Fault) : Type 0 where
   -- from any files, where the store is honest: what is told is the session's answer, and the files are as it left them
   pub exact : store.honest new → TellsAnswer telling (λ answer. RequestLeaves (store.files old) request answer (store.files new)) (contents before) (contents after) result
@@ -25,7 +25,7 @@ pub record CarriesOut {S O : Type 0} (store : Ghosts S) (contents : O → Option
       → TellsAnswer telling (λ answer. FollowsMachine state request answer (store.files new)) (contents before) (contents after) result
   -- what only asks only reads the store, where nothing is pending
   pub looks : store.honest new → IsLook request → (held : State) → IsStanding (store.files old) held → OnlyReads store old new
-  -- a refusal is told before anything is written, and that the reply couldn't be written exactly where the writer failed
+  -- a refusal is told before anything is written, and that the reply couldn't be written exactly where the output failed
   pub quiet : IfRefused result (λ refusal. after ≡ before)
   pub failed : TellsFailure (has_failed before) (has_failed after) result
   -- a fault has its cause; where nothing is pending, a clash is told only where the path that the call puts clashes

@@ -1,4 +1,5 @@
 -- What a path of a folder is.
+use Rattle.std.specs.Prelude.{Bool, true, false}
 use Rattle.reuse_undo.specs.declared.disk.place.Found.{Found}
 use Rattle.reuse_undo.specs.declared.disk.place.Found.TheVariants as found
 use Rattle.reuse_undo.specs.declared.disk.place.Place.{Place}
@@ -17,3 +18,8 @@ place_below found.Nothing = Nothing
 place_below (found.File status) = BelowFile
 place_below (found.Folder identity) = Nothing
 place_below found.Other = Other
+
+-- anything is there
+abbrev pub stands : Found → Bool
+stands found.Nothing = false
+stands _ = true

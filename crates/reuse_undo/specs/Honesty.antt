@@ -1,11 +1,12 @@
 -- When a folder is honest: its answers are those of a folder that nobody else writes and that gives back what was written.
 use Rattle.std.specs.Prelude.{◌≡◌, ◌≢◌, ◌⊎◌, ℕ, Bool, true, false, IsTrue, List, [], ◌∷◌, Result, Ok, Err, MatchResult, if◌then◌else◌, cond, refl}
 use Rattle.std.specs.List.{Contains}
-use Rattle.std.specs.FinMap.{get, insert, keys, remove}
+use Rattle.std.specs.FinMap.{get, insert, remove}
 use Rattle.reuse_tree.specs.Calls.{Call}
 use Rattle.reuse_tree.specs.Calls.Call.{ListCall, ReadCall, PutCall, RemoveCall, SyncCall}
 use Rattle.reuse_tree.specs.Files.{Files, Clashes, AreFiles}
 use Rattle.reuse_tree.specs.Lasting.{IsCertain}
+use Rattle.reuse_tree.specs.Listing.{is_among, listed_paths}
 use Rattle.reuse_tree.specs.Path.{is_path}
 use Rattle.std.proofs.Common.{inl, inr}
 use Rattle.reuse_tree.specs.Store.{reading_of}
@@ -21,7 +22,7 @@ has_effect (Err Memory) took = took
 
 -- the files after a call
 abbrev pub files_after : Files → Call → Files
-files_after files (ListCall answer) = files
+files_after files (ListCall folders pruned answer) = files
 files_after files (ReadCall path limit answer) = files
 files_after files (PutCall path bytes answer took) = if has_effect answer took then insert files path bytes else files
 files_after files (RemoveCall path answer took) = if has_effect answer took then remove files path else files
@@ -46,7 +47,7 @@ MayAnswerPut files path (Err Memory) took = IsTrue took → HasRoom files path
 
 -- a folder that holds these files may answer the call so
 abbrev pub MayAnswer : Files → Call → Type 0
-MayAnswer files (ListCall answer) = MatchResult answer (λ paths. paths ≡ keys files) (λ fault. fault ≢ Clash)
+MayAnswer files (ListCall folders pruned answer) = MatchResult answer (λ paths. paths ≡ listed_paths files folders (is_among pruned)) (λ fault. fault ≢ Clash)
 MayAnswer files (ReadCall path limit answer) = MatchResult answer (λ reading. reading ≡ reading_of (get files path) limit) (λ fault. fault ≢ Clash)
 MayAnswer files (PutCall path bytes answer took) = MayAnswerPut files path answer took
 MayAnswer files (RemoveCall path answer took) = answer ≢ Err Clash
@@ -62,7 +63,7 @@ IsHonest start (call ∷ calls) = MayAnswer (files_of start calls) call × IsHon
 -- it is one of what might be left before, and certain where that says so.
 abbrev pub MayBeLeft : Files → List Files → List Call → Files → Type 0
 MayBeLeft start doubts [] left = (left ≡ start) ⊎ Contains doubts left
-MayBeLeft start doubts (ListCall answer ∷ calls) left = MayBeLeft start doubts calls left
+MayBeLeft start doubts (ListCall folders pruned answer ∷ calls) left = MayBeLeft start doubts calls left
 MayBeLeft start doubts (ReadCall path limit answer ∷ calls) left = MayBeLeft start doubts calls left
 MayBeLeft start doubts (PutCall path bytes answer took ∷ calls) left =
     MayBeLeft start doubts calls left ⊎ ((kept : Files) × MayBeLeft start doubts calls kept × (left ≡ insert kept path bytes))
@@ -84,7 +85,7 @@ removal_may start doubts calls path answer took false may = inl may
 
 pub files_may_be_left : (start : Files) (doubts : List Files) (calls : List Call) → MayBeLeft start doubts calls (files_of start calls)
 files_may_be_left start doubts [] = inl refl
-files_may_be_left start doubts (ListCall answer ∷ calls) = files_may_be_left start doubts calls
+files_may_be_left start doubts (ListCall folders pruned answer ∷ calls) = files_may_be_left start doubts calls
 files_may_be_left start doubts (ReadCall path limit answer ∷ calls) = files_may_be_left start doubts calls
 files_may_be_left start doubts (PutCall path bytes answer took ∷ calls) = put_may start doubts calls path bytes answer took (has_effect answer took) (files_may_be_left start doubts calls)
 files_may_be_left start doubts (RemoveCall path answer took ∷ calls) = removal_may start doubts calls path answer took (has_effect answer took) (files_may_be_left start doubts calls)

@@ -1,9 +1,11 @@
+pub mod Answering
 pub mod CarriedOut
 pub mod Dates
 pub mod DiffText
 pub mod FileLists
 pub mod FolderFault
 pub mod FolderPlaces
+pub mod Forgotten
 pub mod Globs
 pub mod Honesty
 pub mod Hunks
@@ -11,6 +13,8 @@ pub mod KeptOut
 pub mod Lines
 pub mod Objects
 pub mod Outputs
+pub mod OwnerChanges
+pub mod Owners
 pub mod Peeks
 pub mod Places
 pub mod PrefixNames
@@ -18,6 +22,8 @@ pub mod Recoveries
 pub mod Requests
 pub mod RowLines
 pub mod RunLine
+pub mod SetBack
+pub mod ShownNames
 pub mod Statuses
 pub mod TextLines
 pub mod Told

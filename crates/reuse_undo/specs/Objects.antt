@@ -1,5 +1,6 @@
 -- The JSON objects that rows, steps and dry runs are printed as.
-use Rattle.std.specs.Prelude.{◌≡◌, ℕ, List, [], ◌∷◌, ◌++◌, codes, map, Option, None, Some}
+use Rattle.std.specs.Prelude.{◌≡◌, ◌==◌, ℕ, List, [], ◌∷◌, ◌++◌, codes, map, Option, None, Some, if◌then◌else◌}
+use Rattle.std.specs.List.{flat_map}
 use Rattle.jiff.specs.Types.{Date}
 use Rattle.jiff.specs.Words.{date_text}
 use Rattle.serde_json.specs.Data.{Data, null, string, boolean}
@@ -36,9 +37,13 @@ changes_value changes = array_of (map change_value changes)
 abbrev pub shown_value : Shown → Date → Data
 shown_value shown date = object_of ((codes "changes", changes_value shown.changes) ∷ row_members shown.row date)
 
+-- a byte of a JSON text; 7F, which JSON leaves as it is, is escaped as the other control bytes are
+abbrev pub json_byte : ℕ → List ℕ
+json_byte byte = if byte == 127 then 92 ∷ codes "u007f" else byte ∷ []
+
 -- the compact text of a value, and a line end
 abbrev pub object_line : Data → List ℕ
-object_line value = compact_text value ++ 10 ∷ []
+object_line value = flat_map json_byte (compact_text value) ++ 10 ∷ []
 
 -- the object of a row, with the date of its moment, on a line
 abbrev pub IsRowObject : Row → List ℕ → Type 0

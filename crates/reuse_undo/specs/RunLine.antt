@@ -1,5 +1,5 @@
 -- What a line asks a session for, and what comes of it.
-use Rattle.std.specs.Prelude.{◌≡◌, ◌⊎◌, ◌+◌, Bool, List, Option, Some, ℕ, Result, Ok, Err, IfOk, IfErr, true, false}
+use Rattle.std.specs.Prelude.{◌≡◌, ◌⊎◌, ◌+◌, Bool, List, Some, ℕ, Result, Ok, Err, IfOk, IfErr, true, false}
 use Rattle.std.specs.List.{All, Contains}
 use Rattle.reuse_tree.specs.Files.{Files, Clashes}
 use Rattle.reuse_tree.specs.declared.change.Change.{Change}
@@ -40,9 +40,8 @@ use Rattle.reuse_undo.specs.declared.request.Request.{Request}
 use Rattle.reuse_undo.specs.declared.request.Request.TheVariants as requests
 use Rattle.reuse_undo.specs.declared.request.Told.{Told}
 use Rattle.reuse_undo.specs.declared.request.Told.TheVariants as tells
-use Rattle.reuse_undo.specs.Outputs.{AppendsFront}
+use Rattle.reuse_undo.specs.Outputs.{AddsFront, AddsSome}
 use Rattle.reuse_undo.specs.Requests.{IsLook}
-use Rattle.reuse_undo.specs.RowLines.{AppendsSome}
 use Rattle.reuse_undo.specs.Told.{IsToldText, told_count, is_refused, IsForeseen, WouldBeMade}
 
 -- ---- the session's answer to an event, from any files
@@ -213,17 +212,17 @@ FollowsMachine state (requests.PreviewRevert number skip_moved) answer files =
 
 -- ---- what is told of it
 
--- The answer is one of these. Of it the writer, if it tells its bytes, was given the lines, and the paths that changed are counted, or it failed behind
--- some front part of them; a refusal is handed on, and nothing is written of it, nor for want of memory. A call that was only looked at is a fault exactly where one of its fates is a refusal. That another
+-- The answer is one of these. Of it the output took the lines, and the paths that changed are counted, or it failed behind some front part of them; a
+-- refusal is handed on, and nothing is written of it, nor for want of memory. A call that was only looked at is a fault exactly where one of its fates is a refusal. That another
 -- run works on the tree is told before a store is asked, so never here.
-abbrev pub TellsAnswer : Telling → (Result Told Refusal → Type 0) → Option (List ℕ) → Option (List ℕ) → Result ℕ Fault → Type 0
-TellsAnswer telling IsAnswer old new (Ok count) = (told : Told) × IsAnswer (Ok told) × WouldBeMade told × AppendsSome old new (IsToldText telling told) × (count ≡ told_count told)
+abbrev pub TellsAnswer : Telling → (Result Told Refusal → Type 0) → List ℕ → List ℕ → Result ℕ Fault → Type 0
+TellsAnswer telling IsAnswer old new (Ok count) = (told : Told) × IsAnswer (Ok told) × WouldBeMade told × AddsSome old new (IsToldText telling told) × (count ≡ told_count told)
 TellsAnswer telling IsAnswer old new (Err (faults.Refused refusal)) = IsAnswer (Err refusal) × (new ≡ old)
 TellsAnswer telling IsAnswer old new (Err (faults.WouldRefuse fates)) =
-    IsAnswer (Ok (tells.Reply (replies.Preview fates))) × (is_refused fates ≡ true) × AppendsSome old new (IsToldText telling (tells.Reply (replies.Preview fates)))
+    IsAnswer (Ok (tells.Reply (replies.Preview fates))) × (is_refused fates ≡ true) × AddsSome old new (IsToldText telling (tells.Reply (replies.Preview fates)))
 TellsAnswer telling IsAnswer old new (Err (faults.NoDiff refusal)) = ((told : Told) × IsAnswer (Ok told) × IsForeseen telling told) × (new ≡ old)
 TellsAnswer telling IsAnswer old new (Err faults.InUse) = ⊥
-TellsAnswer telling IsAnswer old new (Err faults.Write) = (told : Told) × IsAnswer (Ok told) × (text : List ℕ) × IsToldText telling told text × AppendsFront old new text
+TellsAnswer telling IsAnswer old new (Err faults.Write) = (told : Told) × IsAnswer (Ok told) × (text : List ℕ) × IsToldText telling told text × AddsFront old new text
 TellsAnswer telling IsAnswer old new (Err faults.Memory) = ((told : Told) × IsAnswer (Ok told)) × (new ≡ old)
 
 -- a refusal that is told

@@ -1,10 +1,12 @@
 -- What the program exits with.
-use Rattle.std.specs.Prelude.{ℕ, zero, suc, Result, Ok, Err}
+use Rattle.std.specs.Prelude.{ℕ, zero, suc, max, Result, Ok, Err, true, false}
 use Rattle.reuse_notice.specs.declared.adding.NoticeRefusal.TheVariants as notices
 use Rattle.reuse_undo.specs.declared.fault.Fault.{Fault}
 use Rattle.reuse_undo.specs.declared.line.ChangeStatus.{ChangeStatus}
 use Rattle.reuse_undo.specs.declared.line.ChangeStatus.TheVariants.{Zero, One}
 use Rattle.reuse_undo.specs.declared.line.LineFault.{LineFault}
+use Rattle.reuse_undo.specs.declared.status.Ending.{Ending}
+use Rattle.reuse_undo.specs.declared.status.Ending.TheVariants.{BadClock, NoLine, Denied, Called}
 use Rattle.reuse_undo.specs.declared.line.LineFault.TheVariants.{Usage, Help, BadPath, BadAdditions, BadGlob, Unreadable, Memory}
 
 -- after a call, by how many paths changed, or would change in a dry run: 1 where it was refused or failed, and 1 where a path changed and that is asked for
@@ -24,3 +26,11 @@ line_status_of (Usage text) = 2
 line_status_of (BadPath text) = 2
 line_status_of (BadGlob text) = 2
 line_status_of (Unreadable file) = 2
+
+-- of a run: 1 where the clock is out of range, and at least 1 where it couldn't be printed why the words are no line, or the help; and 1 where the program itself refused the call
+abbrev pub exit_status_of : Ending → ℕ
+exit_status_of BadClock = 1
+exit_status_of (NoLine fault true) = line_status_of fault
+exit_status_of (NoLine fault false) = max (line_status_of fault) 1
+exit_status_of (Denied denial) = 1
+exit_status_of (Called outcome on_change) = call_status_of on_change outcome

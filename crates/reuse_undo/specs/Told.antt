@@ -1,5 +1,5 @@
 -- What is told of an answer.
-use Rattle.std.specs.Prelude.{◌≡◌, ◌⊎◌, ℕ, Bool, List, [], ◌++◌, Option, Result, Ok, Err, length, true, false}
+use Rattle.std.specs.Prelude.{◌≡◌, ◌⊎◌, ℕ, Bool, List, [], ◌++◌, Result, Ok, Err, length, true, false}
 use Rattle.std.specs.List.{list_any}
 use Rattle.std.specs.declared.vec.Vec.{Vec}
 use Rattle.reuse_session.specs.declared.fate.Fate.{Fate}
@@ -9,19 +9,20 @@ use Rattle.reuse_session.specs.declared.reply.Reply.TheVariants.{Log, Preview}
 use Rattle.reuse_undo.specs.declared.fault.Fault.{Fault}
 use Rattle.reuse_undo.specs.declared.fault.Fault.TheVariants.{WouldRefuse, NoDiff, Write, Memory}
 use Rattle.reuse_undo.specs.declared.line.Telling.{Telling}
-use Rattle.reuse_undo.specs.declared.line.Telling.TheVariants.{Diff, Json}
+use Rattle.reuse_undo.specs.declared.line.OutputFormat.{OutputFormat}
+use Rattle.reuse_undo.specs.declared.line.OutputFormat.TheVariants.{Diff, Json}
 use Rattle.reuse_undo.specs.declared.request.Told.{Told}
 use Rattle.reuse_undo.specs.declared.request.Told.TheVariants.{Reply, Shown, Reverted}
+use Rattle.reuse_undo.specs.declared.shown_name.Names.{Names}
 use Rattle.reuse_undo.specs.Lines.{IsReplyText, IsShownText, reverted_text, path_count}
 use Rattle.reuse_undo.specs.Objects.{AreFateObjects, AreRowObjects, IsShownObject}
-use Rattle.reuse_undo.specs.Outputs.{AppendsFront}
-use Rattle.reuse_undo.specs.RowLines.{AppendsSome}
+use Rattle.reuse_undo.specs.Outputs.{AddsFront, AddsSome}
 
 -- what an answer is printed as in lines
-abbrev pub IsLinesText : Told → List ℕ → Type 0
-IsLinesText (Reply reply) text = IsReplyText reply text
-IsLinesText (Shown shown) text = IsShownText shown text
-IsLinesText (Reverted reverted) text = text ≡ reverted_text reverted
+abbrev pub IsLinesText : Names → Told → List ℕ → Type 0
+IsLinesText names (Reply reply) text = IsReplyText names reply text
+IsLinesText names (Shown shown) text = IsShownText names shown text
+IsLinesText names (Reverted reverted) text = text ≡ reverted_text names reverted
 
 -- whether the call would be refused so
 abbrev pub is_refusal : Fate → Bool
@@ -44,12 +45,15 @@ IsDrawn (Shown shown) = Unit {0}
 IsDrawn told = ⊥
 
 -- what an answer is printed as: in lines; in lines with some diff behind them, where there can be one; or rows, steps and dry runs as objects, and all else in lines
+abbrev pub IsTextIn : OutputFormat → Names → Told → List ℕ → Type 0
+IsTextIn Json names (Reply (Log rows)) text = AreRowObjects rows text
+IsTextIn Json names (Reply (Preview fates)) text = AreFateObjects fates text
+IsTextIn Json names (Shown shown) text = IsShownObject shown text
+IsTextIn Diff names told text = (lines : List ℕ) × (diff : List ℕ) × IsLinesText names told lines × ((diff ≡ []) ⊎ IsDrawn told) × (text ≡ lines ++ diff)
+IsTextIn format names told text = IsLinesText names told text
+
 abbrev pub IsToldText : Telling → Told → List ℕ → Type 0
-IsToldText Json (Reply (Log rows)) text = AreRowObjects rows text
-IsToldText Json (Reply (Preview fates)) text = AreFateObjects fates text
-IsToldText Json (Shown shown) text = IsShownObject shown text
-IsToldText Diff told text = (lines : List ℕ) × (diff : List ℕ) × IsLinesText told lines × ((diff ≡ []) ⊎ IsDrawn told) × (text ≡ lines ++ diff)
-IsToldText telling told text = IsLinesText told text
+IsToldText telling told text = IsTextIn telling.format telling.names told text
 
 -- how many paths an answer tells that changed, or that would change
 abbrev pub told_count : Told → ℕ
@@ -57,14 +61,14 @@ told_count (Reply reply) = path_count reply
 told_count (Shown shown) = 0
 told_count (Reverted reverted) = length reverted.changed
 
--- that a reply couldn't be written is told exactly where the writer failed
+-- that a reply couldn't be written is told exactly where the output failed
 abbrev pub TellsFailure : Bool → Bool → Result ℕ Fault → Type 0
 TellsFailure old new (Err Write) = new ≡ true
 TellsFailure old new result = new ≡ old
 
 -- what would be made of a call that was only looked at is wanted as a diff
 abbrev pub IsForeseen : Telling → Told → Type 0
-IsForeseen telling told = (telling ≡ Diff) × (fates : List Fate) × (told ≡ Reply (Preview fates)) × (is_refused fates ≡ false)
+IsForeseen telling told = (telling.format ≡ Diff) × (fates : List Fate) × (told ≡ Reply (Preview fates)) × (is_refused fates ≡ false)
 
 -- ---- for private clauses
 
@@ -96,10 +100,9 @@ Accepts told (Ok count) = (count ≡ told_count told) × WouldBeMade told
 Accepts told (Err (WouldRefuse fates)) = (told ≡ Reply (Preview fates)) × (is_refused fates ≡ true)
 Accepts told (Err fault) = ⊥
 
--- the answer is printed, if the writer tells its bytes, and accepted; or the writer failed behind some front part of its text; or nothing was printed, for
--- want of a diff or of memory
-abbrev pub Finishes : Telling → Told → Option (List ℕ) → Option (List ℕ) → Result ℕ Fault → Type 0
+-- the answer is printed and accepted; or the output failed behind some front part of its text; or nothing was printed, for want of a diff or of memory
+abbrev pub Finishes : Telling → Told → List ℕ → List ℕ → Result ℕ Fault → Type 0
 Finishes telling told old new (Err (NoDiff refusal)) = IsForeseen telling told × (new ≡ old)
 Finishes telling told old new (Err Memory) = new ≡ old
-Finishes telling told old new (Err Write) = (text : List ℕ) × IsToldText telling told text × AppendsFront old new text
-Finishes telling told old new result = AppendsSome old new (IsToldText telling told) × Accepts told result
+Finishes telling told old new (Err Write) = (text : List ℕ) × IsToldText telling told text × AddsFront old new text
+Finishes telling told old new result = AddsSome old new (IsToldText telling told) × Accepts told result

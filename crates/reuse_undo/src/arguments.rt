@@ -36,7 +36,9 @@ fn valued<'a>(arg: Arg<'a>, id: &'static str, takes: Takes) -> Arg<'a> {
         Takes::Values(name) => option.value_name(name).action(ArgAction::Append),
         Takes::Style => one_of(option, style_names()),
         Takes::Prefix => one_of(option, prefix_names()),
-        Takes::Nothing | Takes::Words | Takes::Number => option.action(ArgAction::SetTrue),
+        Takes::Nothing | Takes::Words | Takes::Number | Takes::Numbers => {
+            option.action(ArgAction::SetTrue)
+        }
     }
 }
 
@@ -44,6 +46,10 @@ fn taking<'a>(arg: Arg<'a>, id: &'static str, takes: Takes) -> Arg<'a> {
     match takes {
         Takes::Words => arg.num_args(1..).action(ArgAction::Append),
         Takes::Number => arg.value_parser(ValueParser::unsigned(0, MOST_NUMBER)),
+        Takes::Numbers => arg
+            .num_args(1..)
+            .action(ArgAction::Append)
+            .value_parser(ValueParser::unsigned(0, MOST_NUMBER)),
         takes => valued(arg, id, takes),
     }
 }
@@ -52,6 +58,7 @@ fn ruled<'a>(arg: Arg<'a>, rule: Rule) -> Result<Arg<'a>, AllocError> {
     match rule {
         Rule::Free => Ok(arg),
         Rule::Required => Ok(arg.required(true)),
+        Rule::RequiredUnless(other) => arg.required_unless_present(other),
         Rule::Requires(other) => arg.requires_arg(other),
         Rule::Excludes(other) => arg.conflicts_with(other),
         Rule::Alias(name) => arg.visible_alias(name),
@@ -132,6 +139,10 @@ fn with_history<'a>(alloc: Global, command: Command<'a>) -> Result<Command<'a>, 
     with_subcommands(alloc, command, HISTORY)
 }
 
+fn with_options<'a>(alloc: Global, command: Command<'a>) -> Result<Command<'a>, AllocError> {
+    with_arguments(alloc, command, BEFORE)
+}
+
 /// The whole command line.
 pub fn whole<'a>(alloc: Global) -> Result<Command<'a>, AllocError> {
     let command = Command::new(alloc, "reuse-undo")
@@ -140,6 +151,6 @@ pub fn whole<'a>(alloc: Global) -> Result<Command<'a>, AllocError> {
         .about(ABOUT)
         .after_help(AFTER)
         .subcommand_required(true);
-    let command = with_arguments(alloc, command, BEFORE)?;
+    let command = with_options(alloc, command)?;
     with_history(alloc, with_steps(alloc, command)?)
 }

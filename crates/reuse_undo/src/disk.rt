@@ -1,26 +1,48 @@
 //! A folder of the file system as a store of files.
-ghost use Rattle.std.specs.Prelude.{◌≡◌};
+ghost use Rattle.std.specs.Prelude.{◌≡◌, ◌<◌, ℕ, ◌∷◌, List, IfErr, length};
+ghost use Rattle.std.specs.Result.{result_map_both};
+ghost use Rattle.reuse_tree.specs.Calls.Call.{ListCall};
+ghost use Rattle.reuse_tree.specs.Asked.{IsLater, IsPut, IsRemoval, IsWrite, AreWrites};
+ghost use Rattle.reuse_tree.specs.Parts.{joined};
 ghost use Rattle.reuse_tree.specs.Calls.{Start, failures_of, written_of, moves_of};
 ghost use Rattle.reuse_tree.specs.Files.{AreFiles};
+ghost use Rattle.reuse_undo.specs.FolderFault.{fault_of_store};
 ghost use Rattle.reuse_undo.specs.Honesty.{files_of, files_may_be_left, IsHonest, MayBeLeft};
 
+mod bare;
 mod empty_folders;
 mod failure;
 mod fault;
+mod file_reading;
 mod folder;
 mod handle;
+mod journal_owner;
+mod keeping;
 mod kept_out;
 mod listing;
+mod made_folder;
 mod new_file;
+mod owner;
+mod parts_writer;
 mod place;
+mod process;
+mod set_back;
 mod syncs;
 mod trail;
 
+use crate::lock::{HeldFolders, RootLock};
 pub use failure::Failure;
 use failure::LastFailure;
-use folder::RootFolder;
+use fault::FolderFault;
+use folder::{RootFolder, Stop};
+use keeping::Keeping;
+pub use keeping::{Kept, OwnerChange};
+use owner::Process;
 use reuse_tree::laws::files_stay_good;
-use reuse_tree::{Asked, CallRecord, Change, Parts, PathText, Reading, Store, StoreFault};
+use reuse_tree::{
+    Asked, CallRecord, Change, FileWrite, Parts, PathText, Pruning, Reading, Store, StoreFault,
+};
+use set_back::SetBack;
 use std::alloc::Global;
 use std::fs::File;
 use std::rt::Files;
@@ -35,13 +57,16 @@ pub struct DiskStore<R: Files<File = File> + AllocGlobal + Clone + Drop> {
     folder: RootFolder<R>,
     failure: LastFailure,
     calls: CallRecord,
+    set_back: SetBack,
+    /// No other run works in the folder as long as the store is there.
+    _lock: HeldFolders,
     ghost are_files: { IsHonest calls.start calls.calls → AreFiles (files_of calls.start calls.calls) },
 }
 
 impl<R: Files<File = File> + AllocGlobal + Clone + Drop> DiskStore<R> {
-    /// The folder at this path, in which what is written is made lasting or not. Nothing is asked of the system yet, so what the folder
-    /// holds is unknown: for any files the contract gives a store that holds these, and the answers then fit or don't.
-    pub fn at(rt: R, root: String, syncs: Syncs) -> DiskStore<R>
+    /// The folder that is locked, in which what is written is made lasting or not, and files may lose their owners or not. The system isn't asked for
+    /// the folder yet, so what it holds is unknown: for any files the contract gives a store that holds these, and the answers then fit or don't.
+    pub fn at(rt: R, lock: RootLock, syncs: Syncs, owner_change: OwnerChange) -> DiskStore<R>
         ghost start: { Start }
         ensures files { ⟦<DiskStore<R> as Store>⟧.files result ≡ start.files }
         ensures honest { AreFiles start.files → ⟦<DiskStore<R> as Store>⟧.honest result }
@@ -49,11 +74,53 @@ impl<R: Files<File = File> + AllocGlobal + Clone + Drop> DiskStore<R> {
         ensures written { ⟦<DiskStore<R> as Store>⟧.written result ≡ 0 }
         ensures moves { ⟦<DiskStore<R> as Store>⟧.moves result ≡ 0 }
     {
+        let (root, lock) = lock.into_parts();
+        let keeping = Keeping::new(Process::current(&rt, rt.alloc()), owner_change);
         DiskStore {
-            folder: RootFolder::new(rt, root, syncs),
+            folder: RootFolder::new(rt, root, syncs, keeping),
             failure: LastFailure::none(),
             calls: CallRecord::new(),
+            set_back: SetBack::nothing(),
+            _lock: lock,
         }
+    }
+
+    /// Whether the journal belongs to another user than the process. If that can't be seen, it isn't
+    /// told here: opening the journal fails.
+    pub fn is_journal_of_other(&mut self, alloc: Global) -> bool {
+        let user = self.folder.keeping().user();
+        match self.folder.journal_owners(alloc) {
+            Ok(owners) => owners.is_journal_of_other(user),
+            Err(_) => false,
+        }
+    }
+
+    /// From now on the first put of a call fails if a file was read that can't keep its owner, unless
+    /// that is allowed.
+    pub fn watch_owners(&mut self) {
+        self.folder.keeping().watch();
+    }
+
+    /// No put fails for that any more, but those of such files; whether one has failed.
+    pub fn release_owners(&mut self) -> bool {
+        self.folder.keeping().release()
+    }
+
+    /// Whether the file at the path, if there is one, can be written anew and keep its owner, or
+    /// needn't.
+    pub fn may_write(&mut self, alloc: Global, path: &PathText) -> Result<bool, StoreFault> {
+        let answer = self.folder.may_write(alloc, path);
+        answer.map_err(StoreFault::from)
+    }
+
+    /// What was done so far to owners and names of files.
+    pub fn kept(&mut self) -> Kept {
+        self.folder.keeping().kept()
+    }
+
+    /// How many files were set back, if a step was pending and isn't any more.
+    pub fn set_back(&self) -> Option<usize> {
+        self.set_back.files()
     }
 
     /// Whether folders are sought by their paths, since the system doesn't show open ones.
@@ -61,10 +128,116 @@ impl<R: Files<File = File> + AllocGlobal + Clone + Drop> DiskStore<R> {
         self.folder.is_by_path()
     }
 
+    // Notes that the path was to be made these parts joined, and the answer.
+    fn note_put(
+        &mut self,
+        alloc: Global,
+        path: &PathText,
+        parts: Parts,
+        answer: Result<(), FolderFault>,
+    ) -> Result<(), StoreFault>
+        ensures puts { IsPut ⟦<DiskStore<R> as Store>⟧ path.now (joined parts.entry) self.old self.new result }
+        ensures later { IsLater ⟦<DiskStore<R> as Store>⟧ self.old self.new }
+        ensures ok { answer ≡ Ok tt → result ≡ Ok tt }
+        ensures fails { IfErr answer (λ fault. result ≡ Err (fault_of_store fault)) }
+    {
+        files_stay_good();
+        self.set_back.note(path.text(), answer.is_ok());
+        self.failure.note(alloc, Asked::Write, path.text(), &answer);
+        let answer = answer.map_err(StoreFault::from);
+        self.calls.note_put_parts(path, parts, &answer);
+        answer
+    }
+
+    // Notes that the path's file was to be removed, and the answer.
+    fn note_removal(
+        &mut self,
+        alloc: Global,
+        path: &PathText,
+        answer: Result<(), FolderFault>,
+    ) -> Result<(), StoreFault>
+        ensures removes { IsRemoval ⟦<DiskStore<R> as Store>⟧ path.now self.old self.new result }
+        ensures later { IsLater ⟦<DiskStore<R> as Store>⟧ self.old self.new }
+        ensures ok { answer ≡ Ok tt → result ≡ Ok tt }
+        ensures fails { IfErr answer (λ fault. result ≡ Err (fault_of_store fault)) }
+    {
+        files_stay_good();
+        self.set_back.note(path.text(), answer.is_ok());
+        self.failure
+            .note(alloc, Asked::Remove, path.text(), &answer);
+        let answer = answer.map_err(StoreFault::from);
+        self.calls.note_remove(path, &answer);
+        answer
+    }
+
+    // Notes one write and the answer.
+    fn note_write(
+        &mut self,
+        alloc: Global,
+        write: &FileWrite,
+        answer: Result<(), FolderFault>,
+    ) -> Result<(), StoreFault>
+        ensures write { IsWrite ⟦<DiskStore<R> as Store>⟧ write.now.path.now write.now.file self.old self.new result }
+        ensures ok { answer ≡ Ok tt → result ≡ Ok tt }
+        ensures fails { IfErr answer (λ fault. result ≡ Err (fault_of_store fault)) }
+    {
+        match write.file {
+            Some(parts) => self.note_put(alloc, write.path, parts, answer),
+            None => self.note_removal(alloc, write.path, answer),
+        }
+    }
+
+    // Notes writes that were made.
+    fn note_made(&mut self, alloc: Global, writes: &[FileWrite])
+        ensures { AreWrites ⟦<DiskStore<R> as Store>⟧ writes.now self.old self.new (Ok tt) }
+    {
+        for write in writes {
+            let _ = self.note_write(alloc, write, Ok(()));
+        }
+    }
+
+    // Notes writes that were asked for together, and the answer: each that was made, and the one that has failed.
+    fn note_writes(
+        &mut self,
+        alloc: Global,
+        writes: &[FileWrite],
+        answer: Result<(), Stop>,
+    ) -> Result<(), StoreFault>
+        requires { IfErr answer (λ stop. stop.made < length writes.now) }
+        ensures { AreWrites ⟦<DiskStore<R> as Store>⟧ writes.now self.old self.new result }
+    {
+        match answer {
+            Ok(()) => {
+                self.note_made(alloc, writes);
+                Ok(())
+            }
+            Err(stop) => {
+                self.note_made(alloc, &writes[..stop.made]);
+                self.note_write(alloc, &writes[stop.made], Err(stop.fault))
+            }
+        }
+    }
+
     /// The last call that failed, where one did since the last asking.
     pub fn take_failure(&mut self) -> Option<Failure> {
         self.failure.take()
     }
+}
+
+/// Notes a listing and its answer. Which folders it was to pass over is a ghost value: no record holds a function, so it is the list of
+/// those that the pruning names, picked where the pruning is at hand.
+fn note_listing<P: Pruning>(
+    calls: &mut CallRecord,
+    folders: &[PathText],
+    _pruning: &P,
+    answer: &Result<Vec<PathText>, StoreFault>,
+)
+    ghost pruned: { List (List ℕ) }
+    ensures { calls.new ≡ record calls.old {
+      calls = ListCall folders.now pruned (result_map_both (λ paths. paths.items) (λ fault. fault) answer.now) ∷ calls.old.calls;
+    } }
+{
+    calls.note_list(folders, answer);
 }
 
 impl<R: Files<File = File> + AllocGlobal + Clone + Drop> Store for DiskStore<R> {
@@ -80,12 +253,17 @@ impl<R: Files<File = File> + AllocGlobal + Clone + Drop> Store for DiskStore<R> 
 
     ghost honest = { λ store. IsHonest store.calls.start store.calls.calls };
 
-    fn list(&mut self, alloc: Global) -> Result<Vec<PathText>, StoreFault> {
-        let answer = self.folder.list(alloc);
+    fn list<P: Pruning>(
+        &mut self,
+        alloc: Global,
+        folders: &[PathText],
+        pruning: &P,
+    ) -> Result<Vec<PathText>, StoreFault> {
+        let answer = self.folder.list(alloc, folders, pruning);
         self.failure
             .note(alloc, Asked::List, self.folder.listed(), &answer);
         let answer = answer.map_err(StoreFault::from);
-        self.calls.note_list(&answer);
+        note_listing(&mut self.calls, folders, pruning, &answer);
         answer
     }
 
@@ -108,22 +286,21 @@ impl<R: Files<File = File> + AllocGlobal + Clone + Drop> Store for DiskStore<R> 
         path: &PathText,
         parts: Parts,
     ) -> Result<(), StoreFault> {
-        files_stay_good();
         let answer = self.folder.put(alloc, path, parts);
-        self.failure.note(alloc, Asked::Write, path.text(), &answer);
-        let answer = answer.map_err(StoreFault::from);
-        self.calls.note_put_parts(path, parts, &answer);
-        answer
+        self.note_put(alloc, path, parts, answer)
     }
 
     fn remove(&mut self, alloc: Global, path: &PathText) -> Result<(), StoreFault> {
-        files_stay_good();
         let answer = self.folder.remove(alloc, path);
-        self.failure
-            .note(alloc, Asked::Remove, path.text(), &answer);
-        let answer = answer.map_err(StoreFault::from);
-        self.calls.note_remove(path, &answer);
-        answer
+        self.note_removal(alloc, path, answer)
+    }
+
+    fn write_all(&mut self, alloc: Global, writes: &[FileWrite]) -> Result<(), StoreFault> {
+        if writes.is_empty() {
+            return Ok(());
+        }
+        let answer = self.folder.write_all(alloc, writes);
+        self.note_writes(alloc, writes, answer)
     }
 
     fn sync(&mut self, alloc: Global, changes: &[Change]) -> Result<(), StoreFault> {

@@ -2,7 +2,8 @@
 ghost use Rattle.reuse_tree.specs.Asked.{OnlyReads};
 
 use crate::above::journal_above;
-use crate::disk::{DiskStore, Failure};
+use crate::damage::{Damage, Headless, damage_of, is_gone, steps_without_head};
+use crate::disk::{DiskStore, Failure, Kept};
 use crate::fault::Fault;
 use crate::line::{Action, Deed, Line};
 use crate::request::Request;
@@ -36,6 +37,10 @@ pub enum Task {
     Revert,
     /// To tell what that would do.
     PreviewRevert,
+    /// To set back what a stopped run left.
+    Recover,
+    /// To take steps out of the history.
+    Forget,
     /// To change nothing.
     Look,
 }
@@ -58,6 +63,8 @@ impl Task {
 #[derive(Drop)]
 pub struct Findings {
     pub task: Task,
+    /// The root, as it was named.
+    root: Option<String>,
     /// The folder of the texts of a download.
     pub texts: Option<String>,
     /// The nearest folder above the root that has a journal.
@@ -66,6 +73,14 @@ pub struct Findings {
     pub begun: Option<u32>,
     /// Whether that step was set back by the call.
     pub is_set_back: bool,
+    /// What was done to owners and names of files.
+    pub kept: Kept,
+    /// The files of steps in a journal that had no head before the call.
+    pub headless: Option<Headless>,
+    /// What is wrong with the file that the journal was refused for.
+    pub damage: Option<Damage>,
+    /// Whether nothing has the path of the file that was refused as moved.
+    pub is_gone: bool,
     /// Whether the table that was made says nothing of any file.
     pub is_table_empty: bool,
     /// How many files have names that aren't recognised, where the call was refused for one or passed them over.
@@ -79,50 +94,101 @@ pub struct Findings {
 }
 
 impl Findings {
-    /// What is found before the call. Want of memory or a fault leaves a finding out.
-    pub fn before<R: Files + AllocGlobal, S: Store>(
+    /// What is found before the call of a line. Want of memory or a fault leaves a finding out.
+    pub fn before<R: Files + AllocGlobal + Clone + Drop>(
         rt: &R,
         alloc: Global,
         line: &Line,
-        store: &mut S,
-    ) -> Findings
-        ensures { OnlyReads S.Store store.old store.new }
-    {
-        let texts = match line.action.deed() {
+        begun: Option<u32>,
+    ) -> Findings {
+        let task = Task::of(&line.action);
+        let mut findings = Findings::of(rt, alloc, line.root.as_str(), task, begun);
+        findings.texts = match line.action.deed() {
             Some(Deed::Download { folder, .. }) => String::from_str(alloc, folder.as_str()).ok(),
             _ => None,
         };
+        findings
+    }
+
+    /// The same before a task in this root.
+    pub fn of<R: Files + AllocGlobal + Clone + Drop>(
+        rt: &R,
+        alloc: Global,
+        root: &str,
+        task: Task,
+        begun: Option<u32>,
+    ) -> Findings {
         Findings {
-            task: Task::of(&line.action),
-            texts,
-            above: journal_above(rt, alloc, line.root.as_str()),
-            missing_root: missing_root(rt, alloc, line.root.as_str()),
-            begun: begun_step(alloc, store),
+            task,
+            root: String::from_str(alloc, root).ok(),
+            texts: None,
+            above: journal_above(rt, alloc, root),
+            begun,
             is_set_back: false,
+            kept: Kept {
+                changed: 0,
+                linked: 0,
+            },
+            headless: steps_without_head(rt, alloc, root),
+            damage: None,
+            is_gone: false,
             is_table_empty: false,
             unrecognised: 0,
             failure: None,
+            missing_root: missing_root(rt, alloc, root),
             is_by_path: false,
         }
     }
 
-    /// Adds what is found after the call.
+    /// Adds what is found after the call of a line.
     pub fn look_after<R: Files<File = File> + AllocGlobal + Clone + Drop>(
         &mut self,
+        rt: &R,
         alloc: Global,
         mut folder: DiskStore<R>,
         request: &Request,
         outcome: &Result<usize, Fault>,
     ) {
-        self.failure = folder.take_failure();
-        self.is_by_path = folder.is_by_path();
-        if self.begun.is_some() {
-            self.is_set_back = has_settled(alloc, &mut folder);
-        }
+        self.look_at_folder(rt, alloc, &mut folder, outcome);
         if self.task == Task::Conversion {
             self.is_table_empty = is_table_empty(alloc, &mut folder);
         }
         self.unrecognised = unrecognised_by(alloc, folder, request, outcome);
+    }
+
+    /// Adds what is found after any task.
+    pub fn look_at_folder<R: Files<File = File> + AllocGlobal + Clone + Drop>(
+        &mut self,
+        rt: &R,
+        alloc: Global,
+        folder: &mut DiskStore<R>,
+        outcome: &Result<usize, Fault>,
+    ) {
+        self.failure = folder.take_failure();
+        self.is_by_path = folder.is_by_path();
+        self.is_set_back = folder.set_back().is_some();
+        self.kept = folder.kept();
+        if let Err(
+            Fault::Refused(Refusal::BadJournal(path)) | Fault::NoDiff(Refusal::BadJournal(path)),
+        ) = outcome
+        {
+            self.damage = damage_of(alloc, folder, path);
+        }
+        if let (Some(path), Some(root)) = (moved_path(outcome), &self.root) {
+            self.is_gone = is_gone(rt, alloc, root.as_str(), path).unwrap_or(false);
+        }
+    }
+}
+
+/// The path that was refused as moved, or the first one that would be.
+fn moved_path(outcome: &Result<usize, Fault>) -> Option<&PathText> {
+    match outcome {
+        Err(Fault::Refused(Refusal::Moved(path))) => Some(path),
+        Err(Fault::WouldRefuse(fates)) => fates.as_slice().iter().find_map(|fate| match fate {
+            Fate::Refused(Refusal::Moved(path)) => Some(path),
+            _ => None,
+        }),
+        _ => None,
     }
 }
 
@@ -212,21 +278,11 @@ fn head_of<S: Store>(alloc: Global, store: &mut S) -> Option<Head>
 }
 
 /// The step that is under way.
-fn begun_step<S: Store>(alloc: Global, store: &mut S) -> Option<u32>
+pub fn begun_step<S: Store>(alloc: Global, store: &mut S) -> Option<u32>
     ensures { OnlyReads S.Store store.old store.new }
 {
     let pending = head_of(alloc, store)?.pending?;
     Some(pending.entry)
-}
-
-/// Whether the journal can be read and no step is under way.
-fn has_settled<S: Store>(alloc: Global, store: &mut S) -> bool
-    ensures { OnlyReads S.Store store.old store.new }
-{
-    match head_of(alloc, store) {
-        Some(head) => head.pending.is_none(),
-        None => false,
-    }
 }
 
 /// Whether there is a table, and it has no paragraph.

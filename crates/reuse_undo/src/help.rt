@@ -79,6 +79,14 @@ history then lists the steps that were done before. If no step is half made, not
 Example:
   reuse-undo recover --skip-moved";
 
+pub const AFTER_FORGET: &str = "\
+The files stay as they are. A step that is forgotten is listed no more and can't be taken back, and
+its number is given to no other step. The other steps can be undone and redone as before if what is
+forgotten are the oldest ones. No undo brings a forgotten step back.
+
+Example:
+  reuse-undo forget 1 2";
+
 pub const AFTER_SHOW: &str = "\
 The first line is that of `log`. A line `made PATH`, `removed PATH` or `changed PATH` follows for
 each path.

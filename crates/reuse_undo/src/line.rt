@@ -3,8 +3,9 @@ ghost use Rattle.std.specs.Prelude.{◌≡◌, if◌then◌else◌};
 ghost use Rattle.reuse_undo.specs.declared.line.Action.TheVariants as actions;
 ghost use Rattle.reuse_undo.specs.declared.line.ChangeStatus.TheVariants as statuses;
 
+use crate::shown_name::Names;
 use reuse_notice::NoticeRefusal;
-use reuse_session::{Command, Ids, Moment};
+use reuse_session::{Command, EntryNumbers, Ids, Moment};
 use std::alloc::{AllocError, AllocFailed};
 use thiserror::Error;
 
@@ -67,15 +68,23 @@ impl Action {
     }
 }
 
-/// How what is told is written.
+/// In which form an answer is printed.
 #[derive(Clone, Copy, PartialEq, Eq)]
-pub enum Telling {
+pub enum OutputFormat {
     /// A line for each path or row.
     Lines,
     /// These lines, and what changes as a diff.
     Diff,
     /// A JSON object on each line.
     Json,
+}
+
+/// How an answer is printed.
+#[derive(Clone, Copy)]
+pub struct Telling {
+    pub format: OutputFormat,
+    /// How the names in lines are shown. JSON escapes their control bytes always, and a diff as git does.
+    pub names: Names,
 }
 
 /// The status of a call that changed a path, or that would change one and was only looked at.
@@ -106,7 +115,7 @@ pub struct Line {
     /// The folder of the tree, relative to the working folder.
     pub root: String,
     pub action: Action,
-    pub telling: Telling,
+    pub format: OutputFormat,
     pub change_status: ChangeStatus,
     /// When the line was read.
     pub moment: Moment,
@@ -119,6 +128,8 @@ pub enum Asked {
     Line(Line),
     /// To set back what a stopped run left pending.
     Recover(Recovery),
+    /// To take steps out of the history.
+    Forget(Forgetting),
 }
 
 /// Where the pending step is to be set back, and how.
@@ -128,6 +139,23 @@ pub struct Recovery {
     pub root: String,
     /// Whether the paths that can't be set back are left as they are.
     pub skip_moved: bool,
+}
+
+/// Where steps are to be taken out of the history, and which.
+#[derive(Drop)]
+pub struct Forgetting {
+    /// The folder of the tree, relative to the working folder.
+    pub root: String,
+    pub steps: Steps,
+}
+
+/// Steps of the history.
+#[derive(Drop)]
+pub enum Steps {
+    /// All.
+    All,
+    /// Those of these numbers.
+    Numbers(EntryNumbers),
 }
 
 /// Why words are no line.

@@ -5,75 +5,83 @@ ghost use Rattle.reuse_undo.specs.Lines.{line_of, lines_of, fate_line, fate_line
 ghost use Rattle.reuse_undo.specs.RowLines.{AppendsSome};
 
 use crate::rows::{print_row, print_rows};
+use crate::shown_name::{Names, print_name};
 use reuse_session::{Fate, Reply, Reverted, Shown};
 use reuse_tree::{Change, PathText};
 use std::io::{self, Write};
 
-fn print_path<W: Write>(out: &mut W, word: &str, path: &PathText) -> io::Result<()>
-    ensures { OnOk result (Appends (W.contents out.old) (W.contents out.new) (line_of word.now path.now)) }
+fn print_path<W: Write>(out: &mut W, names: Names, word: &str, path: &PathText) -> io::Result<()>
+    ensures { OnOk result (Appends (W.contents out.old) (W.contents out.new) (line_of names word.now path.now)) }
 {
-    writeln!(out, "{word} {}", path.text())
+    write!(out, "{word} ")?;
+    print_name(out, names, path.as_bytes())?;
+    writeln!(out)
 }
 
-/// Prints a line for each path: the word, a space and the path.
-pub fn print_paths<W: Write>(out: &mut W, word: &str, paths: &[PathText]) -> io::Result<()>
-    ensures { OnOk result (Appends (W.contents out.old) (W.contents out.new) (lines_of word.now paths.now)) }
+/// Prints a line for each path: the word, a space and the path, as names are shown.
+pub fn print_paths<W: Write>(
+    out: &mut W,
+    names: Names,
+    word: &str,
+    paths: &[PathText],
+) -> io::Result<()>
+    ensures { OnOk result (Appends (W.contents out.old) (W.contents out.new) (lines_of names word.now paths.now)) }
 {
     for path in paths {
-        print_path(out, word, path)?;
+        print_path(out, names, word, path)?;
     }
     Ok(())
 }
 
 /// Prints a reply: a line for each path or row. That a session was opened is not told, nor the refusals of a preview.
-pub fn print_reply<W: Write>(out: &mut W, reply: &Reply) -> io::Result<()>
-    ensures { OnOk result (AppendsSome (W.contents out.old) (W.contents out.new) (IsReplyText reply.now)) }
+pub fn print_reply<W: Write>(out: &mut W, names: Names, reply: &Reply) -> io::Result<()>
+    ensures { OnOk result (AppendsSome (W.contents out.old) (W.contents out.new) (IsReplyText names reply.now)) }
 {
     match reply {
-        Reply::Changed(paths) => print_paths(out, "changed", paths.as_slice()),
-        Reply::Undone(paths) => print_paths(out, "undone", paths.as_slice()),
-        Reply::Redone(paths) => print_paths(out, "redone", paths.as_slice()),
+        Reply::Changed(paths) => print_paths(out, names, "changed", paths.as_slice()),
+        Reply::Undone(paths) => print_paths(out, names, "undone", paths.as_slice()),
+        Reply::Redone(paths) => print_paths(out, names, "redone", paths.as_slice()),
         Reply::NothingChanged => writeln!(out, "nothing changed"),
         Reply::Log(rows) => print_rows(out, rows.as_slice()),
-        Reply::Preview(fates) => print_fates(out, fates.as_slice()),
+        Reply::Preview(fates) => print_fates(out, names, fates.as_slice()),
         Reply::Opened => Ok(()),
     }
 }
 
 /// Prints a line for each fate that is no refusal.
-fn print_fates<W: Write>(out: &mut W, fates: &[Fate]) -> io::Result<()>
-    ensures { OnOk result (Appends (W.contents out.old) (W.contents out.new) (fate_lines fates.now)) }
+fn print_fates<W: Write>(out: &mut W, names: Names, fates: &[Fate]) -> io::Result<()>
+    ensures { OnOk result (Appends (W.contents out.old) (W.contents out.new) (fate_lines names fates.now)) }
 {
     for fate in fates {
-        print_fate(out, fate)?;
+        print_fate(out, names, fate)?;
     }
     Ok(())
 }
 
-fn print_fate<W: Write>(out: &mut W, fate: &Fate) -> io::Result<()>
-    ensures { OnOk result (Appends (W.contents out.old) (W.contents out.new) (fate_line fate.now)) }
+fn print_fate<W: Write>(out: &mut W, names: Names, fate: &Fate) -> io::Result<()>
+    ensures { OnOk result (Appends (W.contents out.old) (W.contents out.new) (fate_line names fate.now)) }
 {
     match fate {
-        Fate::Changes(path) => print_path(out, "would change", path),
-        Fate::Unchanged(path) => print_path(out, "unchanged", path),
-        Fate::Skipped(path) => print_path(out, "skipped", path),
+        Fate::Changes(path) => print_path(out, names, "would change", path),
+        Fate::Unchanged(path) => print_path(out, names, "unchanged", path),
+        Fate::Skipped(path) => print_path(out, names, "skipped", path),
         Fate::Refused(_) => Ok(()),
     }
 }
 
 /// Prints a step: its row of the log, and a line for each path.
-pub fn print_shown<W: Write>(out: &mut W, shown: &Shown) -> io::Result<()>
-    ensures { OnOk result (AppendsSome (W.contents out.old) (W.contents out.new) (IsShownText shown.now)) }
+pub fn print_shown<W: Write>(out: &mut W, names: Names, shown: &Shown) -> io::Result<()>
+    ensures { OnOk result (AppendsSome (W.contents out.old) (W.contents out.new) (IsShownText names shown.now)) }
 {
     print_row(out, &shown.row)?;
-    print_changes(out, shown.changes.as_slice())
+    print_changes(out, names, shown.changes.as_slice())
 }
 
-fn print_changes<W: Write>(out: &mut W, changes: &[Change]) -> io::Result<()>
-    ensures { OnOk result (Appends (W.contents out.old) (W.contents out.new) (change_lines changes.now)) }
+fn print_changes<W: Write>(out: &mut W, names: Names, changes: &[Change]) -> io::Result<()>
+    ensures { OnOk result (Appends (W.contents out.old) (W.contents out.new) (change_lines names changes.now)) }
 {
     for change in changes {
-        print_path(out, kind_word(change), change.path())?;
+        print_path(out, names, kind_word(change), change.path())?;
     }
     Ok(())
 }
@@ -90,20 +98,20 @@ pub fn kind_word(change: &Change) -> &'static str
 }
 
 /// Prints what a revert did: the paths that changed, and then those that were left.
-pub fn print_reverted<W: Write>(out: &mut W, reverted: &Reverted) -> io::Result<()>
-    ensures { OnOk result (Appends (W.contents out.old) (W.contents out.new) (reverted_text reverted.now)) }
+pub fn print_reverted<W: Write>(out: &mut W, names: Names, reverted: &Reverted) -> io::Result<()>
+    ensures { OnOk result (Appends (W.contents out.old) (W.contents out.new) (reverted_text names reverted.now)) }
 {
-    print_reverted_paths(out, reverted.changed.as_slice())?;
-    print_paths(out, "skipped", reverted.skipped.as_slice())
+    print_reverted_paths(out, names, reverted.changed.as_slice())?;
+    print_paths(out, names, "skipped", reverted.skipped.as_slice())
 }
 
-fn print_reverted_paths<W: Write>(out: &mut W, paths: &[PathText]) -> io::Result<()>
-    ensures { OnOk result (Appends (W.contents out.old) (W.contents out.new) (changed_text paths.now)) }
+fn print_reverted_paths<W: Write>(out: &mut W, names: Names, paths: &[PathText]) -> io::Result<()>
+    ensures { OnOk result (Appends (W.contents out.old) (W.contents out.new) (changed_text names paths.now)) }
 {
     if paths.is_empty() {
         writeln!(out, "nothing changed")
     } else {
-        print_paths(out, "changed", paths)
+        print_paths(out, names, "changed", paths)
     }
 }
 

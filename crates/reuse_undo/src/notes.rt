@@ -1,4 +1,7 @@
 //! Notes: what a fault is about, what can be done about it, and what a call has done.
+use crate::damage::Headless;
+use crate::denial::Denial;
+use crate::disk::Kept;
 use crate::fault::Fault;
 use crate::findings::{Findings, Task, unrecognised_among};
 use crate::line::LineFault;
@@ -28,27 +31,15 @@ const BAD_JOURNAL: &str =
     other file";
 
 /// What can be done about a refusal, where a note says that.
-fn advice(refusal: &Refusal, is_begun: bool, task: Task) -> Option<&'static str> {
+fn advice(refusal: &Refusal, is_begun: bool, findings: &Findings) -> Option<&'static str> {
     match refusal {
         Refusal::Unrecognised(_) => Some(
             "no comment style is known for this name: name one with --style or in .reuse/styles.toml, \
             write the information beside the file with --fallback-dot-license, or pass it over with --skip-unrecognised",
         ),
-        Refusal::Moved(_) if is_begun => Some(
-            "a stopped run had begun to change this file, and it was changed since: put it back as it was before that run, \
-            or as that run would have left it",
-        ),
-        Refusal::Moved(_) if matches!(task, Task::Revert | Task::PreviewRevert) => Some(
-            "what the step wrote doesn't stand in this file as it did: take that change back and call again, \
-            or leave the file as it is with --skip-moved",
-        ),
-        Refusal::Moved(_) if task == Task::Redo => Some(
-            "this file was changed since the step was taken back: take that change back and call again",
-        ),
-        Refusal::Moved(_) => Some(
-            "this file was changed since: take that change back and call again, or keep it; \
-            reuse-undo revert takes a step out of files that were edited below what it wrote",
-        ),
+        Refusal::Moved(_) if is_begun => Some(begun_advice(findings)),
+        Refusal::Moved(_) if findings.is_gone => Some(gone_advice(findings.task)),
+        Refusal::Moved(_) => Some(moved_advice(findings.task)),
         Refusal::NoSuchStep(_) => Some("reuse-undo log tells the numbers of the steps"),
         Refusal::Interrupted(_) => {
             Some("the next call on this tree, log too, takes back what was begun")
@@ -56,6 +47,61 @@ fn advice(refusal: &Refusal, is_begun: bool, task: Task) -> Option<&'static str>
         Refusal::BadJournal(_) => Some(BAD_JOURNAL),
         Refusal::Dep5(refusal) => dep5_advice(refusal),
         _ => None,
+    }
+}
+
+/// What can be done about a file of a step that a stopped run had begun.
+fn begun_advice(findings: &Findings) -> &'static str {
+    match (findings.task, findings.is_gone) {
+        (Task::Recover, false) => {
+            "a stopped run had begun to change this file, and it was changed since: with --skip-moved it is left \
+            as it is, and the other files are set back"
+        }
+        (Task::Recover, true) => {
+            "a stopped run had begun to change this file, and it is gone: with --skip-moved it is left out, and the \
+            other files are set back"
+        }
+        (_, false) => {
+            "a stopped run had begun to change this file, and it was changed since: put it back as it was before that run, \
+            or as that run would have left it; or call reuse-undo recover --skip-moved, which leaves it as it is and sets the \
+            other files back"
+        }
+        (_, true) => {
+            "a stopped run had begun to change this file, and it is gone: put it back as it was before that run, \
+            or as that run would have left it; or call reuse-undo recover --skip-moved, which leaves it out and sets the \
+            other files back"
+        }
+    }
+}
+
+/// What can be done about a file that is gone.
+fn gone_advice(task: Task) -> &'static str {
+    match task {
+        Task::Revert | Task::PreviewRevert => {
+            "this file is gone: put it back and call again, or leave it out with --skip-moved"
+        }
+        Task::Redo => "this file is gone: put it back and call again",
+        _ => {
+            "this file is gone: put it back and call again; or reuse-undo revert --skip-moved takes the step out of the \
+            other files"
+        }
+    }
+}
+
+/// What can be done about a file that isn't as a step left it.
+fn moved_advice(task: Task) -> &'static str {
+    match task {
+        Task::Revert | Task::PreviewRevert => {
+            "what the step wrote doesn't stand in this file as it did: take that change back and call again, \
+            or leave the file as it is with --skip-moved"
+        }
+        Task::Redo => {
+            "this file was changed since the step was taken back: take that change back and call again"
+        }
+        _ => {
+            "this file was changed since: take that change back and call again, or keep it; \
+            reuse-undo revert takes a step out of files that were edited below what it wrote"
+        }
     }
 }
 
@@ -88,8 +134,13 @@ fn note_refusal(rt: &impl Eprint, findings: &Findings, refusal: &Refusal) {
     if let Refusal::BadStyles(cause) = refusal {
         let _ = eprintln!(rt; "reuse-undo: note: what is wrong with .reuse/styles.toml: {cause}");
     }
+    if let (Refusal::BadJournal(path), Some(damage)) = (refusal, findings.damage) {
+        let (path, words, advice) = (path.text(), damage.words(), damage.advice());
+        let _ = eprintln!(rt; "reuse-undo: note: {path} {words}: {advice}");
+        return;
+    }
     let is_begun = findings.begun.is_some() && !findings.is_set_back;
-    if let Some(advice) = advice(refusal, is_begun, findings.task) {
+    if let Some(advice) = advice(refusal, is_begun, findings) {
         note(rt, advice);
     }
 }
@@ -117,7 +168,7 @@ fn note_fates(rt: &impl Eprint, findings: &Findings, fates: &[Fate]) {
     let mut last = None;
     for fate in fates {
         if let Fate::Refused(refusal) = fate {
-            let told = advice(refusal, false, findings.task);
+            let told = advice(refusal, false, findings);
             if told.is_none() || told != last {
                 note_refusal(rt, findings, refusal);
             }
@@ -145,12 +196,74 @@ fn note_change(rt: &impl Eprint, task: Task, count: usize) {
     };
 }
 
+/// Tells that the journal has files of steps, and no head.
+fn note_headless(rt: &impl Eprint, headless: Headless) {
+    match headless {
+        Headless::First => note(
+            rt,
+            "the history was found empty, though .reuse/undo/000001.json is there: the head of the journal is gone, or the first run \
+            was stopped before it changed a file; if it is gone, put .reuse/undo/head.json back from a backup",
+        ),
+        Headless::Steps(count) => {
+            let _ = eprintln!(rt;
+                "reuse-undo: note: the history was found empty, though .reuse/undo has the files of {count} steps: the head of the journal is gone; \
+                put .reuse/undo/head.json back from a backup, or the next steps take the places of these"
+            );
+        }
+    }
+}
+
+/// Tells that a step was set back which a stopped run had begun, and how many files of it. That is
+/// told always, since the call before may have been another user's.
+pub fn note_set_back(rt: &impl Eprint, step: u32, count: usize) {
+    let files = if count == 1 { "file" } else { "files" };
+    let _ = eprintln!(rt;
+        "reuse-undo: note: step {step}, which a stopped run had begun, was set back ({count} {files})"
+    );
+}
+
+/// Tells what can be done about a call that the program itself refused.
+pub fn note_denial(rt: &impl Eprint, denial: &Denial) {
+    let text = match denial {
+        Denial::JournalOfAnother => {
+            "files of .reuse/undo are another user's, who could have any file here changed by this call: \
+            --trust-journal opens that journal all the same"
+        }
+        Denial::CannotKeepOwner(_) => {
+            "written anew, this file would have another owner or group, and somebody more or less access than now: \
+            --allow-owner-change writes it all the same"
+        }
+    };
+    note(rt, text);
+}
+
+/// Tells how many files have another owner or group now, and how many had further names.
+fn note_kept(rt: &impl Eprint, kept: Kept) {
+    if kept.changed > 0 {
+        let files = if kept.changed == 1 { "file" } else { "files" };
+        let _ = eprintln!(rt;
+            "reuse-undo: note: {} {files} could not keep owner or group",
+            kept.changed
+        );
+    }
+    if kept.linked > 0 {
+        let files = if kept.linked == 1 {
+            "file has"
+        } else {
+            "files have"
+        };
+        let _ = eprintln!(rt;
+            "reuse-undo: note: {} {files} further names (hard links), which keep the old bytes",
+            kept.linked
+        );
+    }
+}
+
 /// Tells what a call did, or what its fault is about.
 pub fn note_call(rt: &impl Eprint, findings: &Findings, outcome: &Result<usize, Fault>) {
-    if let (true, Some(step)) = (findings.is_set_back, findings.begun) {
-        let _ = eprintln!(rt;
-            "reuse-undo: note: step {step}, which a stopped run had begun, was set back"
-        );
+    note_kept(rt, findings.kept);
+    if let Some(headless) = findings.headless {
+        note_headless(rt, headless);
     }
     match outcome {
         Ok(count) => note_change(rt, findings.task, *count),

@@ -1,9 +1,10 @@
 //! The JSON objects that rows, steps and dry runs are printed as.
 ghost use Rattle.std.specs.Prelude.{◌≡◌, false, option_map, IfOk, OnOk, List, ℕ};
+ghost use Rattle.std.specs.List.{flat_map};
 ghost use Rattle.std.specs.Io.KnownBytes.{Appends};
 ghost use Rattle.serde_json.specs.View.{view};
 ghost use Rattle.serde_json.specs.Written.{has_float};
-ghost use Rattle.reuse_undo.specs.Objects.{row_value, shown_value, change_value, changes_value, outcome_value, refused_path, refused_value, object_line, AreFateObjects, AreRowObjects, IsFateObject, IsRowObject, IsShownObject};
+ghost use Rattle.reuse_undo.specs.Objects.{row_value, shown_value, change_value, changes_value, outcome_value, refused_path, refused_value, json_byte, object_line, AreFateObjects, AreRowObjects, IsFateObject, IsRowObject, IsShownObject};
 ghost use Rattle.reuse_undo.specs.RowLines.{AppendsSome};
 
 use crate::date::date_of;
@@ -47,7 +48,28 @@ fn print_value<W: Write>(out: &mut W, alloc: Global, value: &Value) -> io::Resul
     ensures { OnOk result (Appends (W.contents out.old) (W.contents out.new) (object_line (view value.now))) }
 {
     let text = value.to_string(alloc)?;
-    writeln!(out, "{text}")
+    print_json(out, text.as_bytes())?;
+    writeln!(out)
+}
+
+// Prints a JSON text, with no control byte.
+fn print_json<W: Write>(out: &mut W, text: &[u8]) -> io::Result<()>
+    ensures { OnOk result (Appends (W.contents out.old) (W.contents out.new) (flat_map json_byte text.now)) }
+{
+    for byte in text {
+        print_json_byte(out, *byte)?;
+    }
+    Ok(())
+}
+
+fn print_json_byte<W: Write>(out: &mut W, byte: u8) -> io::Result<()>
+    ensures { OnOk result (Appends (W.contents out.old) (W.contents out.new) (json_byte byte)) }
+{
+    if byte == 127 {
+        out.write_all(b"\\u007f")
+    } else {
+        out.write_all(&[byte])
+    }
 }
 
 fn row_value(alloc: Global, row: &Row, date: Date) -> Result<Value, AllocError>

@@ -1,15 +1,18 @@
 //! Carries out on a folder what a line asks for.
 ghost use Rattle.reuse_undo.specs.CarriedOut.{CarriesOut};
+ghost use Rattle.reuse_undo.specs.Forgotten.{ForgetsOn};
 ghost use Rattle.reuse_undo.specs.Recoveries.{RecoversOn};
 
 use crate::disk::DiskStore;
 use crate::fault::Fault;
-use crate::line::Telling;
+use crate::forgetting::run_forget;
+use crate::line::{Steps, Telling};
 use crate::output::Sink;
 use crate::progress::Progress;
 use crate::recovering::run_recover;
 use crate::request::Request;
 use crate::run_line::run_request;
+use crate::shown_name::Names;
 use reuse_tree::{Store, WatchedStore};
 use std::alloc::Global;
 use std::fs::File;
@@ -43,13 +46,34 @@ pub fn recover_on_folder<
     progress: &Progress<R>,
     alloc: Global,
     skip_moved: bool,
+    names: Names,
     out: &mut O,
 ) -> (DiskStore<R>, Result<usize, Fault>)
     // As on any store, for whatever files the folder holds.
     ensures { ⟦<DiskStore<R> as Store>⟧.honest result.0
-        → RecoversOn skip_moved (⟦<DiskStore<R> as Store>⟧.files folder) (⟦<DiskStore<R> as Store>⟧.files result.0) (O.contents out.old) (O.contents out.new) result.1 }
+        → RecoversOn names skip_moved (⟦<DiskStore<R> as Store>⟧.files folder) (⟦<DiskStore<R> as Store>⟧.files result.0) (O.contents out.old) (O.contents out.new) result.1 }
 {
     let watched = WatchedStore::new(folder, progress);
-    let (watched, outcome) = run_recover(alloc, watched, skip_moved, out);
+    let (watched, outcome) = run_recover(alloc, watched, skip_moved, names, out);
+    (watched.into_inner(), outcome)
+}
+
+/// Takes the steps out of the history of the folder, and writes a line for each; how many there were. The folder is given back as a store.
+pub fn forget_on_folder<
+    R: Files<File = File> + AllocGlobal + Clock + Eprint + Clone + Drop,
+    O: Sink,
+>(
+    folder: DiskStore<R>,
+    progress: &Progress<R>,
+    alloc: Global,
+    steps: &Steps,
+    out: &mut O,
+) -> (DiskStore<R>, Result<usize, Fault>)
+    // As on any store, for whatever files the folder holds.
+    ensures { ⟦<DiskStore<R> as Store>⟧.honest result.0
+        → ForgetsOn steps.now (⟦<DiskStore<R> as Store>⟧.files folder) (⟦<DiskStore<R> as Store>⟧.files result.0) (O.contents out.old) (O.contents out.new) result.1 }
+{
+    let watched = WatchedStore::new(folder, progress);
+    let (watched, outcome) = run_forget(alloc, watched, steps, out);
     (watched.into_inner(), outcome)
 }

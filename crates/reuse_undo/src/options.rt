@@ -19,6 +19,8 @@ pub enum Takes {
     Words,
     /// The number of a step, without an option.
     Number,
+    /// The numbers of steps, one or more, without an option.
+    Numbers,
 }
 
 /// What else holds of a part of the command line.
@@ -28,6 +30,8 @@ pub enum Rule {
     Free,
     /// It must be there.
     Required,
+    /// It must be there where this option isn't.
+    RequiredUnless(&'static str),
     /// It goes with this option alone.
     Requires(&'static str),
     /// It doesn't go with this option.
@@ -89,6 +93,20 @@ pub const BEFORE: &[Argument] = &[
         Takes::Nothing,
         Rule::Global,
         "Leave out all syncs: faster, but a loss of power can empty files",
+    ),
+    Argument(
+        "allow-owner-change",
+        None,
+        Takes::Nothing,
+        Rule::Global,
+        "Change files even if they can't keep owner and group",
+    ),
+    Argument(
+        "trust-journal",
+        None,
+        Takes::Nothing,
+        Rule::Global,
+        "Open the journal even if it belongs to another user",
     ),
 ];
 
@@ -340,6 +358,23 @@ pub const RECOVER: &[Argument] = &[Argument(
     Rule::Free,
     "Leave a file as it is if it can't be set back",
 )];
+
+pub const FORGET: &[Argument] = &[
+    Argument(
+        "all",
+        None,
+        Takes::Nothing,
+        Rule::Excludes("NUMBER"),
+        "Forget all steps; not with NUMBER",
+    ),
+    Argument(
+        "NUMBER",
+        None,
+        Takes::Numbers,
+        Rule::RequiredUnless("all"),
+        "The number of a step, as printed by log",
+    ),
+];
 
 pub const SHOW: &[Argument] = &[
     Argument(

@@ -1,4 +1,6 @@
 //! How far long work is, for a terminal.
+ghost use Rattle.std.specs.Prelude.{◌≡◌, min};
+
 use reuse_tree::{Asked, Watcher};
 use std::alloc::Global;
 use std::cell::Cell;
@@ -63,6 +65,7 @@ impl<R: Clock + Eprint + Drop> Progress<R> {
         let (read, written) = (self.read.get(), self.written.get());
         let _ = match self.listed.get() {
             Some(listed) => {
+                let read = read_of(read, listed);
                 eprint!(&self.rt;
                     "\r{read} files read of {listed} in the tree, {written} written\x1b[K"
                 )
@@ -80,31 +83,43 @@ impl<R: Clock + Eprint + Drop> Progress<R> {
     }
 }
 
-/// Standard output, where the line of progress is cleared first.
-#[derive(Drop)]
-pub struct ClearedOutput<'a, R: Clock + Eprint + Drop> {
-    progress: &'a Progress<R>,
+/// How many of the files in the tree are told as read. Some are read twice, and the journal's are no files of the tree.
+fn read_of(read: u64, listed: usize) -> u64
+    ensures { result ≡ min read listed }
+{
+    read.min(listed as u64)
 }
 
-impl<'a, R: Clock + Eprint + Drop> ClearedOutput<'a, R> {
-    pub fn new(progress: &'a Progress<R>) -> ClearedOutput<'a, R> {
-        ClearedOutput { progress }
+/// A writer before whose lines the line of progress is cleared.
+#[derive(Drop)]
+pub struct ClearedOutput<'a, R: Clock + Eprint + Drop, W: Write + Drop> {
+    progress: &'a Progress<R>,
+    pub(crate) inner: W,
+}
+
+impl<'a, R: Clock + Eprint + Drop, W: Write + Drop> ClearedOutput<'a, R, W> {
+    pub fn new(progress: &'a Progress<R>, inner: W) -> ClearedOutput<'a, R, W>
+        ensures { result.inner ≡ inner }
+    {
+        ClearedOutput { progress, inner }
     }
 }
 
-impl<R: Clock + Print + Eprint + Drop> Write for ClearedOutput<'_, R> {
+impl<R: Clock + Eprint + Drop, W: Write + Drop> Write for ClearedOutput<'_, R, W> {
+    ghost contents = { λ output. W.contents output.inner };
+
     fn write(&mut self, buf: &[u8]) -> io::Result<usize> {
         self.progress.clear();
-        io::writer(&self.progress.rt).write(buf)
+        self.inner.write(buf)
     }
 
     fn write_all(&mut self, buf: &[u8]) -> io::Result<()> {
         self.progress.clear();
-        io::writer(&self.progress.rt).write_all(buf)
+        self.inner.write_all(buf)
     }
 
     fn flush(&mut self) -> io::Result<()> {
-        Ok(())
+        self.inner.flush()
     }
 }
 

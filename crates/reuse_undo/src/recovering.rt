@@ -8,6 +8,7 @@ ghost use Rattle.reuse_undo.specs.Recoveries.{recovered_text, set_back_text, Rec
 use crate::fault::{Fault, in_memory};
 use crate::lines::print_paths;
 use crate::output::{Sink, write_text};
+use crate::shown_name::Names;
 use reuse_session::{Recovered, recover};
 use reuse_tree::{PathText, Store};
 use std::alloc::Global;
@@ -19,22 +20,28 @@ pub fn run_recover<S: Store + Drop, O: Sink>(
     alloc: Global,
     store: S,
     skip_moved: bool,
+    names: Names,
     out: &mut O,
 ) -> (S, Result<usize, Fault>)
-    ensures { S.honest result.0 → RecoversOn skip_moved (S.files store) (S.files result.0) (O.contents out.old) (O.contents out.new) result.1 }
+    ensures { S.honest result.0 → RecoversOn names skip_moved (S.files store) (S.files result.0) (O.contents out.old) (O.contents out.new) result.1 }
 {
     let (store, answer) = recover(alloc, store, skip_moved);
     match answer {
-        Ok(recovered) => (store, print_answer(out, alloc, recovered)),
+        Ok(recovered) => (store, print_answer(out, alloc, names, recovered)),
         Err(refusal) => (store, Err(Fault::Refused(refusal))),
     }
 }
 
 // Writes the lines of what was recovered.
-fn print_answer<O: Sink>(out: &mut O, alloc: Global, recovered: Recovered) -> Result<usize, Fault>
-    ensures { PrintsRecovered recovered (O.contents out.old) (O.contents out.new) result }
+fn print_answer<O: Sink>(
+    out: &mut O,
+    alloc: Global,
+    names: Names,
+    recovered: Recovered,
+) -> Result<usize, Fault>
+    ensures { PrintsRecovered names recovered (O.contents out.old) (O.contents out.new) result }
 {
-    let printed = print_whole(out, alloc, &recovered);
+    let printed = print_whole(out, alloc, names, &recovered);
     let count = recovered.changed.as_slice().len();
     drop(recovered);
     match printed {
@@ -44,28 +51,33 @@ fn print_answer<O: Sink>(out: &mut O, alloc: Global, recovered: Recovered) -> Re
 }
 
 // The same, of which no part is written before it is whole.
-fn print_whole<O: Sink>(out: &mut O, alloc: Global, recovered: &Recovered) -> Result<(), Fault>
-    ensures { PrintsLines recovered.now (O.contents out.old) (O.contents out.new) result }
+fn print_whole<O: Sink>(
+    out: &mut O,
+    alloc: Global,
+    names: Names,
+    recovered: &Recovered,
+) -> Result<(), Fault>
+    ensures { PrintsLines names recovered.now (O.contents out.old) (O.contents out.new) result }
 {
     let mut text = Vec::new(alloc);
-    in_memory(print_recovered(&mut text, recovered))?;
+    in_memory(print_recovered(&mut text, names, recovered))?;
     write_text(out, text.as_slice())
 }
 
 /// Prints a line for each path that was set back, and then for each that was left.
-pub fn print_recovered<W: Write>(out: &mut W, recovered: &Recovered) -> io::Result<()>
-    ensures { OnOk result (Appends (W.contents out.old) (W.contents out.new) (recovered_text recovered.now)) }
+pub fn print_recovered<W: Write>(out: &mut W, names: Names, recovered: &Recovered) -> io::Result<()>
+    ensures { OnOk result (Appends (W.contents out.old) (W.contents out.new) (recovered_text names recovered.now)) }
 {
-    print_set_back(out, recovered.changed.as_slice())?;
-    print_paths(out, "skipped", recovered.skipped.as_slice())
+    print_set_back(out, names, recovered.changed.as_slice())?;
+    print_paths(out, names, "skipped", recovered.skipped.as_slice())
 }
 
-fn print_set_back<W: Write>(out: &mut W, paths: &[PathText]) -> io::Result<()>
-    ensures { OnOk result (Appends (W.contents out.old) (W.contents out.new) (set_back_text paths.now)) }
+fn print_set_back<W: Write>(out: &mut W, names: Names, paths: &[PathText]) -> io::Result<()>
+    ensures { OnOk result (Appends (W.contents out.old) (W.contents out.new) (set_back_text names paths.now)) }
 {
     if paths.is_empty() {
         writeln!(out, "nothing changed")
     } else {
-        print_paths(out, "set back", paths)
+        print_paths(out, names, "set back", paths)
     }
 }

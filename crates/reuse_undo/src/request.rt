@@ -40,7 +40,7 @@ pub fn request_of(line: Line, texts: LicenceTexts) -> Request
     let Line {
         root: _,
         action,
-        telling: _,
+        format: _,
         change_status: _,
         moment,
     } = line;

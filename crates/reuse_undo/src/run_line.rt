@@ -16,12 +16,14 @@ mod drawn;
 mod printed;
 
 use crate::fault::Fault;
-use crate::line::Telling;
+use crate::line::{OutputFormat, Telling};
 use crate::output::Sink;
 use crate::request::{Request, Told};
 use calls::ask;
+pub use calls::preview_revert;
 use drawn::{Foreseen, draw, foresee};
-use printed::{finish, is_refused};
+use printed::finish;
+pub use printed::is_refused;
 use reuse_session::{Refusal, Reply, Session};
 use reuse_tree::Store;
 use std::alloc::Global;
@@ -79,8 +81,10 @@ fn call<S: Store + Drop>(
 fn wants_diff(telling: Telling, answer: &Result<Told, Refusal>) -> bool
     ensures { IsTrue result → IsWanted telling answer.now }
 {
-    match (telling, answer) {
-        (Telling::Diff, Ok(Told::Reply(Reply::Preview(fates)))) => !is_refused(fates.as_slice()),
+    match (telling.format, answer) {
+        (OutputFormat::Diff, Ok(Told::Reply(Reply::Preview(fates)))) => !is_refused(
+            fates.as_slice(),
+        ),
         _ => false,
     }
 }

@@ -1,13 +1,53 @@
 //! What the program exits with.
 ghost use Rattle.std.specs.Prelude.{◌≡◌};
-ghost use Rattle.reuse_undo.specs.Statuses.{call_status_of, line_status_of};
+ghost use Rattle.reuse_undo.specs.Statuses.{call_status_of, exit_status_of, line_status_of};
 
+use crate::denial::Denial;
 use crate::fault::Fault;
 use crate::line::{ChangeStatus, LineFault};
 use reuse_notice::NoticeRefusal;
 
+/// How a run of the program ended.
+#[derive(Drop)]
+pub enum Ending {
+    /// The clock is out of range.
+    BadClock,
+    /// The words are no line.
+    NoLine {
+        fault: LineFault,
+        /// Whether that, or the help that was asked for, could be printed.
+        is_told: bool,
+    },
+    /// The program itself refused the call, which wasn't begun.
+    Denied(Denial),
+    /// A call was made, or was to be made.
+    Called {
+        /// How many paths changed, or would change in a dry run.
+        outcome: Result<usize, Fault>,
+        on_change: ChangeStatus,
+    },
+}
+
+/// The status that says how it ended.
+pub fn exit_status(ending: &Ending) -> u8
+    ensures { result ≡ exit_status_of ending.now }
+{
+    match ending {
+        Ending::BadClock | Ending::Denied(_) => 1,
+        Ending::NoLine {
+            fault,
+            is_told: true,
+        } => line_status(fault),
+        Ending::NoLine {
+            fault,
+            is_told: false,
+        } => line_status(fault).max(1),
+        Ending::Called { outcome, on_change } => call_status(outcome, *on_change),
+    }
+}
+
 /// After a call: its outcome is how many paths changed, or would change in a dry run.
-pub fn call_status(outcome: &Result<usize, Fault>, on_change: ChangeStatus) -> u8
+fn call_status(outcome: &Result<usize, Fault>, on_change: ChangeStatus) -> u8
     ensures { result ≡ call_status_of on_change outcome.now }
 {
     match (outcome, on_change) {
@@ -18,7 +58,7 @@ pub fn call_status(outcome: &Result<usize, Fault>, on_change: ChangeStatus) -> u
 }
 
 /// After words that are no line.
-pub fn line_status(fault: &LineFault) -> u8
+fn line_status(fault: &LineFault) -> u8
     ensures { result ≡ line_status_of fault.now }
 {
     match fault {

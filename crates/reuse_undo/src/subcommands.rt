@@ -1,11 +1,11 @@
 //! The subcommands of the command line, as tables.
 use crate::help::{
-    AFTER_ANNOTATE, AFTER_CONVERT, AFTER_DOWNLOAD, AFTER_LOG, AFTER_RECOVER, AFTER_REDO,
-    AFTER_REVERT, AFTER_SHOW, AFTER_UNDO,
+    AFTER_ANNOTATE, AFTER_CONVERT, AFTER_DOWNLOAD, AFTER_FORGET, AFTER_LOG, AFTER_RECOVER,
+    AFTER_REDO, AFTER_REVERT, AFTER_SHOW, AFTER_UNDO,
 };
 use crate::options::{
-    ANNOTATE, ANNOTATE_CHOICES, CHECK, DIFF, DOWNLOAD, DRY_RUN, EXIT_NON_ZERO, JSON, LOOK_JSON,
-    LOOKS, RECOVER, REVERT, SHOW, Subcommand,
+    ANNOTATE, ANNOTATE_CHOICES, CHECK, DIFF, DOWNLOAD, DRY_RUN, EXIT_NON_ZERO, FORGET, JSON,
+    LOOK_JSON, LOOKS, RECOVER, REVERT, SHOW, Subcommand,
 };
 
 /// The subcommands that make steps, and those that take them back and make them again.
@@ -54,13 +54,20 @@ pub const STEPS: &[Subcommand] = &[
     ),
 ];
 
-/// The subcommands of the history: one that sets back what a stopped run left, and those that print the steps.
+/// The subcommands of the history: one that sets back what a stopped run left, one that takes steps out, and those that print the steps.
 pub const HISTORY: &[Subcommand] = &[
     Subcommand(
         "recover",
         "Set back a step that a stopped run left half made",
         AFTER_RECOVER,
         RECOVER,
+        &[],
+    ),
+    Subcommand(
+        "forget",
+        "Take steps out of the history",
+        AFTER_FORGET,
+        FORGET,
         &[],
     ),
     Subcommand("log", "List the steps", AFTER_LOG, &[JSON], &[]),

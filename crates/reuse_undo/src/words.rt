@@ -1,16 +1,19 @@
 //! From the words of a command line to what they ask for.
 use crate::arguments::whole;
 use crate::date::year_of;
-use crate::disk::Syncs;
+use crate::disk::{OwnerChange, Syncs};
 use crate::glob_word::globs_of_word;
-use crate::line::{Action, Asked, ChangeStatus, Deed, Line, LineFault, Recovery, Telling};
+use crate::line::{
+    Action, Asked, ChangeStatus, Deed, Forgetting, Line, LineFault, OutputFormat, Recovery, Steps,
+};
 use crate::place_word::place_of_word;
 use crate::prefix_name::prefix_of_name;
+use crate::settings::Settings;
 use clap::error::ErrorKind;
 use clap::{ArgMatches, Error};
 use reuse_header::{Form, How, Style};
 use reuse_notice::{Additions, Prefix};
-use reuse_session::{Command, Globs, Ids, Moment, Place, Places, Scope, Unknown};
+use reuse_session::{Command, EntryNumbers, Globs, Ids, Moment, Place, Places, Scope, Unknown};
 use reuse_text::Bytes;
 use std::alloc::{AllocError, Global};
 
@@ -19,8 +22,8 @@ use std::alloc::{AllocError, Global};
 pub struct Said {
     /// Whether notes are asked for.
     pub verbose: bool,
-    /// Whether what is written is made lasting.
-    pub syncs: Syncs,
+    /// What is asked for of all calls alike.
+    pub settings: Settings,
     /// The file that lists the files of an annotation, where one is named.
     pub files_from: Option<String>,
     pub asked: Result<Asked, LineFault>,
@@ -31,7 +34,7 @@ impl Said {
     pub fn fault(fault: LineFault) -> Said {
         Said {
             verbose: false,
-            syncs: Syncs::Kept,
+            settings: Settings::usual(),
             files_from: None,
             asked: Err(fault),
         }
@@ -47,7 +50,7 @@ pub fn words_to_command(alloc: Global, words: &[String], moment: Moment) -> Said
         Ok(matches) => match files_from(alloc, &matches) {
             Ok(files_from) => Said {
                 verbose: matches.get_flag("verbose"),
-                syncs: read_syncs(&matches),
+                settings: read_settings(&matches),
                 files_from,
                 asked: read_asked(alloc, &matches, moment),
             },
@@ -57,11 +60,19 @@ pub fn words_to_command(alloc: Global, words: &[String], moment: Moment) -> Said
     }
 }
 
-fn read_syncs(matches: &ArgMatches<'_>) -> Syncs {
-    if matches.get_flag("no-sync") {
-        Syncs::LeftOut
-    } else {
-        Syncs::Kept
+fn read_settings(matches: &ArgMatches<'_>) -> Settings {
+    Settings {
+        syncs: if matches.get_flag("no-sync") {
+            Syncs::LeftOut
+        } else {
+            Syncs::Kept
+        },
+        owner_change: if matches.get_flag("allow-owner-change") {
+            OwnerChange::Allowed
+        } else {
+            OwnerChange::Refused
+        },
+        trusts_journal: matches.get_flag("trust-journal"),
     }
 }
 
@@ -101,6 +112,10 @@ fn read_asked(alloc: Global, matches: &ArgMatches<'_>, moment: Moment) -> Result
             root: read_root(alloc, matches)?,
             skip_moved: inner.get_flag("skip-moved"),
         })),
+        Some(("forget", inner)) => Ok(Asked::Forget(Forgetting {
+            root: read_root(alloc, matches)?,
+            steps: read_steps(alloc, inner)?,
+        })),
         _ => Ok(Asked::Line(read_line(alloc, matches, moment)?)),
     }
 }
@@ -115,7 +130,7 @@ fn read_line(alloc: Global, matches: &ArgMatches<'_>, moment: Moment) -> Result<
         Some((name, inner)) => Ok(Line {
             root,
             action: read_action(alloc, name, inner, moment)?,
-            telling: read_telling(inner),
+            format: read_format(inner),
             change_status: ChangeStatus::of(is_change_told(inner)),
             moment,
         }),
@@ -169,13 +184,28 @@ fn read_number(matches: &ArgMatches<'_>) -> u32 {
     matches.get_one("NUMBER").unwrap_or(0)
 }
 
-fn read_telling(matches: &ArgMatches<'_>) -> Telling {
+/// The steps to be forgotten. The command line gives numbers that fit.
+fn read_steps(alloc: Global, matches: &ArgMatches<'_>) -> Result<Steps, LineFault> {
+    if matches.get_flag("all") {
+        return Ok(Steps::All);
+    }
+    let mut numbers = Vec::new(alloc);
+    for word in matches.get_strs("NUMBER").unwrap_or(&[]) {
+        match word.parse::<u32>() {
+            Ok(number) => numbers.push(number)?,
+            Err(_) => return Err(unread(alloc, "a number that nothing reads")?),
+        }
+    }
+    Ok(Steps::Numbers(EntryNumbers::new(numbers)))
+}
+
+fn read_format(matches: &ArgMatches<'_>) -> OutputFormat {
     if matches.get_flag("json") {
-        Telling::Json
+        OutputFormat::Json
     } else if matches.get_flag("diff") {
-        Telling::Diff
+        OutputFormat::Diff
     } else {
-        Telling::Lines
+        OutputFormat::Lines
     }
 }
 

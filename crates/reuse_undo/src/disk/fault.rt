@@ -29,6 +29,9 @@ pub enum Obstacle {
     /// Other files took the place of the one that was looked at.
     #[error("another program changes it")]
     Changing,
+    /// A file can't be written anew and keep its owner.
+    #[error("it can't keep its owner")]
+    Owned,
 }
 
 /// Why a call on a folder failed.

@@ -3,24 +3,30 @@ ghost use Rattle.std.specs.Prelude.{◌≡◌, All, false, IfOk, IsErr, IsTrue};
 ghost use Rattle.std.specs.List.Sorted.{IsSorted};
 ghost use Rattle.std.specs.Ordering.{nat_cmp};
 ghost use Rattle.std.specs.Cmp.Lexicographic.{slice_cmp};
-ghost use Rattle.reuse_tree.specs.Path.{is_path};
 ghost use Rattle.reuse_undo.specs.KeptOut.{is_kept_out};
 ghost use Rattle.reuse_undo.specs.Within.{IsWithin};
 
+mod batch;
+
 use crate::disk::empty_folders::remove_folders;
 use crate::disk::fault::{FolderFault, Obstacle};
+use crate::disk::file_reading::read_file;
+use crate::disk::journal_owner::{JournalOwners, journal_owners};
+use crate::disk::keeping::Keeping;
 use crate::disk::kept_out::{JOURNAL, is_kept_out};
-use crate::disk::listing::list_below;
+use crate::disk::listing::{Listing, list_below};
 use crate::disk::new_file::{Content, NewFile, Target};
 use crate::disk::place::{FileStatus, Found, Place, folder_and_name};
 use crate::disk::syncs::{Syncs, Unsynced};
 use crate::disk::trail::Trail;
-use reuse_text::Bytes;
-use reuse_tree::{Change, Parts, PathText, Reading};
+pub use batch::Stop;
+use reuse_tree::{Change, Parts, PathText, Pruning, Reading};
 use std::alloc::{AllocError, Global};
 use std::fs::{self, File};
-use std::io::{self, ErrorKind, Read};
 use std::rt::Files;
+
+/// How many files that were read are remembered.
+const MOST_SEEN: usize = 1_024;
 
 /// How often a path is looked at for one reading, where another file takes the place of the one
 /// that was seen.
@@ -40,29 +46,38 @@ pub struct RootFolder<R: Files<File = File> + AllocGlobal + Clone + Drop> {
     rt: R,
     /// The folders that are open.
     trail: Trail,
-    /// The regular file that the last call has read: a call for it needs no second look.
-    last_read: Option<ReadFile>,
+    /// The regular files that were read since the last listing or write, in order and up to a
+    /// bound: a write at the path of one needs no second look.
+    reads: Vec<ReadFile>,
     /// The place of new files, where its folder was looked at since the last listing or fault.
     new_file: Option<NewFile>,
     /// The folder that the last listing looked at last.
     listed: String,
     unsynced: Unsynced,
+    keeping: Keeping,
 }
 
 impl<R: Files<File = File> + AllocGlobal + Clone + Drop> RootFolder<R> {
     /// The folder at this path, in which what is written is made lasting or not.
-    pub fn new(rt: R, root: String, syncs: Syncs) -> RootFolder<R> {
-        let trail = Trail::new(rt.alloc(), root);
+    pub fn new(rt: R, root: String, syncs: Syncs, keeping: Keeping) -> RootFolder<R> {
+        let trail = Trail::new(rt.alloc(), root, keeping.is_of_root());
         let listed = String::new(rt.alloc());
         let unsynced = Unsynced::new(rt.alloc(), syncs);
+        let reads = Vec::new(rt.alloc());
         RootFolder {
             rt,
             trail,
-            last_read: None,
+            reads,
             new_file: None,
             listed,
             unsynced,
+            keeping,
         }
+    }
+
+    /// How files keep their owners here.
+    pub fn keeping(&mut self) -> &mut Keeping {
+        &mut self.keeping
     }
 
     /// The folder that the last listing looked at last, which is empty for the root: where one that
@@ -92,7 +107,18 @@ impl<R: Files<File = File> + AllocGlobal + Clone + Drop> RootFolder<R> {
     fn look(&mut self, alloc: Global, path: &PathText) -> Result<Place, FolderFault>
         ensures { IsTrue (is_kept_out path.now) → result ≡ Ok Place.Other }
     {
-        let last_read = self.last_read.take();
+        self.look_unless_seen(alloc, path, None)
+    }
+
+    /// What stands at the path, where it isn't known to be the regular file that was seen.
+    fn look_unless_seen(
+        &mut self,
+        alloc: Global,
+        path: &PathText,
+        seen: Option<FileStatus>,
+    ) -> Result<Place, FolderFault>
+        ensures { IsTrue (is_kept_out path.now) → result ≡ Ok Place.Other }
+    {
         if is_kept_out(path.text()) {
             return Ok(Place::Other);
         }
@@ -102,10 +128,8 @@ impl<R: Files<File = File> + AllocGlobal + Clone + Drop> RootFolder<R> {
             Some(Place::Nothing) => return self.nothing(alloc),
             Some(place) => return Ok(place),
         }
-        if let Some(last) = last_read
-            && last.path == *path
-        {
-            return Ok(Place::File(last.status));
+        if let Some(status) = seen {
+            return Ok(Place::File(status));
         }
         match self.trail.current()?.look(&self.rt, alloc, name)? {
             Found::Nothing => self.nothing(alloc),
@@ -113,15 +137,53 @@ impl<R: Files<File = File> + AllocGlobal + Clone + Drop> RootFolder<R> {
         }
     }
 
-    /// The paths of all regular files, in byte order.
-    pub fn list(&mut self, alloc: Global) -> Result<Vec<PathText>, FolderFault>
+    /// The regular files that are one of these folders or lie below one, or all where no folder is
+    /// given, but for those below a folder that is pruned, in byte order. Only these folders are
+    /// looked into.
+    pub fn list<P: Pruning>(
+        &mut self,
+        alloc: Global,
+        folders: &[PathText],
+        pruning: &P,
+    ) -> Result<Vec<PathText>, FolderFault>
         ensures sorted { IfOk result (λ paths. IsSorted (slice_cmp nat_cmp) paths.items) }
         ensures kept_out { IfOk result (λ paths. All (λ path. is_kept_out path ≡ false) paths.items) }
     {
-        self.trail.close();
-        self.last_read = None;
+        let mut listing = Listing::new(alloc, pruning);
+        if folders.is_empty() {
+            self.trail.close();
+            listing.take_folder(alloc, "")?;
+        }
+        for (index, place) in folders.iter().enumerate() {
+            if !is_repeated(folders, index, place) {
+                self.take_place(alloc, place, &mut listing)?;
+            }
+        }
         self.new_file = None;
-        list_below(&self.rt, alloc, &mut self.trail, "", &mut self.listed)
+        listing.walk(&self.rt, alloc, &mut self.trail, &mut self.listed)?;
+        Ok(listing.into_paths())
+    }
+
+    /// Takes the file or the folder at this place into a listing.
+    fn take_place<P: Pruning>(
+        &mut self,
+        alloc: Global,
+        place: &PathText,
+        listing: &mut Listing<P>,
+    ) -> Result<(), FolderFault> {
+        let text = place.text();
+        for (at, byte) in text.as_bytes().iter().enumerate() {
+            if *byte == b'/' && listing.passes_over(&text[..at]) {
+                return Ok(());
+            }
+        }
+        self.listed.clear();
+        self.listed.push_str(text)?;
+        match self.look(alloc, place)? {
+            Place::File(_) => listing.take_file(alloc, text),
+            Place::Folder => listing.take_folder(alloc, text),
+            Place::Nothing | Place::BelowFile | Place::Other => Ok(()),
+        }
     }
 
     /// The bytes of the regular file at the path, where they are at most `limit`. The file that is
@@ -138,10 +200,10 @@ impl<R: Files<File = File> + AllocGlobal + Clone + Drop> RootFolder<R> {
         ensures kept_out { IsTrue (is_kept_out path.now) → IfOk result (λ reading. reading ≡ Reading.Absent) }
     {
         for _ in 0..MOST_LOOKS {
-            self.last_read = None;
             let Place::File(status) = self.look(alloc, path)? else {
                 return Ok(Reading::Absent);
             };
+            self.keeping.note_read(path.text(), status);
             if status.len > limit as u64 {
                 self.note_read(alloc, path, status)?;
                 return Ok(Reading::TooLong);
@@ -163,36 +225,74 @@ impl<R: Files<File = File> + AllocGlobal + Clone + Drop> RootFolder<R> {
         path: &PathText,
         status: FileStatus,
     ) -> Result<(), AllocError> {
+        if self.reads.len() >= MOST_SEEN {
+            self.reads.clear();
+        }
         let path = path.try_clone(alloc)?;
-        self.last_read = Some(ReadFile { path, status });
+        self.reads
+            .push(ReadFile { path, status })
+            .map_err(AllocError::from)?;
         Ok(())
+    }
+
+    /// What was seen at the path, if it was the last one that was read. What was seen is forgotten.
+    fn take_last_seen(&mut self, path: &PathText) -> Option<FileStatus> {
+        let last = self.reads.pop();
+        self.reads.clear();
+        match last {
+            Some(last) if last.path == *path => Some(last.status),
+            _ => None,
+        }
     }
 
     /// Makes the parts joined the file at the path, as a whole or not at all, and folders as
     /// needed.
     pub fn put(&mut self, alloc: Global, path: &PathText, parts: Parts) -> Result<(), FolderFault>
-        ensures path { IsTrue (is_path path.now) }
         ensures kept_out { IsTrue (is_kept_out path.now) → IsErr result }
     {
-        let (folder, _) = folder_and_name(path.text());
-        let mut mode = None;
-        match self.look(alloc, path)? {
-            Place::Nothing => self
-                .trail
-                .make(&self.rt, alloc, folder, &mut self.unsynced)?,
-            Place::File(status) => mode = Some(status.mode),
-            Place::BelowFile => return Err(FolderFault::Clash),
-            Place::Folder => self.clear_folder(alloc, path)?,
-            Place::Other => return Err(FolderFault::Device(Obstacle::Foreign)),
-        }
-        self.write(alloc, path, Content { parts, mode })
+        let seen = self.take_last_seen(path);
+        let found = self.make_room(alloc, path, seen)?;
+        self.write(alloc, path, parts, found)
     }
 
+    /// Makes room for a file at the path, and the folders above it as needed. Gives the file that
+    /// stands there, if one does.
+    fn make_room(
+        &mut self,
+        alloc: Global,
+        path: &PathText,
+        seen: Option<FileStatus>,
+    ) -> Result<Option<FileStatus>, FolderFault>
+        ensures { IsTrue (is_kept_out path.now) → IsErr result }
+    {
+        let (folder, _) = folder_and_name(path.text());
+        self.keeping.check_hold()?;
+        match self.look_unless_seen(alloc, path, seen)? {
+            Place::Nothing => {
+                self.trail
+                    .make(&self.rt, alloc, folder, &mut self.unsynced)?;
+                Ok(None)
+            }
+            Place::File(status) => {
+                self.keeping.check(path.text(), status)?;
+                Ok(Some(status))
+            }
+            Place::BelowFile => Err(FolderFault::Clash),
+            Place::Folder => {
+                self.clear_folder(alloc, path)?;
+                Ok(None)
+            }
+            Place::Other => Err(FolderFault::Device(Obstacle::Foreign)),
+        }
+    }
+
+    /// Writes the parts to the path, where this file was found, or none.
     fn write(
         &mut self,
         alloc: Global,
         path: &PathText,
-        content: Content<'_>,
+        parts: Parts,
+        found: Option<FileStatus>,
     ) -> Result<(), FolderFault> {
         let (folder, _) = folder_and_name(path.text());
         self.unsynced.note(alloc, folder)?;
@@ -204,7 +304,14 @@ impl<R: Files<File = File> + AllocGlobal + Clone + Drop> RootFolder<R> {
             folder: self.trail.enter_seen(&self.rt, alloc, folder)?,
             path: path.text(),
         };
+        let content = Content {
+            parts,
+            wanted: self.keeping.wanted(target.folder, found),
+            mode: found.map(|status| status.mode),
+        };
         new_file.write(&self.rt, alloc, target, content, &mut self.unsynced)?;
+        self.keeping
+            .note_written(path.text(), found, new_file.kept());
         self.new_file = Some(new_file);
         Ok(())
     }
@@ -214,7 +321,9 @@ impl<R: Files<File = File> + AllocGlobal + Clone + Drop> RootFolder<R> {
         self.trail
             .make(&self.rt, alloc, JOURNAL, &mut self.unsynced)?;
         let folder = self.trail.current()?.try_clone(alloc)?;
-        Ok(NewFile::in_folder(alloc, folder))
+        let new_file = NewFile::in_folder(alloc, folder);
+        new_file.clear(&self.rt, alloc)?;
+        Ok(new_file)
     }
 
     /// Removes a folder without files, so that a file can take its place; with files it is a clash.
@@ -226,13 +335,13 @@ impl<R: Files<File = File> + AllocGlobal + Clone + Drop> RootFolder<R> {
         }
         let (folder, _) = folder_and_name(path.text());
         self.unsynced.note(alloc, folder)?;
-        self.new_file = None;
         remove_folders(rt, alloc, trail, path.text())
     }
 
     /// Removes the regular file at the path, if there is one, and no folder.
     pub fn remove(&mut self, alloc: Global, path: &PathText) -> Result<(), FolderFault> {
-        match self.look(alloc, path)? {
+        let seen = self.take_last_seen(path);
+        match self.look_unless_seen(alloc, path, seen)? {
             Place::File(_) => {
                 let (folder, name) = folder_and_name(path.text());
                 self.unsynced.note(alloc, folder)?;
@@ -240,6 +349,20 @@ impl<R: Files<File = File> + AllocGlobal + Clone + Drop> RootFolder<R> {
                 Ok(fs::remove_file(&self.rt, place.as_str())?)
             }
             Place::Nothing | Place::BelowFile | Place::Folder | Place::Other => Ok(()),
+        }
+    }
+
+    /// Whose the journal is.
+    pub fn journal_owners(&mut self, alloc: Global) -> Result<JournalOwners, FolderFault> {
+        journal_owners(&self.rt, alloc, &mut self.trail)
+    }
+
+    /// Whether the file at the path can be written anew: it keeps its owner, or needn't. What isn't
+    /// there can.
+    pub fn may_write(&mut self, alloc: Global, path: &PathText) -> Result<bool, FolderFault> {
+        match self.look(alloc, path)? {
+            Place::File(status) => Ok(self.keeping.may_write(status)),
+            _ => Ok(true),
         }
     }
 
@@ -251,38 +374,8 @@ impl<R: Files<File = File> + AllocGlobal + Clone + Drop> RootFolder<R> {
     }
 }
 
-/// The bytes of a regular file that was of this length, where they are at most `limit`.
-fn read_file(
-    file: impl Read + Drop,
-    alloc: Global,
-    len: u64,
-    limit: usize,
-) -> Result<Reading, FolderFault>
-    ensures { IfOk result (IsWithin limit) }
-{
-    let most = (limit as u64).saturating_add(1);
-    let len = usize::try_from(len).unwrap_or(0);
-    let bytes = read_whole(file.take(most), alloc, len)?;
-    if bytes.len() > limit {
-        return Ok(Reading::TooLong);
-    }
-    Ok(Reading::Found(Bytes::from_vec(bytes)))
-}
-
-/// The bytes of a file that is said to have this length. It is asked for one byte more: if it gives
-/// as many as were said, it ends there, as a regular file gives fewer than it is asked for only at
-/// its end. Else it is read on, since it may be longer.
-fn read_whole(mut file: impl Read + Drop, alloc: Global, len: usize) -> io::Result<Vec<u8>> {
-    let mut bytes = vec![in alloc; 0; len.saturating_add(1)]?;
-    match file.read(&mut bytes) {
-        Ok(count) if count == len => {
-            bytes.truncate(count);
-            return Ok(bytes);
-        }
-        Ok(count) => bytes.truncate(count),
-        Err(error) if error.kind() == ErrorKind::Interrupted => bytes.clear(),
-        Err(error) => return Err(error),
-    }
-    file.read_to_end(&mut bytes)?;
-    Ok(bytes)
+/// Whether the place of this index lies below another one, or is one of those before it.
+fn is_repeated(folders: &[PathText], index: usize, place: &PathText) -> bool {
+    folders.iter().any(|other| place.lies_under(other))
+        || folders.iter().take(index).any(|other| other == place)
 }

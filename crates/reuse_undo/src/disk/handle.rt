@@ -5,17 +5,22 @@
 //! tests/races.sh.
 ghost use Rattle.std.specs.Prelude.{◌≡◌, ◌++◌, IfOk, string_bytes};
 
+use crate::disk::bare::is_bare_repository;
 use crate::disk::fault::{FolderFault, Obstacle};
+use crate::disk::owner::Owner;
 use crate::disk::place::{FileStatus, Found, Identity, look_at};
 use std::alloc::{AllocError, Global};
 use std::fs::{self, File, Metadata, OpenOptions};
 use std::io::{self, ErrorKind};
 use std::os::fd::AsRawFd;
-use std::os::unix::fs::MetadataExt;
+use std::os::unix::fs::{MetadataExt, fchown};
 use std::rt::Files;
 
 /// The bits of a folder's mode by which others than its owner may give it names and take them away.
 const WRITTEN_BY_OTHERS: u32 = 0o022;
+
+/// The bit of a folder's mode by which it passes its group on to what is made in it.
+const PASSES_GROUP: u32 = 0o2000;
 
 /// A folder that is open, and the very one that was looked at.
 #[derive(Drop)]
@@ -28,6 +33,8 @@ pub struct OpenFolder {
     /// Whether others than the process' user, and root, may put something else at a name in the
     /// folder.
     is_shared: bool,
+    owner: Owner,
+    passes_group: bool,
 }
 
 /// What the system offers for all folders of a run.
@@ -88,6 +95,8 @@ impl OpenFolder {
             prefix,
             ways,
             is_shared: is_shared(&metadata, ways.user),
+            owner: Owner::of(&metadata),
+            passes_group: metadata.mode() & PASSES_GROUP != 0,
         })
     }
 
@@ -139,12 +148,29 @@ impl OpenFolder {
         self.ways.is_shown
     }
 
+    /// Whose the folder is.
+    pub fn owner(&self) -> Owner {
+        self.owner
+    }
+
+    /// Whether the folder passes its group on to what is made in it.
+    pub fn passes_group(&self) -> bool {
+        self.passes_group
+    }
+
+    /// Gives the folder to this owner.
+    pub fn give_to(&self, owner: Owner) -> Result<(), FolderFault> {
+        fchown(&self.handle, Some(owner.user), Some(owner.group))?;
+        Ok(())
+    }
+
     /// What stands at this name.
     pub fn look(&self, rt: &impl Files, alloc: Global, name: &str) -> Result<Found, FolderFault> {
         look_at(rt, self.path_of(alloc, name)?.as_str())
     }
 
-    /// The folder of this name, opened, or what stands there in its place.
+    /// The folder of this name, opened, or what stands there in its place. A bare repository of git
+    /// is no folder of a tree, and is told as a link is.
     ///
     /// # Errors
     /// `Changing` if something took its place while it was opened; else what the system says.
@@ -161,8 +187,11 @@ impl OpenFolder {
         };
         path.push('/')?;
         let handle = open_folder(rt, path.as_str())?;
-        let folder = OpenFolder::of(alloc, handle, path, self.ways)?;
-        Ok(Below::Folder(folder.seen_as(identity)?))
+        let folder = OpenFolder::of(alloc, handle, path, self.ways)?.seen_as(identity)?;
+        if is_bare_repository(rt, alloc, &folder)? {
+            return Ok(Below::Other(Found::Other));
+        }
+        Ok(Below::Folder(folder))
     }
 
     /// Opens the regular file that was seen at this name just before, or gives nothing if something

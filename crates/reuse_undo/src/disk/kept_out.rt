@@ -10,6 +10,12 @@ ghost use Rattle.reuse_undo.specs.KeptOut.{is_control_folder, is_name_kept_out, 
 /// The folder of the journal.
 pub const JOURNAL: &str = ".reuse/undo";
 
+/// The folder that it lies in.
+pub const ABOVE_JOURNAL: &str = ".reuse";
+
+/// The name of the head there.
+pub const HEAD: &str = "head.json";
+
 /// The name there of the file that is written before it is given its own. Where several are written at once, the others have a dot and a number
 /// behind it.
 pub const NEW: &str = "new";
@@ -68,6 +74,13 @@ fn begins_journal(path: &str) -> bool
     }
 }
 
+/// Whether the path lies in the folder of the tree's own journal.
+pub fn is_in_journal(path: &str) -> bool
+    ensures { result ≡ begins_journal (between_slashes path.now) }
+{
+    begins_journal(path)
+}
+
 /// Whether all these bytes are decimal digits.
 fn are_digits(bytes: &[u8]) -> bool
     ensures { result ≡ list_all is_ascii_digit bytes.now }
@@ -83,7 +96,7 @@ fn is_number(bytes: &[u8]) -> bool
 }
 
 /// Whether a file of this name in the journal's folder has no name of its own yet.
-fn is_new_name(name: &str) -> bool
+pub fn is_new_name(name: &str) -> bool
     ensures { result ≡ is_new_name name.now }
 {
     let bytes = name.as_bytes();

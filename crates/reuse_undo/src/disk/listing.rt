@@ -1,5 +1,5 @@
 //! The files below a folder.
-ghost use Rattle.std.specs.Prelude.{◌≡◌, All, false, IfOk};
+ghost use Rattle.std.specs.Prelude.{◌≡◌, All, false};
 ghost use Rattle.std.specs.List.Sorted.{IsSorted};
 ghost use Rattle.std.specs.Ordering.{nat_cmp};
 ghost use Rattle.std.specs.Cmp.Lexicographic.{slice_cmp};
@@ -9,7 +9,7 @@ use crate::disk::empty_folders::path_in;
 use crate::disk::fault::{FolderFault, Obstacle};
 use crate::disk::kept_out::{is_folder_kept_out, is_kept_out};
 use crate::disk::trail::Trail;
-use reuse_tree::PathText;
+use reuse_tree::{NoPruning, PathText, Pruning};
 use std::alloc::{AllocError, Global};
 use std::fs::{self, DirEntry, File};
 use std::rt::Files;
@@ -23,25 +23,49 @@ pub fn push_text(alloc: Global, texts: &mut Vec<String>, text: &str) -> Result<(
     Ok(())
 }
 
-/// What a listing has found so far.
+/// A listing, with what it has found so far.
 #[derive(Drop)]
-struct Listing {
+pub struct Listing<'a, P: Pruning> {
+    pruning: &'a P,
     names: usize,
     folders: Vec<String>,
     files: Vec<PathText>,
     ghost in_tree: { All (λ path. is_kept_out path ≡ false) files.items },
 }
 
-impl Listing {
-    /// Nothing found, and one folder to look at.
-    fn of(alloc: Global, folder: &str) -> Result<Listing, FolderFault> {
-        let mut folders = Vec::new(alloc);
-        push_text(alloc, &mut folders, folder)?;
-        Ok(Listing {
+impl<'a, P: Pruning> Listing<'a, P> {
+    /// Nothing found, and nothing to look at.
+    pub fn new(alloc: Global, pruning: &'a P) -> Listing<'a, P> {
+        Listing {
+            pruning,
             names: 0,
-            folders,
+            folders: Vec::new(alloc),
             files: Vec::new(alloc),
-        })
+        }
+    }
+
+    /// Takes in a folder that is to be looked at; empty for the root, which is always looked at. One
+    /// that is no part of the tree, or is pruned, is passed over.
+    pub fn take_folder(&mut self, alloc: Global, folder: &str) -> Result<(), FolderFault> {
+        if !folder.is_empty() && (is_folder_kept_out(folder) || self.passes_over(folder)) {
+            return Ok(());
+        }
+        push_text(alloc, &mut self.folders, folder)?;
+        Ok(())
+    }
+
+    /// Takes in a regular file.
+    pub fn take_file(&mut self, alloc: Global, text: &str) -> Result<(), FolderFault> {
+        if !is_kept_out(text) {
+            let path = PathText::new(alloc, text)?;
+            self.files.push(path).map_err(AllocError::from)?;
+        }
+        Ok(())
+    }
+
+    /// Whether the folder is pruned.
+    pub fn passes_over(&self, folder: &str) -> bool {
+        self.pruning.prunes(folder)
     }
 
     fn next_folder(&mut self) -> Option<String> {
@@ -61,35 +85,54 @@ impl Listing {
         self.names += 1;
         let metadata = entry.metadata()?;
         let whole = path_in(alloc, folder, entry.file_name())?;
-        let text = whole.as_str();
         if metadata.is_dir() {
-            if !is_folder_kept_out(text) {
-                self.folders.push(whole).map_err(AllocError::from)?;
-            }
-        } else if metadata.is_file() && !is_kept_out(text) {
-            let path = PathText::new(alloc, text)?;
-            self.files.push(path).map_err(AllocError::from)?;
+            self.take_folder(alloc, whole.as_str())?;
+        } else if metadata.is_file() {
+            self.take_file(alloc, whole.as_str())?;
         }
         Ok(())
     }
 
     /// Takes in the names of one folder, which is the root where it is empty.
-    fn take_folder<R: Files<File = File> + AllocGlobal + Clone + Drop>(
+    fn look_into<R: Files<File = File> + AllocGlobal + Clone + Drop>(
         &mut self,
         rt: &R,
         alloc: Global,
         trail: &mut Trail,
         folder: &str,
     ) -> Result<(), FolderFault> {
-        let opened = trail.enter_seen(rt, alloc, folder)?;
+        let Some(opened) = trail.enter_listed(rt, alloc, folder)? else {
+            return Ok(());
+        };
         for entry in fs::read_dir(rt, opened.path())? {
             self.take(alloc, folder, &entry?)?;
         }
         Ok(())
     }
 
+    /// Looks into each folder that was taken in, and into those below it. `last` becomes the folder
+    /// that was looked at last, where a listing that fails has failed.
+    pub fn walk<R: Files<File = File> + AllocGlobal + Clone + Drop>(
+        &mut self,
+        rt: &R,
+        alloc: Global,
+        trail: &mut Trail,
+        last: &mut String,
+    ) -> Result<(), FolderFault> {
+        for _ in 0..=MOST_NAMES {
+            match self.next_folder() {
+                Some(folder) => {
+                    *last = folder;
+                    self.look_into(rt, alloc, trail, last.as_str())?;
+                }
+                None => return Ok(()),
+            }
+        }
+        Err(FolderFault::Device(Obstacle::TooManyNames))
+    }
+
     /// What was found, in byte order.
-    fn into_paths(self) -> Vec<PathText>
+    pub fn into_paths(self) -> Vec<PathText>
         ensures sorted { IsSorted (slice_cmp nat_cmp) result.items }
         ensures kept_out { All (λ path. is_kept_out path ≡ false) result.items }
     {
@@ -99,27 +142,17 @@ impl Listing {
     }
 }
 
-/// The paths of the regular files below this folder, which is the root where it is empty, in byte
-/// order. `last` becomes the folder that was looked at last, where a listing that fails has failed.
+/// The paths of the regular files below this folder, in byte order. `last` becomes the folder that
+/// was looked at last, where a listing that fails has failed.
 pub fn list_below<R: Files<File = File> + AllocGlobal + Clone + Drop>(
     rt: &R,
     alloc: Global,
     trail: &mut Trail,
     folder: &str,
     last: &mut String,
-) -> Result<Vec<PathText>, FolderFault>
-    ensures sorted { IfOk result (λ paths. IsSorted (slice_cmp nat_cmp) paths.items) }
-    ensures kept_out { IfOk result (λ paths. All (λ path. is_kept_out path ≡ false) paths.items) }
-{
-    let mut listing = Listing::of(alloc, folder)?;
-    for _ in 0..=MOST_NAMES {
-        match listing.next_folder() {
-            Some(folder) => {
-                *last = folder;
-                listing.take_folder(rt, alloc, trail, last.as_str())?;
-            }
-            None => return Ok(listing.into_paths()),
-        }
-    }
-    Err(FolderFault::Device(Obstacle::TooManyNames))
+) -> Result<Vec<PathText>, FolderFault> {
+    let mut listing = Listing::new(alloc, &NoPruning);
+    listing.take_folder(alloc, folder)?;
+    listing.walk(rt, alloc, trail, last)?;
+    Ok(listing.into_paths())
 }

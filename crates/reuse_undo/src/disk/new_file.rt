@@ -2,25 +2,31 @@
 //! before it is given its name.
 use crate::disk::fault::FolderFault;
 use crate::disk::handle::OpenFolder;
-use crate::disk::kept_out::{NEW, NEW_BESIDE};
+use crate::disk::kept_out::{NEW, NEW_BESIDE, is_new_name};
+use crate::disk::owner::{Owner, Process};
+use crate::disk::parts_writer::write_parts;
 use crate::disk::place::{folder_and_name, kept_bits};
 use crate::disk::syncs::Unsynced;
 use reuse_tree::Parts;
 use std::alloc::Global;
 use std::fs::{self, File, OpenOptions, Permissions};
-use std::io::{self, ErrorKind, Write};
-use std::os::unix::fs::{OpenOptionsExt, PermissionsExt};
+use std::io::{self, ErrorKind};
+use std::os::unix::fs::{OpenOptionsExt, PermissionsExt, fchown};
 use std::rt::Files;
 
-/// Parts that are no longer than this together are joined, and go out by one call of the system. A
-/// copy of more takes longer than another call. (The library's vectored write would need no copy,
-/// but it links calls on sockets, for which the program has no handle.)
-const MOST_JOINED: usize = 32_768;
+/// Whose a file is to be, as far as this process may give it.
+#[derive(Clone, Copy)]
+pub struct Wanted<'a> {
+    pub owner: Owner,
+    pub process: &'a Process,
+}
 
-/// What a file is to hold, and the bits that it is to have in place of those of a new file.
+/// What a file is to hold, whose it is to be, and the bits that it is to have in place of those of a
+/// new file.
 #[derive(Clone, Copy)]
 pub struct Content<'a> {
     pub parts: Parts<'a>,
+    pub wanted: Wanted<'a>,
     pub mode: Option<u32>,
 }
 
@@ -46,6 +52,10 @@ pub struct NewFile {
     folder: OpenFolder,
     /// A mode that a file was created with here, and that it was seen to have.
     granted: Option<u32>,
+    /// Whose a file is that was created here.
+    made: Option<Owner>,
+    /// Whose the last file is that was written.
+    kept: Option<Owner>,
     /// The parts of the last short file, joined: its memory serves the next one.
     joined: Vec<u8>,
 }
@@ -67,12 +77,53 @@ fn create<R: Files<File = File>>(rt: &R, path: &str, mode: Option<u32>) -> io::R
     }
 }
 
+/// A new file that is written aside and has no name of its own yet.
+#[derive(Drop)]
+pub struct Aside {
+    file: File,
+    /// Where it is written, as the system takes it.
+    from: String,
+}
+
+impl Aside {
+    /// Makes the data of the file lasting, which is to get this path.
+    pub fn sync_data(&self, path: &str, unsynced: &mut Unsynced) -> Result<(), FolderFault> {
+        Ok(unsynced.sync_data(&self.file, path)?)
+    }
+
+    /// Gives the file the name of the target, if it lies on the same device: says whether.
+    pub fn name<R: Files<File = File>>(
+        &self,
+        rt: &R,
+        alloc: Global,
+        target: Target<'_>,
+    ) -> Result<bool, FolderFault> {
+        let to = target
+            .folder
+            .path_of(alloc, folder_and_name(target.path).1)?;
+        match fs::rename(rt, self.from.as_str(), to.as_str()) {
+            Err(error) if error.kind() == ErrorKind::CrossesDevices => Ok(false),
+            renamed => {
+                renamed?;
+                Ok(true)
+            }
+        }
+    }
+
+    /// Removes the file, which is of no use. A fault of that tells no more.
+    pub fn remove<R: Files<File = File>>(&self, rt: &R) {
+        let _ = fs::remove_file(rt, self.from.as_str());
+    }
+}
+
 impl NewFile {
     /// The new files in this folder.
     pub fn in_folder(alloc: Global, folder: OpenFolder) -> NewFile {
         NewFile {
             folder,
             granted: None,
+            made: None,
+            kept: None,
             joined: Vec::new(alloc),
         }
     }
@@ -90,29 +141,34 @@ impl NewFile {
         file.set_permissions(Permissions::from_mode(mode))
     }
 
-    /// Writes the parts, one after the other: those of a short file by one call of the system.
-    fn write_parts(&mut self, mut file: &File, parts: Parts) -> io::Result<()> {
-        let Parts {
-            front,
-            middle,
-            back,
-        } = parts;
-        let length = front.len().saturating_add(middle.len());
-        if length.saturating_add(back.len()) > MOST_JOINED {
-            file.write_all(front)?;
-            file.write_all(middle)?;
-            return file.write_all(back);
+    /// Whose the file is that was written last.
+    pub fn kept(&self) -> Option<Owner> {
+        self.kept
+    }
+
+    /// Gives a file that was created here to the owner that it is to have, as far as may be. Nothing
+    /// is written to it before, so nobody reads what he may not.
+    fn keep_owner(&mut self, file: &File, wanted: Wanted<'_>) -> io::Result<()> {
+        let made = match self.made {
+            Some(made) => made,
+            None => Owner::of(&file.metadata()?),
+        };
+        self.made = Some(made);
+        let owner = wanted.process.kept_owner(wanted.owner, made);
+        self.kept = Some(owner);
+        if owner == made {
+            return Ok(());
         }
-        self.joined.clear();
-        self.joined.extend_from_slice(front)?;
-        self.joined.extend_from_slice(middle)?;
-        self.joined.extend_from_slice(back)?;
-        file.write_all(&self.joined)
+        let user = (owner.user != made.user).then_some(owner.user);
+        let group = (owner.group != made.group).then_some(owner.group);
+        fchown(file, user, group)
     }
 
     /// Writes the content to a file that was created with its bits.
     fn fill(&mut self, file: &File, content: Content<'_>) -> io::Result<()> {
-        self.write_parts(file, content.parts)?;
+        self.keep_owner(file, content.wanted)?;
+        let mut out = file;
+        write_parts(&mut out, &mut self.joined, content.parts)?;
         match content.mode {
             Some(mode) => self.set_mode(file, mode),
             None => Ok(()),
@@ -129,6 +185,45 @@ impl NewFile {
     ) -> io::Result<()> {
         self.fill(file, content)?;
         unsynced.sync_data(file, path)
+    }
+
+    /// Writes the content aside, as the file of this number.
+    pub fn write_one_aside<R: Files<File = File>>(
+        &mut self,
+        rt: &R,
+        alloc: Global,
+        number: usize,
+        content: Content<'_>,
+    ) -> Result<Aside, FolderFault> {
+        let name = if number == 0 {
+            String::from_str(alloc, NEW)?
+        } else {
+            format!(in alloc; "{NEW}.{number}")?
+        };
+        let from = self.folder.path_of(alloc, name.as_str())?;
+        let file = create(rt, from.as_str(), content.mode)?;
+        let aside = Aside { file, from };
+        if let Err(error) = self.fill(&aside.file, content) {
+            aside.remove(rt);
+            return Err(error.into());
+        }
+        Ok(aside)
+    }
+
+    /// Removes what a stopped run has left of new files here.
+    pub fn clear<R: Files<File = File> + AllocGlobal + Clone + Drop>(
+        &self,
+        rt: &R,
+        alloc: Global,
+    ) -> Result<(), FolderFault> {
+        for entry in fs::read_dir(rt, self.folder.path())? {
+            let entry = entry?;
+            if is_new_name(entry.file_name()) && entry.file_type()?.is_file() {
+                let place = self.folder.path_of(alloc, entry.file_name())?;
+                fs::remove_file(rt, place.as_str())?;
+            }
+        }
+        Ok(())
     }
 
     fn write_aside<R: Files<File = File>>(
@@ -150,6 +245,12 @@ impl NewFile {
         written
     }
 
+    /// What was granted, and to whom, is known of the one folder alone.
+    fn forget_granted(&mut self) {
+        self.granted = None;
+        self.made = None;
+    }
+
     /// Writes the content and gives the file the name of the target. Where that leads to another
     /// device, as below a mount, the new file is written beside the one that it is to be.
     pub fn write<R: Files<File = File>>(
@@ -168,10 +269,9 @@ impl NewFile {
             Err(error) if error.kind() == ErrorKind::CrossesDevices => {
                 let beside = target.folder.path_of(alloc, NEW_BESIDE)?;
                 let from = beside.as_str();
-                // What was granted is known of the one folder alone.
-                self.granted = None;
+                self.forget_granted();
                 let written = self.write_aside(rt, Naming { from, to, path }, content, unsynced);
-                self.granted = None;
+                self.forget_granted();
                 Ok(written?)
             }
             written => Ok(written?),

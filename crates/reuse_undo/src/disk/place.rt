@@ -1,7 +1,9 @@
 //! What stands at a path below a root. No link is followed.
 ghost use Rattle.std.specs.Prelude.{◌≡◌};
+ghost use Rattle.reuse_undo.specs.Owners.{rights_of_mode};
 
 use crate::disk::fault::FolderFault;
+use crate::disk::owner::{Owner, Rights};
 use std::fs::{self, Metadata};
 use std::io::ErrorKind;
 use std::os::unix::fs::{MetadataExt, PermissionsExt};
@@ -27,6 +29,16 @@ impl Identity {
     }
 }
 
+impl Owner {
+    /// That of the file or folder of which the system tells this.
+    pub fn of(metadata: &Metadata) -> Owner {
+        Owner {
+            user: metadata.uid(),
+            group: metadata.gid(),
+        }
+    }
+}
+
 /// What the system tells of a regular file.
 #[derive(Clone, Copy)]
 pub struct FileStatus {
@@ -34,6 +46,10 @@ pub struct FileStatus {
     pub len: u64,
     /// The bits of its mode that a rewritten file keeps.
     pub mode: u32,
+    /// Whose it is.
+    pub owner: Owner,
+    /// How many names it has.
+    pub links: u64,
     identity: Identity,
 }
 
@@ -43,8 +59,17 @@ impl FileStatus {
         FileStatus {
             len: metadata.len(),
             mode: kept_bits(metadata),
+            owner: Owner::of(metadata),
+            links: metadata.nlink(),
             identity: Identity::of(metadata),
         }
+    }
+
+    /// What its owner, its group and all others may do with it.
+    pub fn rights(&self) -> Rights
+        ensures { result ≡ rights_of_mode self.now.mode }
+    {
+        Rights::of_mode(self.mode)
     }
 
     /// Whether the system tells this of the same regular file.

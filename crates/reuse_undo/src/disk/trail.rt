@@ -4,7 +4,8 @@
 use crate::disk::empty_folders::path_in;
 use crate::disk::fault::{FolderFault, Obstacle};
 use crate::disk::handle::{Below, OpenFolder};
-use crate::disk::place::{Found, Place};
+use crate::disk::made_folder::open_made_by_root;
+use crate::disk::place::{Found, Place, folder_and_name};
 use crate::disk::syncs::Unsynced;
 use std::alloc::{AllocError, Global};
 use std::fs::{self, File};
@@ -25,15 +26,19 @@ struct Step {
 pub struct Trail {
     /// The path of the root.
     root: String,
+    /// Whether the process is root's: what it makes is given to the owner of the folder above.
+    is_of_root: bool,
     /// The first one is the root. There is none until the root is asked for.
     steps: Vec<Step>,
 }
 
 impl Trail {
-    /// The trail that begins at the root of this path. Nothing is asked of the system yet.
-    pub fn new(alloc: Global, root: String) -> Trail {
+    /// The trail that begins at the root of this path, of a process that is root's or not. Nothing is
+    /// asked of the system yet.
+    pub fn new(alloc: Global, root: String, is_of_root: bool) -> Trail {
         Trail {
             root,
+            is_of_root,
             steps: Vec::new(alloc),
         }
     }
@@ -133,14 +138,38 @@ impl Trail {
         }
     }
 
+    /// Enters the folder at this path where it is to be there, unless it is a bare repository.
+    ///
+    /// # Errors
+    /// As `enter_seen`.
+    pub fn enter_listed(
+        &mut self,
+        rt: &impl Files<File = File>,
+        alloc: Global,
+        folder: &str,
+    ) -> Result<Option<&OpenFolder>, FolderFault> {
+        match self.enter(rt, alloc, folder)? {
+            None => Ok(Some(self.current()?)),
+            // What stands there is a folder that wasn't entered.
+            Some(Place::Other) => {
+                let (_, name) = folder_and_name(folder);
+                match self.current()?.look(rt, alloc, name)? {
+                    Found::Folder(_) => Ok(None),
+                    _ => Err(FolderFault::Device(Obstacle::Changing)),
+                }
+            }
+            Some(_) => Err(FolderFault::Device(Obstacle::Changing)),
+        }
+    }
+
     /// Enters the folder at this path, and makes those on the way that are missing. Each gives a
     /// name to the one above it.
     ///
     /// # Errors
     /// `Foreign` if a part of the path is no folder; else what the system says.
-    pub fn make(
+    pub fn make<R: Files<File = File> + AllocGlobal + Clone + Drop>(
         &mut self,
-        rt: &impl Files<File = File>,
+        rt: &R,
         alloc: Global,
         folder: &str,
         unsynced: &mut Unsynced,
@@ -155,9 +184,9 @@ impl Trail {
         Ok(())
     }
 
-    fn open_or_make(
+    fn open_or_make<R: Files<File = File> + AllocGlobal + Clone + Drop>(
         &self,
-        rt: &impl Files<File = File>,
+        rt: &R,
         alloc: Global,
         name: &str,
         unsynced: &mut Unsynced,
@@ -167,6 +196,9 @@ impl Trail {
             Below::Other(Found::Nothing) => {
                 unsynced.note(alloc, self.path())?;
                 fs::create_dir(rt, above.path_of(alloc, name)?.as_str())?;
+                if self.is_of_root {
+                    return open_made_by_root(rt, alloc, above, name);
+                }
                 above.open_below(rt, alloc, name)
             }
             below => Ok(below),

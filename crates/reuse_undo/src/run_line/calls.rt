@@ -134,8 +134,8 @@ fn preview<S: Store + Drop>(
     }
 }
 
-// What taking a step back would do.
-fn preview_revert<S: Store + Drop>(
+/// What taking a step back would do.
+pub fn preview_revert<S: Store + Drop>(
     alloc: Global,
     session: &mut Session<S>,
     number: u32,

@@ -1,17 +1,19 @@
 //! What is told of an answer.
 ghost use Rattle.std.specs.Prelude.{◌≡◌, ◌⊎◌, [], Err, IfOk, IfErr, OnOk};
+ghost use Rattle.reuse_undo.specs.Outputs.{AddsSome};
 ghost use Rattle.reuse_undo.specs.RowLines.{AppendsSome};
 ghost use Rattle.reuse_undo.specs.RunLine.{IfNoDiff};
-ghost use Rattle.reuse_undo.specs.Told.{Accepts, Finishes, is_refusal, is_refused, IsBehind, IsDiffOf, IsDrawn, IsLinesText, IsToldText, TellsFailure};
+ghost use Rattle.reuse_undo.specs.Told.{Accepts, Finishes, is_refusal, is_refused, IsBehind, IsDiffOf, IsDrawn, IsLinesText, IsTextIn, IsToldText, TellsFailure};
 ghost use Rattle.reuse_undo.specs.declared.fault.Fault.TheVariants as faults;
 
 use crate::diff::print_record;
 use crate::fault::{Fault, in_memory};
-use crate::line::Telling;
+use crate::line::{OutputFormat, Telling};
 use crate::lines::{path_count, print_reply, print_reverted, print_shown};
 use crate::objects::{print_fate_objects, print_row_objects, print_shown_object};
 use crate::output::{Sink, write_text};
 use crate::request::Told;
+use crate::shown_name::Names;
 use reuse_session::{Fate, Fates, Reply};
 use reuse_tree::Change;
 use std::alloc::Global;
@@ -49,7 +51,7 @@ fn print<O: Sink>(
     diff: Result<Vec<u8>, Fault>,
 ) -> Result<(), Fault>
     requires { IsDiffOf telling told.now diff }
-    ensures printed { OnOk result (AppendsSome (O.contents out.old) (O.contents out.new) (IsToldText telling told.now)) }
+    ensures printed { OnOk result (AddsSome (O.contents out.old) (O.contents out.new) (IsToldText telling told.now)) }
     ensures kept { OnOk result (O.failed out.new ≡ O.failed out.old) }
     ensures told { IfErr result (λ fault. Finishes telling told.now (O.contents out.old) (O.contents out.new) (Err fault)) }
     ensures undrawn { IfNoDiff result (λ refusal. (diff ≡ Err (faults.NoDiff refusal)) × (out.new ≡ out.old)) }
@@ -82,8 +84,8 @@ fn whole_diff(
     ensures behind { IsBehind telling told.now result }
     ensures undrawn { IfNoDiff result (λ refusal. diff ≡ Err (faults.NoDiff refusal)) }
 {
-    match (telling, told) {
-        (Telling::Diff, Told::Shown(shown)) => {
+    match (telling.format, told) {
+        (OutputFormat::Diff, Told::Shown(shown)) => {
             drop(diff);
             records_of(alloc, shown.changes.as_slice())
         }
@@ -111,36 +113,36 @@ fn print_told<W: Write>(
 ) -> io::Result<()>
     ensures { (diff.now ≡ []) ⊎ IsDrawn told.now → OnOk result (AppendsSome (W.contents out.old) (W.contents out.new) (IsToldText telling told.now)) }
 {
-    match telling {
-        Telling::Lines => print_lines(out, told),
-        Telling::Diff => {
-            print_lines(out, told)?;
+    match telling.format {
+        OutputFormat::Lines => print_lines(out, telling.names, told),
+        OutputFormat::Diff => {
+            print_lines(out, telling.names, told)?;
             out.write_all(diff)
         }
-        Telling::Json => print_objects(out, alloc, told),
+        OutputFormat::Json => print_objects(out, alloc, telling.names, told),
     }
 }
 
-fn print_lines<W: Write>(out: &mut W, told: &Told) -> io::Result<()>
-    ensures { OnOk result (AppendsSome (W.contents out.old) (W.contents out.new) (IsLinesText told.now)) }
+fn print_lines<W: Write>(out: &mut W, names: Names, told: &Told) -> io::Result<()>
+    ensures { OnOk result (AppendsSome (W.contents out.old) (W.contents out.new) (IsLinesText names told.now)) }
 {
     match told {
-        Told::Reply(reply) => print_reply(out, reply),
-        Told::Shown(shown) => print_shown(out, shown),
-        Told::Reverted(reverted) => print_reverted(out, reverted),
+        Told::Reply(reply) => print_reply(out, names, reply),
+        Told::Shown(shown) => print_shown(out, names, shown),
+        Told::Reverted(reverted) => print_reverted(out, names, reverted),
     }
 }
 
 // Rows, steps and dry runs as objects, and all else in lines.
-fn print_objects<W: Write>(out: &mut W, alloc: Global, told: &Told) -> io::Result<()>
-    ensures { OnOk result (AppendsSome (W.contents out.old) (W.contents out.new) (IsToldText Telling.Json told.now)) }
+fn print_objects<W: Write>(out: &mut W, alloc: Global, names: Names, told: &Told) -> io::Result<()>
+    ensures { OnOk result (AppendsSome (W.contents out.old) (W.contents out.new) (IsTextIn OutputFormat.Json names told.now)) }
 {
     match told {
         Told::Reply(Reply::Log(rows)) => print_row_objects(out, alloc, rows.as_slice()),
         Told::Reply(Reply::Preview(fates)) => print_fate_objects(out, alloc, fates.as_slice()),
         Told::Shown(shown) => print_shown_object(out, alloc, shown),
-        Told::Reply(reply) => print_reply(out, reply),
-        Told::Reverted(reverted) => print_reverted(out, reverted),
+        Told::Reply(reply) => print_reply(out, names, reply),
+        Told::Reverted(reverted) => print_reverted(out, names, reverted),
     }
 }
 

@@ -5,4 +5,4 @@ use Rattle.reuse_undo.proofs.lines.print_fates.Goals as goal
 
 pub loop-fate-preserved : goal.loop-fate-preserved
 loop-fate-preserved g c =
-    Appends-joined fate_line _ _ _ c.args.fates.now c.loop-fate.fate-index c.fate-item.result (omega arith) c.fate-item.is c.loop-fate.invariant c.in_ok-print_fate.ensures
+    Appends-joined (fate_line c.args.names) _ _ _ c.args.fates.now c.loop-fate.fate-index c.fate-item.result (omega arith) c.fate-item.is c.loop-fate.invariant c.in_ok-print_fate.ensures

@@ -5,4 +5,4 @@ use Rattle.reuse_undo.proofs.lines.print_fates.Given as goal
 
 -- the lines of the fates so far were written
 abbrev pub invariant-loop-fate : goal.invariant-loop-fate
-invariant-loop-fate g l = Appends (g.W.Write.contents l.initial.out) (g.W.Write.contents l.out) (fate_lines (take l.fate-index l.fates))
+invariant-loop-fate g l = Appends (g.W.Write.contents l.initial.out) (g.W.Write.contents l.out) (fate_lines l.names (take l.fate-index l.fates))

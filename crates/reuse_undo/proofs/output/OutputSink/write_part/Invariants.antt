@@ -7,4 +7,5 @@ abbrev pub invariant-loop : goal.invariant-loop
 invariant-loop g l = record {
   given : Keeps (g.W.Write.contents l.initial.self.inner) (g.W.Write.contents l.self.inner);
   kept : l.self.failed ≡ l.initial.self.failed;
+  taken : l.self.taken ≡ l.initial.self.taken;
 }

@@ -1,6 +1,6 @@
-use Rattle.std.proofs.Common.{◌≡◌, ℕ, Bool, List, Option, Result, Ok, Err}
+use Rattle.std.proofs.Common.{◌≡◌, ℕ, Bool, List, Result, Ok, Err}
 use Rattle.reuse_session.specs.declared.reply.Refusal.{Refusal}
-use Rattle.reuse_undo.specs.RowLines.{AppendsSome}
+use Rattle.reuse_undo.specs.Outputs.{AddsSome}
 use Rattle.reuse_undo.specs.RunLine.{IfNoDiff}
 use Rattle.reuse_undo.specs.Told.{Accepts, Finishes, IsToldText, TellsFailure}
 use Rattle.reuse_undo.specs.declared.fault.Fault.{Fault}
@@ -10,7 +10,7 @@ use Rattle.reuse_undo.specs.declared.request.Told.{Told}
 use Rattle.reuse_undo.proofs.run_line.printed.finish.Goals as goal
 
 -- what is accepted, or would be refused, is told, and no diff is lacking
-told : (telling : Telling) (answer : Told) (old new : Option (List ℕ)) (result : Result ℕ Fault) → Accepts answer result → AppendsSome old new (IsToldText telling answer) → Finishes telling answer old new result
+told : (telling : Telling) (answer : Told) (old new : List ℕ) (result : Result ℕ Fault) → Accepts answer result → AddsSome old new (IsToldText telling answer) → Finishes telling answer old new result
 told telling answer old new (Ok count) accepts appends = (appends, accepts)
 told telling answer old new (Err (WouldRefuse fates)) accepts appends = (appends, accepts)
 told telling answer old new (Err fault) accepts appends = absurd accepts

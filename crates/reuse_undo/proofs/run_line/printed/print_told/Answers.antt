@@ -2,7 +2,7 @@ use Rattle.std.proofs.Common.{OnOk, sym, subst}
 use Rattle.std.proofs.lemmas.Result.{on_ok_weaker}
 use Rattle.std.specs.Io.KnownBytes.{Appends}
 use Rattle.reuse_undo.specs.RowLines.{AppendsSome}
-use Rattle.reuse_undo.specs.Told.{IsToldText}
+use Rattle.reuse_undo.specs.Told.{IsTextIn}
 use Rattle.reuse_undo.proofs.RowLemmas.{AppendsSome-diff}
 use Rattle.reuse_undo.proofs.run_line.printed.print_told.Goals as goal
 
@@ -11,6 +11,6 @@ returns-in_ok-print_lines-in-Diff g c may =
     let contents = g.W.Write.contents in
     let mid = contents c.print_lines-in-Diff.new.out in
     let new = contents c.write_all.new.self in
-    subst (λ t. OnOk c.write_all.result (AppendsSome (contents c.args.out.now) (contents c.write_all.new.self) (IsToldText t c.args.told.now))) (sym c.in-Diff.is)
-    (on_ok_weaker c.write_all.result (λ (wrote : Appends mid new c.args.diff.now). AppendsSome-diff c.args.told.now c.args.diff.now (contents c.args.out.now) mid new may c.in_ok-print_lines-in-Diff.ensures wrote)
+    subst (λ f. OnOk c.write_all.result (AppendsSome (contents c.args.out.now) (contents c.write_all.new.self) (IsTextIn f c.args.telling.names c.args.told.now))) (sym c.in-Diff.is)
+    (on_ok_weaker c.write_all.result (λ (wrote : Appends mid new c.args.diff.now). AppendsSome-diff c.args.telling.names c.args.told.now c.args.diff.now (contents c.args.out.now) mid new may c.in_ok-print_lines-in-Diff.ensures wrote)
     c.write_all.ensures.bytes)

@@ -1,0 +1,45 @@
+//! Reading a file that is open.
+ghost use Rattle.std.specs.Prelude.{IfOk};
+ghost use Rattle.reuse_undo.specs.Within.{IsWithin};
+
+use crate::disk::fault::FolderFault;
+use reuse_text::Bytes;
+use reuse_tree::Reading;
+use std::alloc::Global;
+use std::io::{self, ErrorKind, Read};
+
+/// The bytes of a regular file that was of this length, where they are at most `limit`.
+pub fn read_file(
+    file: impl Read + Drop,
+    alloc: Global,
+    len: u64,
+    limit: usize,
+) -> Result<Reading, FolderFault>
+    ensures { IfOk result (IsWithin limit) }
+{
+    let most = (limit as u64).saturating_add(1);
+    let len = usize::try_from(len).unwrap_or(0);
+    let bytes = read_whole(file.take(most), alloc, len)?;
+    if bytes.len() > limit {
+        return Ok(Reading::TooLong);
+    }
+    Ok(Reading::Found(Bytes::from_vec(bytes)))
+}
+
+/// The bytes of a file that is said to have this length. It is asked for one byte more: if it gives
+/// as many as were said, it ends there, as a regular file gives fewer than it is asked for only at
+/// its end. Else it is read on, since it may be longer.
+fn read_whole(mut file: impl Read + Drop, alloc: Global, len: usize) -> io::Result<Vec<u8>> {
+    let mut bytes = vec![in alloc; 0; len.saturating_add(1)]?;
+    match file.read(&mut bytes) {
+        Ok(count) if count == len => {
+            bytes.truncate(count);
+            return Ok(bytes);
+        }
+        Ok(count) => bytes.truncate(count),
+        Err(error) if error.kind() == ErrorKind::Interrupted => bytes.clear(),
+        Err(error) => return Err(error),
+    }
+    file.read_to_end(&mut bytes)?;
+    Ok(bytes)
+}

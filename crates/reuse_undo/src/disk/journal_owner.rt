@@ -1,0 +1,79 @@
+//! Whose the journal of a tree is. What a journal lists is carried out: the next call writes files
+//! of a pending step, and `undo` those of a step. So a journal of another user is not opened.
+ghost use Rattle.std.specs.Prelude.{◌≡◌};
+ghost use Rattle.reuse_undo.specs.Owners.{is_of_other, is_journal_of_other};
+
+use crate::disk::fault::FolderFault;
+use crate::disk::kept_out::{ABOVE_JOURNAL, HEAD, JOURNAL};
+use crate::disk::place::Found;
+use crate::disk::trail::Trail;
+use std::alloc::Global;
+use std::fs::File;
+use std::rt::Files;
+
+/// The users to whom the folders of the journal and its head belong, as far as they are there.
+#[derive(Clone, Copy)]
+pub struct JournalOwners {
+    /// Of the folder that the journal's folder lies in.
+    pub above: Option<u32>,
+    /// Of the journal's folder.
+    pub folder: Option<u32>,
+    /// Of the head.
+    pub head: Option<u32>,
+}
+
+/// Whether what belongs to this owner, if it is there, belongs to another user.
+fn is_of_other(user: u32, owner: Option<u32>) -> bool
+    ensures { result ≡ is_of_other user owner }
+{
+    match owner {
+        Some(owner) => owner != user,
+        None => false,
+    }
+}
+
+impl JournalOwners {
+    /// Whether the journal is not this user's. Root is no exception.
+    pub fn is_journal_of_other(self, user: u32) -> bool
+        ensures { result ≡ is_journal_of_other user self }
+    {
+        is_of_other(user, self.above)
+            || is_of_other(user, self.folder)
+            || is_of_other(user, self.head)
+    }
+}
+
+/// Whose the journal below the root of this trail is. Nothing of it is read. What is opened is what
+/// is looked at, and stays open.
+pub fn journal_owners(
+    rt: &impl Files<File = File>,
+    alloc: Global,
+    trail: &mut Trail,
+) -> Result<JournalOwners, FolderFault> {
+    let above = folder_owner(rt, alloc, trail, ABOVE_JOURNAL)?;
+    let folder = folder_owner(rt, alloc, trail, JOURNAL)?;
+    let head = match folder {
+        Some(_) => match trail.current()?.look(rt, alloc, HEAD)? {
+            Found::File(status) => Some(status.owner.user),
+            _ => None,
+        },
+        None => None,
+    };
+    Ok(JournalOwners {
+        above,
+        folder,
+        head,
+    })
+}
+
+fn folder_owner(
+    rt: &impl Files<File = File>,
+    alloc: Global,
+    trail: &mut Trail,
+    folder: &str,
+) -> Result<Option<u32>, FolderFault> {
+    match trail.enter(rt, alloc, folder)? {
+        None => Ok(Some(trail.current()?.owner().user)),
+        Some(_) => Ok(None),
+    }
+}

@@ -1,0 +1,46 @@
+//! Folders that root makes: each is given to the owner of the folder that it lies in.
+use crate::disk::fault::FolderFault;
+use crate::disk::handle::{Below, OpenFolder};
+use std::alloc::Global;
+use std::fs::{self, File};
+use std::rt::Files;
+
+/// Opens the folder of this name, which root made just now, and gives it to the owner of the one that
+/// it lies in.
+pub fn open_made_by_root<R: Files<File = File> + AllocGlobal + Clone + Drop>(
+    rt: &R,
+    alloc: Global,
+    above: &OpenFolder,
+    name: &str,
+) -> Result<Below, FolderFault> {
+    let below = above.open_below(rt, alloc, name)?;
+    if let Below::Folder(folder) = &below
+        && is_to_give(rt, above, folder)?
+    {
+        folder.give_to(above.owner())?;
+        drop(below);
+        return above.open_below(rt, alloc, name);
+    }
+    Ok(below)
+}
+
+/// Whether root gives the folder away. It does so only with an empty one of its own: another program
+/// may have put some folder of root's in the place of the one that was made.
+fn is_to_give<R: Files<File = File> + AllocGlobal + Clone + Drop>(
+    rt: &R,
+    above: &OpenFolder,
+    folder: &OpenFolder,
+) -> Result<bool, FolderFault> {
+    Ok(folder.owner().user == 0 && folder.owner() != above.owner() && is_empty(rt, folder)?)
+}
+
+fn is_empty<R: Files<File = File> + AllocGlobal + Clone + Drop>(
+    rt: &R,
+    folder: &OpenFolder,
+) -> Result<bool, FolderFault> {
+    for entry in fs::read_dir(rt, folder.path())? {
+        let _ = entry?;
+        return Ok(false);
+    }
+    Ok(true)
+}
