@@ -106,6 +106,7 @@ completes help re gives recover redo revert
 completes help log -- gives
 completes annotate --co gives --contributor --copyright --copyright-prefix --copyright-style
 completes annotate --s gives --single-line --skip-existing --skip-unrecognised --style
+completes fo gives forget
 completes annotate --f gives --fallback-dot-license --files-from --force-dot-license
 completes annotate --files-from s gives setup.py source
 completes annotate -s h gives html haskell

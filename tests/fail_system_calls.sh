@@ -8,7 +8,7 @@
 set -euo pipefail
 . "$(dirname "$0")/common.sh"
 wants strace strace
-calls=(openat read write close fchmod statx newfstatat getdents64 rename renameat renameat2 unlink unlinkat mkdir mkdirat fsync fdatasync)
+calls=(openat read write close fchmod fchown statx newfstatat getdents64 rename renameat renameat2 unlink unlinkat mkdir mkdirat fsync fdatasync)
 
 # Runs the program on the tree with this fault of this system call at its Nth time.
 run_with() {
@@ -150,11 +150,13 @@ try_all edited revert 1
 try_all stuck revert --skip-moved 1
 try_all stuck revert --skip-moved --dry-run --diff 1
 try_all edited show --diff 1
+try_all mixed forget 1
+try_all older forget --all
 for name in killed_annotate killed_undo killed_redo killed_older killed_revert; do try_all $name log; done
 
 for name in killed_annotate killed_undo killed_redo killed_older killed_revert; do fail_syncs $name log; done
 runs=('plain "${annotate[@]}"' 'plain convert-dep5' 'plain download --texts "$room/texts" MIT' 'done undo' 'undone redo' 'mixed undo' 'older redo'
-  'edited revert 1' 'stuck revert --skip-moved 1' 'killed_undo undo')
+  'edited revert 1' 'stuck revert --skip-moved 1' 'killed_undo undo' 'older forget --all')
 for run in "${runs[@]}"; do
   eval "words=($run)"
   fail_syncs "${words[@]}"

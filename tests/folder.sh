@@ -318,7 +318,7 @@ long_names() {
   # A file that can stand there, but not its neighbour
   rm -r "$tree/.reuse"
   printf y > "$tree/$longest"
-  cannot 'store fault' "read $longest.license: File name too long (os error 36)" "${annotate[@]}" --force-dot-license "$longest"
+  cannot 'store fault' "list $longest.license: File name too long (os error 36)" "${annotate[@]}" --force-dot-license "$longest"
 }
 
 # Says what was shown.

@@ -38,14 +38,15 @@ bits() {
   [[ $(mode in/a) == "$(mode plain)" && $(mode in/made) == "$(mode plain)" ]] || fail "files made anew have bits $(mode in/a) and $(mode in/made)"
 }
 
-# As nobody where the caller is root, whom the system refuses nothing
+# As nobody where the caller is root, whom the system refuses nothing. The journal is root's then.
 closed() {
   umask 000
   if ((EUID == 0)); then
     as=(setpriv --reuid=65534 --regid=65534 --clear-groups)
-    cp "$program" "$room/program"
-    program=$room/program
-    chmod 755 "$room" "$program"
+    cp "$program" "$room/whole_program"
+    local program=$room/program
+    printf '#!/bin/sh\nexec "%s" --trust-journal "$@"\n' "$room/whole_program" > "$program"
+    chmod 755 "$room" "$room/whole_program" "$program"
   fi
   stand closed/a .reuse/undo/
   chmod 000 "$tree/closed"
@@ -85,7 +86,8 @@ closed() {
   umask 022
 }
 
-# While another process holds the lock on the root, a run is refused; one on another root, above or below it too, isn't.
+# While another process holds the lock on the root, a run is refused, and so is one below it, if the lock isn't shared. One on another root, above it
+# too, isn't.
 locked() {
   local kind
   stand a.py in/a.py
@@ -99,10 +101,15 @@ locked() {
       refused 'in use by another run' "${annotate[@]}" a.py
       refused 'in use by another run' log
     done
-    for root in "$outside/other" "$tree/in" "$room"; do
+    for root in "$outside/other" "$room"; do
       tells '' log
       refused 'nothing to undo' undo
     done
+    root=$tree/in
+    case $kind in
+      -x) refused 'in use by another run' log ;;
+      -s) tells '' log ;;
+    esac
     root=$outside/absent
     cannot 'store fault' 'read .reuse: No such file or directory (os error 2)' log
     exec 9<&-

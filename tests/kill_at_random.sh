@@ -35,13 +35,14 @@ killed=0 openings=0 pending=0 was_before=0 was_after=0
 before=$(state_of "$room/tree")
 round=0
 while ((round < rounds)); do
-  case $((RANDOM % 9)) in
+  case $((RANDOM % 10)) in
     0 | 1) call=(annotate -c "Holder $round" -l MIT -y 2024 -r .) ;;
     2 | 3 | 4) call=(undo) ;;
     5) call=(redo) ;;
     6) call=(convert-dep5) ;;
     7) call=(revert $((RANDOM % (round + 1) + 1))) ;;
     8) call=(revert --skip-moved $((RANDOM % (round + 1) + 1))) ;;
+    9) call=(forget $((RANDOM % (round + 1) + 1))) ;;
   esac
   # The same call on a copy, to its end; one that is refused makes no round.
   rm -rf "$room/copy"

@@ -26,6 +26,8 @@ git -C "$tree" add -A
 git -C "$tree" commit -qm Start
 git clone -q "$room/library" "$tree/vendor/clone"
 git clone -q --bare "$room/library" "$tree/vendor/CAPITALS/.GIT"
+git clone -q --bare "$room/library" "$tree/vendor/mirror"
+echo 'x = 1' > "$tree/vendor/mirror/hooks/hook.py"
 for name in .hg .svn .jj .bzr _darcs .Svn .sl .pijul .Repo CVS; do
   mkdir -p "$tree/vendor/$name/store"
   echo 'x = 1' > "$tree/vendor/$name/store/data.py"
@@ -38,12 +40,12 @@ echo 'x = 1' > "$tree/nested/a.py"
 # The names and bytes of all that is somebody else's
 foreign() {
   (cd "$tree" && find . \( -ipath '*/.git/*' -o -iname .git -o -ipath '*/.hg/*' -o -ipath '*/.svn/*' -o -ipath '*/.jj/*' -o -ipath '*/.bzr/*' -o -ipath '*/_darcs/*' \
-    -o -ipath '*/.sl/*' -o -ipath '*/.pijul/*' -o -ipath '*/.repo/*' -o -path '*/CVS/*' -o -path './nested/.reuse/undo*' \) -type f -not -name index -print0 | sort -z | xargs -0 sha256sum)
+    -o -path '*/mirror/*' -o -ipath '*/.sl/*' -o -ipath '*/.pijul/*' -o -ipath '*/.repo/*' -o -path '*/CVS/*' -o -path './nested/.reuse/undo*' \) -type f -not -name index -print0 | sort -z | xargs -0 sha256sum)
 }
 # What git says of each repository, but for the files that were annotated
 check() {
   local repository
-  for repository in . vendor/clone vendor/module vendor/CAPITALS/.GIT; do
+  for repository in . vendor/clone vendor/module vendor/CAPITALS/.GIT vendor/mirror; do
     command git -C "$tree/$repository" fsck --strict > "$room/fsck" 2>&1 || fail "$1: git fsck of $repository: $(cat "$room/fsck")"
     ! grep -qi 'bad\|error\|missing' "$room/fsck" || fail "$1: git fsck of $repository: $(cat "$room/fsck")"
   done

@@ -1,6 +1,6 @@
 #!/usr/bin/env bash
 # Runs the program into each note with -v and at a terminal, and without either, where standard error is as it was without notes. At a terminal
-# long work shows its progress, which is cleared at the end. Ends with status 1 at the first fault.
+# long work shows its progress, which is cleared at the end, and names show no control byte. Ends with status 1 at the first fault.
 # usage: tests/notes.sh PROGRAM
 # The tags below are data: REUSE-IgnoreStart
 set -euo pipefail
@@ -9,9 +9,14 @@ wants script bsdutils
 tree=$room/tree
 jane=(-c "Jane Doe" -y 2024)
 notes=0
+# The one note that is told without -v and a terminal, too
+always='^reuse-undo: note: step [0-9]+, which a stopped run had begun, was set back \([0-9]+ files?\)$'
 
 # The call with this root, as a text for a shell
 spelt() { printf '%q ' "$program" --root "$tree" "$@"; }
+
+# What a terminal was told, without lines of progress, which a slow machine may add
+told() { sed -E $'s/\r[^\r]*\033\\[K//g' | tr -d '\r'; }
 
 # What a call tells on standard error: quietly, with -v and at a terminal. A call that changes something is made on a copy.
 try() {
@@ -22,7 +27,7 @@ try() {
     case $kind in
       quiet) "$program" --root "$tree" "$@" > "$room/out" 2> "$room/quiet" || true ;;
       verbose) "$program" --root "$tree" -v "$@" > "$room/out.verbose" 2> "$room/verbose" || true ;;
-      terminal) script -qec "$(spelt "$@") > $room/out.terminal" /dev/null < /dev/null | tr -d '\r' > "$room/terminal" || true ;;
+      terminal) script -qec "$(spelt "$@") > $room/out.terminal" /dev/null < /dev/null | told > "$room/terminal" || true ;;
     esac
     rm -rf "$tree"
     mv "$room/copy" "$tree"
@@ -38,6 +43,8 @@ notes() {
   done
   shift
   try "${call[@]}"
+  [[ $(grep -E "$always" "$room/quiet") == "$(grep -E "$always" "$room/verbose")" ]] || fail "${call[*]}: without -v is told $(cat "$room/quiet")"
+  sed -i -E "/$always/d" "$room/quiet"
   ! grep -q 'reuse-undo: note: ' "$room/quiet" || fail "${call[*]}: a note that nobody asked for: $(cat "$room/quiet")"
   cmp -s "$room/out" "$room/out.verbose" || fail "${call[*]}: -v prints $(cat "$room/out.verbose")"
   sed '/^reuse-undo: note: /d' "$room/verbose" | cmp -s - "$room/quiet" || fail "${call[*]}: -v tells $(cat "$room/verbose")"
@@ -98,6 +105,17 @@ refusals() {
   "$program" --root "$tree" undo > /dev/null
   echo y >> "$tree/a.py"
   notes redo : 'this file was changed since the step was taken back: take that change back and call again'
+  rm "$tree/a.py"
+  notes redo : 'this file is gone: put it back and call again'
+  files a.py 'x\n' b.py 'x\n'
+  "$program" --root "$tree" annotate -l MIT -r . > /dev/null
+  rm "$tree/a.py"
+  notes undo : 'this file is gone: put it back and call again; or reuse-undo revert --skip-moved takes the step out of the other files'
+  notes undo -n : 'this file is gone: .*'
+  notes revert 1 : 'this file is gone: put it back and call again, or leave it out with --skip-moved'
+  notes revert -n 1 : 'this file is gone: .*'
+  mkdir "$tree/a.py"
+  notes undo : 'this file was changed since: .*'
   files a.py 'x\n' .reuse/styles.toml 'version = 1\n[styles]\n".proto" = "pascal"\n'
   notes annotate -l MIT a.py : 'what is wrong with \.reuse/styles\.toml: bad style of \.proto'
 }
@@ -113,12 +131,84 @@ dep5() {
   notes convert-dep5 : '2 files changed; .*'
 }
 
-# A head that a loss of power without syncs may leave
+# The journal of two steps, as it was
+whole_journal() {
+  rm -rf "$tree/.reuse/undo"
+  cp -a "$room/whole" "$tree/.reuse/undo"
+}
+
+# What a loss of power without syncs, an editor, a later version or a hand may leave of a journal, and that the way out is one
 journal() {
-  files a.py 'x\n'
+  local undo=$tree/.reuse/undo out=': put it back from a backup; or delete the folder \.reuse/undo, which forgets the history and changes no other file'
+  files a.py 'x\n' b.py 'x\n'
   "$program" --root "$tree" annotate -l MIT a.py > /dev/null
-  : > "$tree/.reuse/undo/head.json"
-  notes log : 'this file of the journal is damaged, .* delete the folder \.reuse/undo, .*'
+  "$program" --root "$tree" annotate -l MIT b.py > /dev/null
+  cp -a "$undo" "$room/whole"
+  : > "$undo/head.json"
+  notes log : "\\.reuse/undo/head\\.json is empty, as after a loss of power$out"
+  notes recover : "\\.reuse/undo/head\\.json is empty, .*$out"
+  whole_journal
+  truncate -s 20 "$undo/head.json"
+  notes log : "\\.reuse/undo/head\\.json is torn: it breaks off, or is no JSON$out"
+  whole_journal
+  truncate -s 17M "$undo/head.json"
+  notes log : "\\.reuse/undo/head\\.json is longer than such a file can be$out"
+  whole_journal
+  sed -i 's/"format":2/"format":3/' "$undo/head.json"
+  notes log : '\.reuse/undo/head\.json was written by a later version of reuse-undo: use that version'
+  whole_journal
+  sed -i 's/"next":3/"next":0/' "$undo/head.json"
+  notes log : "\\.reuse/undo/head\\.json says what no file of the journal says: .*$out"
+  whole_journal
+  rm "$undo/000002.json"
+  notes log : "\\.reuse/undo/000002\\.json is gone, and the head of the journal names it$out"
+  : > "$undo/000002.json"
+  notes undo : "\\.reuse/undo/000002\\.json is empty, .*$out"
+  rm -rf "$undo"
+  notes log :
+  echo x > "$undo"
+  notes log : '\.reuse/undo is a file, where the folder of the journal is to be: move it away'
+  rm "$undo"
+  whole_journal
+  rm "$undo/head.json"
+  notes log : 'the history was found empty, though \.reuse/undo has the files of 2 steps: the head of the journal is gone; .*'
+  notes annotate -c Jo -y 2024 a.py : 'the history was found empty, though .*' '1 file changed; .*'
+  rm "$undo/000002.json"
+  notes log : 'the history was found empty, though \.reuse/undo/000001\.json is there: .*'
+}
+
+# What standard output and standard error show of a call, where the one that is named is a terminal
+at_terminal() {
+  local stream=$1
+  shift
+  case $stream in
+    output) script -qc "$(spelt "$@") 2> $room/other" /dev/null < /dev/null | told ;;
+    error) script -qc "$(spelt "$@") > $room/other" /dev/null < /dev/null | told ;;
+  esac
+}
+
+# A name with control bytes is shown without them on a terminal, and as it is elsewhere.
+names() {
+  local name=$'a\033[31m\177\n\303\274.py' shown='a\x1B[31m\x7F\x0Aü.py' found
+  files "$name" 'x\n'
+  [[ $("$program" --root "$tree" annotate -l MIT -n -r .) == "would change $name" ]] || fail 'a pipe: not the name as it is'
+  found=$(at_terminal output annotate -l MIT -n -r .)
+  [[ $found == "would change $shown" ]] || fail "a dry run at a terminal: $found"
+  found=$(at_terminal output annotate -l MIT -r .)
+  [[ $found == "changed $shown" ]] || fail "a step at a terminal: $found"
+  found=$(at_terminal output show 1 | tail -n +2)
+  [[ $found == "changed $shown" ]] || fail "show at a terminal: $found"
+  found=$(at_terminal output undo -n --json)
+  [[ $found == *'a\u001b[31m\u007f\n'* ]] || fail "JSON at a terminal: $found"
+  echo y >> "$tree/$name"
+  ! found=$("$program" --root "$tree" undo 2>&1) || fail 'an undo of a file that was edited'
+  [[ $found == "reuse-undo: $name: moved" ]] || fail "a refusal in a pipe: $found"
+  found=$(at_terminal error undo | head -n 1)
+  [[ $found == "reuse-undo: $shown: moved" ]] || fail "a refusal at a terminal: $found"
+  at_terminal output undo > /dev/null
+  [[ $(< "$room/other") == "reuse-undo: $name: moved" ]] || fail "a refusal in a file: $(cat "$room/other")"
+  at_terminal error revert 1 > /dev/null
+  [[ $(< "$room/other") == "changed $name" ]] || fail "a line in a file: $(cat "$room/other")"
 }
 
 # A link, a name, a root and a limit that keep the store from its work
@@ -145,10 +235,14 @@ faults() {
   printf '%s\n' 'reuse-undo: interrupted' "reuse-undo: note: can't write b.py: File too large (os error 27)" \
     'reuse-undo: note: the next call on this tree, log too, takes back what was begun' | cmp -s - "$room/error" || fail "a limit: $(cat "$room/error")"
   is_pending "$tree" || fail 'no step is under way'
-  notes log : 'step 1, which a stopped run had begun, was set back'
-  notes annotate -l MIT a.py : 'step 1, which a stopped run had begun, was set back' '1 file changed; .*'
+  notes log : 'step 1, which a stopped run had begun, was set back \(1 file\)'
+  notes annotate -l MIT a.py : 'step 1, which a stopped run had begun, was set back \(1 file\)' '1 file changed; .*'
   echo yyy > "$tree/a.py"
-  notes log : 'a stopped run had begun to change this file, .*'
+  notes log : 'a stopped run had begun to change this file, and it was changed since: .*reuse-undo recover --skip-moved, which leaves it as it is .*'
+  notes recover : 'a stopped run had begun to change this file, and it was changed since: with --skip-moved it is left as it is, .*'
+  rm "$tree/a.py"
+  notes log : 'a stopped run had begun to change this file, and it is gone: .*reuse-undo recover --skip-moved, which leaves it out .*'
+  notes recover : 'a stopped run had begun to change this file, and it is gone: with --skip-moved it is left out, .*'
   notes=$((notes + 3))
 }
 
@@ -174,8 +268,11 @@ progress() {
   [[ $(wc -l < "$room/out") == 4000 ]] || fail 'not all files are changed'
   grep -qE '^[0-9]+ files read of [0-9]+ in the tree, [0-9]+ written' <<< "$run" || fail "no progress: $run"
   grep -qE $'^\033\\[K' <<< "$run" || fail 'the progress is not cleared'
+  while read -r read _ _ _ listed; do
+    ((read <= listed)) || fail "more files are read than there are: $read of $listed"
+  done < <(grep -oE '^[0-9]+ files read of [0-9]+' <<< "$run")
   ! "$program" --root "$tree" -v undo 2>&1 > /dev/null | grep -q 'files read' || fail 'progress without a terminal'
 }
 
-for group in words changes refusals dep5 journal faults above progress; do $group; done
-echo "$notes notes are as stated, with -v and at a terminal"
+for group in words changes refusals dep5 journal faults above names progress; do $group; done
+echo "$notes notes are as stated, with -v and at a terminal, and names show no control byte there"

@@ -77,7 +77,7 @@ links() {
   printf '\211' > "$tree/p.png"
   ln -s ../out_of_tree/new "$tree/p.png.license"
   tells 1 $'reuse-undo: interrupted\n' annotate -l MIT p.png
-  tells 0 $'undone own.py\n' undo
+  tells 0 $'undone own.py\nreuse-undo: note: step 2, which a stopped run had begun, was set back (0 files)\n' undo
   [[ $(ls "$room/out_of_tree") == a.py && $(< "$room/out_of_tree/a.py") == x ]] || fail 'a link was followed'
   # A journal behind a link isn't written.
   rm -r "$tree/.reuse"
@@ -123,7 +123,7 @@ read_only() {
   chmod 555 "$tree/closed"
   tells 1 $'reuse-undo: interrupted\n' annotate -l MIT -r .
   chmod 755 "$tree/closed"
-  tells 0 '' log
+  tells 0 $'reuse-undo: note: step 1, which a stopped run had begun, was set back (1 file)\n' log
   [[ $(state_of "$tree") == "$before" ]] || fail 'a folder that can not be written: files are changed'
   chmod 000 "$tree/closed"
   tells 1 $'reuse-undo: store fault\n' annotate -l MIT -r .
@@ -159,7 +159,7 @@ in_the_way() {
   ln -s nowhere "$tree/p.png.license/link"
   before=$(state_of "$tree")
   tells 1 $'reuse-undo: interrupted\n' annotate -l MIT -r .
-  tells 0 "1 $(date -u +%F) annotate 2 undone"$'\n' log
+  tells 0 "1 $(date -u +%F) annotate 2 undone"$'\nreuse-undo: note: step 2, which a stopped run had begun, was set back (1 file)\n' log
   [[ $(state_of "$tree") == "$before" ]] || fail 'a folder in the way: files are changed'
 }
 

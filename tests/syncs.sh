@@ -1,6 +1,6 @@
 #!/usr/bin/env bash
 # Which system calls make a run lasting, and in which order, by strace. The data of each new file is
-# synced before its rename. Behind the entry, the pending head, the files and the last head each
+# synced before its rename; files of a step are written together, then synced, then renamed. Behind the entry, the pending head, the files and the last head each
 # folder that got or lost a name is synced, once. Behind the files that isn't the journal's, which
 # lost the names of new files alone. A call that writes nothing makes no sync, and
 # neither does one with --no-sync. A file system that can't sync folders counts as synced. No sync
@@ -55,15 +55,40 @@ traced() {
     -e 's/ *= (0|-1 .*)$//' \
     -e 's/^fdatasync\([0-9]+<(.*)>\)$/data \1/' -e 's/^fsync\([0-9]+<(.*)>\)$/folder \1/' \
     -e 's/^rename\("(.*)", "(.*)"\)$/rename \1 \2/' \
-    -e 's/^(unlink|rmdir|mkdir)\("([^"]*)".*\)$/\1 \2/' -e 's/^folder $/folder ./'
+    -e 's/^(unlink|rmdir|mkdir)\("([^"]*)".*\)$/\1 \2/' -e 's/^folder $/folder ./' | in_order
 }
 
-# Spells out what these lines say: `put PATH` writes a file, `barrier FOLDER..` syncs folders.
+# Sorts new files that are removed one after the other, which come as the folder lists them.
+in_order() {
+  local line left=()
+  while read -r line; do
+    if [[ $line == "unlink $new"* ]]; then
+      left+=("$line")
+      continue
+    fi
+    ((${#left[@]} == 0)) || printf '%s\n' "${left[@]}" | sort
+    left=()
+    echo "$line"
+  done
+  ((${#left[@]} == 0)) || printf '%s\n' "${left[@]}" | sort
+}
+
+# Where the file of this number in a batch is written aside
+new_name() { [[ $1 == 0 ]] && echo "$new" || echo "$new.$1"; }
+
+# Spells out what these lines say: `put PATH` writes a file, `batch PATH..` writes files together,
+# `barrier FOLDER..` syncs folders.
 spell_out() {
-  local words
+  local words number
   while read -ra words; do
     case ${words[0]} in
       put) printf '%s\n' "data $new" "rename $new ${words[1]}" ;;
+      batch)
+        for number in $(seq 0 $((${#words[@]} - 2))); do echo "data $(new_name "$number")"; done
+        for number in $(seq 0 $((${#words[@]} - 2))); do
+          echo "rename $(new_name "$number") ${words[number + 1]}"
+        done
+        ;;
       barrier) printf 'folder %s\n' "${words[@]:1}" ;;
       *) echo "${words[*]}" ;;
     esac
@@ -117,7 +142,7 @@ CALLS
 folders() {
   files a/x.py 'x\n' a/y.py 'x\n' b/deep/z.py 'x\n' c.py 'x\n'
   "$program" --root "$tree" "${annotate[@]}" c.py > "$room/out"
-  makes "${annotate[@]}" -r a b < <(step 000002 'put a/x.py' 'put a/y.py' 'put b/deep/z.py' \
+  makes "${annotate[@]}" -r a b < <(step 000002 'batch a/x.py a/y.py b/deep/z.py' \
     'barrier a b/deep')
   mkdir -p "$room/texts"
   echo 'Permission is granted' > "$room/texts/MIT.txt"
@@ -165,6 +190,8 @@ set_back() {
 barrier .reuse/undo
 barrier in src
 unlink $new
+unlink $new.1
+unlink $new.2
 put .reuse/undo/head.json
 barrier .reuse/undo
 CALLS
@@ -172,7 +199,7 @@ CALLS
   killed_at 5 "${annotate[@]}" -r .
   makes log << CALLS
 barrier .reuse/undo
-unlink $new
+unlink $new.2
 put in/c.py
 put src/a.py
 barrier in src

@@ -92,7 +92,7 @@ for section in 'Options of all subcommands' 'Dry runs' $(grep -vx help "$room/su
     Dry*) cp "$room/in_manual" "$room/in_dry_runs" && continue ;;
     *)
       in_help "$section" | grep -vxFf "$room/in_each" > "$room/in_help" || true
-      case $section in recover | log | show) ;; *) cat "$room/in_dry_runs" >> "$room/in_manual" ;; esac
+      case $section in recover | forget | log | show) ;; *) cat "$room/in_dry_runs" >> "$room/in_manual" ;; esac
       ;;
   esac
   same "options of help and of the manual page, $section" "$room/in_help" "$room/in_manual"
