@@ -82,29 +82,31 @@ _reuse_undo() {
     esac
   fi
   if [[ $word == -* && -z $only_paths ]]; then
+    local every='--root --verbose --no-sync --allow-owner-change --trust-journal'
     case $subcommand in
-      '') _reuse_undo_of '--root --verbose --no-sync --help --version' ;;
+      '') _reuse_undo_of "$every --help --version" ;;
       annotate)
-        _reuse_undo_of '--copyright --license --contributor --year --exclude-year --style --copyright-prefix --copyright-style
+        _reuse_undo_of "--copyright --license --contributor --year --exclude-year --style --copyright-prefix --copyright-style
           --merge-copyrights --single-line --multi-line --no-replace --recursive --files-from --exclude --force-dot-license --fallback-dot-license
-          --skip-unrecognised --skip-existing --exit-non-zero-on-change --dry-run --check --diff --json --root --verbose --no-sync --help'
+          --skip-unrecognised --skip-existing --exit-non-zero-on-change --dry-run --check --diff --json $every --help"
         ;;
-      download) _reuse_undo_of '--texts --dry-run --check --diff --json --root --verbose --no-sync --help' ;;
-      convert-dep5) _reuse_undo_of '--exit-non-zero-on-change --dry-run --check --diff --json --root --verbose --no-sync --help' ;;
-      undo | redo) _reuse_undo_of '--dry-run --check --diff --json --root --verbose --no-sync --help' ;;
-      revert) _reuse_undo_of '--dry-run --check --diff --json --skip-moved --root --verbose --no-sync --help' ;;
-      recover) _reuse_undo_of '--skip-moved --root --verbose --no-sync --help' ;;
-      log) _reuse_undo_of '--json --root --verbose --no-sync --help' ;;
-      show) _reuse_undo_of '--diff --json --root --verbose --no-sync --help' ;;
+      download) _reuse_undo_of "--texts --dry-run --check --diff --json $every --help" ;;
+      convert-dep5) _reuse_undo_of "--exit-non-zero-on-change --dry-run --check --diff --json $every --help" ;;
+      undo | redo) _reuse_undo_of "--dry-run --check --diff --json $every --help" ;;
+      revert) _reuse_undo_of "--dry-run --check --diff --json --skip-moved $every --help" ;;
+      recover) _reuse_undo_of "--skip-moved $every --help" ;;
+      forget) _reuse_undo_of "--all $every --help" ;;
+      log) _reuse_undo_of "--json $every --help" ;;
+      show) _reuse_undo_of "--diff --json $every --help" ;;
       *) ;;
     esac
     return
   fi
   case $subcommand in
-    '') _reuse_undo_of 'annotate convert-dep5 download undo redo revert recover log show help' ;;
-    help) _reuse_undo_of 'annotate convert-dep5 download undo redo revert recover log show' ;;
+    '') _reuse_undo_of 'annotate convert-dep5 download undo redo revert recover forget log show help' ;;
+    help) _reuse_undo_of 'annotate convert-dep5 download undo redo revert recover forget log show' ;;
     revert) _reuse_undo_steps done ;;
-    show) _reuse_undo_steps ;;
+    show | forget) _reuse_undo_steps ;;
     annotate) _reuse_undo_paths "$root" ;;
     download)
       while IFS= read -r id; do COMPREPLY+=("${id%.txt}"); done < <(cd -- "$texts" 2> /dev/null && compgen -f -X '!*.txt' -- "$word")
