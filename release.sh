@@ -9,7 +9,8 @@ top=$(cd "$(dirname "$0")" && pwd)
 case ${1:-} in -*) sed -n '4,5s/^# //p' "$0" >&2; exit 2 ;; esac
 umask 022
 export LC_ALL=C TZ=UTC
-maintainer='The reuse-undo authors <reuse-undo@example.org>'
+# (the author of the commits)
+maintainer='Vilgrynos maintainers <maintainers@users.noreply.vilgrynos.example>'
 room=$(mktemp -d)
 trap 'rm -rf "$room"' EXIT
 
@@ -62,6 +63,16 @@ libraries() {
     printf '%s\n' "${names[@]}" | sort -u
 }
 
+# What the sources of a library say of a licence, in the comments at their heads. $1: the folder of
+# the libraries, $2: the library
+said_in_sources() {
+    local file
+    while IFS= read -r file; do
+        printf '\nAt the head of %s:\n\n' "${file#"$1"/}"
+        sed -E '/^\/\//!Q; s|^//[/!]* ?||' "$file"
+    done < <(grep -rliE 'licen[cs]e' --include='*.rt' "$1/$2/src" | sort)
+}
+
 # Whose the program is: ours, and the licences of the libraries in it, each text once. If a library
 # has the MIT licence and that of Apache, it is the first. $1: where the Apache licence is.
 copyright() {
@@ -81,8 +92,16 @@ copyright() {
     echo "reuse-undo"
     sed -nE 's/^SPDX-FileCopyrightText = "(.*)"/Copyright \1/p' "$top/REUSE.toml"
     echo "Licensed under the Apache License, version 2.0: $1"
-    printf '\nThe program holds libraries of the Rattle kit. Of these the kit states no licence:\n'
-    fold -s -w 80 <<< "$none"
+    fold -s -w 80 << LINKED | sed 's/ *$//'
+
+The program is linked with the standard library and crates of the Rattle kit ($(rt version)). No \
+file of the kit states a licence of the kit itself. Many of its crates are ports of other works, \
+follow them or hold their data, and have those works' licences: these stand below. No file of a \
+licence is there for these libraries:
+
+${none# }
+LINKED
+    for name in $none; do said_in_sources "$kit/rattle" "$name"; done
     for sum in "${!users[@]}"; do echo "${users[$sum]}|$sum"; done | sort |
         while IFS='|' read -r name sum; do
             printf '\n----\n\nOf%s:\n\n' "$(fold -s -w 76 <<< "$name" | sed 's/ *$//')"
@@ -139,9 +158,9 @@ Installed-Size: $size
 Maintainer: $maintainer
 Description: add licensing information to source files, and take it back
  reuse-undo writes copyright and licence headers into the files of a source
- tree, as the REUSE Specification asks for them. Each call is a step with a
- number, which undo, redo and revert take back or make again, byte for byte.
- A dry run shows each change before it is made.
+ tree, as the REUSE Specification asks for them. Each call that changes files
+ is a step: undo takes the last one back byte for byte, redo makes it again,
+ and revert takes back an earlier one. A dry run prints what would change.
 CONTROL
 }
 
