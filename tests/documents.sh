@@ -7,7 +7,7 @@
 set -euo pipefail
 . "$(dirname "$0")/common.sh"
 cd "$(dirname "$0")/.."
-documents=(README.md CONTRIBUTING.md CHANGELOG.md docs/*.md)
+documents=(README.md SECURITY.md CONTRIBUTING.md CHANGELOG.md docs/*.md)
 
 for page in 'index_of_clauses.sh CLAUSES.md' 'list_of_wrong_bodies.sh WRONG_BODIES.md'; do
   "docs/${page% *}" > "$room/page" || fail "docs/${page% *}"
