@@ -13,7 +13,8 @@ use reuse_text::Bytes;
 use std::alloc::{AllocError, Global};
 use std::collections::BTreeSet;
 
-/// Adds the name of a field line, in lower case, to the names that stand before it, and answers whether it is new.
+/// Adds the name of a field line, in lower case, to the names that stand before it, and answers
+/// whether it is new.
 fn add_name(
     alloc: Global,
     before: &[SourceLine],

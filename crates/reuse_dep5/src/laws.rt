@@ -19,14 +19,16 @@ use crate::glob::GlobPiece;
 use crate::refusal::{Dep5Cause, Dep5Refusal};
 use reuse_text::LONGEST_FILE;
 
-/// Paragraphs are read as a dep5 exactly where they are grammatical, and refused exactly by their first fault.
+/// Paragraphs are read as a dep5 exactly where they are grammatical, and refused exactly by their
+/// first fault.
 pub fn dep5_is_grammatical()
     ensures accepted { (ps : List (List NumberedLine)) → ((dep5 : Dep5Value) × (paragraphs_of ps ≡ Ok dep5)) ↔ IsGrammatical ps }
     ensures refused { (ps : List (List NumberedLine)) (e : Dep5Refusal) → (paragraphs_of ps ≡ Err e)
         ↔ ((number : ℕ) × (cause : Dep5Cause) × (Dep5Refusal.BadDep5 number cause ≡ e) × IsFirstFault ps number cause) }
 {}
 
-/// A text is the text of a dep5, or there is one thing that is wrong with it, and then it is refused for that.
+/// A text is the text of a dep5, or there is one thing that is wrong with it, and then it is
+/// refused for that.
 pub fn texts_have_one_answer()
     ensures accepted { (bytes : List ℕ) → ((dep5 : Dep5Value) × (dep5_of bytes ≡ Ok dep5)) ↔ IsDep5Text bytes }
     ensures refused { (bytes : List ℕ) (e : Dep5Refusal) → (dep5_of bytes ≡ Err e) ↔ IsTextFault bytes e }
@@ -35,7 +37,8 @@ pub fn texts_have_one_answer()
     ensures one { (bytes : List ℕ) (e other : Dep5Refusal) → IsTextFault bytes e → IsTextFault bytes other → e ≡ other }
 {}
 
-/// Each line of each value of a UTF-8 text, and each word of it, is UTF-8. So a word is refused for a backslash alone.
+/// Each line of each value of a UTF-8 text, and each word of it, is UTF-8. So a word is refused for
+/// a backslash alone.
 pub fn values_are_text()
     ensures lines { (bytes : List ℕ) → IsUtf8 bytes
         → EachPasses (λ (p : List NumberedLine). (name : List ℕ) → EachPasses (λ (l : NumberedLine). IsUtf8 l.content) (value_of name p)) (paragraphs (dep5_lines bytes)) }
@@ -45,7 +48,8 @@ pub fn values_are_text()
     reuse_text::lines_are_one();
 }
 
-/// The text of a glob, read as a glob again, is that glob, where no `*` stands directly before another run.
+/// The text of a glob, read as a glob again, is that glob, where no `*` stands directly before
+/// another run.
 pub fn glob_text_is_read_back()
     ensures { (glob : List GlobPiece) → HasRunsApart glob → all_scalars (glob_literals glob) ≡ true
         → read_glob (chars (glob_text glob)) ≡ Some glob }
@@ -61,8 +65,9 @@ pub fn stated_tables_are_known()
     ensures { (members : Members) (dep5 : Dep5Value) → (same_members members (table_of dep5) ≡ true) ↔ (members ≡ table_of dep5) }
 {}
 
-/// Bytes convert to a text exactly where they are a dep5 and the text is its `REUSE.toml`, which has at most 16 MiB. They are
-/// refused exactly as the dep5 or its text is, and never for want of memory.
+/// Bytes convert to a text exactly where they are a dep5 and the text is its `REUSE.toml`, which
+/// has at most 16 MiB. They are refused exactly as the dep5 or its text is, and never for want of
+/// memory.
 pub fn conversions_are_stated()
     ensures text { (bytes text : List ℕ) → (converted bytes ≡ Ok text) ↔ ((dep5 : Dep5Value) × (dep5_of bytes ≡ Ok dep5) × IsReuseToml dep5 text) }
     ensures fits { (bytes text : List ℕ) → converted bytes ≡ Ok text → length text ≤ LONGEST_FILE }

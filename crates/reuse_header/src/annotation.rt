@@ -26,7 +26,8 @@ pub struct Splice {
     pub new: Bytes,
 }
 
-/// Why licensing information is not added to a file, in the order in which the reasons are looked for.
+/// Why licensing information is not added to a file, in the order in which the reasons are looked
+/// for.
 #[derive(Debug, Drop, Error)]
 pub enum HeaderRefusal {
     /// The neighbour file is not UTF-8, or has a NUL byte.

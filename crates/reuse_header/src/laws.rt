@@ -53,16 +53,16 @@ fn lower_laws()
     repeating_adds_nothing();
 }
 
-/// The comment blocks of open lines are one answer: the block whose form begins at a line, unless the line
-/// is a later line of another block.
+/// The comment blocks of open lines are one answer: the block whose form begins at a line, unless
+/// the line is a later line of another block.
 pub fn comment_blocks_are_one()
     ensures are { (style : Style) (contents : List (List ℕ)) → AreCommentBlocks style contents (comment_blocks style contents) }
     ensures only { (style : Style) (contents : List (List ℕ)) (begins : ℕ → Option BlockSize) → AreCommentBlocks style contents begins
         → (line : ℕ) → begins line ≡ comment_blocks style contents line }
 {}
 
-/// Lines have at most one header split, which the search for the header block finds, and none where that
-/// finds none.
+/// Lines have at most one header split, which the search for the header block finds, and none where
+/// that finds none.
 pub fn header_splits_are_one()
     ensures found { (style : Style) (lines : PlacedLines) (header : Header) → header_in style 0 lines ≡ Some header
         → (before : PlacedLines) × IsSplit style lines before header }
@@ -70,8 +70,8 @@ pub fn header_splits_are_one()
         → header_in style 0 lines ≡ Some header }
 {}
 
-/// The span of a header block cuts its file's bytes in three, by the lines before the block, its own, and
-/// those after it. Where the search finds none, the lines have no header split.
+/// The span of a header block cuts its file's bytes in three, by the lines before the block, its
+/// own, and those after it. Where the search finds none, the lines have no header split.
 pub fn header_spans_cut_files()
     ensures found { (style : Style) (file : List ℕ) (span : HeaderSpan) → option_map (span_in file) (header_of style file) ≡ Some span → IsHeaderBlock style file span }
     ensures none { (style : Style) (file : List ℕ) → header_of style file ≡ None → HasNoHeader style file }
@@ -79,21 +79,22 @@ pub fn header_spans_cut_files()
     lines_are_one();
 }
 
-/// The search for a text in bytes finds the least place at which the text stands, and none exactly where it stands nowhere.
+/// The search for a text in bytes finds the least place at which the text stands, and none exactly
+/// where it stands nowhere.
 pub fn texts_are_found_first()
     ensures found { (text bytes : List ℕ) (place : ℕ) → (place_of text bytes ≡ Some place) ↔ IsFirstPlace text bytes place }
     ensures none { (text bytes : List ℕ) → (place_of text bytes ≡ None) ↔ StandsNowhere text bytes }
 {}
 
-/// A multi-line block has exactly the lines from its opener to the first that holds the closer behind it, where only
-/// blank bytes follow that closer.
+/// A multi-line block has exactly the lines from its opener to the first that holds the closer
+/// behind it, where only blank bytes follow that closer.
 pub fn multi_line_blocks_are_enclosed()
     ensures closed { (closer : List ℕ) (lines : List (List ℕ)) (count : ℕ) → (count_to_closer closer lines ≡ Some count) ↔ IsEndedBy closer lines count }
     ensures enclosed { (comment : BlockForm) (lines : List (List ℕ)) (count : ℕ) → (multi_count comment lines ≡ Some count) ↔ IsEnclosed comment lines count }
 {}
 
-/// A neighbour file is its mark, its lines before the first barrier, and the others. The lines before it
-/// are exactly the bytes that are replaced, and theirs are the contents that are read.
+/// A neighbour file is its mark, its lines before the first barrier, and the others. The lines
+/// before it are exactly the bytes that are replaced, and theirs are the contents that are read.
 pub fn neighbours_are_cut_at_barriers()
     ensures { (file : List ℕ) → (open_lines : PlacedLines) × IsCutAtBarrier file open_lines }
 {
@@ -110,9 +111,10 @@ pub fn annotations_fit()
     lines_are_one();
 }
 
-/// Annotating keeps every byte outside the header block. Where an old block is replaced, the text stands between what
-/// stood before that block and what stood behind it. Where there is none, or it is not to be replaced, no byte is
-/// taken away: the text stands behind the prefix lines, or behind the mark of a neighbour.
+/// Annotating keeps every byte outside the header block. Where an old block is replaced, the text
+/// stands between what stood before that block and what stood behind it. Where there is none, or it
+/// is not to be replaced, no byte is taken away: the text stands behind the prefix lines, or behind
+/// the mark of a neighbour.
 pub fn annotating_keeps_other_bytes()
     ensures replaced { (style : Style) (how : How) (additions : Additions) (file : List ℕ) (edit : Edit) (span : HeaderSpan) → how.replace ≡ true
         → annotation_of style how additions file ≡ Ok edit → option_map (span_in file) (header_of style file) ≡ Some span
@@ -138,8 +140,8 @@ pub fn insertions_keep_blocks()
     lines_are_one();
 }
 
-/// The block that takes an old one's place says what the old one did: each text stands in it, or, where
-/// notices are merged, a notice of the same holder whose years include the old ones.
+/// The block that takes an old one's place says what the old one did: each text stands in it, or,
+/// where notices are merged, a notice of the same holder whose years include the old ones.
 pub fn replacements_keep_information()
     ensures files { (style : Style) (how : How) (additions : Additions) (file : List ℕ) (edit : Edit) (span : HeaderSpan) → how.replace ≡ true
         → annotation_of style how additions file ≡ Ok edit → option_map (span_in file) (header_of style file) ≡ Some span
@@ -151,8 +153,8 @@ pub fn replacements_keep_information()
     merging_keeps_holders();
 }
 
-/// Reading the block that is written of some information, in any style and form, gives that information
-/// again, where each of its texts reads as what it is.
+/// Reading the block that is written of some information, in any style and form, gives that
+/// information again, where each of its texts reads as what it is.
 pub fn written_blocks_read_back()
     ensures files { (style : Style) (form : Form) (marks : LineMarks) (info : Info) (rest : List (List ℕ)) → marks_of style form ≡ Some marks → IsSayable (punctuation_of style) info
         → info_of (punctuation_of style) (contents_of style (record { form = form; count = length (block_lines marks info) }) (block_lines marks info ++ rest)) ≡ info }
@@ -172,8 +174,9 @@ pub fn written_blocks_are_found()
     sets_are_one();
 }
 
-/// What is read from a header block's or a neighbour's contents reads back, also joined with additions that do, where `S`, the
-/// first letter of the written leads (`SPDX-`), is no punctuation; and what is merged reads back.
+/// What is read from a header block's or a neighbour's contents reads back, also joined with
+/// additions that do, where `S`, the first letter of the written leads (`SPDX-`), is no
+/// punctuation; and what is merged reads back.
 pub fn information_is_sayable()
     ensures read { (punct : List ℕ) (contents : List (List ℕ)) → is_filler punct 83 ≡ false → All (λ content. without_returns content ≡ content) contents
         → IsSayable punct (info_of punct contents) }
@@ -189,8 +192,8 @@ pub fn information_is_sayable()
     lower_laws();
 }
 
-/// The information that annotating writes reads back, and its lines are the contents of lines: they hold no
-/// LF, and no CR at their ends.
+/// The information that annotating writes reads back, and its lines are the contents of lines: they
+/// hold no LF, and no CR at their ends.
 pub fn written_information_is_sayable()
     ensures files { (style : Style) (how : How) (arguments : Arguments) (file : List ℕ) (kind : LineKind) (form : Form) (marks : LineMarks) → ArePlain (additions_of arguments) → marks_of style form ≡ Some marks
         → let info = info_written style how (additions_of arguments) file in
@@ -202,8 +205,9 @@ pub fn written_information_is_sayable()
     lower_laws();
 }
 
-/// What is read of the file that annotating made is the information that was to be written: its header block says that, or a
-/// neighbour's contents, or, where old ones are not to be replaced, the first of them, which are the lines of the new block.
+/// What is read of the file that annotating made is the information that was to be written: its
+/// header block says that, or a neighbour's contents, or, where old ones are not to be replaced,
+/// the first of them, which are the lines of the new block.
 pub fn annotated_files_read_back()
     ensures files { (style : Style) (how : How) (arguments : Arguments) (file made : List ℕ) → ArePlain (additions_of arguments) → annotated style how (additions_of arguments) file ≡ Ok made
         → information_in style made ≡ Some (info_written style how (additions_of arguments) file) }
@@ -216,8 +220,8 @@ pub fn annotated_files_read_back()
     lower_laws();
 }
 
-/// What annotating makes of text is text, UTF-8 without a NUL byte, where the additions are plain and UTF-8, as `Additions::new` makes
-/// them. A neighbour that isn't text is refused.
+/// What annotating makes of text is text, UTF-8 without a NUL byte, where the additions are plain
+/// and UTF-8, as `Additions::new` makes them. A neighbour that isn't text is refused.
 pub fn annotated_texts_are_texts()
     ensures files { (style : Style) (how : How) (additions : Additions) (file made : List ℕ) → ArePlain additions → AreUtf8 additions → is_text file ≡ true
         → annotated style how additions file ≡ Ok made → is_text made ≡ true }
@@ -227,10 +231,11 @@ pub fn annotated_texts_are_texts()
     lower_laws();
 }
 
-/// Where old blocks are replaced, the same call on the file that annotating made changes nothing. One file is
-/// left out: one of a single prefix line that is not ended and ends in CR, since the ending that is put behind it makes
-/// that CR a part of a CRLF, and the file one of another kind. A neighbour that isn't text is refused, and what is made of one is text
-/// where the additions are plain and UTF-8, as `Additions::new` makes them.
+/// Where old blocks are replaced, the same call on the file that annotating made changes nothing.
+/// One file is left out: one of a single prefix line that is not ended and ends in CR, since the
+/// ending that is put behind it makes that CR a part of a CRLF, and the file one of another kind. A
+/// neighbour that isn't text is refused, and what is made of one is text where the additions are
+/// plain and UTF-8, as `Additions::new` makes them.
 pub fn annotating_again_changes_nothing()
     ensures files { (style : Style) (how : How) (arguments : Arguments) (file made : List ℕ) → how.replace ≡ true → ArePlain (additions_of arguments) → EndsPlainly style file
         → annotated style how (additions_of arguments) file ≡ Ok made → answer_of made (annotation_of style how (additions_of arguments) made) ≡ Ok None }
@@ -241,9 +246,9 @@ pub fn annotating_again_changes_nothing()
     annotated_texts_are_texts();
 }
 
-/// Own names stand before the table's: the whole of a path's last part is looked for first. A path neither of whose
-/// parts is an own name has the table's kind, as each has where there are no own names. Letters of either case are
-/// the same.
+/// Own names stand before the table's: the whole of a path's last part is looked for first. A path
+/// neither of whose parts is an own name has the table's kind, as each has where there are no own
+/// names. Letters of either case are the same.
 pub fn own_names_stand_first()
     ensures none { (path : List ℕ) → kind_in (lookup []) path ≡ kind_of_name path }
     ensures empty { own_names (Some []) ≡ Ok (lookup []) }
@@ -254,8 +259,8 @@ pub fn own_names_stand_first()
     ensures cases { (own : List (List ℕ × Kind)) (name other : List ℕ) → str_eq_ignore_ascii_case name other ≡ true → lookup own name ≡ lookup own other }
 {}
 
-/// The names and texts of a document of styles are those that it states: it has the keys `styles` and `version` alone,
-/// the one a table of these texts, and the other the number 1.
+/// The names and texts of a document of styles are those that it states: it has the keys `styles`
+/// and `version` alone, the one a table of these texts, and the other the number 1.
 pub fn style_documents_are_stated()
     ensures { (document : Members) (texts : List NamedText) → (texts_of_document document ≡ Some texts) ↔ (document ≡ document_of texts) }
 {}

@@ -76,8 +76,8 @@ pub(crate) fn write_neighbour(
     into_splice(alloc, file, draft)
 }
 
-// Whether the block of a neighbour file is what stands from one place to another, or, for an insertion,
-// begins with it.
+// Whether the block of a neighbour file is what stands from one place to another, or, for an
+// insertion, begins with it.
 fn neighbour_stands(replace: bool, file: &[u8], start: usize, end: usize) -> bool
     ensures { result ≡ neighbour_stands replace file.now start end }
 {

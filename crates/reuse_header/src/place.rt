@@ -15,8 +15,8 @@ use crate::finder::Block;
 use crate::style::Style;
 use reuse_text::{Line, Lines, lines_are_one, mark_len};
 
-// The range of a file that a block's text takes, and the endings round the text: one that ends the last
-// line in front, and empty lines in front and behind.
+// The range of a file that a block's text takes, and the endings round the text: one that ends the
+// last line in front, and empty lines in front and behind.
 #[derive(Clone, Copy)]
 pub(crate) struct Place {
     pub(crate) start: usize,

@@ -3,8 +3,8 @@ use reuse_text::Bytes;
 use std::alloc::AllocError;
 use thiserror::Error;
 
-/// Why a project's file of styles is not taken, in the order in which the reasons are looked for. Its names are looked
-/// at in byte order.
+/// Why a project's file of styles is not taken, in the order in which the reasons are looked for.
+/// Its names are looked at in byte order.
 #[derive(Debug, Drop, Error)]
 pub enum StylesRefusal {
     /// The file is not UTF-8, or not TOML.

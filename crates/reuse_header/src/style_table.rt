@@ -17,7 +17,8 @@ use std::cmp::Ordering;
 use std::collections::BTreeMap;
 use std::marker::Model;
 
-/// The table of names, with a project's own names before it. Contracts see the own names with their kinds.
+/// The table of names, with a project's own names before it. Contracts see the own names with their
+/// kinds.
 #[derive(Debug, Drop)]
 pub struct StyleTable {
     // In lower case and in byte order.
@@ -37,7 +38,8 @@ impl Model for StyleTable {
 }
 
 impl StyleTable {
-    /// The table by a project's file of styles. Where there is no file, it is the table of names alone.
+    /// The table by a project's file of styles. Where there is no file, it is the table of names
+    /// alone.
     pub fn read(alloc: Global, file: Option<&[u8]>) -> Result<StyleTable, StylesRefusal>
         ensures ok { IfOk result (λ table. styles_of (option_copied file.entry) ≡ Ok (lookup table)) }
         ensures refused { IfErr result (λ refusal. IsRefused (styles_of (option_copied file.entry)) refusal) }
@@ -60,8 +62,8 @@ impl StyleTable {
         Ok(StyleTable { entries })
     }
 
-    /// The kind of a path's last part, by its whole name or else by its ending, where letters of either case are the
-    /// same, and the project's own names come before the table's.
+    /// The kind of a path's last part, by its whole name or else by its ending, where letters of
+    /// either case are the same, and the project's own names come before the table's.
     pub fn style_of(&self, name: &str) -> Kind
         ensures { result ≡ kind_in (lookup self.now) name.now }
     {

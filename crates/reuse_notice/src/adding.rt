@@ -16,7 +16,8 @@ use reuse_text::Bytes;
 use std::alloc::{AllocError, Global};
 use thiserror::Error;
 
-/// Texts of notices, contributors and licences to be added to a file, in the order of the arguments.
+/// Texts of notices, contributors and licences to be added to a file, in the order of the
+/// arguments.
 #[derive(Debug, Drop)]
 pub struct Additions {
     pub(crate) notices: Texts,

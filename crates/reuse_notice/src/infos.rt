@@ -16,8 +16,8 @@ use crate::text_lists::{TextSet, Texts, are_same};
 use reuse_text::Bytes;
 use std::alloc::{AllocError, Global};
 
-/// The licensing information of a file: the texts of its notices, its contributors and its licences,
-/// and the contents without a tag.
+/// The licensing information of a file: the texts of its notices, its contributors and its
+/// licences, and the contents without a tag.
 #[derive(Debug, Drop)]
 pub struct Info {
     notices: TextSet,
@@ -62,9 +62,10 @@ impl Info {
         })
     }
 
-    /// The information with the notices of each holder merged into one, whose years run from the lowest
-    /// to the highest, and whose prefix is that of the byte-least of the added notices of the holder, or
-    /// else of the byte-least of all. Notices whose merged text wouldn't read back so stay.
+    /// The information with the notices of each holder merged into one, whose years run from the
+    /// lowest to the highest, and whose prefix is that of the byte-least of the added notices of
+    /// the holder, or else of the byte-least of all. Notices whose merged text wouldn't read back
+    /// so stay.
     pub fn merge(self, alloc: Global, additions: &Additions) -> Result<Info, AllocError>
         ensures { IfOk result (λ info. info ≡ merged_of self additions.now) }
     {
@@ -72,9 +73,9 @@ impl Info {
         Ok(Info { notices, ..self })
     }
 
-    /// The information with the amendments: licences, holders and contributors replaced and then removed, then
-    /// years and prefixes of notices. Texts that become equal are one. What is not named stays, and so do the
-    /// free contents.
+    /// The information with the amendments: licences, holders and contributors replaced and then
+    /// removed, then years and prefixes of notices. Texts that become equal are one. What is not
+    /// named stays, and so do the free contents.
     ///
     /// # Errors
     /// `BadExpression` where an identifier is replaced by what can't stand in its place.

@@ -1,5 +1,5 @@
-//! Copyright notices, contributors and licences of a file: the tags of a comment, what a command adds,
-//! and their merge, after REUSE Specification 3.3.
+//! Copyright notices, contributors and licences of a file: the tags of a comment, what a command
+//! adds, and their merge, after REUSE Specification 3.3.
 #![tactic(auto)]
 
 mod adding;

@@ -15,7 +15,8 @@ use std::alloc::{AllocError, Global};
 use std::collections::{BTreeMap, BTreeSet};
 
 // What the notices of one holder say together: whether there are two or more, their years from the
-// lowest to the highest, the prefix of the first of them, and that of the first that is the command's.
+// lowest to the highest, the prefix of the first of them, and that of the first that is the
+// command's.
 #[derive(Clone, Copy)]
 pub(crate) struct Class {
     pub(crate) several: bool,

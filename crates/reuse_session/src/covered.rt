@@ -4,8 +4,8 @@ ghost use Rattle.reuse_session.specs.Covered.{is_in, is_outside, has_stem, is_ou
 
 use reuse_text::last_part;
 
-/// Whether annotate treats a file of this path: one that is neither in a folder of licences, of the journal or of version control, nor of a
-/// name that holds licensing information or a licence.
+/// Whether annotate treats a file of this path: one that is neither in a folder of licences, of the
+/// journal or of version control, nor of a name that holds licensing information or a licence.
 pub(crate) fn is_covered(path: &[u8]) -> bool
     ensures { result ≡ is_covered path.now }
 {

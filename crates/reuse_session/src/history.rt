@@ -35,8 +35,8 @@ impl ListedEntry {
     }
 }
 
-/// The entries of a session in the head's order: those done, the oldest first, and those undone, the next to be redone
-/// last.
+/// The entries of a session in the head's order: those done, the oldest first, and those undone,
+/// the next to be redone last.
 #[derive(Drop)]
 pub struct History {
     done: Vec<ListedEntry>,

@@ -182,7 +182,8 @@ pub fn put_entry<S: Store>(
     ensures counted { OnOk result (S.written store.new ≡ S.written store.old + length (entry_text entry.now)) }
     // No other path holds something else, whatever it answers.
     ensures others { S.honest store.new → IsSameBut (entry_path number) (S.files store.old) (S.files store.new) }
-    // A loss of power may leave what it might before, with the entry or without; and behind the barrier what is there, if the tree was certain.
+    // A loss of power may leave what it might before, with the entry or without; and behind the
+    // barrier what is there, if the tree was certain.
     ensures left { IsEntry entry.now.changes → knows (is_any_sealed entry.now.changes) entry.now.command ≡ true
         → MaySet S.Store (entry_path number) (λ file. EntrySays file entry.now) store.old store.new }
     ensures lasting { S.honest store.new → HaveTree S.Store store.old (tree_of (S.files store.old)) → OnOk result (IsSynced S.Store store.new) }
@@ -212,7 +213,8 @@ pub fn put_head<S: Store>(
         ⊎ Sets head_path (Some text.now) (S.files store.old) (S.files store.new)) }
     ensures clash { S.honest store.new → result ≡ Err Cause.Clash → Clashes (S.files store.old) head_path }
     ensures moved { result ≢ Err Cause.Moved }
-    // A loss of power may leave what it might before, with this head or without; and behind the barrier what is there, if the tree was certain.
+    // A loss of power may leave what it might before, with this head or without; and behind the
+    // barrier what is there, if the tree was certain.
     ensures left { MaySet S.Store head_path (λ file. file ≡ Some text.now) store.old store.new }
     ensures lasting { S.honest store.new → HaveTree S.Store store.old (tree_of (S.files store.old)) → OnOk result (IsSynced S.Store store.new) }
     ensures device { IsErrOf result Cause.Device → S.failures store.old < S.failures store.new }

@@ -56,8 +56,9 @@ ghost use Rattle.reuse_session.specs.declared.reply.Reply.{Reply};
 
 use reuse_header::{annotated_texts_are_texts, annotating_keeps_other_bytes};
 
-/// Any files open in one way: at most one path is the first at fault, at most one is where the pending step is stuck, at most one
-/// standing can be opened on, and no two of these three are there.
+/// Any files open in one way: at most one path is the first at fault, at most one is where the
+/// pending step is stuck, at most one standing can be opened on, and no two of these three are
+/// there.
 pub fn files_open_in_one_way()
     ensures bad { (files : Files) (path other : List ℕ) → IsFirstBad files path → IsFirstBad files other → path ≡ other }
     ensures moved { (files : Files) (path other : List ℕ) → IsStuckAt files path → IsStuckAt files other → path ≡ other }
@@ -67,15 +68,16 @@ pub fn files_open_in_one_way()
     ensures moved_or_opened { (files : Files) (path : List ℕ) (held : State) → IsStuckAt files path → ¬ (CanOpenOn files held) }
 {}
 
-/// An entry leads from one tree to another exactly where its changes do, one after the other, and back exactly where their inverses
-/// do, one after the other in any order.
+/// An entry leads from one tree to another exactly where its changes do, one after the other, and
+/// back exactly where their inverses do, one after the other in any order.
 pub fn entries_lead_in_turn()
     ensures forth { (changes : List Change) (before after : Files) → IsEntry changes → LeadsAll changes before after ↔ LeadsInTurn changes before after }
     ensures back { (changes others : List Change) (before after : Files) → IsEntry changes → IsPermutation changes others → LeadsBy Undo changes before after ↔ LeadsInTurn (map inverse_of others) before after }
 {}
 
-/// A download that isn't refused puts the text of each id at `LICENSES/ID.txt`, where no file was, and changes no other path. A run that
-/// isn't refused leaves that. It isn't refused exactly where each id's text can be put, and one entry holds them all.
+/// A download that isn't refused puts the text of each id at `LICENSES/ID.txt`, where no file was,
+/// and changes no other path. A run that isn't refused leaves that. It isn't refused exactly where
+/// each id's text can be put, and one entry holds them all.
 pub fn downloads_put_each_text()
     ensures accepted { (ids : List (List ℕ)) (texts : List LicenceText) (tree : Files) → ((after : Files) × (outcome_of (Download ids texts) tree ≡ Ok after)) ↔ CanDownload ids texts tree }
     ensures made { (ids : List (List ℕ)) (texts : List LicenceText) (tree after : Files) → outcome_of (Download ids texts) tree ≡ Ok after → PutsTexts ids texts tree after }
@@ -83,13 +85,15 @@ pub fn downloads_put_each_text()
         → PutsTexts ids texts old.tree new.tree }
 {}
 
-/// What annotate does on a tree, in other words. Where it isn't refused, each file that is gone through is commented: it holds what the
-/// header rules make of its own bytes in its style; or accompanied: its neighbour holds what they make of the neighbour's own bytes, or
-/// of none; or skipped, where that is asked for. Every byte outside the old header block stays, and so does every other path. These words
-/// leave one tree. A run that isn't refused leaves it: `Runs` is what `Session::run` promises. No file goes, and each that changes is text
-/// then, where the additions are plain and UTF-8, as `Additions::new` makes them. It isn't refused exactly where the tree's own styles are
-/// good, the root is given only where folders are gone through, each path that is gone through can be annotated by itself, and one entry
-/// holds them all.
+/// What annotate does on a tree, in other words. Where it isn't refused, each file that is gone
+/// through is commented: it holds what the header rules make of its own bytes in its style; or
+/// accompanied: its neighbour holds what they make of the neighbour's own bytes, or of none; or
+/// skipped, where that is asked for. Every byte outside the old header block stays, and so does
+/// every other path. These words leave one tree. A run that isn't refused leaves it: `Runs` is what
+/// `Session::run` promises. No file goes, and each that changes is text then, where the additions
+/// are plain and UTF-8, as `Additions::new` makes them. It isn't refused exactly where the tree's
+/// own styles are good, the root is given only where folders are gone through, each path that is
+/// gone through can be annotated by itself, and one entry holds them all.
 pub fn annotations_change_chosen_places_alone()
     ensures accepted { (places : List Place) (additions : Additions) (how : How) (scope : Scope) (tree : Files) → ((after : Files) × (outcome_of (Annotate places additions how scope) tree ≡ Ok after))
         ↔ CanAnnotate places additions how scope tree }
@@ -106,23 +110,26 @@ pub fn annotations_change_chosen_places_alone()
     annotated_texts_are_texts();
 }
 
-/// Where a conversion isn't refused, `.reuse/dep5` was there and is gone, `REUSE.toml` wasn't and holds the text that the dep5 is
-/// converted to, and every other path holds what it held. A run that isn't refused leaves that. It isn't refused exactly where the dep5 is
-/// there and can be converted, and the `REUSE.toml` can be put.
+/// Where a conversion isn't refused, `.reuse/dep5` was there and is gone, `REUSE.toml` wasn't and
+/// holds the text that the dep5 is converted to, and every other path holds what it held. A run
+/// that isn't refused leaves that. It isn't refused exactly where the dep5 is there and can be
+/// converted, and the `REUSE.toml` can be put.
 pub fn conversions_put_a_table()
     ensures accepted { (tree : Files) → ((after : Files) × (outcome_of ConvertDep5 tree ≡ Ok after)) ↔ CanConvert tree }
     ensures made { (tree after : Files) → outcome_of ConvertDep5 tree ≡ Ok after → PutsTable tree after }
     ensures left { (when : ℕ) (old new : State) (reply : Reply) → Runs ConvertDep5 when old (Ok reply) new → PutsTable old.tree new.tree }
 {}
 
-/// What an edit of a command tells beside the file that it leaves, and by which an entry has its size: a file comes that is what is written, or
-/// one goes that is what is removed, or between bytes that stay what is removed gives way to what is written.
+/// What an edit of a command tells beside the file that it leaves, and by which an entry has its
+/// size: a file comes that is what is written, or one goes that is what is removed, or between
+/// bytes that stay what is removed gives way to what is written.
 pub fn edits_tell_what_they_take_and_write()
     ensures told { (command : Command) (tree : Files) (edits : List Edit) → edits_of command tree ≡ Ok edits → All (TakesAndWrites tree) edits }
 {}
 
-/// A tree with nothing under `.reuse/undo/` holds the state of the machine without earlier and later trees, of which no number is used;
-/// and no path of a file of the journal is a folder there. So what is proved of a driven session from such a state holds from such a tree.
+/// A tree with nothing under `.reuse/undo/` holds the state of the machine without earlier and
+/// later trees, of which no number is used; and no path of a file of the journal is a folder there.
+/// So what is proved of a driven session from such a state holds from such a tree.
 pub fn trees_without_a_journal_hold_no_steps()
     ensures holds { (files : Files) → IsFresh files → HoldState files (first_state files) }
     ensures free { (files : Files) → IsFresh files → IsFree (undo_folder_of files) }
@@ -134,9 +141,10 @@ pub fn changed_paths_are_where_trees_differ()
     ensures ascend { (before after : Files) → IsStrictlySortedBy (slice_cmp nat_cmp) (changed_paths before after) }
 {}
 
-/// What the seals of a step give. After a run, its step can be undone only where each file of the step has the range, the length and the
-/// SHA-256 that the run left, and redone only where each has those from before the run. So, where no two files that are compared have one
-/// SHA-256, exactly where each is byte for byte as it was left, and no path that is made clashes.
+/// What the seals of a step give. After a run, its step can be undone only where each file of the
+/// step has the range, the length and the SHA-256 that the run left, and redone only where each has
+/// those from before the run. So, where no two files that are compared have one SHA-256, exactly
+/// where each is byte for byte as it was left, and no path that is made clashes.
 pub fn seals_tell_of_whole_files()
     ensures told { (command : Command) (when : ℕ) (first second : State) (run : IsRun command when first second) (way : Way) (now : Files) → All (CanBeMade way now) run.step.changes
         → All (IsAsLeft way (tree_for way first second) now) run.step.changes }
@@ -144,9 +152,11 @@ pub fn seals_tell_of_whole_files()
         → All (CanBeMade way now) run.step.changes ↔ All (IsUntouched way (tree_for way first second) now) run.step.changes }
 {}
 
-/// Where folders are gone through, a path is worked exactly where it is given and no folder, or is a file beneath a folder that is given, and
-/// is covered, listed, where there is a list, and matched by no glob that is excluded. Without a list and globs all covered files are chosen.
-/// Where folders aren't gone through, a path is worked exactly where it is given. The paths are worked in byte order, and none twice.
+/// Where folders are gone through, a path is worked exactly where it is given and no folder, or is
+/// a file beneath a folder that is given, and is covered, listed, where there is a list, and
+/// matched by no glob that is excluded. Without a list and globs all covered files are chosen.
+/// Where folders aren't gone through, a path is worked exactly where it is given. The paths are
+/// worked in byte order, and none twice.
 pub fn worked_paths_are_asked_for()
     ensures asked { (scope : Scope) (places : List Place) (tree : Files) (path : List ℕ) → scope.recursive ≡ true
         → Contains (worked_paths scope places tree) path ↔ (IsNamed places tree path ⊎ (StandsBeneath places tree path × IsAskedFor scope path)) }
@@ -156,11 +166,13 @@ pub fn worked_paths_are_asked_for()
     ensures all { (scope : Scope) (path : List ℕ) → scope.listed ≡ None → scope.excluded ≡ [] → is_chosen scope path ≡ is_covered path }
 {}
 
-/// A revert of a sealed step that is the last leads back to the tree before it, as its undo does, and a run that isn't refused leaves that
-/// tree. Of any step, and whatever else the tree is now: where the revert isn't refused, a path that is as the step left it holds what it
-/// held before the step; but where paths that have moved are left, one stays away while a folder or a file is in its way. A path that a
-/// later step touched keeps what it holds, and a revert that leaves none of its paths is refused where there is one. Of a file that
-/// was edited below what a step wrote, that gives way to what was there before, whatever is below it, where that didn't begin with what was
+/// A revert of a sealed step that is the last leads back to the tree before it, as its undo does,
+/// and a run that isn't refused leaves that tree. Of any step, and whatever else the tree is now:
+/// where the revert isn't refused, a path that is as the step left it holds what it held before the
+/// step; but where paths that have moved are left, one stays away while a folder or a file is in
+/// its way. A path that a later step touched keeps what it holds, and a revert that leaves none of
+/// its paths is refused where there is one. Of a file that was edited below what a step wrote, that
+/// gives way to what was there before, whatever is below it, where that didn't begin with what was
 /// written. And bytes that a step took away come back once.
 pub fn reverts_take_steps_back()
     ensures undo { (changes : List Change) (skip_moved : Bool) (before after : Files) → IsEntry changes → AreAllSealed true changes → AreFiles before → LeadsAll changes before after
@@ -180,17 +192,19 @@ pub fn reverts_take_steps_back()
         → taken_back (Splice path at old new rest seal) (Some file) ≡ Some edit → taken_back (Splice path at old new rest seal) edit.file ≡ None }
 {}
 
-/// The outcome of a command follows the fates of its paths: it is refused exactly by the first refusal among them, and where there is
-/// none it is a tree, which differs from the tree that was there exactly at the paths that change.
+/// The outcome of a command follows the fates of its paths: it is refused exactly by the first
+/// refusal among them, and where there is none it is a tree, which differs from the tree that was
+/// there exactly at the paths that change.
 pub fn outcome_follows_fates()
     ensures refused { (command : Command) (tree : Files) (refusal : Refusal) → (outcome_of command tree ≡ Err refusal) ↔ (first_refusal (fates_of command tree) ≡ Some refusal) }
     ensures accepted { (command : Command) (tree : Files) → (first_refusal (fates_of command tree) ≡ None) ↔ ((after : Files) × (outcome_of command tree ≡ Ok after)) }
     ensures changed { (command : Command) (tree after : Files) (path : List ℕ) → HoldsEntry command → outcome_of command tree ≡ Ok after → Contains (fates_of command tree) (Changes path) ↔ (get tree path ≢ get after path) }
 {}
 
-/// The fates of an annotation, in the words of what it makes of a tree. A path that is told as skipped is gone through and has a file that is
-/// skipped, as was asked for; and where nothing is refused, each such path is told so. A path that is told as skipped or unchanged holds what
-/// it held then, and so does its neighbour. `own` are the kinds that the tree gives to its own names.
+/// The fates of an annotation, in the words of what it makes of a tree. A path that is told as
+/// skipped is gone through and has a file that is skipped, as was asked for; and where nothing is
+/// refused, each such path is told so. A path that is told as skipped or unchanged holds what it
+/// held then, and so does its neighbour. `own` are the kinds that the tree gives to its own names.
 pub fn annotations_follow_fates()
     ensures skipped { (places : List Place) (additions : Additions) (how : How) (scope : Scope) (own : OwnNames) (tree : Files) (path : List ℕ) → styles_in tree ≡ Ok own
         → Contains (fates_of (Annotate places additions how scope) tree) (Skipped path) → Contains (worked_paths scope places tree) path × IsSkippedAt scope own tree path }
@@ -205,10 +219,11 @@ pub fn annotations_follow_fates()
     annotating_keeps_other_bytes();
 }
 
-/// An undo and a redo follow the fates of the changes that they go through. The first refusal among these names the first path whose change
-/// can't be made, which is what the call is refused by; there is none exactly where all changes can be made. So, where a preview tells
-/// fates, the call that then answers for the same tree is refused exactly by the first refusal among them, and goes through where there is
-/// none.
+/// An undo and a redo follow the fates of the changes that they go through. The first refusal among
+/// these names the first path whose change can't be made, which is what the call is refused by;
+/// there is none exactly where all changes can be made. So, where a preview tells fates, the call
+/// that then answers for the same tree is refused exactly by the first refusal among them, and goes
+/// through where there is none.
 pub fn steps_follow_fates()
     ensures refused { (way : Way) (tree : Files) (changes : List Change) (fates : List Fate) (refusal : Refusal) → AreFatesOf way tree changes fates
         → (first_refusal fates ≡ Some refusal) ↔ ((path : List ℕ) × (refusal ≡ Moved path) × IsFirstStuck way tree changes path) }

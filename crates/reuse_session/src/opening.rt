@@ -1,4 +1,5 @@
-//! Opens the journal of a store: reads the head and each entry that it names, and rolls back what is pending.
+//! Opens the journal of a store: reads the head and each entry that it names, and rolls back what
+//! is pending.
 ghost use Rattle.std.specs.Prelude.{◌≡◌, ◌≢◌, ◌⊎◌, ◌<◌, ◌≤◌, ◌+◌, ℕ, List, IfOk, IfErr, OnOk, IsSome, Some, None, length, codes, MatchResult};
 ghost use Rattle.std.specs.FinMap as map;
 ghost use Rattle.std.specs.List.{All, AllZip};
@@ -25,7 +26,8 @@ use crate::roll_back::roll_back;
 use reuse_tree::{Entry, Head, Pending, Reading, Store};
 use std::alloc::{AllocError, Global};
 
-/// Reads the journal of a store, and rolls back what is pending. It answers what the head lists then.
+/// Reads the journal of a store, and rolls back what is pending. It answers what the head lists
+/// then.
 pub fn open_journal<S: Store>(alloc: Global, store: &mut S) -> Result<History, Refusal>
     ensures opened { S.honest store.new → IfOk result (λ memory. (held : State) × Remembers memory held.journal × OpensOn (S.files store.old) held (S.files store.new)) }
     ensures bad { S.honest store.new → (path : List ℕ) → result ≡ Err (Refusal.BadJournal path) → IsFirstBad (S.files store.old) path }
@@ -36,7 +38,8 @@ pub fn open_journal<S: Store>(alloc: Global, store: &mut S) -> Result<History, R
     ensures settles { S.honest store.new → (first second : State) → InDoubt first second (S.files store.old)
         → MatchResult result (λ memory. (IsStanding (S.files store.new) first × Remembers memory first.journal) ⊎ (IsStanding (S.files store.new) second × Remembers memory second.journal))
         (λ refusal. IsFailure refusal × InDoubt first second (S.files store.new)) }
-    // Where all that a loss of power may leave is in doubt too, it is safe on that standing then, or still in doubt.
+    // Where all that a loss of power may leave is in doubt too, it is safe on that standing then,
+    // or still in doubt.
     ensures survives { S.honest store.new → (earlier held next : State) → AreInDoubt S.Store earlier held next store.old
         → MatchResult result (λ memory. (IsStanding (S.files store.new) held × Remembers memory held.journal × AreSafeOn S.Store earlier held store.new)
         ⊎ (IsStanding (S.files store.new) next × Remembers memory next.journal × AreSafeOn S.Store held next store.new))
@@ -47,7 +50,8 @@ pub fn open_journal<S: Store>(alloc: Global, store: &mut S) -> Result<History, R
     ensures written { S.honest store.new → (head : Head) → HeadSays (map.get (undo_folder_of (S.files store.old)) head_path) head
         → S.written store.new ≤ S.written store.old + head_room (length (listed head)) }
     ensures moves { S.honest store.new → MovesToOpen S.Store store.old store.new }
-    // Nothing is moved before a refusal, nor where nothing is pending; and of the journal's folder nothing but the head changes.
+    // Nothing is moved before a refusal, nor where nothing is pending; and of the journal's folder
+    // nothing but the head changes.
     ensures early { IfErr result (λ refusal. IsEarly refusal → OnlyReads S.Store store.old store.new) }
     ensures late { (cause : Cause) → result ≡ Err (Refusal.Interrupted cause) → cause ≢ causes.Moved → S.moves store.old < S.moves store.new }
     ensures quiet { S.honest store.new → (held : State) → IsStanding (S.files store.old) held → OnlyReads S.Store store.old store.new }
@@ -67,7 +71,8 @@ pub fn open_journal<S: Store>(alloc: Global, store: &mut S) -> Result<History, R
     }
 }
 
-/// Reads the head and each entry that it names. It answers what is pending, and what the head lists.
+/// Reads the head and each entry that it names. It answers what is pending, and what the head
+/// lists.
 pub fn read_journal<S: Store>(
     alloc: Global,
     store: &mut S,
@@ -163,7 +168,8 @@ fn test_folder<S: Store>(alloc: Global, store: &mut S, text: &str) -> Result<(),
     }
 }
 
-// Reads each entry that the head names, and answers what it lists. It is refused at the least number whose entry can't be read.
+// Reads each entry that the head names, and answers what it lists. It is refused at the least
+// number whose entry can't be read.
 fn read_entries<S: Store>(alloc: Global, store: &mut S, head: &Head) -> Result<History, Refusal>
     requires { IsSoundHead head.now }
     ensures ok { S.honest store.new → IfOk result (λ memory.
@@ -203,7 +209,8 @@ fn named_numbers(alloc: Global, head: &Head) -> Result<Vec<u32>, AllocError>
     Ok(numbers)
 }
 
-// Reads the entries of these numbers, and answers what they are listed as, and the least number whose entry can't be read.
+// Reads the entries of these numbers, and answers what they are listed as, and the least number
+// whose entry can't be read.
 fn read_all<S: Store>(
     alloc: Global,
     store: &mut S,

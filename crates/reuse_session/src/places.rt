@@ -53,15 +53,17 @@ pub(crate) enum Listing {
     Alone,
 }
 
-/// The paths that a command goes through, in byte order and without repeats, and what is known of them.
+/// The paths that a command goes through, in byte order and without repeats, and what is known of
+/// them.
 #[derive(Drop)]
 pub(crate) struct Worked {
     pub(crate) paths: Vec<PathText>,
     pub(crate) listing: Listing,
 }
 
-/// The paths that a command goes through: those among the places, and, where folders are gone through, the covered files beneath a
-/// folder that are asked for in its place. Nothing is listed where no folders are gone through.
+/// The paths that a command goes through: those among the places, and, where folders are gone
+/// through, the covered files beneath a folder that are asked for in its place. Nothing is listed
+/// where no folders are gone through.
 pub(crate) fn find_worked<S: Store>(
     alloc: Global,
     store: &mut S,
@@ -101,7 +103,8 @@ fn find_beneath<S: Store>(
     })
 }
 
-// The paths at these places, of which these are given, and beneath them. Folders are passed over beneath which nothing is worked.
+// The paths at these places, of which these are given, and beneath them. Folders are passed over
+// beneath which nothing is worked.
 fn list_selected<S: Store>(
     alloc: Global,
     store: &mut S,
@@ -149,7 +152,8 @@ pub(crate) fn sorted(paths: Vec<PathText>) -> Vec<PathText>
     paths
 }
 
-// The paths among the places, with the covered files beneath a folder that are asked for in its place. `paths` show what is beneath.
+// The paths among the places, with the covered files beneath a folder that are asked for in its
+// place. `paths` show what is beneath.
 fn expanded<S: Store>(
     alloc: Global,
     store: &mut S,
@@ -169,7 +173,8 @@ fn expanded<S: Store>(
     Ok(found)
 }
 
-// Adds what stands in the place of a place: the path, or the covered files beneath it that are asked for where it is a folder.
+// Adds what stands in the place of a place: the path, or the covered files beneath it that are
+// asked for where it is a folder.
 fn push_expanded<S: Store>(
     alloc: Global,
     store: &mut S,
@@ -200,8 +205,8 @@ fn push_copy(alloc: Global, found: &mut Vec<PathText>, path: &PathText) -> Resul
     Ok(())
 }
 
-// Whether the path is no folder of the tree, beneath which these paths are. It is looked at where there are none, since all may be
-// passed over.
+// Whether the path is no folder of the tree, beneath which these paths are. It is looked at where
+// there are none, since all may be passed over.
 fn stands_alone<S: Store>(
     alloc: Global,
     store: &mut S,

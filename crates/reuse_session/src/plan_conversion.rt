@@ -43,7 +43,8 @@ fn toml_paths<S: Store>(alloc: Global, store: &mut S) -> Result<Vec<PathText>, S
     tree_paths(alloc, store, slice::from_ref(&toml), &NoPruning)
 }
 
-// The changes of a conversion, given what was read of the dep5. `paths` show what stands at `REUSE.toml`.
+// The changes of a conversion, given what was read of the dep5. `paths` show what stands at
+// `REUSE.toml`.
 fn conversion_of(
     alloc: Global,
     paths: &[PathText],

@@ -37,7 +37,8 @@ pub(crate) fn plan_download<S: Store>(
     download_changes(alloc, &paths, ids, texts)
 }
 
-/// The paths of the tree at which licences stand, and what else is there: no other folder is looked at.
+/// The paths of the tree at which licences stand, and what else is there: no other folder is looked
+/// at.
 pub(crate) fn licence_paths<S: Store>(
     alloc: Global,
     store: &mut S,
@@ -50,7 +51,8 @@ pub(crate) fn licence_paths<S: Store>(
     tree_paths(alloc, store, slice::from_ref(&licences), &NoPruning)
 }
 
-/// The changes of a download, or its first refusal. `paths` show what stands at the path of each licence.
+/// The changes of a download, or its first refusal. `paths` show what stands at the path of each
+/// licence.
 pub(crate) fn download_changes(
     alloc: Global,
     paths: &[PathText],
@@ -87,7 +89,8 @@ fn copied_ids(alloc: Global, ids: &[Bytes]) -> Result<Vec<Bytes>, AllocError>
     Ok(copied)
 }
 
-// The paths of the files that are made of the ids' texts, or the first refusal. `paths` show what stands at the path of each licence.
+// The paths of the files that are made of the ids' texts, or the first refusal. `paths` show what
+// stands at the path of each licence.
 fn made_paths(
     alloc: Global,
     paths: &[PathText],

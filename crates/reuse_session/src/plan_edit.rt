@@ -16,7 +16,8 @@ use reuse_text::Bytes;
 use reuse_tree::{Change, PathText};
 use std::alloc::{AllocError, Global};
 
-/// The change of a file that is there, of these bytes, by what an annotation makes of it. A refusal names `path`.
+/// The change of a file that is there, of these bytes, by what an annotation makes of it. A refusal
+/// names `path`.
 pub(crate) fn change_by(
     alloc: Global,
     path: &PathText,

@@ -130,7 +130,8 @@ fn plan_inside(
     }
 }
 
-/// The change of a neighbour that is there, by what was read of it, unless it has licensing information and such files are skipped.
+/// The change of a neighbour that is there, by what was read of it, unless it has licensing
+/// information and such files are skipped.
 pub(crate) fn plan_neighbour(
     alloc: Global,
     path: &PathText,

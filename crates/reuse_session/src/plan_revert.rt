@@ -67,7 +67,8 @@ fn take_all_back<S: Store>(
     Ok(taken)
 }
 
-// Adds what takes a change back. Where nothing does, the change is refused, unless such are skipped.
+// Adds what takes a change back. Where nothing does, the change is refused, unless such are
+// skipped.
 fn add_back(
     alloc: Global,
     taken: &mut Vec<Change>,
@@ -185,7 +186,8 @@ fn drop_made(
     Ok(Some(Change::sealed_drop(path.try_clone(alloc)?, file)))
 }
 
-// The old bytes are put back in the place of the new ones, where these stand there as they were written.
+// The old bytes are put back in the place of the new ones, where these stand there as they were
+// written.
 fn put_back(
     alloc: Global,
     path: &PathText,

@@ -13,7 +13,8 @@ use reuse_text::LONGEST_FILE;
 use reuse_tree::{PathText, Reading, Store};
 use std::alloc::Global;
 
-/// The styles by the `.reuse/styles.toml` of the tree that the store has: those of every tree where it has no such file.
+/// The styles by the `.reuse/styles.toml` of the tree that the store has: those of every tree where
+/// it has no such file.
 pub(crate) fn read_styles<S: Store>(alloc: Global, store: &mut S) -> Result<StyleTable, Refusal>
     ensures styles { S.honest store.new → IfOk result (λ styles. styles_in (tree_of (S.files store.old)) ≡ Ok (lookup styles)) }
     ensures refusal { S.honest store.new → IfErr result (λ refusal. IsRefusalOf (styles_in (tree_of (S.files store.old))) refusal) }

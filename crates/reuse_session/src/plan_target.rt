@@ -27,8 +27,8 @@ pub(crate) fn neighbour_of(alloc: Global, path: &PathText) -> Result<Bytes, Allo
     Ok(neighbour)
 }
 
-/// Whether the neighbour is the place, whatever the file holds: it is there, that is asked for, or the name takes no comment and no
-/// style is asked for. `paths` show whether it is there.
+/// Whether the neighbour is the place, whatever the file holds: it is there, that is asked for, or
+/// the name takes no comment and no style is asked for. `paths` show whether it is there.
 pub(crate) fn goes_beside(
     alloc: Global,
     paths: &[PathText],

@@ -16,7 +16,8 @@ use crate::reply::Refusal;
 use reuse_tree::{Change, PathText};
 use std::alloc::{AllocError, Global};
 
-/// What is found on the way through the paths: their fates, and the changes of all, until one is refused.
+/// What is found on the way through the paths: their fates, and the changes of all, until one is
+/// refused.
 #[derive(Drop)]
 pub(crate) struct Planned {
     pub(crate) fates: Vec<Fate>,

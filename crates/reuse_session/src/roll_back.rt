@@ -22,11 +22,12 @@ use reuse_tree::turn::set_back;
 use reuse_tree::{Cause, Change, Store, StoreFault, Way};
 use std::alloc::Global;
 
-/// Tests that each change of a step that is pending this way is made or not, and can be taken back where it is made. Then
-/// takes back those that are made, and puts the head. It is refused as `Moved` at the first path where that can't be.
+/// Tests that each change of a step that is pending this way is made or not, and can be taken back
+/// where it is made. Then takes back those that are made, and puts the head. It is refused as
+/// `Moved` at the first path where that can't be.
 ///
-/// A barrier stands before the first change that is taken back, so that the pending head is lasting then; one stands behind the last
-/// change, before the head is put; and one behind the head.
+/// A barrier stands before the first change that is taken back, so that the pending head is lasting
+/// then; one stands behind the last change, before the head is put; and one behind the head.
 pub fn roll_back<S: Store>(
     alloc: Global,
     store: &mut S,
@@ -44,8 +45,9 @@ pub fn roll_back<S: Store>(
     // It is never refused on the way from a tree.
     ensures settles { S.honest store.new → IsEntry changes.now → (start : Files) → AreFiles start → ArePartlyMade way changes.now start (tree_of (S.files store.old))
         → (path : List ℕ) → result ≢ Err (Refusal.Moved path) }
-    // A loss of power leaves what is there once it is done. Where it stops, some of the changes are still made, or the last head is put or not.
-    // That holds if each tree that might be left before is the start with some of the changes made.
+    // A loss of power leaves what is there once it is done. Where it stops, some of the changes are
+    // still made, or the last head is put or not. That holds if each tree that might be left before
+    // is the start with some of the changes made.
     ensures lasting { S.honest store.new → IsEntry changes.now → (start : Files) → ArePartlyMade way changes.now start (tree_of (S.files store.old))
         → Leaves S.Store store.old (λ kept. SomeMade way changes.now start (tree_of kept)) → OnOk result (IsSynced S.Store store.new) }
     ensures left { S.honest store.new → IsEntry changes.now → (start : Files) → ArePartlyMade way changes.now start (tree_of (S.files store.old))
@@ -60,7 +62,8 @@ pub fn roll_back<S: Store>(
     ensures tested { S.honest store.new → IsEntry changes.now → (cause : Cause) → result ≡ Err (refusals.Interrupted cause)
         → All (CanBeSetBack way (tree_of (S.files store.old))) changes.now }
     ensures folder { S.honest store.new → IsEntry changes.now → IsSameBut head_path (undo_folder_of (S.files store.old)) (undo_folder_of (S.files store.new)) }
-    // It is refused before it has moved anything, and stops after that; one that tells a file that changed since it was tested may stop before.
+    // It is refused before it has moved anything, and stops after that; one that tells a file that
+    // changed since it was tested may stop before.
     ensures early { IfErr result (λ refusal. IsEarly refusal → OnlyReads S.Store store.old store.new) }
     ensures late { (cause : Cause) → result ≡ Err (refusals.Interrupted cause) → cause ≢ Cause.Moved → S.moves store.old < S.moves store.new }
     ensures fault { IfErr result (HasCause (S.failures store.old < S.failures store.new)) }
@@ -89,8 +92,8 @@ pub fn told(started: bool, cause: Cause) -> Refusal
     }
 }
 
-// Takes back each change that is made, and behind a barrier puts the head. It notes that puts and removals have started before it calls
-// one.
+// Takes back each change that is made, and behind a barrier puts the head. It notes that puts and
+// removals have started before it calls one.
 fn set_all_back<S: Store>(
     alloc: Global,
     store: &mut S,

@@ -13,8 +13,9 @@ use reuse_tree::perform::perform;
 use reuse_tree::{Cause, Change, Store, Way};
 use std::alloc::Global;
 
-/// Puts the head that tells the step as pending, makes its changes this way, and puts the head that lists it, with a barrier behind each
-/// of the three. Its caller has tested that each change can be made.
+/// Puts the head that tells the step as pending, makes its changes this way, and puts the head that
+/// lists it, with a barrier behind each of the three. Its caller has tested that each change can be
+/// made.
 pub fn carry_out<S: Store>(
     alloc: Global,
     store: &mut S,
@@ -29,8 +30,9 @@ pub fn carry_out<S: Store>(
     ensures stopped { S.honest store.new → IsEntry changes.now → OnErr result ((S.files store.new ≡ S.files store.old)
         ⊎ IsStopped way changes.now pending.now (S.files store.old) (S.files store.new)
         ⊎ IsCarriedOut way changes.now settled.now (S.files store.old) (S.files store.new)) }
-    // After a loss of power, if nothing but the journal was in doubt before: what is there, once it is done; and where it stops, what was
-    // there with the pending head, or with some changes too, or with all and the last head.
+    // After a loss of power, if nothing but the journal was in doubt before: what is there, once it
+    // is done; and where it stops, what was there with the pending head, or with some changes too,
+    // or with all and the last head.
     ensures lasting { S.honest store.new → IsEntry changes.now → HaveTree S.Store store.old (tree_of (S.files store.old)) → OnOk result (IsSynced S.Store store.new) }
     ensures doubt { S.honest store.new → IsEntry changes.now → HaveTree S.Store store.old (tree_of (S.files store.old))
         → OnErr result (StopsWithDoubt S.Store way changes.now pending.now settled.now store.old store.new) }

@@ -1,7 +1,8 @@
 //! Where the licensing information of a file goes.
 use reuse_header::Style;
 
-/// Where the licensing information of a file goes, as the definitions of what a command gives speak of it.
+/// Where the licensing information of a file goes, as the definitions of what a command gives speak
+/// of it.
 #[derive(Clone, Copy, Debug)]
 pub enum Target {
     /// Into a comment of the file, in this style.

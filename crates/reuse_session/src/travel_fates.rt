@@ -13,7 +13,8 @@ use reuse_tree::perform::can_be_made;
 use reuse_tree::{Change, Store, Way};
 use std::alloc::Global;
 
-/// The fates of the changes of an entry, gone through this way: each path changes, or is refused as `Moved`.
+/// The fates of the changes of an entry, gone through this way: each path changes, or is refused as
+/// `Moved`.
 pub(crate) fn travel_fates<S: Store>(
     alloc: Global,
     store: &mut S,

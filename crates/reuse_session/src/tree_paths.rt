@@ -12,7 +12,8 @@ use reuse_tree::{NoPruning, PathText, Pruning, Store, StoreFault, is_folder};
 use std::alloc::Global;
 use std::slice;
 
-/// What a listing of these folders gives of the tree that the store has: of all its files but those of the journal.
+/// What a listing of these folders gives of the tree that the store has: of all its files but those
+/// of the journal.
 pub(crate) fn tree_paths<S: Store, P: Pruning>(
     alloc: Global,
     store: &mut S,

@@ -1,4 +1,5 @@
-//! Which folders a listing passes over where folders are gone through: those beneath which no file is worked.
+//! Which folders a listing passes over where folders are gone through: those beneath which no file
+//! is worked.
 ghost use Rattle.std.specs.Prelude.{◌≡◌};
 ghost use Rattle.reuse_session.specs.Choice.{is_passed_over, lists_none};
 

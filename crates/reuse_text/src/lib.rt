@@ -22,7 +22,8 @@ pub enum LineKind {
     Crlf,
 }
 
-/// A line of a text: the place of its first byte, its content, and its ending, which a last line may lack.
+/// A line of a text: the place of its first byte, its content, and its ending, which a last line
+/// may lack.
 #[derive(Clone, Copy, Debug)]
 pub struct Line<'a> {
     pub start: usize,

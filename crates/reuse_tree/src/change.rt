@@ -20,7 +20,8 @@ pub enum ChangeState {
     Neither,
 }
 
-/// A change of the file at one path. Where it is sealed it holds the digest of the whole file before it and after it.
+/// A change of the file at one path. Where it is sealed it holds the digest of the whole file
+/// before it and after it.
 #[derive(Debug, Drop)]
 pub enum Change {
     /// The file is made.
@@ -183,8 +184,8 @@ impl Change {
         }
     }
 
-    /// Where a file stands, or its absence. Where it is at both ends, as only a change of nothing allows, `Before`. It hashes only where
-    /// range and length fit, and takes no memory.
+    /// Where a file stands, or its absence. Where it is at both ends, as only a change of nothing
+    /// allows, `Before`. It hashes only where range and length fit, and takes no memory.
     pub fn state(&self, file: Option<&[u8]>) -> ChangeState
         ensures before { (result ≡ ChangeState.Before) ↔ IsBefore self.now (option_copied file.entry) }
         ensures after { (result ≡ ChangeState.After)
@@ -202,8 +203,8 @@ impl Change {
         }
     }
 
-    /// Where a file stands, or its absence, by range and length alone: it hashes nothing. So it is a cheap second test of a file that was
-    /// at an end by `state`.
+    /// Where a file stands, or its absence, by range and length alone: it hashes nothing. So it is
+    /// a cheap second test of a file that was at an end by `state`.
     pub fn state_by_range(&self, file: Option<&[u8]>) -> ChangeState
         ensures before { (result ≡ ChangeState.Before) ↔ IsBeforeByRange self.now (option_copied file.entry) }
         ensures after { (result ≡ ChangeState.After)
@@ -307,7 +308,8 @@ fn is_digest_of(digest: Option<Digest>, bytes: &[u8]) -> bool
     }
 }
 
-// Whether a file that holds the part `old` at `at` is sealed with what `new` in its place makes of it.
+// Whether a file that holds the part `old` at `at` is sealed with what `new` in its place makes of
+// it.
 fn has_seal(file: Option<&[u8]>, at: usize, old: &Bytes, new: &Bytes, seal: Option<Seal>) -> bool
     ensures { (path : List ℕ) (rest : ℕ) → HoldsPart (option_copied file.entry) old.now at rest
         → (IsTrue result ↔ IsBefore (Change.Splice path at old.now new.now rest seal) (option_copied file.entry)) }
@@ -318,7 +320,8 @@ fn has_seal(file: Option<&[u8]>, at: usize, old: &Bytes, new: &Bytes, seal: Opti
     }
 }
 
-// Whether the seal, where there is one, is that of the file and of the file with new bytes in place of those from `at` on.
+// Whether the seal, where there is one, is that of the file and of the file with new bytes in place
+// of those from `at` on.
 fn is_seal_of(seal: Option<Seal>, file: &[u8], at: usize, old_len: usize, new: &[u8]) -> bool
     ensures { IsTrue result ↔ IsSealOf seal file.now (spliced file.now at old_len new.now) }
 {

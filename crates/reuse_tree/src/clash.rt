@@ -9,7 +9,8 @@ use crate::listing::{is_among, is_folder};
 use crate::path::PathText;
 use std::alloc::{AllocError, Global};
 
-/// Whether no file can be made at the path: a part above it is one of the paths, which are in byte order, or it is a folder of these.
+/// Whether no file can be made at the path: a part above it is one of the paths, which are in byte
+/// order, or it is a folder of these.
 pub fn is_clash(alloc: Global, paths: &[PathText], path: &PathText) -> Result<bool, AllocError>
     ensures { ArePaths paths.now → IfOk result (λ clash. clash ≡ is_clash_of paths.now path.now) }
 {

@@ -85,7 +85,8 @@ pub struct Seal {
 impl Seal {
     ghost use Rattle.reuse_tree.specs.Digest.{seal_of, swapped};
 
-    /// The digests of this file and of the file with new bytes in place of so many from `at` on. It copies nothing.
+    /// The digests of this file and of the file with new bytes in place of so many from `at` on. It
+    /// copies nothing.
     pub fn of(file: &[u8], at: usize, old_len: usize, new: &[u8]) -> Seal
         ensures { result ≡ seal_of file.now (spliced file.now at old_len new.now) }
     {

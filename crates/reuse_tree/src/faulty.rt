@@ -6,15 +6,17 @@ ghost use Rattle.reuse_tree.specs.Parts.{joined};
 use crate::{CallRecord, Change, Parts, PathText, Pruning, Reading, Store, StoreFault};
 use std::alloc::Global;
 
-/// A store that passes some calls on to the one inside, and then fails the next with `Device`: each from there on where faults stay, and else
-/// that one alone. The first put or removal that fails takes effect where `takes_effect` says so: it is passed on, whatever is answered inside.
+/// A store that passes some calls on to the one inside, and then fails the next with `Device`: each
+/// from there on where faults stay, and else that one alone. The first put or removal that fails
+/// takes effect where `takes_effect` says so: it is passed on, whatever is answered inside.
 #[derive(Drop)]
 pub struct FaultyStore<S: Store + Drop, const STAYS: bool> {
     inner: S,
     // How many calls until the next one that fails; none where no more fails.
     left: Option<u64>,
     takes_effect: bool,
-    // The calls that failed here. One that took effect is not among them as a put or a removal: the store inside counts it.
+    // The calls that failed here. One that took effect is not among them as a put or a removal: the
+    // store inside counts it.
     failed: CallRecord,
 }
 
@@ -57,8 +59,8 @@ impl<S: Store + Drop, const STAYS: bool> FaultyStore<S, STAYS> {
         self.inner
     }
 
-    // Fails a put or a removal that was passed on. No further one takes effect. It is noted as a listing that failed, since the store inside
-    // has counted the call and its bytes.
+    // Fails a put or a removal that was passed on. No further one takes effect. It is noted as a
+    // listing that failed, since the store inside has counted the call and its bytes.
     fn fail_with_effect(&mut self) -> Result<(), StoreFault>
         ensures answer { result ≡ Err StoreFault.Device }
         ensures kept { (self.new.inner ≡ self.old.inner) × (self.new.left ≡ self.old.left) × (self.new.takes_effect ≡ false) }

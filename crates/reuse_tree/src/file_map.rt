@@ -35,7 +35,8 @@ impl FileMap {
         }
     }
 
-    /// In byte order, the paths that are one of these folders or lie under one, and under no folder that is pruned.
+    /// In byte order, the paths that are one of these folders or lie under one, and under no folder
+    /// that is pruned.
     pub(crate) fn list<P: Pruning>(
         &self,
         alloc: Global,

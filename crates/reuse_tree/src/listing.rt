@@ -90,7 +90,8 @@ pub fn is_wanted<P: Pruning>(folders: &[PathText], pruning: &P, path: &PathText)
     is_asked(folders, path) && !is_pruned(pruning, path)
 }
 
-// Whether the path is one of these folders or lies under one. Where no folder is given, each path is asked for.
+// Whether the path is one of these folders or lies under one. Where no folder is given, each path
+// is asked for.
 fn is_asked(folders: &[PathText], path: &PathText) -> bool
     ensures { result ≡ is_asked folders.now path.now }
 {

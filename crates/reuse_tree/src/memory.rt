@@ -6,7 +6,8 @@ use crate::file_map::FileMap;
 use crate::{CallRecord, Change, Parts, PathText, Pruning, Reading, Store, StoreFault};
 use std::alloc::Global;
 
-/// Files in memory, which nobody else writes. It never fails but for memory, and knows no loss of power.
+/// Files in memory, which nobody else writes. It never fails but for memory, and knows no loss of
+/// power.
 #[derive(Drop)]
 pub struct MemoryStore {
     // Made with the first file, so that no memory is taken before.

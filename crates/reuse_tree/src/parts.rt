@@ -1,4 +1,5 @@
-//! What a file holds, in three parts that are joined: so a part in the middle is put or hashed without a copy of the file.
+//! What a file holds, in three parts that are joined: so a part in the middle is put or hashed
+//! without a copy of the file.
 ghost use Rattle.std.specs.Prelude.{◌≡◌, IfOk};
 ghost use Rattle.reuse_text.specs.Text.{spliced};
 ghost use Rattle.reuse_tree.specs.Parts.{joined};

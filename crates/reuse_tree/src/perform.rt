@@ -20,8 +20,8 @@ const MOST_IN_BATCH: usize = 256;
 /// A batch takes no more files once those that it has read have so many bytes together.
 const MOST_BYTES: usize = 8_388_608;
 
-/// Makes the changes of an entry in order, this way, and behind them a barrier over their paths. Its caller has tested that each can be
-/// made.
+/// Makes the changes of an entry in order, this way, and behind them a barrier over their paths.
+/// Its caller has tested that each can be made.
 pub fn perform<S: Store>(
     alloc: Global,
     store: &mut S,
@@ -34,7 +34,8 @@ pub fn perform<S: Store>(
     // Where the walk stops, the first so many changes are made and no other.
     ensures midway { S.honest store.new → IsEntry changes.now
         → OnErr result ((count : ℕ) × LeadsBy way (take count changes.now) (tree_of (S.files store.old)) (tree_of (S.files store.new))) }
-    // What a loss of power may leave is what was there with some of the changes made, if nothing else might be left before.
+    // What a loss of power may leave is what was there with some of the changes made, if nothing
+    // else might be left before.
     ensures left { S.honest store.new → IsEntry changes.now → IsSynced S.Store store.old → Leaves S.Store store.new (IsMidway way changes.now (tree_of (S.files store.old)) (undo_folder_of (S.files store.old))) }
     ensures lasting { S.honest store.new → IsEntry changes.now → IsSynced S.Store store.old → OnOk result (IsSynced S.Store store.new) }
     // Where each change can be made, nothing but the device and memory stops it.

@@ -40,9 +40,10 @@ enum BarrierKind {
     SyncFailed(StoreFault),
 }
 
-/// The files that a store had at the start, what else a loss of power might leave then, which of the
-/// calls that fail take effect, and the calls since then with their answers, the newest first. It takes no bytes, and nothing runs. No
-/// code can know the first three: they are given as ghost values, and the contract holds at every one.
+/// The files that a store had at the start, what else a loss of power might leave then, which of
+/// the calls that fail take effect, and the calls since then with their answers, the newest first.
+/// It takes no bytes, and nothing runs. No code can know the first three: they are given as ghost
+/// values, and the contract holds at every one.
 #[derive(Drop)]
 pub struct CallRecord {
     marker: PhantomData<u8>,
@@ -67,8 +68,8 @@ impl CallRecord {
         }
     }
 
-    /// Notes a call of `list` for these folders and its answer. Which folders it was to pass over is a ghost value:
-    /// the contract holds at every one.
+    /// Notes a call of `list` for these folders and its answer. Which folders it was to pass over
+    /// is a ghost value: the contract holds at every one.
     pub fn note_list(&mut self, folders: &[PathText], answer: &Result<Vec<PathText>, StoreFault>)
         ghost pruned: { List (List ℕ) }
         ensures { self.new ≡ record self.old {
@@ -108,7 +109,8 @@ impl CallRecord {
         }
     }
 
-    /// Notes that the path was to be made these parts joined, and the answer. Whether a put that failed took effect is its fate.
+    /// Notes that the path was to be made these parts joined, and the answer. Whether a put that
+    /// failed took effect is its fate.
     pub fn note_put_parts(&mut self, path: &PathText, parts: Parts, answer: &Result<(), StoreFault>)
         ensures { self.new ≡ record self.old { calls = PutCall path.now (joined parts.entry) answer.now (took_effect self.old.fates self.old.calls) ∷ self.old.calls } }
     {

@@ -45,8 +45,8 @@ impl Reading {
     }
 }
 
-/// Files by their paths. What is said of `files` and of a clash holds where the store is honest after
-/// the call; what is said of `may_be`, `failures`, `written` and `moves` holds always.
+/// Files by their paths. What is said of `files` and of a clash holds where the store is honest
+/// after the call; what is said of `may_be`, `failures`, `written` and `moves` holds always.
 pub trait Store {
     ghost use Rattle.reuse_tree.specs.Store.{reading_of};
     ghost use Rattle.reuse_tree.specs.StoreLaws.{OnlyReads, IsLater, FailsAsRead, IsPut, IsRemoval, IsWrite, AreWrites, IsBarrier};
@@ -71,8 +71,8 @@ pub trait Store {
     /// removal that the device or want of memory failed may have lost it.
     ghost honest: { Self → Type 0 };
 
-    /// In byte order, the paths that are one of these folders or lie under one, and under no folder that is pruned. Where no folder
-    /// is given, the whole tree is listed.
+    /// In byte order, the paths that are one of these folders or lie under one, and under no folder
+    /// that is pruned. Where no folder is given, the whole tree is listed.
     fn list<P: Pruning>(
         &mut self,
         alloc: Global,
@@ -120,7 +120,8 @@ pub trait Store {
         }
     }
 
-    /// Makes each path hold what it is given, one after the other, up to the first that fails. A store may prepare them together.
+    /// Makes each path hold what it is given, one after the other, up to the first that fails. A
+    /// store may prepare them together.
     fn write_all(&mut self, alloc: Global, writes: &[FileWrite]) -> Result<(), StoreFault>
         ensures { AreWrites files may_be failures written moves honest writes.now self.old self.new result }
     {
@@ -130,7 +131,8 @@ pub trait Store {
         Ok(())
     }
 
-    /// A barrier: makes lasting what the files of the journal hold now, and what the paths of these changes hold, whoever wrote them.
+    /// A barrier: makes lasting what the files of the journal hold now, and what the paths of these
+    /// changes hold, whoever wrote them.
     fn sync(&mut self, alloc: Global, changes: &[Change]) -> Result<(), StoreFault>
         ensures barrier { IsBarrier files may_be honest changes.now self.old self.new result }
         ensures fails { FailsAsRead failures honest self.old self.new result }

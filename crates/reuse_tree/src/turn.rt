@@ -34,7 +34,8 @@ fn is_ready(change: &Change, way: Way, file: Option<&[u8]>) -> bool
     }
 }
 
-// Whether the change can be gone through this way where its path holds this, by range and length alone: it hashes nothing.
+// Whether the change can be gone through this way where its path holds this, by range and length
+// alone: it hashes nothing.
 fn is_ready_by_range(change: &Change, way: Way, file: Option<&[u8]>) -> bool
     ensures ready { IsTrue result → IsReadyByRange way change.now (option_copied file.entry) }
     ensures stuck { IsProper change.now → IsReadyByRange way change.now (option_copied file.entry) → IsTrue result }
@@ -64,9 +65,9 @@ pub fn can_turn<S: Store>(
     }
 }
 
-// What the path of the change holds once it is gone through this way, where it holds this now. It takes no memory and calls no store,
-// so that it is no cause to stop once a put has started. It tests range and length alone: a file that was tested by its seal isn't
-// hashed again.
+// What the path of the change holds once it is gone through this way, where it holds this now. It
+// takes no memory and calls no store, so that it is no cause to stop once a put has started. It
+// tests range and length alone: a file that was tested by its seal isn't hashed again.
 pub(crate) fn turned<'a>(
     change: &'a Change,
     way: Way,
@@ -122,7 +123,8 @@ fn put_turned<S: Store>(
     Ok(())
 }
 
-/// Takes the change back, where it is made, by one read and one put or removal. It notes that these have started before it calls one.
+/// Takes the change back, where it is made, by one read and one put or removal. It notes that these
+/// have started before it calls one.
 pub fn set_back<S: Store>(
     alloc: Global,
     store: &mut S,

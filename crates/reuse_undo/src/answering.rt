@@ -1,7 +1,7 @@
 //! Makes the call that a line asks for, unless it would take a file from its owner. That shows only
 //! once the call has planned what it changes. So it is held before its first put if it has read a
-//! file that can't keep its owner, and then what it would change is looked at, path by path, as in a
-//! dry run.
+//! file that can't keep its owner, and then what it would change is looked at, path by path, as in
+//! a dry run.
 ghost use Rattle.std.specs.Prelude.{◌≡◌, ◌≤◌};
 ghost use Rattle.reuse_session.specs.Answer.{TellsNoFault};
 ghost use Rattle.reuse_session.specs.Journal.{State};

@@ -11,8 +11,8 @@ use std::alloc::{AllocError, Global};
 /// The largest number that a step may be asked for by.
 const MOST_NUMBER: u64 = 4_294_967_295;
 
-/// The version, the formats of the journal, and a line on the proof of this build. If all is proved,
-/// `install.sh` writes a line of the same length over the last one, which says so.
+/// The version, the formats of the journal, and a line on the proof of this build. If all is
+/// proved, `install.sh` writes a line of the same length over the last one, which says so.
 const VERSION: &str = "\
 1.2.0
 journal formats: reads 1 and 2, writes 2

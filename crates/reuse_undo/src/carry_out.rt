@@ -21,8 +21,8 @@ use std::fs::File;
 use std::io;
 use std::rt::{Clock, Files};
 
-/// What is told beside the reply or the fault, how names are shown on standard output, and how a call
-/// works with the folder.
+/// What is told beside the reply or the fault, how names are shown on standard output, and how a
+/// call works with the folder.
 #[derive(Clone, Copy)]
 pub struct Extras {
     pub notes: bool,

@@ -65,7 +65,8 @@ impl Damage {
     }
 }
 
-/// What is wrong with the file that a journal was refused for. Want of memory or a fault leaves it out.
+/// What is wrong with the file that a journal was refused for. Want of memory or a fault leaves it
+/// out.
 pub fn damage_of<S: Store>(alloc: Global, store: &mut S, path: &PathText) -> Option<Damage>
     ensures { OnlyReads S.Store store.old store.new }
 {

@@ -29,7 +29,8 @@ pub struct Turn<'a> {
 }
 
 impl<'a> Turn<'a> {
-    /// What a change records: a file that is made or removed, or of a range the bytes that give way and those in their place.
+    /// What a change records: a file that is made or removed, or of a range the bytes that give way
+    /// and those in their place.
     pub fn of(change: &'a Change) -> Turn<'a> {
         let (before, after) = match change {
             Change::Make { new, .. } => (None, Some(new.as_slice())),
@@ -53,8 +54,8 @@ impl<'a> Turn<'a> {
     }
 }
 
-/// Prints how the file of a path changes: a hunk with three lines around what changes, or a line of its own for a binary.
-/// Nothing where it doesn't change.
+/// Prints how the file of a path changes: a hunk with three lines around what changes, or a line of
+/// its own for a binary. Nothing where it doesn't change.
 pub fn print_diff<W: Write>(out: &mut W, alloc: Global, turn: Turn<'_>) -> io::Result<()>
     ensures { OnOk result (AppendsSome (W.contents out.old) (W.contents out.new) (IsDiff turn.entry.path.now (option_copied turn.entry.before) (option_copied turn.entry.after))) }
 {
@@ -66,8 +67,9 @@ pub fn print_diff<W: Write>(out: &mut W, alloc: Global, turn: Turn<'_>) -> io::R
     Ok(())
 }
 
-/// Prints what a change has recorded: all lines of a file that is made or removed, and of a range of a file the bytes that gave way and
-/// those that stand in their place, by the byte at which they stand.
+/// Prints what a change has recorded: all lines of a file that is made or removed, and of a range
+/// of a file the bytes that gave way and those that stand in their place, by the byte at which they
+/// stand.
 pub fn print_record<W: Write>(out: &mut W, alloc: Global, change: &Change) -> io::Result<()> {
     let turn = Turn::of(change);
     match change {

@@ -49,9 +49,10 @@ use std::rt::Files;
 pub use syncs::Syncs;
 
 /// The files of a folder. It is honest as long as each call was answered as a folder answers that
-/// held the files of the start and that nobody else writes. No contract says that a folder is: proved are
-/// the counts of failures, of bytes written and of puts and removals, and that each answer is noted as it was given. That a
-/// method makes the call that it notes, and what the folder holds then, is tested.
+/// held the files of the start and that nobody else writes. No contract says that a folder is:
+/// proved are the counts of failures, of bytes written and of puts and removals, and that each
+/// answer is noted as it was given. That a method makes the call that it notes, and what the folder
+/// holds then, is tested.
 #[derive(Drop)]
 pub struct DiskStore<R: Files<File = File> + AllocGlobal + Clone + Drop> {
     folder: RootFolder<R>,
@@ -64,8 +65,10 @@ pub struct DiskStore<R: Files<File = File> + AllocGlobal + Clone + Drop> {
 }
 
 impl<R: Files<File = File> + AllocGlobal + Clone + Drop> DiskStore<R> {
-    /// The folder that is locked, in which what is written is made lasting or not, and files may lose their owners or not. The system isn't asked for
-    /// the folder yet, so what it holds is unknown: for any files the contract gives a store that holds these, and the answers then fit or don't.
+    /// The folder that is locked, in which what is written is made lasting or not, and files may
+    /// lose their owners or not. The system isn't asked for the folder yet, so what it holds is
+    /// unknown: for any files the contract gives a store that holds these, and the answers then fit
+    /// or don't.
     pub fn at(rt: R, lock: RootLock, syncs: Syncs, owner_change: OwnerChange) -> DiskStore<R>
         ghost start: { Start }
         ensures files { ⟦<DiskStore<R> as Store>⟧.files result ≡ start.files }
@@ -85,8 +88,8 @@ impl<R: Files<File = File> + AllocGlobal + Clone + Drop> DiskStore<R> {
         }
     }
 
-    /// Whether the journal belongs to another user than the process. If that can't be seen, it isn't
-    /// told here: opening the journal fails.
+    /// Whether the journal belongs to another user than the process. If that can't be seen, it
+    /// isn't told here: opening the journal fails.
     pub fn is_journal_of_other(&mut self, alloc: Global) -> bool {
         let user = self.folder.keeping().user();
         match self.folder.journal_owners(alloc) {
@@ -95,8 +98,8 @@ impl<R: Files<File = File> + AllocGlobal + Clone + Drop> DiskStore<R> {
         }
     }
 
-    /// From now on the first put of a call fails if a file was read that can't keep its owner, unless
-    /// that is allowed.
+    /// From now on the first put of a call fails if a file was read that can't keep its owner,
+    /// unless that is allowed.
     pub fn watch_owners(&mut self) {
         self.folder.keeping().watch();
     }
@@ -196,7 +199,8 @@ impl<R: Files<File = File> + AllocGlobal + Clone + Drop> DiskStore<R> {
         }
     }
 
-    // Notes writes that were asked for together, and the answer: each that was made, and the one that has failed.
+    // Notes writes that were asked for together, and the answer: each that was made, and the one
+    // that has failed.
     fn note_writes(
         &mut self,
         alloc: Global,
@@ -224,8 +228,9 @@ impl<R: Files<File = File> + AllocGlobal + Clone + Drop> DiskStore<R> {
     }
 }
 
-/// Notes a listing and its answer. Which folders it was to pass over is a ghost value: no record holds a function, so it is the list of
-/// those that the pruning names, picked where the pruning is at hand.
+/// Notes a listing and its answer. Which folders it was to pass over is a ghost value: no record
+/// holds a function, so it is the list of those that the pruning names, picked where the pruning is
+/// at hand.
 fn note_listing<P: Pruning>(
     calls: &mut CallRecord,
     folders: &[PathText],

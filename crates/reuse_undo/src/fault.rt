@@ -7,13 +7,15 @@ use std::alloc::AllocError;
 use std::io;
 use thiserror::Error;
 
-/// Why a line was not carried out; its text is what standard error is told, but for that of a call that was only looked at.
+/// Why a line was not carried out; its text is what standard error is told, but for that of a call
+/// that was only looked at.
 #[derive(Debug, Drop, Error)]
 pub enum Fault {
     /// The session refused.
     #[error("{0}")]
     Refused(Refusal),
-    /// A call that was only looked at would be refused: standard error is told each refusal among the fates.
+    /// A call that was only looked at would be refused: standard error is told each refusal among
+    /// the fates.
     #[error("would be refused")]
     WouldRefuse(Fates),
     /// What would change can't be told as a diff, since a file or the journal can't be read again.

@@ -66,8 +66,8 @@ fn read_bytes<R: Files + Input>(rt: &R, alloc: Global, file: &str) -> io::Result
     }
 }
 
-/// The paths that a list names, one a line, which ends in LF or CR LF, or, where it holds a NUL, one between two NULs. A word that names no
-/// path is passed over.
+/// The paths that a list names, one a line, which ends in LF or CR LF, or, where it holds a NUL,
+/// one between two NULs. A word that names no path is passed over.
 pub fn paths_of_list(alloc: Global, list: &[u8]) -> Result<PathList, AllocError>
     ensures { IfOk result (λ paths. paths ≡ set_of (listed_paths list.now)) }
 {

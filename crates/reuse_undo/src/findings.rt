@@ -83,7 +83,8 @@ pub struct Findings {
     pub is_gone: bool,
     /// Whether the table that was made says nothing of any file.
     pub is_table_empty: bool,
-    /// How many files have names that aren't recognised, where the call was refused for one or passed them over.
+    /// How many files have names that aren't recognised, where the call was refused for one or
+    /// passed them over.
     pub unrecognised: usize,
     /// The call of the store that failed.
     pub failure: Option<Failure>,
@@ -205,7 +206,8 @@ fn missing_root(rt: &impl Files, alloc: Global, root: &str) -> Option<String> {
     }
 }
 
-/// Of how many files the names aren't recognised, where the call was refused for one or passed them over. Want of memory or a fault leaves them out.
+/// Of how many files the names aren't recognised, where the call was refused for one or passed them
+/// over. Want of memory or a fault leaves them out.
 fn unrecognised_by<S: Store + Drop>(
     alloc: Global,
     folder: S,
@@ -220,7 +222,8 @@ fn unrecognised_by<S: Store + Drop>(
     }
 }
 
-/// The annotation that was refused for a name that isn't recognised, or passed such names over, and no others.
+/// The annotation that was refused for a name that isn't recognised, or passed such names over, and
+/// no others.
 fn passing_over<'a>(request: &'a Request, outcome: &Result<usize, Fault>) -> Option<&'a Command> {
     let Request::Call(Event::Run(command, _)) = request else {
         return None;
@@ -236,7 +239,8 @@ fn passes_over(scope: &Scope) -> bool {
     scope.unknown == Unknown::Skip && !scope.skip_existing
 }
 
-/// Of how many files that the annotation goes through the names aren't recognised. It is looked at once more for that.
+/// Of how many files that the annotation goes through the names aren't recognised. It is looked at
+/// once more for that.
 fn unrecognised_names<S: Store + Drop>(
     alloc: Global,
     folder: S,
@@ -248,7 +252,8 @@ fn unrecognised_names<S: Store + Drop>(
     Some(unrecognised_among(fates.as_slice(), passed_over))
 }
 
-/// How many of the fates are of names that aren't recognised: they are refused, or, where such are passed over, skipped.
+/// How many of the fates are of names that aren't recognised: they are refused, or, where such are
+/// passed over, skipped.
 pub fn unrecognised_among(fates: &[Fate], passed_over: bool) -> usize {
     fates
         .iter()

@@ -14,8 +14,8 @@ use reuse_tree::Store;
 use std::alloc::Global;
 use std::io::{self, Write};
 
-/// Opens a session on the store, forgets the steps, and writes a line for each. It answers how many there were. Where the lines can't be
-/// written, the steps are forgotten all the same.
+/// Opens a session on the store, forgets the steps, and writes a line for each. It answers how many
+/// there were. Where the lines can't be written, the steps are forgotten all the same.
 pub fn run_forget<S: Store + Drop, O: Sink>(
     alloc: Global,
     store: S,

@@ -8,9 +8,9 @@ use reuse_dep5::Glob;
 use reuse_session::Place;
 use std::alloc::{AllocError, Global};
 
-/// The globs that the word stands for. It is written as a place is: parts `.` and a slash at the end are dropped. A leading `**/` also
-/// stands for nothing, so such a word stands for two globs. There is none where the word is no path, as `/a`, `a//b`, `a/../b` and `.`,
-/// or spells no glob.
+/// The globs that the word stands for. It is written as a place is: parts `.` and a slash at the
+/// end are dropped. A leading `**/` also stands for nothing, so such a word stands for two globs.
+/// There is none where the word is no path, as `/a`, `a//b`, `a/../b` and `.`, or spells no glob.
 pub fn globs_of_word(alloc: Global, word: &str) -> Result<Option<Vec<Glob>>, AllocError>
     ensures { IfOk result (λ found. MatchOption found (globs_of_word word.now ≡ None) (λ globs. globs_of_word word.now ≡ Some globs.items)) }
 {

@@ -83,7 +83,8 @@ pub enum OutputFormat {
 #[derive(Clone, Copy)]
 pub struct Telling {
     pub format: OutputFormat,
-    /// How the names in lines are shown. JSON escapes their control bytes always, and a diff as git does.
+    /// How the names in lines are shown. JSON escapes their control bytes always, and a diff as git
+    /// does.
     pub names: Names,
 }
 

@@ -33,7 +33,8 @@ pub fn print_paths<W: Write>(
     Ok(())
 }
 
-/// Prints a reply: a line for each path or row. That a session was opened is not told, nor the refusals of a preview.
+/// Prints a reply: a line for each path or row. That a session was opened is not told, nor the
+/// refusals of a preview.
 pub fn print_reply<W: Write>(out: &mut W, names: Names, reply: &Reply) -> io::Result<()>
     ensures { OnOk result (AppendsSome (W.contents out.old) (W.contents out.new) (IsReplyText names reply.now)) }
 {

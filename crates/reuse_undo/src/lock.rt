@@ -8,9 +8,10 @@ use std::fs::{self, File, TryLockError};
 use std::io;
 use std::rt::Files;
 
-/// The lock on a root folder, which keeps other runs out: from this root, from those above it, and from those within. It is the system's own, exclusive
-/// on the folder itself and shared on each folder above it, so no file is left behind. It is free again once this is let go, and where the process
-/// ends, however that comes about. A store of the folder can't be opened without it.
+/// The lock on a root folder, which keeps other runs out: from this root, from those above it, and
+/// from those within. It is the system's own, exclusive on the folder itself and shared on each
+/// folder above it, so no file is left behind. It is free again once this is let go, and where the
+/// process ends, however that comes about. A store of the folder can't be opened without it.
 #[derive(Drop)]
 pub struct RootLock {
     root: String,
@@ -31,8 +32,8 @@ impl RootLock {
     }
 }
 
-/// Whether the system granted a lock: it is refused exactly where somebody else holds it. Where it can't be had at all, as on a
-/// file system without locks, the run goes on without.
+/// Whether the system granted a lock: it is refused exactly where somebody else holds it. Where it
+/// can't be had at all, as on a file system without locks, the run goes on without.
 fn granted(tried: Result<(), TryLockError>) -> Result<(), Fault>
     ensures refused { IsErr result ↔ tried ≡ Err TryLockError.WouldBlock }
     ensures fault { IfErr result (λ fault. fault ≡ InUse) }
@@ -100,8 +101,9 @@ fn lock_above<R: Files<File = File>>(
     Ok(())
 }
 
-/// Takes the lock on the folder at this path; nothing in it is read or written. It is refused where another run holds a lock that
-/// doesn't go with this one, or for want of memory, and for no other reason: what keeps the folder from being opened is told by the store.
+/// Takes the lock on the folder at this path; nothing in it is read or written. It is refused where
+/// another run holds a lock that doesn't go with this one, or for want of memory, and for no other
+/// reason: what keeps the folder from being opened is told by the store.
 pub fn lock_root<R: Files<File = File> + AllocGlobal>(
     rt: &R,
     alloc: Global,

@@ -18,8 +18,9 @@ use std::alloc::Global;
 use std::fs::File;
 use std::rt::{Clock, Files};
 
-/// Opens a session on the folder, makes the one call that is asked for, and writes the lines of its answer; how many paths that tells. The folder is given
-/// back as a store, with what is known of its last failure.
+/// Opens a session on the folder, makes the one call that is asked for, and writes the lines of its
+/// answer; how many paths that tells. The folder is given back as a store, with what is known of
+/// its last failure.
 pub fn run_on_folder<R: Files<File = File> + AllocGlobal + Clock + Eprint + Clone + Drop, O: Sink>(
     folder: DiskStore<R>,
     progress: &Progress<R>,
@@ -36,8 +37,8 @@ pub fn run_on_folder<R: Files<File = File> + AllocGlobal + Clock + Eprint + Clon
     (watched.into_inner(), outcome)
 }
 
-/// Sets back what a stopped run left pending in the folder, and writes a line for each path that was set back or left; how many were set
-/// back. The folder is given back as a store.
+/// Sets back what a stopped run left pending in the folder, and writes a line for each path that
+/// was set back or left; how many were set back. The folder is given back as a store.
 pub fn recover_on_folder<
     R: Files<File = File> + AllocGlobal + Clock + Eprint + Clone + Drop,
     O: Sink,
@@ -58,7 +59,8 @@ pub fn recover_on_folder<
     (watched.into_inner(), outcome)
 }
 
-/// Takes the steps out of the history of the folder, and writes a line for each; how many there were. The folder is given back as a store.
+/// Takes the steps out of the history of the folder, and writes a line for each; how many there
+/// were. The folder is given back as a store.
 pub fn forget_on_folder<
     R: Files<File = File> + AllocGlobal + Clock + Eprint + Clone + Drop,
     O: Sink,

@@ -42,7 +42,8 @@ pub enum Rule {
     Global,
 }
 
-/// An option, or words without one: its long name, its short one, what it takes, what else holds of it, and its help.
+/// An option, or words without one: its long name, its short one, what it takes, what else holds of
+/// it, and its help.
 #[derive(Clone, Copy)]
 pub struct Argument(
     pub &'static str,
@@ -61,7 +62,8 @@ pub enum Choice {
     AnyOf(&'static str, &'static str, &'static str),
 }
 
-/// A subcommand: its name, what it does, what the help ends with, its arguments in the order of the help, and its choices.
+/// A subcommand: its name, what it does, what the help ends with, its arguments in the order of the
+/// help, and its choices.
 #[derive(Clone, Copy)]
 pub struct Subcommand(
     pub &'static str,

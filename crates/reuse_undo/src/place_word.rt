@@ -7,8 +7,8 @@ use reuse_session::Place;
 use reuse_tree::{PathError, PathText};
 use std::alloc::{AllocError, Global};
 
-/// The place that the word names: parts `.` and a slash at the end are dropped, and `.` is the root. There is none
-/// where what is left is no path, as `/a` or `a/../b`.
+/// The place that the word names: parts `.` and a slash at the end are dropped, and `.` is the
+/// root. There is none where what is left is no path, as `/a` or `a/../b`.
 pub fn place_of_word(alloc: Global, word: &str) -> Result<Option<Place>, AllocError>
     ensures { IfOk result (λ place. place ≡ place_of_word word.now) }
 {

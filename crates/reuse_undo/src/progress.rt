@@ -14,8 +14,9 @@ const LEAST: u64 = 1_000;
 /// The time between two lines.
 const STEP: u64 = 100;
 
-/// How many files were read and written so far, and how many there are where the call lists the tree. One line on standard error tells
-/// it, which is written over by the next, and cleared before anything else is told.
+/// How many files were read and written so far, and how many there are where the call lists the
+/// tree. One line on standard error tells it, which is written over by the next, and cleared before
+/// anything else is told.
 #[derive(Drop)]
 pub struct Progress<R: Clock + Eprint + Drop> {
     rt: R,
@@ -83,7 +84,8 @@ impl<R: Clock + Eprint + Drop> Progress<R> {
     }
 }
 
-/// How many of the files in the tree are told as read. Some are read twice, and the journal's are no files of the tree.
+/// How many of the files in the tree are told as read. Some are read twice, and the journal's are
+/// no files of the tree.
 fn read_of(read: u64, listed: usize) -> u64
     ensures { result ≡ min read listed }
 {

@@ -1,6 +1,8 @@
-//! Sets back on a store what a stopped run left pending, also where files of it have changed since, and prints what became of it.
+//! Sets back on a store what a stopped run left pending, also where files of it have changed since,
+//! and prints what became of it.
 //!
-//! It is no request of a session: no session can be opened while a path of the pending step is stuck.
+//! It is no request of a session: no session can be opened while a path of the pending step is
+//! stuck.
 ghost use Rattle.std.specs.Prelude.{◌≡◌, OnOk};
 ghost use Rattle.std.specs.Io.KnownBytes.{Appends};
 ghost use Rattle.reuse_undo.specs.Recoveries.{recovered_text, set_back_text, RecoversOn, PrintsLines, PrintsRecovered};
@@ -14,8 +16,9 @@ use reuse_tree::{PathText, Store};
 use std::alloc::Global;
 use std::io::{self, Write};
 
-/// Recovers the files of the store, and writes a line for each path that was set back and for each that was left. It answers how many were
-/// set back. Where the lines can't be written, what was set back stands.
+/// Recovers the files of the store, and writes a line for each path that was set back and for each
+/// that was left. It answers how many were set back. Where the lines can't be written, what was set
+/// back stands.
 pub fn run_recover<S: Store + Drop, O: Sink>(
     alloc: Global,
     store: S,

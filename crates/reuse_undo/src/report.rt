@@ -7,7 +7,8 @@ use crate::notes::{note_call, note_denial, note_set_back, note_words};
 use reuse_session::Fate;
 use std::io;
 
-/// Tells why the words are no line, and what to do about that where notes are asked for; whether it could be told.
+/// Tells why the words are no line, and what to do about that where notes are asked for; whether it
+/// could be told.
 pub fn tell_words<R: Print + Eprint + Drop>(
     rt: &R,
     errors: &ErrorOutput<'_, R>,
@@ -35,8 +36,8 @@ fn tell<R: Print + Eprint + Drop>(
     }
 }
 
-/// Tells the fault of what was carried out, or its denial; that a step was set back; and the notes. Where
-/// standard error can't be written either, the status tells.
+/// Tells the fault of what was carried out, or its denial; that a step was set back; and the notes.
+/// Where standard error can't be written either, the status tells.
 pub fn tell_outcome(errors: &impl Eprint, carried_out: &CarriedOut, notes: bool) {
     match &carried_out.ending {
         Ok(Ok(_)) => {}

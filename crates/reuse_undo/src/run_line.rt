@@ -28,8 +28,9 @@ use reuse_session::{Refusal, Reply, Session};
 use reuse_tree::Store;
 use std::alloc::Global;
 
-/// Opens a session on the store, makes the one call that is asked for, and writes the lines of its answer. The store is given back, and how
-/// many paths the answer tells that changed; where it can't be written, what the call changed stands.
+/// Opens a session on the store, makes the one call that is asked for, and writes the lines of its
+/// answer. The store is given back, and how many paths the answer tells that changed; where it
+/// can't be written, what the call changed stands.
 pub fn run_request<S: Store + Drop, O: Sink>(
     alloc: Global,
     request: &Request,
@@ -49,8 +50,8 @@ pub fn run_request<S: Store + Drop, O: Sink>(
     }
 }
 
-// Opens a session on the store, and makes the call. Where the line wants a diff and would be carried out, the diff of what would change is
-// made too.
+// Opens a session on the store, and makes the call. Where the line wants a diff and would be
+// carried out, the diff of what would change is made too.
 fn call<S: Store + Drop>(
     alloc: Global,
     store: S,
@@ -89,7 +90,8 @@ fn wants_diff(telling: Telling, answer: &Result<Told, Refusal>) -> bool
     }
 }
 
-// Gives the store back, and the diff of what a previewed call would change, where one is wanted. It only reads.
+// Gives the store back, and the diff of what a previewed call would change, where one is wanted. It
+// only reads.
 fn close<S: Store + Drop>(
     alloc: Global,
     session: Session<S>,

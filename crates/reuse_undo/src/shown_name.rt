@@ -1,8 +1,8 @@
 //! How names are shown: to a file or a pipe as they are, and on a terminal with no control byte, so
 //! that a name can't drive it.
 //!
-//! Paths are printed so on standard output, and all lines of our own on standard error. JSON escapes
-//! control bytes always.
+//! Paths are printed so on standard output, and all lines of our own on standard error. JSON
+//! escapes control bytes always.
 ghost use Rattle.std.specs.Prelude.{◌≡◌, ◌<◌, if◌then◌else◌, IfOk, IfSome, OnOk};
 ghost use Rattle.std.specs.List.{flat_map};
 ghost use Rattle.std.specs.Io.KnownBytes.{Appends};

@@ -10,7 +10,8 @@ use std::rt::Files;
 /// One byte more than the text of a licence may have.
 const MOST_READ: u64 = 16_777_217;
 
-/// The texts of the ids: `ID.txt` in the folder, for each that is the id of a licence. One that can't be read is none.
+/// The texts of the ids: `ID.txt` in the folder, for each that is the id of a licence. One that
+/// can't be read is none.
 pub fn find_texts(
     rt: &impl Files,
     alloc: Global,

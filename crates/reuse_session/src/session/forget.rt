@@ -30,11 +30,12 @@ impl<S: Store + Drop> Session<S> {
     ghost use Rattle.reuse_session.specs.Machine.{Snapshots};
     ghost use Rattle.reuse_session.specs.Session.{store_of, is_broken, memory_of, StandsOn, StandsAt};
 
-    /// Takes the steps of these numbers out of the history, done and undone ones, and removes their entries. The tree stays, and no
-    /// number is given out again. It isn't a step, and no undo takes it back. It answers the numbers, ascending, each once.
+    /// Takes the steps of these numbers out of the history, done and undone ones, and removes their
+    /// entries. The tree stays, and no number is given out again. It isn't a step, and no undo
+    /// takes it back. It answers the numbers, ascending, each once.
     ///
-    /// It is refused as `Broken`, as `NoSuchStep` at the first number that no step has, or for want of memory, before it has put
-    /// anything. Where it stops later it is `Interrupted`.
+    /// It is refused as `Broken`, as `NoSuchStep` at the first number that no step has, or for want
+    /// of memory, before it has put anything. Where it stops later it is `Interrupted`.
     pub fn forget(&mut self, alloc: Global, numbers: &[u32]) -> Result<EntryNumbers, Refusal>
         ensures broken { (result ≡ Err Refusal.Broken) ↔ (is_broken self.old ≡ true) }
         ensures absent { (number : ℕ) → (result ≡ Err (Refusal.NoSuchStep number))
@@ -42,10 +43,12 @@ impl<S: Store + Drop> Session<S> {
         ensures stays { IfErr result (λ refusal. IsEarly refusal → self.new ≡ self.old) }
         ensures refusal { IfErr result IsForgetRefusal }
 
-        // Unless the answer tells want of memory or a stop, each number is that of a step and these are gone, from any standing.
+        // Unless the answer tells want of memory or a stop, each number is that of a step and these
+        // are gone, from any standing.
         ensures exact { S.honest (store_of self.new) → (held : State) → StandsOn S.files self.old held
             → TellsNoFault result → (left : State) × StandsOn S.files self.new left × Forgets numbers.now held result left }
-        // Where they are the oldest that are done, the session stands at the state of the machine that lacks its oldest trees.
+        // Where they are the oldest that are done, the session stands at the state of the machine
+        // that lacks its oldest trees.
         ensures machine { S.honest (store_of self.new) → (state next : Snapshots) → StandsAt S.files self.old state
             → IsWithoutOldest numbers.now state next → OnOk result (StandsAt S.files self.new next) }
         // The same, whatever the store: what is remembered, and the numbers.
@@ -53,8 +56,9 @@ impl<S: Store + Drop> Session<S> {
         // Without a number nothing is asked of the store.
         ensures nothing { numbers.now ≡ [] → self.new ≡ self.old }
 
-        // After a loss of power, at any moment of the call, what is left opens on the standing before it or on that after it; or on the
-        // one before these two, where a call that was stopped led here and nothing was put since.
+        // After a loss of power, at any moment of the call, what is left opens on the standing
+        // before it or on that after it; or on the one before these two, where a call that was
+        // stopped led here and nothing was put since.
         ensures survives { SurvivesToForget S.Store numbers.now result self.old self.new }
         // What any call leaves, and what this one leaves of the files, whatever it answers.
         ensures call { IsCall S.Store result self.old self.new }
@@ -130,7 +134,8 @@ impl<S: Store + Drop> Session<S> {
     }
 }
 
-// What forgetting puts and removes. It is made before the put, so that want of memory for it is no stop.
+// What forgetting puts and removes. It is made before the put, so that want of memory for it is no
+// stop.
 #[derive(Drop)]
 struct Forgetting {
     // The numbers, ascending, each once.
@@ -214,8 +219,9 @@ fn put_and_remove<S: Store>(
     ensures done { S.honest store.new → OnOk result (PutsAndRemoves text.now paths.now (S.files store.old) (S.files store.new)) }
     ensures stopped { S.honest store.new → OnErr result ((S.files store.new ≡ S.files store.old)
         ⊎ ((count : ℕ) × PutsAndRemoves text.now (take count paths.now) (S.files store.old) (S.files store.new))) }
-    // After a loss of power, if nothing but the journal was in doubt before: once it is done, the head is there, and some of the paths are removed; and
-    // where it stops, what might be there before, or with that.
+    // After a loss of power, if nothing but the journal was in doubt before: once it is done, the
+    // head is there, and some of the paths are removed; and where it stops, what might be there
+    // before, or with that.
     ensures lasting { S.honest store.new → HaveTree S.Store store.old (tree_of (S.files store.old))
         → OnOk result (Leaves S.Store store.new (PutsAndRemovesSome text.now paths.now (S.files store.old))) }
     ensures doubt { S.honest store.new → HaveTree S.Store store.old (tree_of (S.files store.old))

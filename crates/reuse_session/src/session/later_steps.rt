@@ -1,4 +1,5 @@
-//! What a revert takes back: the changes of a step that is done, and which of its paths later steps touched.
+//! What a revert takes back: the changes of a step that is done, and which of its paths later steps
+//! touched.
 ghost use Rattle.std.specs.Prelude.{◌≡◌, ◌≢◌, ◌↔◌, ◌⊎◌, ℕ, List, None, IfErr, IfOk, false, filter, map};
 ghost use Rattle.std.specs.List.{All};
 ghost use Rattle.std.specs.FinMap.{get};
@@ -23,8 +24,8 @@ use crate::session::revert::left_of;
 use reuse_tree::{Change, EntryChanges, PathText, Store};
 use std::alloc::Global;
 
-// The changes of the step of this number that is done, and those of their paths that later steps touched. Its entry and each later one
-// is read once.
+// The changes of the step of this number that is done, and those of their paths that later steps
+// touched. Its entry and each later one is read once.
 pub(crate) fn read_back<S: Store>(
     alloc: Global,
     store: &mut S,

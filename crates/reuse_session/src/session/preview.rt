@@ -25,15 +25,16 @@ use reuse_tree::{Changes, Store, Way};
 use std::alloc::Global;
 
 impl<S: Store + Drop> Session<S> {
-    /// Tells what a run of the command would do, path by path, and changes nothing. Where one of the fates is a refusal, a run is refused
-    /// by the first, and else it is accepted.
+    /// Tells what a run of the command would do, path by path, and changes nothing. Where one of
+    /// the fates is a refusal, a run is refused by the first, and else it is accepted.
     ///
     /// It is refused as `Broken` or `JournalFull`, or for a fault of the store or want of memory.
     pub fn preview(&mut self, alloc: Global, command: &Command) -> Result<Fates, Refusal>
         ensures broken { (result ≡ Err Refusal.Broken) ↔ (is_broken self.old ≡ true) }
         ensures full { (result ≡ Err Refusal.JournalFull)
             ↔ ((is_broken self.old ≡ false) × (is_full (length (memory_of self.old).done) (memory_of self.old).used ≡ true)) }
-        // The fates are those of the command on the tree that is there, and so those of the machine.
+        // The fates are those of the command on the tree that is there, and so those of the
+        // machine.
         ensures exact { S.honest (store_of self.new) → (held : State) → StandsOn S.files self.old held → IfOk result (λ fates. fates ≡ fates_of command.now held.tree) }
         ensures answers { S.honest (store_of self.new) → (held : State) → StandsOn S.files self.old held → TellsNoFault result → result ≡ run_fates_on held command.now }
         ensures machine { S.honest (store_of self.new) → (state : Snapshots) → StandsAt S.files self.old state → TellsNoFault result → result ≡ run_fates state command.now }
@@ -49,11 +50,11 @@ impl<S: Store + Drop> Session<S> {
         plan_fates(alloc, &mut self.store, command)
     }
 
-    /// Tells what an undo would do: for each path of the last step, in byte order, whether it would be taken back or is refused as
-    /// `Moved`.
+    /// Tells what an undo would do: for each path of the last step, in byte order, whether it would
+    /// be taken back or is refused as `Moved`.
     ///
-    /// It is refused as `Broken` or `NothingToUndo`, as `BadJournal` where the entry can't be read, or for a fault of the store or want
-    /// of memory.
+    /// It is refused as `Broken` or `NothingToUndo`, as `BadJournal` where the entry can't be read,
+    /// or for a fault of the store or want of memory.
     pub fn preview_undo(&mut self, alloc: Global) -> Result<Fates, Refusal>
         ensures broken { (result ≡ Err Refusal.Broken) ↔ (is_broken self.old ≡ true) }
         ensures nothing { (result ≡ Err Refusal.NothingToUndo) ↔ ((is_broken self.old ≡ false) × ((memory_of self.old).done ≡ [])) }
@@ -66,11 +67,11 @@ impl<S: Store + Drop> Session<S> {
         self.preview_travel(alloc, Way::Undo)
     }
 
-    /// Tells what a redo would do: for each path of the next step, in byte order, whether it would be changed again or is refused as
-    /// `Moved`.
+    /// Tells what a redo would do: for each path of the next step, in byte order, whether it would
+    /// be changed again or is refused as `Moved`.
     ///
-    /// It is refused as `Broken` or `NothingToRedo`, as `BadJournal` where the entry can't be read, or for a fault of the store or want
-    /// of memory.
+    /// It is refused as `Broken` or `NothingToRedo`, as `BadJournal` where the entry can't be read,
+    /// or for a fault of the store or want of memory.
     pub fn preview_redo(&mut self, alloc: Global) -> Result<Fates, Refusal>
         ensures broken { (result ≡ Err Refusal.Broken) ↔ (is_broken self.old ≡ true) }
         ensures nothing { (result ≡ Err Refusal.NothingToRedo) ↔ ((is_broken self.old ≡ false) × ((memory_of self.old).undone ≡ [])) }
@@ -83,15 +84,17 @@ impl<S: Store + Drop> Session<S> {
         self.preview_travel(alloc, Way::Do)
     }
 
-    /// The changes that a run of the command would record, in byte order of their paths; none where it would change nothing.
+    /// The changes that a run of the command would record, in byte order of their paths; none where
+    /// it would change nothing.
     ///
-    /// It is refused as a run is: as `Broken` or `JournalFull`, by the command's own refusal, or for a fault of the store or want of
-    /// memory.
+    /// It is refused as a run is: as `Broken` or `JournalFull`, by the command's own refusal, or
+    /// for a fault of the store or want of memory.
     pub fn changes(&mut self, alloc: Global, command: &Command) -> Result<Changes, Refusal>
         ensures broken { (result ≡ Err Refusal.Broken) ↔ (is_broken self.old ≡ true) }
         ensures full { (result ≡ Err Refusal.JournalFull)
             ↔ ((is_broken self.old ≡ false) × (is_full (length (memory_of self.old).done) (memory_of self.old).used ≡ true)) }
-        // They are none or a good entry, lead from the tree to that of the command's outcome, and hold what the command removes and writes.
+        // They are none or a good entry, lead from the tree to that of the command's outcome, and
+        // hold what the command removes and writes.
         ensures plan { S.honest (store_of self.new) → (held : State) → StandsOn S.files self.old held
             → IfOk result (λ changes. IsPlan (outcome_of command.now held.tree) held.tree changes) }
         ensures recorded { S.honest (store_of self.new) → (held : State) → StandsOn S.files self.old held

@@ -24,15 +24,18 @@ impl<S: Store + Drop> Session<S> {
     ghost use Rattle.reuse_session.specs.Session.{store_of, is_broken, memory_of, StandsOn, StandsAt};
     ghost use Rattle.reuse_session.specs.Showing.{lists};
 
-    /// Takes the changes of a step back, on whatever the tree is now, as a new step. With `skip_moved` a change that can't be taken back is
-    /// left out. It answers the paths that changed, and those of the step that were left.
+    /// Takes the changes of a step back, on whatever the tree is now, as a new step. With
+    /// `skip_moved` a change that can't be taken back is left out. It answers the paths that
+    /// changed, and those of the step that were left.
     ///
-    /// A change can't be taken back where its path isn't as the step left it, or where a later step that is done touched the path.
+    /// A change can't be taken back where its path isn't as the step left it, or where a later step
+    /// that is done touched the path.
     ///
-    /// It is refused as `Broken`, as `NoSuchStep` where no step that is done has the number, as `BadJournal` where the entry of the step or
-    /// of a later one has changed since the journal was opened, as `JournalFull`, as `Moved` at the first path at which the step can't be
-    /// taken back, as `TooMany`, or for a fault of the store or want of memory, before the new step is pending. Where it stops later it is
-    /// `Interrupted`.
+    /// It is refused as `Broken`, as `NoSuchStep` where no step that is done has the number, as
+    /// `BadJournal` where the entry of the step or of a later one has changed since the journal was
+    /// opened, as `JournalFull`, as `Moved` at the first path at which the step can't be taken
+    /// back, as `TooMany`, or for a fault of the store or want of memory, before the new step is
+    /// pending. Where it stops later it is `Interrupted`.
     pub fn revert(
         &mut self,
         alloc: Global,
@@ -44,8 +47,9 @@ impl<S: Store + Drop> Session<S> {
         ensures absent { (result ≡ Err (Refusal.NoSuchStep number)) ↔ ((is_broken self.old ≡ false) × (lists (memory_of self.old).done number ≡ false)) }
         ensures stays { (result ≡ Err Refusal.Broken) ⊎ (result ≡ Err (Refusal.NoSuchStep number)) → self.new ≡ self.old }
 
-        // Unless the answer tells a fault of the store or want of memory, the files and the session go on as a run of the command that
-        // takes the step's changes back: from any standing, and as the machine.
+        // Unless the answer tells a fault of the store or want of memory, the files and the session
+        // go on as a run of the command that takes the step's changes back: from any standing, and
+        // as the machine.
         ensures exact { S.honest (store_of self.new) → (held : State) → StandsOn S.files self.old held
             → TellsNoFault result → (left : State) × StandsOn S.files self.new left × Reverts number skip_moved when held result left }
         ensures machine { S.honest (store_of self.new) → (state : Snapshots) → StandsAt S.files self.old state
@@ -54,7 +58,8 @@ impl<S: Store + Drop> Session<S> {
         // Where no step is made and none was begun, it only reads.
         ensures idle { IsNoStep (as_run result) → OnlyReads S.Store (store_of self.old) (store_of self.new) }
 
-        // What is left after a loss of power, at any moment of the call, as of a run that takes some changes back.
+        // What is left after a loss of power, at any moment of the call, as of a run that takes
+        // some changes back.
         ensures survives { SurvivesCall S.Store (IsAfterRevert skip_moved when) (as_run result) self.old self.new }
 
         // What any call leaves, and what a revert leaves of the files, whatever it answers.
@@ -74,11 +79,12 @@ impl<S: Store + Drop> Session<S> {
         told(alloc, self.run(alloc, &command, when), paths)
     }
 
-    /// The command that a revert of this step runs: it takes the step's changes back, but where a later step that is done touched the
-    /// path. It only reads.
+    /// The command that a revert of this step runs: it takes the step's changes back, but where a
+    /// later step that is done touched the path. It only reads.
     ///
-    /// It is refused as `Broken`, as `NoSuchStep` where no step that is done has the number, as `BadJournal` where the entry of the step or
-    /// of a later one has changed since the journal was opened, or for a fault of the store or want of memory.
+    /// It is refused as `Broken`, as `NoSuchStep` where no step that is done has the number, as
+    /// `BadJournal` where the entry of the step or of a later one has changed since the journal was
+    /// opened, or for a fault of the store or want of memory.
     pub fn revert_command(
         &mut self,
         alloc: Global,

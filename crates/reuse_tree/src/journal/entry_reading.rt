@@ -172,7 +172,8 @@ fn drop_of(alloc: Global, value: &Value, sealed: bool) -> Result<Change, DecodeF
     Ok(Change::Drop { path, old, before })
 }
 
-// Of a whole file that is made or removed: the path, the bytes under this name, and the digest under this key.
+// Of a whole file that is made or removed: the path, the bytes under this name, and the digest
+// under this key.
 #[tactic(auto, unfolding(crate::specs::EntryReading::whole_in))]
 fn whole_of(
     alloc: Global,

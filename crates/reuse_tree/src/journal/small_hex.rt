@@ -21,7 +21,8 @@ pub(crate) fn decode(alloc: Global, digits: &[u8]) -> Result<Vec<u8>, DecodeFaul
     }
 }
 
-/// Fills the bytes with those that these small digits spell. Where it can't, it leaves anything in them.
+/// Fills the bytes with those that these small digits spell. Where it can't, it leaves anything in
+/// them.
 pub(crate) fn decode_to(digits: &[u8], bytes: &mut [u8]) -> bool
     ensures digits { IsTrue result → digits.now ≡ encode_lower bytes.new }
     ensures bytes { IsBytes bytes.new }

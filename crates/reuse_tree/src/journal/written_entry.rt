@@ -18,7 +18,8 @@ use crate::journal::written_text::WrittenText;
 use crate::moment::Moment;
 use std::alloc::Global;
 
-/// The entry that a text stands for, where this program wrote it so. Any other spelling is `NotGood` here, also that of a good text.
+/// The entry that a text stands for, where this program wrote it so. Any other spelling is
+/// `NotGood` here, also that of a good text.
 pub(crate) fn read_written(alloc: Global, text: &[u8]) -> Result<Entry, DecodeFault>
     ensures { IfOk result (IsGoodEntry text.now) }
 {

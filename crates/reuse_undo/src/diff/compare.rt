@@ -31,7 +31,8 @@ pub fn hunk_between<'a>(
     Ok(hunk_of(alloc, &pieces)?)
 }
 
-/// The lines of two texts beside one another: those of the longest list of lines that both have are kept, if the texts are short enough.
+/// The lines of two texts beside one another: those of the longest list of lines that both have are
+/// kept, if the texts are short enough.
 pub fn pieces_of<'a>(
     alloc: Global,
     before: &'a [u8],
@@ -214,8 +215,8 @@ fn push_compared<'a>(
     Ok(())
 }
 
-// What becomes of the next lines, of which so many are left of both: the same line is kept, and else the old one goes, or the new one
-// comes, whichever leaves more lines in common.
+// What becomes of the next lines, of which so many are left of both: the same line is kept, and
+// else the old one goes, or the new one comes, whichever leaves more lines in common.
 fn next_piece<'a>(counts: &[Vec<u32>], old: &[&'a [u8]], new: &[&'a [u8]]) -> Piece<'a>
     requires some_old { 0 < length old.now }
     requires some_new { 0 < length new.now }
@@ -243,7 +244,8 @@ fn next_piece<'a>(counts: &[Vec<u32>], old: &[&'a [u8]], new: &[&'a [u8]]) -> Pi
     }
 }
 
-/// How many lines the last lines of both, so many of each, have in common in order; none where there are too many lines.
+/// How many lines the last lines of both, so many of each, have in common in order; none where
+/// there are too many lines.
 fn common_counts(alloc: Global, old: &[&[u8]], new: &[&[u8]]) -> Result<Vec<Vec<u32>>, AllocError> {
     let mut rows = Vec::new(alloc);
     if old.len().saturating_mul(new.len()) > MOST_PAIRS {

@@ -85,8 +85,8 @@ impl Keeping {
         self.kept
     }
 
-    /// From now on a call is held before its first put if it reads a file that can't keep its owner.
-    /// It isn't if such files may be written.
+    /// From now on a call is held before its first put if it reads a file that can't keep its
+    /// owner. It isn't if such files may be written.
     pub fn watch(&mut self) {
         if self.owner_change == OwnerChange::Refused {
             self.hold = Hold::Watching;

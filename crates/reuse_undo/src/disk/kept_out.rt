@@ -16,11 +16,12 @@ pub const ABOVE_JOURNAL: &str = ".reuse";
 /// The name of the head there.
 pub const HEAD: &str = "head.json";
 
-/// The name there of the file that is written before it is given its own. Where several are written at once, the others have a dot and a number
-/// behind it.
+/// The name there of the file that is written before it is given its own. Where several are written
+/// at once, the others have a dot and a number behind it.
 pub const NEW: &str = "new";
 
-/// The name of that file where it is written beside the one that it is to be, since the journal's folder lies on another device.
+/// The name of that file where it is written beside the one that it is to be, since the journal's
+/// folder lies on another device.
 pub const NEW_BESIDE: &str = ".reuse-undo-new";
 
 /// Whether the names are the same but for capital and small letters.
@@ -30,7 +31,8 @@ fn is_same(name: &str, other: &str) -> bool
     name.as_bytes().eq_ignore_ascii_case(other.as_bytes())
 }
 
-/// Whether version control keeps its data in folders of this name. `CVS` is asked for as it is: `cvs` is a likely name of a source folder.
+/// Whether version control keeps its data in folders of this name. `CVS` is asked for as it is:
+/// `cvs` is a likely name of a source folder.
 fn is_control_folder(name: &str) -> bool
     ensures { result ≡ is_control_folder name.now }
 {

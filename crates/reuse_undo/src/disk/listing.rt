@@ -44,8 +44,8 @@ impl<'a, P: Pruning> Listing<'a, P> {
         }
     }
 
-    /// Takes in a folder that is to be looked at; empty for the root, which is always looked at. One
-    /// that is no part of the tree, or is pruned, is passed over.
+    /// Takes in a folder that is to be looked at; empty for the root, which is always looked at.
+    /// One that is no part of the tree, or is pruned, is passed over.
     pub fn take_folder(&mut self, alloc: Global, folder: &str) -> Result<(), FolderFault> {
         if !folder.is_empty() && (is_folder_kept_out(folder) || self.passes_over(folder)) {
             return Ok(());

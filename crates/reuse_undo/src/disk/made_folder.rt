@@ -5,8 +5,8 @@ use std::alloc::Global;
 use std::fs::{self, File};
 use std::rt::Files;
 
-/// Opens the folder of this name, which root made just now, and gives it to the owner of the one that
-/// it lies in.
+/// Opens the folder of this name, which root made just now, and gives it to the owner of the one
+/// that it lies in.
 pub fn open_made_by_root<R: Files<File = File> + AllocGlobal + Clone + Drop>(
     rt: &R,
     alloc: Global,
@@ -24,8 +24,8 @@ pub fn open_made_by_root<R: Files<File = File> + AllocGlobal + Clone + Drop>(
     Ok(below)
 }
 
-/// Whether root gives the folder away. It does so only with an empty one of its own: another program
-/// may have put some folder of root's in the place of the one that was made.
+/// Whether root gives the folder away. It does so only with an empty one of its own: another
+/// program may have put some folder of root's in the place of the one that was made.
 fn is_to_give<R: Files<File = File> + AllocGlobal + Clone + Drop>(
     rt: &R,
     above: &OpenFolder,

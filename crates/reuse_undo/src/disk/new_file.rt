@@ -21,8 +21,8 @@ pub struct Wanted<'a> {
     pub process: &'a Process,
 }
 
-/// What a file is to hold, whose it is to be, and the bits that it is to have in place of those of a
-/// new file.
+/// What a file is to hold, whose it is to be, and the bits that it is to have in place of those of
+/// a new file.
 #[derive(Clone, Copy)]
 pub struct Content<'a> {
     pub parts: Parts<'a>,
@@ -146,8 +146,8 @@ impl NewFile {
         self.kept
     }
 
-    /// Gives a file that was created here to the owner that it is to have, as far as may be. Nothing
-    /// is written to it before, so nobody reads what he may not.
+    /// Gives a file that was created here to the owner that it is to have, as far as may be.
+    /// Nothing is written to it before, so nobody reads what he may not.
     fn keep_owner(&mut self, file: &File, wanted: Wanted<'_>) -> io::Result<()> {
         let made = match self.made {
             Some(made) => made,

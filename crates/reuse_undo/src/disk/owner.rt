@@ -82,8 +82,8 @@ impl Process {
     #[tactic(auto, using(crate::proofs::OwnerLemmas::same_access, crate::proofs::OwnerLemmas::no_loss))]
     pub fn cannot_keep(&self, owner: Owner, rights: Rights) -> bool
         ensures exact { result ≡ cannot_keep self.now owner rights }
-        // Else whoever owns neither the old file nor the new one has the access that he had, and the owner, a member of the file's
-        // group, has all that he had.
+        // Else whoever owns neither the old file nor the new one has the access that he had, and
+        // the owner, a member of the file's group, has all that he had.
         ensures same { result ≡ false → (made : Owner) → (user : ℕ) → (is_member : ℕ → Bool) → user ≢ owner.user → user ≢ made.user
             → access user is_member (kept_owner self.now owner made) rights ≡ access user is_member owner rights }
         ensures kept { result ≡ false → (made : Owner) → (is_member : ℕ → Bool) → IsTrue (is_member owner.group)

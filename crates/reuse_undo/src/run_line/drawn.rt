@@ -173,7 +173,8 @@ fn draw_range<S: Store>(
     }
 }
 
-// The same, of a file that was read. Where the range isn't within it, it isn't as it was looked at, and nothing is told.
+// The same, of a file that was read. Where the range isn't within it, it isn't as it was looked at,
+// and nothing is told.
 fn draw_within<'a>(
     text: &mut Vec<u8>,
     alloc: Global,

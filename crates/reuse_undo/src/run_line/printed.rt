@@ -19,8 +19,8 @@ use reuse_tree::Change;
 use std::alloc::Global;
 use std::io::{self, Write};
 
-/// Prints an answer, and behind it the diff where one is wanted; how many paths it tells that changed, or that would
-/// change. A preview of a call that would be refused is a fault.
+/// Prints an answer, and behind it the diff where one is wanted; how many paths it tells that
+/// changed, or that would change. A preview of a call that would be refused is a fault.
 pub fn finish<O: Sink>(
     out: &mut O,
     alloc: Global,
@@ -146,7 +146,8 @@ fn print_objects<W: Write>(out: &mut W, alloc: Global, names: Names, told: &Told
     }
 }
 
-// How many paths an answer tells that changed, or would change, unless it is a preview with a refusal.
+// How many paths an answer tells that changed, or would change, unless it is a preview with a
+// refusal.
 fn accept(told: Told) -> Result<usize, Fault>
     ensures { Accepts told result }
 {

@@ -1,5 +1,5 @@
-//! Writing several files at once. All are written aside before the data of the first is synced, so that the system syncs them
-//! together; then each is given its name, in order.
+//! Writing several files at once. All are written aside before the data of the first is synced, so
+//! that the system syncs them together; then each is given its name, in order.
 ghost use Rattle.std.specs.Prelude.{◌≡◌, ◌<◌, ◌≤◌, IfErr, IfOk, length};
 
 use super::{ReadFile, RootFolder};
@@ -151,7 +151,8 @@ impl<R: Files<File = File> + AllocGlobal + Clone + Drop> RootFolder<R> {
         let target = match self.trail.enter_seen(&self.rt, alloc, folder) {
             Ok(target) => target,
             Err(fault) => {
-                // The new files before this one are still to be named, by the folder that it holds open.
+                // The new files before this one are still to be named, by the folder that it holds
+                // open.
                 self.new_file = Some(new_file);
                 return Err(fault);
             }
