@@ -110,10 +110,9 @@ pub fn annotations_change_chosen_places_alone()
     annotated_texts_are_texts();
 }
 
-/// Where a conversion isn't refused, `.reuse/dep5` was there and is gone, `REUSE.toml` wasn't and
-/// holds the text that the dep5 is converted to, and every other path holds what it held. A run
-/// that isn't refused leaves that. It isn't refused exactly where the dep5 is there and can be
-/// converted, and the `REUSE.toml` can be put.
+/// Where a conversion isn't refused, `.reuse/dep5` was there and is gone, `REUSE.toml` wasn't and holds the text that the dep5 is
+/// converted to, and every other path holds what it held. A run that isn't refused leaves that. It isn't refused exactly where the dep5 is
+/// there and can be converted, and the `REUSE.toml` can be put.
 pub fn conversions_put_a_table()
     ensures accepted { (tree : Files) → ((after : Files) × (outcome_of ConvertDep5 tree ≡ Ok after)) ↔ CanConvert tree }
     ensures made { (tree after : Files) → outcome_of ConvertDep5 tree ≡ Ok after → PutsTable tree after }

@@ -44,8 +44,8 @@ impl Said {
 /// Reads the words, of which the first is the program's name. The current year is that of the
 /// moment.
 ///
-/// Faults come in this order: those of the words themselves, the first word that names no place,
-/// those of what `annotate` is to add, and the first glob that is none.
+/// Faults come in this order: those of the words themselves, the first word that names no place, those of what
+/// `annotate` is to add, and the first glob that is none.
 pub fn words_to_command(alloc: Global, words: &[String], moment: Moment) -> Said {
     match matches_of(alloc, words) {
         Ok(matches) => match files_from(alloc, &matches) {
