@@ -1,6 +1,7 @@
 #!/usr/bin/env bash
-# Runs the program on a folder with two Python files: annotates both, takes both steps back, and makes the first again. Where the proved program was
-# built (./install.sh), it is that one; else the program is compiled without proof, which takes a minute or two.
+# Runs the program on a folder with two Python files: annotates both, takes both steps back, and
+# makes the first again. Where the proved program was built (./install.sh), it is that one; else the
+# program is compiled without proof, which takes a minute or two.
 set -euo pipefail
 top=$(cd "$(dirname "$0")" && pwd)
 room=$(mktemp -d)

@@ -1,6 +1,7 @@
 #!/usr/bin/env bash
-# Converts dep5 files of 8 and 16 MiB: many Files paragraphs, one pattern of asterisks, one paragraph of many fields, and blank lines alone. Prints
-# seconds and the ratio of the two, which is near 2 where the work is linear.
+# Converts dep5 files of 8 and 16 MiB: many Files paragraphs, one pattern of asterisks, one
+# paragraph of many fields, and blank lines alone. Prints seconds and the ratio of the two, which is
+# near 2 where the work is linear.
 # usage: bench/dep5_speed.sh
 set -euo pipefail
 . "$(dirname "$0")/build.sh" dep5_speed reuse_text reuse_dep5

@@ -1,6 +1,8 @@
 #!/usr/bin/env bash
-# Measures annotate, undo and redo on ext4, in a file that is mounted as a disk, beside the floor: the same tree each time, written to the disk before
-# the first call. Undo and redo follow at once, and then once more with all written to the disk before. Prints seconds, of two rounds. It needs root.
+# Measures annotate, undo and redo on ext4, in a file that is mounted as a disk, beside the floor:
+# the same tree each time, written to the disk before the first call. Undo and redo follow at once,
+# and then once more with all written to the disk before. Prints seconds, of two rounds. It needs
+# root.
 # usage: bench/ext4_speed.sh PROGRAM [FILES]      (20,000 files by default)
 set -euo pipefail
 . "$(dirname "$0")/../tests/common.sh"

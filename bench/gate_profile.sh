@@ -1,11 +1,12 @@
 #!/usr/bin/env bash
-# Measures what the gate does for each crate: its proof, each must-fail edit and the program's build and run, in processor seconds and wall time, and
-# lists the twenty slowest functions and edits. It works in a copy of the repository, one check at a time and from nothing, so the seconds are those
-# of one processor; the gate has several checks side by side. A function's time is that between its line of the check and the line before, so the
-# first that cites a lemma pays for it.
+# Measures what the gate does for each crate: its proof, each must-fail edit and the program's build
+# and run, in processor seconds and wall time, and lists the twenty slowest functions and edits. It
+# works in a copy of the repository, one check at a time and from nothing, so the seconds are those
+# of one processor; the gate has several checks side by side. A function's time is that between its
+# line of the check and the line before, so the first that cites a lemma pays for it.
 # usage: bench/gate_profile.sh [-k] [-m EDITS] [-o TABLE] [CRATE..]
-#   -k         begins with the work that the repository keeps in out/: no proof from nothing, but a check of nothing new, which is what each
-#              edit costs at least, and the edits
+#   -k         begins with the work that the repository keeps in out/: no proof from nothing, but a
+#              check of nothing new, which is what each edit costs at least, and the edits
 #   -m EDITS   tries so many edits of each crate, evenly chosen (0: none), and not all
 #   -o TABLE   keeps all figures in this file too: kind, crate, name, processor seconds, wall seconds
 # Without a CRATE it measures all of them, which takes hours.
@@ -32,7 +33,8 @@ trap 'exit 130' INT TERM
 tar -C "$top" --exclude=./.git --exclude=out -cf - . | tar -C "$room" -xf -
 : > "$room/table"
 
-# Runs a command in a crate's folder, with the moment before each line of its output in $room/log, and sets `spent`, its processor and wall seconds.
+# Runs a command in a crate's folder, with the moment before each line of its output in $room/log,
+# and sets `spent`, its processor and wall seconds.
 measure() {
   local folder=$1 status=0
   shift

@@ -1,7 +1,8 @@
 #!/usr/bin/env bash
-# Looks for the header block, and annotates, in texts of 8 and 16 MiB that are made to be slow: one line, CR or LF alone, comments that nothing closes,
-# texts that nearly are barriers, and header blocks of 167,000 and 335,000 notices, also merged. Prints seconds and the ratios, which are near 2 where the
-# work is linear.
+# Looks for the header block, and annotates, in texts of 8 and 16 MiB that are made to be slow: one
+# line, CR or LF alone, comments that nothing closes, texts that nearly are barriers, and header
+# blocks of 167,000 and 335,000 notices, also merged. Prints seconds and the ratios, which are near
+# 2 where the work is linear.
 # usage: bench/hostile_headers.sh
 set -euo pipefail
 . "$(dirname "$0")/build.sh" hostile_headers reuse_text reuse_notice reuse_header

@@ -1,6 +1,7 @@
 #!/usr/bin/env bash
-# Reads the tags of header blocks of 4, 8 and 16 MiB, and merges their 100,000, 200,000 and 400,000 notices. Prints seconds and the ratios, which
-# are near 2 where the work is linear (but for the sorts).
+# Reads the tags of header blocks of 4, 8 and 16 MiB, and merges their 100,000, 200,000 and 400,000
+# notices. Prints seconds and the ratios, which are near 2 where the work is linear (but for the
+# sorts).
 # usage: bench/notice_speed.sh
 set -euo pipefail
 . "$(dirname "$0")/build.sh" notice_speed reuse_text reuse_notice

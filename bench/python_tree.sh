@@ -1,4 +1,5 @@
-# make_tree FOLDER FILES [LINES]: makes a tree of Python files, 100 a folder, of 1 to 16 times so many lines (16 by default: 0.4 to 7 kB).
+# make_tree FOLDER FILES [LINES]: makes a tree of Python files, 100 a folder, of 1 to 16 times so
+# many lines (16 by default: 0.4 to 7 kB).
 make_tree() {
   local size line text= k folder texts=()
   for size in {1..16}; do

@@ -1,6 +1,6 @@
 #!/usr/bin/env bash
-# Measures what a tree's own styles cost: annotate of a tree of Python files on a tmpfs, without styles and with tables of some hundred names.
-# Prints seconds and peak memory, the least of three.
+# Measures what a tree's own styles cost: annotate of a tree of Python files on a tmpfs, without
+# styles and with tables of some hundred names. Prints seconds and peak memory, the least of three.
 # usage: bench/style_speed.sh PROGRAM [FILES]      (20,000 files by default)
 set -euo pipefail
 . "$(dirname "$0")/../tests/common.sh"

@@ -1,10 +1,13 @@
 #!/usr/bin/env bash
-# Measures annotate, undo and redo on a tmpfs, on three trees: 20,000 Python files of some 3 kB, as many of some 16 kB, and 100,000 of some bytes. Beside
-# them in the same run: `cp -r` of the same tree; the floor, a C program that reads each file once, writes it aside with a header, and renames it; and
-# the goal, half again of the floor and the time in which the kit's SHA-256 hashes each file of the tree twice, right after it was read, as the seals of a
-# step ask for (without seals, for a journal of version 1.0, half again of the floor alone). Then histories: a log of 500 MB in 61 entries, and of 1,000
-# entries; one file of the 100,000; and help. Prints the least of nine rounds on the first tree and of five on the others, each with all that is compared:
-# seconds, those of the processor, the ratio to `cp -r` and to the goal, and the peak memory.
+# Measures annotate, undo and redo on a tmpfs, on three trees: 20,000 Python files of some 3 kB, as
+# many of some 16 kB, and 100,000 of some bytes. Beside them in the same run: `cp -r` of the same
+# tree; the floor, a C program that reads each file once, writes it aside with a header, and renames
+# it; and the goal, half again of the floor and the time in which the kit's SHA-256 hashes each file
+# of the tree twice, right after it was read, as the seals of a step ask for (without seals, for a
+# journal of version 1.0, half again of the floor alone). Then histories: a log of 500 MB in 61
+# entries, and of 1,000 entries; one file of the 100,000; and help. Prints the least of nine rounds
+# on the first tree and of five on the others, each with all that is compared: seconds, those of the
+# processor, the ratio to `cp -r` and to the goal, and the peak memory.
 # usage: bench/undo_speed.sh PROGRAM [FILES]      (20,000 files by default in the first two trees)
 set -euo pipefail
 . "$(dirname "$0")/../tests/common.sh"
@@ -22,7 +25,8 @@ mkdir "$build"
 hash_speed=$program
 program=$undo
 
-# Notes the times and the peak memory of a command if it was never faster: seconds, user, system, kB.
+# Notes the times and the peak memory of a command if it was never faster: seconds, user, system,
+# kB.
 declare -A best
 note() {
   if [[ -z ${best[$1]:-} ]] || awk -v one="${2%% *}" -v other="${best[$1]%% *}" 'BEGIN { exit !(one < other) }'; then best[$1]=$2; fi
@@ -44,7 +48,8 @@ hashing() {
   note hashing "$("$hash_speed" "$room/list" | cut -d' ' -f1) 0 0 0"
 }
 
-# report GOAL NAME..: prints what was noted of these commands, beside `cp -r` and the goal in seconds.
+# report GOAL NAME..: prints what was noted of these commands, beside `cp -r` and the goal in
+# seconds.
 report() {
   local goal=$1 name seconds user system kilobytes
   shift

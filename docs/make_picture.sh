@@ -1,5 +1,6 @@
 #!/usr/bin/env bash
-# Makes docs/picture.svg, a terminal with calls of the program on a file and what it prints: writes the picture to standard output.
+# Makes docs/picture.svg, a terminal with calls of the program on a file and what it prints: writes
+# the picture to standard output.
 # usage: docs/make_picture.sh PROGRAM > docs/picture.svg
 set -euo pipefail
 program=$(realpath "${1:?"usage: $0 PROGRAM"}")

@@ -4,8 +4,8 @@
 # last line says, and counts as skipped. Missing Debian packages are named first and last, with the
 # line that installs them. Of a script that fails the last lines are printed, and the status is 1.
 # ROUNDS: how often the scripts try that go by chance (40). LIMIT: the seconds after which a script
-# fails that hasn't ended (1200). DEADLINE: the time, in seconds since 1970, at which all has to end;
-# a script for which it leaves no time counts as skipped.
+# fails that hasn't ended (1200). DEADLINE: the time, in seconds since 1970, at which all has to
+# end; a script for which it leaves no time counts as skipped.
 # usage: tests/all.sh [PROGRAM]     (by default what rt ci or rt run leave in crates/reuse_undo/out)
 #        tests/all.sh --packages    prints the missing packages, and runs nothing
 set -euo pipefail

@@ -1,9 +1,11 @@
 #!/usr/bin/env bash
-# Tests of calls: those of single calls of the libraries, with worked values (tests/calls/), and those of sessions over stores in memory (tests/sessions/):
-# commands, histories and reverts; each call of the store fails, for good or once; each growth of memory is refused; journals that are damaged, or of both
-# formats. They are compiled without proof, in a copy of the crates, as modules of reuse_session, which stands on all other libraries: as tests of the
-# crates the gate would prove each of their functions, and each crate once more, for an hour. (The gate takes no sources beside those of crates, so they end
-# in .txt.) `.ci/run` runs this beside the gate.
+# Tests of calls: those of single calls of the libraries, with worked values (tests/calls/), and
+# those of sessions over stores in memory (tests/sessions/): commands, histories and reverts; each
+# call of the store fails, for good or once; each growth of memory is refused; journals that are
+# damaged, or of both formats. They are compiled without proof, in a copy of the crates, as modules
+# of reuse_session, which stands on all other libraries: as tests of the crates the gate would prove
+# each of their functions, and each crate once more, for an hour. (The gate takes no sources beside
+# those of crates, so they end in .txt.) `.ci/run` runs this beside the gate.
 # usage: tests/calls.sh
 set -euo pipefail
 top=$(cd "$(dirname "$0")/.." && pwd)

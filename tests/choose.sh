@@ -1,6 +1,8 @@
 #!/usr/bin/env bash
-# Annotates the files that `git ls-files` lists in a repository with ignored, untracked, deleted and linked files, odd names, a submodule and a nested
-# clone, and compares with what git knows; then lists in lines, lists with words that are no paths, and globs. Ends with status 1 at the first fault.
+# Annotates the files that `git ls-files` lists in a repository with ignored, untracked, deleted and
+# linked files, odd names, a submodule and a nested clone, and compares with what git knows; then
+# lists in lines, lists with words that are no paths, and globs. Ends with status 1 at the first
+# fault.
 # usage: tests/choose.sh PROGRAM
 set -euo pipefail
 . "$(dirname "$0")/common.sh"

@@ -1,5 +1,5 @@
-# What the scripts that run the program share: `program`, which the first argument names; `room`, a folder that is removed at the end; and
-# some functions.
+# What the scripts that run the program share: `program`, which the first argument names; `room`, a
+# folder that is removed at the end; and some functions.
 program=$(realpath "${1:?"usage: $0 PROGRAM"}")
 room=$(mktemp -d "/dev/shm/$(basename "$0" .sh).XXXXXX" 2> /dev/null || mktemp -d)
 trap 'rm -rf "$room"' EXIT
@@ -22,7 +22,8 @@ files() {
   done
 }
 
-# The log, and one checksum over all names, bits and bytes of a tree outside of the journal, whosever it is
+# The log, and one checksum over all names, bits and bytes of a tree outside of the journal,
+# whosever it is
 state_of() {
   "$program" --root "$1" --trust-journal log || return 1
   tar -C "$1" --sort=name --mtime=@0 --exclude=./.reuse/undo -cf - . | sha256sum
@@ -45,7 +46,8 @@ fail() {
   exit 1
 }
 
-# Ends a script that can't be run here, for this reason: tests/all.sh counts status 77 as skipped, and prints the last line.
+# Ends a script that can't be run here, for this reason: tests/all.sh counts status 77 as skipped,
+# and prints the last line.
 skip() {
   echo "$1" >&2
   exit 77
@@ -54,7 +56,8 @@ skip() {
 # Skips a script where a command isn't there, and names Debian's package for it.
 wants() { command -v "$1" > /dev/null || skip "$1 isn't there: apt-get install $2"; }
 
-# The words of help: the subcommands; the options of a subcommand, or, without one, those before it; the names that an option of annotate takes
+# The words of help: the subcommands; the options of a subcommand, or, without one, those before it;
+# the names that an option of annotate takes
 help_subcommands() { "$program" --help | sed -nE '/^Commands:/,/^$/s/^  ([a-z][a-z0-9-]*) .*/\1/p'; }
 help_options() {
   "$program" "$@" --help | sed -nE '/^Options:/,/^[^ ]*$/p' | sed -nE \

@@ -1,7 +1,7 @@
 #!/usr/bin/env bash
-# Asks bash, zsh and fish, each by its own completion, what completes some lines, and compares with what is wanted: the subcommands, options,
-# styles and prefixes that help tells, licence ids, and paths below the root. Prints how many lines were compared; ends with status 1 at the first
-# fault.
+# Asks bash, zsh and fish, each by its own completion, what completes some lines, and compares with
+# what is wanted: the subcommands, options, styles and prefixes that help tells, licence ids, and
+# paths below the root. Prints how many lines were compared; ends with status 1 at the first fault.
 # usage: tests/completions.sh PROGRAM
 set -euo pipefail
 . "$(dirname "$0")/common.sh"
@@ -74,7 +74,8 @@ ask_fish() {
 }
 
 compared=0
-# Each shell completes the words that come first with those behind `gives`, in any order. Some add a slash to a folder, and some don't.
+# Each shell completes the words that come first with those behind `gives`, in any order. Some add a
+# slash to a folder, and some don't.
 completes() {
   local shell words=() found
   while [[ $1 != gives ]]; do

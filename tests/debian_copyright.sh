@@ -1,6 +1,7 @@
 #!/usr/bin/env bash
-# Converts the machine-readable copyright files of a Debian system, which are dep5 files, each in a tree of its own, and takes each conversion
-# back. Says how many convert and why the others are refused; ends with status 1 where a conversion isn't taken back byte for byte.
+# Converts the machine-readable copyright files of a Debian system, which are dep5 files, each in a
+# tree of its own, and takes each conversion back. Says how many convert and why the others are
+# refused; ends with status 1 where a conversion isn't taken back byte for byte.
 # usage: tests/debian_copyright.sh PROGRAM [FOLDER]      (FOLDER is /usr/share/doc by default)
 set -euo pipefail
 . "$(dirname "$0")/common.sh"

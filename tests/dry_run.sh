@@ -1,8 +1,9 @@
 #!/usr/bin/env bash
-# Compares dry runs with the calls themselves: a dry run writes nothing, ends with the status of the call, tells the call's first refusal first, and
-# names the paths that the call changes. The diff of one, applied to a copy by `git apply` and by `patch -p1`, gives byte for byte the tree of the
-# call: for the examples of docs/REFERENCE.md, and for random trees, with real files of /usr among them. Prints what was compared; ends with status 1
-# at the first fault.
+# Compares dry runs with the calls themselves: a dry run writes nothing, ends with the status of the
+# call, tells the call's first refusal first, and names the paths that the call changes. The diff of
+# one, applied to a copy by `git apply` and by `patch -p1`, gives byte for byte the tree of the
+# call: for the examples of docs/REFERENCE.md, and for random trees, with real files of /usr among
+# them. Prints what was compared; ends with status 1 at the first fault.
 # usage: tests/dry_run.sh PROGRAM [ROUNDS]      (300 rounds by default)
 # The tags below are data: REUSE-IgnoreStart
 set -euo pipefail
@@ -30,7 +31,8 @@ alike() {
 }
 
 compared=0 applied=0 refused=0
-# A call on `$tree`: looked at, made on a copy, and, where it is accepted, made from its diff on two more. The call stands in `call`.
+# A call on `$tree`: looked at, made on a copy, and, where it is accepted, made from its diff on two
+# more. The call stands in `call`.
 compare() {
   local before status=0 looked=0
   before=$(whole)

@@ -1,8 +1,10 @@
 #!/usr/bin/env bash
-# Makes each system call of a run fail, one at a time, and kills the program at each; by strace. The next call must open the journal, and find
-# tree and log as they were before the run or as they are after it. The runs are calls on three files and a dep5, and openings after a
-# kill. Some of the journals have steps of both formats. No run ends well of which a sync fails, or each sync from one on. With --no-sync
-# a run makes no sync. Prints how many calls failed; ends with status 1 at the first fault.
+# Makes each system call of a run fail, one at a time, and kills the program at each; by strace. The
+# next call must open the journal, and find tree and log as they were before the run or as they are
+# after it. The runs are calls on three files and a dep5, and openings after a kill. Some of the
+# journals have steps of both formats. No run ends well of which a sync fails, or each sync from one
+# on. With --no-sync a run makes no sync. Prints how many calls failed; ends with status 1 at the
+# first fault.
 # usage: tests/fail_system_calls.sh PROGRAM
 # The tags below are data: REUSE-IgnoreStart
 set -euo pipefail
@@ -70,7 +72,8 @@ try_all() {
   echo "$* on $from: $((as_before + as_after)) faults; found as before $as_before, as after $as_after"
 }
 
-# Makes each sync fail of a run that begins with the tree `$room/FROM`, alone and with all syncs of that name after it: the status tells it.
+# Makes each sync fail of a run that begins with the tree `$room/FROM`, alone and with all syncs of
+# that name after it: the status tells it.
 fail_syncs() {
   local from=$1 call number more status found count=0
   note_states "$@"

@@ -1,10 +1,12 @@
 #!/usr/bin/env bash
-# Runs the program on folders of each kind that a tree may be: what of one is listed and in which order, what is read, put and removed in it, what
-# clashes, what is kept out, and which links are not followed. A laid journal of one step brings a file to any path: redo puts it, undo removes it,
-# and an opening settles what was begun. Ends with status 1 at the first fault.
-# Not shown, since no words bring it about: a file under /proc that is too long, a file that is exchanged for another one within a run, a listing
-# of the journal's own files, and a listing, put or removal in a root that is no folder, where each call fails at its first reading. A name that
-# isn't UTF-8 is in odd_folders.sh, a full disk in full_disk.sh.
+# Runs the program on folders of each kind that a tree may be: what of one is listed and in which
+# order, what is read, put and removed in it, what clashes, what is kept out, and which links are
+# not followed. A laid journal of one step brings a file to any path: redo puts it, undo removes it,
+# and an opening settles what was begun. Ends with status 1 at the first fault. Not shown, since no
+# words bring it about: a file under /proc that is too long, a file that is exchanged for another
+# one within a run, a listing of the journal's own files, and a listing, put or removal in a root
+# that is no folder, where each call fails at its first reading. A name that isn't UTF-8 is in
+# odd_folders.sh, a full disk in full_disk.sh.
 # usage: tests/folder.sh PROGRAM
 # The tags below are data: REUSE-IgnoreStart
 set -euo pipefail
@@ -17,8 +19,8 @@ foreign='a link, a device or version control stands there'
 denied='Permission denied (os error 13)'
 calls=0
 
-# Makes the tree anew: a name is that of a folder where it ends in a slash, of a link where `>` and a target follow, and else of a file that
-# holds a `y`.
+# Makes the tree anew: a name is that of a folder where it ends in a slash, of a link where `>` and
+# a target follow, and else of a file that holds a `y`.
 stand() {
   local name
   rm -rf "$tree" "$outside"
@@ -36,7 +38,8 @@ stand() {
 # All names, bits and bytes but those of the journal's folder
 all_files() { tar -C "$room" --sort=name --mtime=@0 --exclude='tree/.reuse/undo/*' -cf - tree outside | sha256sum; }
 
-# The call tells just this, and has status 1 where that is a fault. It is made with -v; of the notes those are compared that say what can't be done.
+# The call tells just this, and has status 1 where that is a fault. It is made with -v; of the notes
+# those are compared that say what can't be done.
 root=$tree
 as=()
 tells() {
@@ -49,7 +52,8 @@ tells() {
   calls=$((calls + 1))
 }
 
-# The call is refused with this text, and where it `cannot` do this, a note says so; all files stay as they are.
+# The call is refused with this text, and where it `cannot` do this, a note says so; all files stay
+# as they are.
 refused() {
   local before
   before=$(all_files)
@@ -89,7 +93,8 @@ lay() {
 }
 row='1 2023-11-14 annotate 1 undone'
 
-# A file is put at the path, or the file there is removed. Where a stopped run had begun to make a file that isn't there, nothing is removed.
+# A file is put at the path, or the file there is removed. Where a stopped run had begun to make a
+# file that isn't there, nothing is removed.
 puts() {
   lay undone "$1"
   tells "redone $1" redo
@@ -170,7 +175,8 @@ reads_and_writes() {
   refused 'long.py: too long' "${annotate[@]}" --skip-existing long.py
 }
 
-# The system's own files seem to be empty. This one holds the name of this process: a first line behind which the header would stand.
+# The system's own files seem to be empty. This one holds the name of this process: a first line
+# behind which the header would stand.
 longer_than_it_seems() {
   printf '#!/bin/sh' > /proc/$$/comm
   [[ $(stat -c %s /proc/$$/comm) == 0 ]] || fail '/proc/comm has a length'
@@ -265,7 +271,8 @@ links() {
   done
 }
 
-# What a stopped run has left where new files are written: a link, which isn't followed, a file whose bits are of no account, or a folder
+# What a stopped run has left where new files are written: a link, which isn't followed, a file
+# whose bits are of no account, or a folder
 left_over() {
   stand plain '.reuse/undo/new>../../../outside/file'
   printf x > "$outside/file"

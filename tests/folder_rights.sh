@@ -1,12 +1,14 @@
 #!/usr/bin/env bash
-# Runs the program, as folder.sh does, whose functions it takes, where it may not do all: which bits a file has afterwards, which faults are told where a
-# folder or the root is closed, and that a tree which another process has locked is left alone. Ends with status 1 at the first fault.
+# Runs the program, as folder.sh does, whose functions it takes, where it may not do all: which bits
+# a file has afterwards, which faults are told where a folder or the root is closed, and that a tree
+# which another process has locked is left alone. Ends with status 1 at the first fault.
 # usage: tests/folder_rights.sh PROGRAM
 # The tags below are data: REUSE-IgnoreStart
 set -euo pipefail
 . "$(dirname "$0")/folder.sh"
 
-# A rewritten file keeps who may read, write and run it, whatever the mask, and loses the other bits. A new one has those of any new file.
+# A rewritten file keeps who may read, write and run it, whatever the mask, and loses the other
+# bits. A new one has those of any new file.
 bits() {
   local mask word call k wanted files=({a..k}) modes=(755 755 666 600 666 440 4755 2750 1666 777 400)
   for mask in 000 022 027 077; do
@@ -86,8 +88,8 @@ closed() {
   umask 022
 }
 
-# While another process holds the lock on the root, a run is refused, and so is one below it, if the lock isn't shared. One on another root, above it
-# too, isn't.
+# While another process holds the lock on the root, a run is refused, and so is one below it, if the
+# lock isn't shared. One on another root, above it too, isn't.
 locked() {
   local kind
   stand a.py in/a.py

@@ -1,6 +1,7 @@
 #!/usr/bin/env bash
-# Tries each row of docs/FROM_REUSE.md: the same files and the same words, or those that the row gives in their place, for Debian's reuse and for
-# the program. Ends with status 1 at the first fault, also where a row isn't tried or one that is tried isn't in the document.
+# Tries each row of docs/FROM_REUSE.md: the same files and the same words, or those that the row
+# gives in their place, for Debian's reuse and for the program. Ends with status 1 at the first
+# fault, also where a row isn't tried or one that is tried isn't in the document.
 # usage: tests/from_reuse.sh PROGRAM
 set -euo pipefail
 # The tags below are data: REUSE-IgnoreStart
@@ -13,7 +14,8 @@ tag='# SPDX-License-Identifier: MIT'
 jane='# SPDX-FileCopyrightText: 2024 Jane Doe'
 export XDG_CACHE_HOME=$room LC_ALL=C.UTF-8
 
-# The row with this first cell is tried from here on, by files, each given by its path and its text with escapes.
+# The row with this first cell is tried from here on, by files, each given by its path and its text
+# with escapes.
 row() {
   echo "$1" >> "$room/rows"
   what=$1

@@ -1,7 +1,8 @@
 #!/usr/bin/env bash
-# Runs the program, as root, on a tmpfs that fills up at each size in turn, from one where nothing can be put to one with room for the whole
-# step. Each call must end, be told, and leave a tree and a log that the next call finds as before or, where it succeeded, as after; also the
-# next call on the full disk. Prints how many calls met which end; ends with status 1 at the first fault.
+# Runs the program, as root, on a tmpfs that fills up at each size in turn, from one where nothing
+# can be put to one with room for the whole step. Each call must end, be told, and leave a tree and
+# a log that the next call finds as before or, where it succeeded, as after; also the next call on
+# the full disk. Prints how many calls met which end; ends with status 1 at the first fault.
 # usage: tests/full_disk.sh PROGRAM
 set -euo pipefail
 . "$(dirname "$0")/common.sh"

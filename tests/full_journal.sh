@@ -1,5 +1,6 @@
 #!/usr/bin/env bash
-# Runs the program on a tree whose journal has as many steps done as it can have, 4,096: it takes no further one until one is taken back.
+# Runs the program on a tree whose journal has as many steps done as it can have, 4,096: it takes no
+# further one until one is taken back.
 # usage: tests/full_journal.sh PROGRAM
 set -euo pipefail
 . "$(dirname "$0")/common.sh"
@@ -10,7 +11,8 @@ entry=$tree/.reuse/undo/000001.json
 for number in {2..4096}; do cp "$entry" "$tree/.reuse/undo/$(printf %06d "$number").json"; done
 printf '{"done":[%s],"format":2,"next":4097,"pending":null,"undone":[]}' "$(seq -s, 4096)" > "$tree/.reuse/undo/head.json"
 
-# told STATUS TEXT WORD..: whether the words have this status and tell this, on one of the two outputs.
+# told STATUS TEXT WORD..: whether the words have this status and tell this, on one of the two
+# outputs.
 told() {
   local status=$1 text=$2 found=0
   shift 2

@@ -1,6 +1,7 @@
 #!/usr/bin/env bash
-# Kills the program at random times. The next call must open the journal, and find tree and log as they were before the call that was
-# killed or as they are after it. In some rounds the opening is killed too. Prints what was seen; ends with status 1 at the first fault.
+# Kills the program at random times. The next call must open the journal, and find tree and log as
+# they were before the call that was killed or as they are after it. In some rounds the opening is
+# killed too. Prints what was seen; ends with status 1 at the first fault.
 # usage: tests/kill_at_random.sh PROGRAM [ROUNDS]      (300 rounds by default)
 set -euo pipefail
 . "$(dirname "$0")/common.sh"
@@ -21,7 +22,8 @@ make_dep5 "$room/tree"
 "$program" --root "$room/tree" annotate -c 'First Holder' -l MIT -r . > "$room/out"
 as_format_1 "$room/tree"
 
-# Runs a call, and kills it after a random time, up to one and a half times the given one. The times are microseconds.
+# Runs a call, and kills it after a random time, up to one and a half times the given one. The times
+# are microseconds.
 kill_call() {
   local most=$(($1 * 3 / 2)) limit
   shift

@@ -1,7 +1,9 @@
 #!/usr/bin/env bash
-# Runs several processes at once on one tree. Each call ends with its work done, with nothing to do, or refused as `in use by another run`, and a
-# refused one changes nothing. After each round the journal opens with no step under way, and undoing all gives the first tree byte for byte. A
-# log during an annotate never takes its files back, and a killed run leaves no lock. Ends with status 1 at the first fault.
+# Runs several processes at once on one tree. Each call ends with its work done, with nothing to do,
+# or refused as `in use by another run`, and a refused one changes nothing. After each round the
+# journal opens with no step under way, and undoing all gives the first tree byte for byte. A log
+# during an annotate never takes its files back, and a killed run leaves no lock. Ends with status 1
+# at the first fault.
 # usage: tests/many_runs.sh PROGRAM [ROUNDS] [FILES]      (50 rounds on 2,000 files by default)
 set -euo pipefail
 . "$(dirname "$0")/common.sh"
@@ -31,7 +33,8 @@ start() {
   } &
 }
 
-# What came of a call: done, idle (there was nothing to undo or redo) or busy (refused, and nothing is told but that).
+# What came of a call: done, idle (there was nothing to undo or redo) or busy (refused, and nothing
+# is told but that).
 outcome() {
   local status error
   status=$(< "$room/$1.status")
@@ -122,7 +125,8 @@ echo "$kills runs killed: the next call is made each time"
 rm -rf "$tree/.reuse"
 "$program" --root "$tree" log > "$room/out"
 [[ $(all_files) == "$first" && ! -e $tree/.reuse ]] || fail 'a log leaves a file'
-# Where another process holds the lock, each subcommand is refused and reads nothing; help and wrong words need none.
+# Where another process holds the lock, each subcommand is refused and reads nothing; help and wrong
+# words need none.
 exec 9< "$tree"
 flock -x 9
 for call in 'annotate -l MIT .' undo redo log convert-dep5 "download --texts $room MIT"; do

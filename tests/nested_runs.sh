@@ -1,9 +1,9 @@
 #!/usr/bin/env bash
-# Runs eight processes at once, half of them on a tree and half on a folder within it that is a root of
-# its own. No two of them work at the same time: each call ends with its work done, with nothing to do,
-# refused since a later change stands there, or refused as `in use by another run`. After each round
-# each annotation stands in all of its files or in none, and no step is left pending. Ends with
-# status 1 at the first fault.
+# Runs eight processes at once, half of them on a tree and half on a folder within it that is a root
+# of its own. No two of them work at the same time: each call ends with its work done, with nothing
+# to do, refused since a later change stands there, or refused as `in use by another run`. After
+# each round each annotation stands in all of its files or in none, and no step is left pending.
+# Ends with status 1 at the first fault.
 # usage: tests/nested_runs.sh PROGRAM [ROUNDS] [FILES]      (50 rounds on 300 files by default)
 set -euo pipefail
 . "$(dirname "$0")/common.sh"

@@ -1,6 +1,7 @@
 #!/usr/bin/env bash
-# Runs the program on a tree that holds other people's data: a clone, a submodule, folders of other version control, and a tree with a journal of its
-# own. Annotating everything, undoing and redoing it touches none of them. Ends with status 1 at the first fault.
+# Runs the program on a tree that holds other people's data: a clone, a submodule, folders of other
+# version control, and a tree with a journal of its own. Annotating everything, undoing and redoing
+# it touches none of them. Ends with status 1 at the first fault.
 # usage: tests/nested_trees.sh PROGRAM
 set -euo pipefail
 . "$(dirname "$0")/common.sh"

@@ -1,6 +1,7 @@
 #!/usr/bin/env bash
-# Runs the program into each note with -v and at a terminal, and without either, where standard error is as it was without notes. At a terminal
-# long work shows its progress, which is cleared at the end, and names show no control byte. Ends with status 1 at the first fault.
+# Runs the program into each note with -v and at a terminal, and without either, where standard
+# error is as it was without notes. At a terminal long work shows its progress, which is cleared at
+# the end, and names show no control byte. Ends with status 1 at the first fault.
 # usage: tests/notes.sh PROGRAM
 # The tags below are data: REUSE-IgnoreStart
 set -euo pipefail
@@ -18,7 +19,8 @@ spelt() { printf '%q ' "$program" --root "$tree" "$@"; }
 # What a terminal was told, without lines of progress, which a slow machine may add
 told() { sed -E $'s/\r[^\r]*\033\\[K//g' | tr -d '\r'; }
 
-# What a call tells on standard error: quietly, with -v and at a terminal. A call that changes something is made on a copy.
+# What a call tells on standard error: quietly, with -v and at a terminal. A call that changes
+# something is made on a copy.
 try() {
   local kind
   for kind in quiet verbose terminal; do
@@ -34,7 +36,8 @@ try() {
   done
 }
 
-# The call tells these notes, each a regular expression, and nothing else than without -v; at a terminal too.
+# The call tells these notes, each a regular expression, and nothing else than without -v; at a
+# terminal too.
 notes() {
   local call=() wanted
   while [[ $1 != : ]]; do
@@ -137,7 +140,8 @@ whole_journal() {
   cp -a "$room/whole" "$tree/.reuse/undo"
 }
 
-# What a loss of power without syncs, an editor, a later version or a hand may leave of a journal, and that the way out is one
+# What a loss of power without syncs, an editor, a later version or a hand may leave of a journal,
+# and that the way out is one
 journal() {
   local undo=$tree/.reuse/undo out=': put it back from a backup; or delete the folder \.reuse/undo, which forgets the history and changes no other file'
   files a.py 'x\n' b.py 'x\n'

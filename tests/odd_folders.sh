@@ -1,7 +1,8 @@
 #!/usr/bin/env bash
-# Runs the program on odd folders: an empty one, names with spaces, letters of other scripts and line ends, a name that isn't UTF-8, links that
-# lead out, devices and pipes, a folder that can't be written (as nobody where the caller is root), a folder in the way of a file, a mount (where
-# one may be made), and files of some bits. Ends with status 1 at the first fault.
+# Runs the program on odd folders: an empty one, names with spaces, letters of other scripts and
+# line ends, a name that isn't UTF-8, links that lead out, devices and pipes, a folder that can't be
+# written (as nobody where the caller is root), a folder in the way of a file, a mount (where one
+# may be made), and files of some bits. Ends with status 1 at the first fault.
 # usage: tests/odd_folders.sh PROGRAM
 # The tags below are data: REUSE-IgnoreStart
 set -euo pipefail
@@ -145,8 +146,8 @@ read_only() {
   as=()
 }
 
-# A folder without files gives way to the file that is made there. One that holds a link stays: the call stops, and the next one sets back what
-# it began.
+# A folder without files gives way to the file that is made there. One that holds a link stays: the
+# call stops, and the next one sets back what it began.
 in_the_way() {
   local before
   anew

@@ -1,6 +1,7 @@
 #!/usr/bin/env bash
-# Opens the journal that version 1.0 wrote, which tests/format_1 keeps: its steps are undone and redone as that version did, an opening doesn't rewrite
-# it, and a step of this version stands beside them. Ends with status 1 at the first fault.
+# Opens the journal that version 1.0 wrote, which tests/format_1 keeps: its steps are undone and
+# redone as that version did, an opening doesn't rewrite it, and a step of this version stands
+# beside them. Ends with status 1 at the first fault.
 # usage: tests/old_journal.sh PROGRAM
 set -euo pipefail
 . "$(dirname "$0")/common.sh"

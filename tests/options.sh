@@ -1,13 +1,15 @@
 #!/usr/bin/env bash
-# Runs words with each option of annotate, words that ask for help, words that are refused, and words for places, and compares as worked_lines.sh
-# does, whose functions it takes. Ends with status 1 at the first fault.
+# Runs words with each option of annotate, words that ask for help, words that are refused, and
+# words for places, and compares as worked_lines.sh does, whose functions it takes. Ends with status
+# 1 at the first fault.
 # usage: tests/options.sh PROGRAM
 # The tags below are data: REUSE-IgnoreStart
 set -euo pipefail
 . "$(dirname "$0")/worked_lines.sh"
 
-# Options that leave what is written for a.py as it is without them, and what each of them does elsewhere. (--merge-copyrights, --no-replace, -r,
-# and those of neighbours and of what is skipped do it in worked_lines.sh, and --no-sync in syncs.sh.)
+# Options that leave what is written for a.py as it is without them, and what each of them does
+# elsewhere. (--merge-copyrights, --no-replace, -r, and those of neighbours and of what is skipped
+# do it in worked_lines.sh, and --no-sync in syncs.sh.)
 settings() {
   local option style comment
   writes '-l|MIT|a.py' a.py 'x\n' to a.py "$tagged"

@@ -1,8 +1,9 @@
 #!/usr/bin/env bash
-# Runs the program as root and as two users of one group, and looks at owners, groups and bits of files
-# and folders before and after annotate, download, undo, redo, revert and a rollback: kept, or refused
-# before anything is changed. A journal of another user isn't opened. Of access control lists it shows
-# what SECURITY.md says. Root alone can run it. Ends with status 1 at the first fault.
+# Runs the program as root and as two users of one group, and looks at owners, groups and bits of
+# files and folders before and after annotate, download, undo, redo, revert and a rollback: kept, or
+# refused before anything is changed. A journal of another user isn't opened. Of access control
+# lists it shows what SECURITY.md says. Root alone can run it. Ends with status 1 at the first
+# fault.
 # usage: tests/owners.sh PROGRAM
 # The tags below are data: REUSE-IgnoreStart
 set -euo pipefail

@@ -6,8 +6,8 @@
 # journal must open, the tree and the log must be those of before or after, and of after where the
 # call had ended well. Undo of all steps must give the first tree. The calls are annotate, a second
 # one, undo, redo, revert, download and convert-dep5, and openings after a kill. Prints a line for
-# each, and ends with status 1 if there was a fault, and with 77, which is no pass, if disks can't be
-# mounted.
+# each, and ends with status 1 if there was a fault, and with 77, which is no pass, if disks can't
+# be mounted.
 # usage: tests/power_loss.sh PROGRAM [ROUNDS]
 # ROUNDS is how often each call loses power on each disk, 40 by default; a full run has 60.
 # The tags below are data: REUSE-IgnoreStart

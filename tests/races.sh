@@ -1,13 +1,13 @@
 #!/usr/bin/env bash
 # Swaps what a run works on for something else at its system calls, at each of them or at some: the
-# run is stopped there by strace, and goes on once the swap is made. A folder becomes a link to a folder
-# outside of the tree that has files of the same names, a file becomes a link or a pipe, a folder
-# becomes another folder, and so does the journal's. The runs are annotate, undo, and an opening that
-# sets a stopped run back. The tree's folders may be written by others, as where others can make
-# such swaps. Nothing outside may be read or written, each file of the tree must be as before the
-# run or as after it, and no run may wait. Once the swap is taken back the journal must open, or
-# tell which file it can't set back. Prints how many rounds there were; ends with status 1 at the
-# first fault.
+# run is stopped there by strace, and goes on once the swap is made. A folder becomes a link to a
+# folder outside of the tree that has files of the same names, a file becomes a link or a pipe, a
+# folder becomes another folder, and so does the journal's. The runs are annotate, undo, and an
+# opening that sets a stopped run back. The tree's folders may be written by others, as where others
+# can make such swaps. Nothing outside may be read or written, each file of the tree must be as
+# before the run or as after it, and no run may wait. Once the swap is taken back the journal must
+# open, or tell which file it can't set back. Prints how many rounds there were; ends with status 1
+# at the first fault.
 # usage: tests/races.sh PROGRAM [ROUNDS]
 # ROUNDS is at how many of its calls each run is stopped for each swap: at all by default, else at
 # ones that are picked by chance, evenly spread.
@@ -129,13 +129,15 @@ sums() {
   (cd "$1" && find . -type f -not -path '*.reuse*' -exec sha256sum {} +)
 }
 
-# Each file in this folder, which is, or was, this one of the tree, has the bytes of before the run or of after it.
+# Each file in this folder, which is, or was, this one of the tree, has the bytes of before the run
+# or of after it.
 check_files() {
   sums "$1" | sed "s#  ./#  $2#" | grep -vxF -f "$room/allowed" > "$room/odd" || return 0
   fail "$3: neither as before nor as after: $(< "$room/odd")"
 }
 
-# One round: this run, this swap, at the system call of this name that is the Nth of it; none if the run makes fewer.
+# One round: this run, this swap, at the system call of this name that is the Nth of it; none if the
+# run makes fewer.
 round() {
   local run=$1 swap=$2 call=$3 number=$4 name="$1, $2 at $3 $4" pid
   rm -rf "$tree" "$away"

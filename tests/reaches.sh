@@ -1,6 +1,7 @@
 #!/usr/bin/env bash
-# What the program can call of the C library: nothing of sockets, threads or other processes, for which it has no handle. `rt ci` looks at this too, but
-# neither `rt check` nor `rt test` does. Prints how many names it can call.
+# What the program can call of the C library: nothing of sockets, threads or other processes, for
+# which it has no handle. `rt ci` looks at this too, but neither `rt check` nor `rt test` does.
+# Prints how many names it can call.
 # usage: tests/reaches.sh PROGRAM
 set -euo pipefail
 . "$(dirname "$0")/common.sh"

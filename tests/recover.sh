@@ -1,6 +1,8 @@
 #!/usr/bin/env bash
-# A run is killed in the middle, and a file that it had changed is edited. Then every call is refused as moved, and recover is the way out: it is refused
-# alike, and with --skip-moved leaves that file, sets the others back, and frees the history. Each round kills at another put, and edits another file.
+# A run is killed in the middle, and a file that it had changed is edited. Then every call is
+# refused as moved, and recover is the way out: it is refused alike, and with --skip-moved leaves
+# that file, sets the others back, and frees the history. Each round kills at another put, and edits
+# another file.
 # usage: tests/recover.sh PROGRAM [ROUNDS]      (40 rounds by default)
 set -euo pipefail
 . "$(dirname "$0")/common.sh"

@@ -1,8 +1,9 @@
 #!/usr/bin/env bash
-# Runs the program into every refusal that words and files can bring about, and compares the text on standard error and the status. A refused
-# call must write nothing on standard output and leave all files as they were. Ends with status 1 at the first fault.
-# Three texts aren't met: `broken` is for a second call of one session, `bad clock` for another time, and `.reuse/dep5: not TOML` for a fault
-# of the program.
+# Runs the program into every refusal that words and files can bring about, and compares the text on
+# standard error and the status. A refused call must write nothing on standard output and leave all
+# files as they were. Ends with status 1 at the first fault. Three texts aren't met: `broken` is for
+# a second call of one session, `bad clock` for another time, and `.reuse/dep5: not TOML` for a
+# fault of the program.
 # usage: tests/refusals.sh PROGRAM
 # The tags below are data: REUSE-IgnoreStart
 set -euo pipefail
@@ -170,7 +171,8 @@ bad_journals() {
   refused 1 '.reuse/undo: bad journal' redo
 }
 
-# A call that may write no more than 64 kB into one file, so that the second file of the step can't be written
+# A call that may write no more than 64 kB into one file, so that the second file of the step can't
+# be written
 faults() {
   local found=0 before
   files a.py 'x\n' b.py '' .reuse/dep5 'Format: x\n'

@@ -1,7 +1,9 @@
 #!/usr/bin/env bash
-# Debian's reuse calls this repository compliant. It knows no REUSE.toml, so it lints a copy with the same said as a dep5, and the program's
-# convert-dep5 makes just our REUSE.toml of that dep5. The licence's text is what the program's download copies from Debian's. As later versions of
-# reuse read files whole, no file may hold a licence tag outside of what is marked to be ignored. Ends with status 1 at the first fault.
+# Debian's reuse calls this repository compliant. It knows no REUSE.toml, so it lints a copy with
+# the same said as a dep5, and the program's convert-dep5 makes just our REUSE.toml of that dep5.
+# The licence's text is what the program's download copies from Debian's. As later versions of reuse
+# read files whole, no file may hold a licence tag outside of what is marked to be ignored. Ends
+# with status 1 at the first fault.
 # usage: tests/reuse_lint.sh PROGRAM
 set -euo pipefail
 . "$(dirname "$0")/common.sh"

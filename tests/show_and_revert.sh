@@ -1,7 +1,9 @@
 #!/usr/bin/env bash
-# Shows steps, and takes them back in any order: what show tells is what the step changed, with --json as python3 reads it; a revert takes headers out of files
-# that were edited below them, refuses the others or passes them over, and is a step that undo and redo go through; reverts of all steps, in random order, give
-# the first tree where no step stands in another's range. Prints how many calls were made; ends with status 1 at the first fault.
+# Shows steps, and takes them back in any order: what show tells is what the step changed, with
+# --json as python3 reads it; a revert takes headers out of files that were edited below them,
+# refuses the others or passes them over, and is a step that undo and redo go through; reverts of
+# all steps, in random order, give the first tree where no step stands in another's range. Prints
+# how many calls were made; ends with status 1 at the first fault.
 # usage: tests/show_and_revert.sh PROGRAM [ROUNDS]      (40 rounds by default)
 # The tags below are data: REUSE-IgnoreStart
 set -euo pipefail

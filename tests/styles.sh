@@ -1,7 +1,8 @@
 #!/usr/bin/env bash
-# A tree with a file of each name that the program knows by itself or that share/styles.toml gives a style: annotate writes a header or a
-# neighbour for each, which it finds again, and undo takes all back byte for byte. Annotated samples of common languages still pass their
-# compilers or interpreters, as far as those are there. Ends with status 1 at the first fault.
+# A tree with a file of each name that the program knows by itself or that share/styles.toml gives a
+# style: annotate writes a header or a neighbour for each, which it finds again, and undo takes all
+# back byte for byte. Annotated samples of common languages still pass their compilers or
+# interpreters, as far as those are there. Ends with status 1 at the first fault.
 # usage: tests/styles.sh PROGRAM
 # The tags below are data: REUSE-IgnoreStart
 set -euo pipefail
@@ -14,7 +15,8 @@ tree=$room/tree
 known() { sed -nE 's/^    \(b"([^"]+)", Kind::.*/\1/p' "$top/crates/reuse_header/src/style.rt"; }
 own() { sed -nE 's/^"([^"]+)" *= *"[a-z]+".*/\1/p' "$top/share/styles.toml"; }
 
-# Puts a file of each name from standard input into a folder of its own, so that names that differ in case alone don't meet.
+# Puts a file of each name from standard input into a folder of its own, so that names that differ
+# in case alone don't meet.
 make_files() {
   local name folder k=0
   while IFS= read -r name; do

@@ -1,11 +1,11 @@
 #!/usr/bin/env bash
 # Which system calls make a run lasting, and in which order, by strace. The data of each new file is
-# synced before its rename; files of a step are written together, then synced, then renamed. Behind the entry, the pending head, the files and the last head each
-# folder that got or lost a name is synced, once. Behind the files that isn't the journal's, which
-# lost the names of new files alone. A call that writes nothing makes no sync, and
-# neither does one with --no-sync. A file system that can't sync folders counts as synced. No sync
-# follows one that failed, and a note names what couldn't be synced. Prints how many runs were
-# traced; ends with status 1 at the first fault.
+# synced before its rename; files of a step are written together, then synced, then renamed. Behind
+# the entry, the pending head, the files and the last head each folder that got or lost a name is
+# synced, once. Behind the files that isn't the journal's, which lost the names of new files alone.
+# A call that writes nothing makes no sync, and neither does one with --no-sync. A file system that
+# can't sync folders counts as synced. No sync follows one that failed, and a note names what
+# couldn't be synced. Prints how many runs were traced; ends with status 1 at the first fault.
 # usage: tests/syncs.sh PROGRAM
 # The tags below are data: REUSE-IgnoreStart
 set -euo pipefail
@@ -31,7 +31,8 @@ trace() {
   } 2> /dev/null
 }
 
-# In what strace wrote, the folders in place of the handles that lead to them. Openings are left out.
+# In what strace wrote, the folders in place of the handles that lead to them. Openings are left
+# out.
 named() {
   awk '
     match($0, / = [0-9]+<[^>]*>$/) {

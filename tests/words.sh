@@ -1,9 +1,9 @@
 #!/usr/bin/env bash
-# Compares the program's help, the manual page and docs/REFERENCE.md: of each subcommand the options, one
-# by one, with their short names and values; subcommands, styles and prefixes. Compares the manual page
-# with each text of a refusal in the sources, and the version with that of CHANGELOG.md. The manual page
-# passes mandoc's and man's own tests. What each shell completes is compared by completions.sh. Ends with
-# status 1 at the first fault.
+# Compares the program's help, the manual page and docs/REFERENCE.md: of each subcommand the
+# options, one by one, with their short names and values; subcommands, styles and prefixes. Compares
+# the manual page with each text of a refusal in the sources, and the version with that of
+# CHANGELOG.md. The manual page passes mandoc's and man's own tests. What each shell completes is
+# compared by completions.sh. Ends with status 1 at the first fault.
 # usage: tests/words.sh PROGRAM
 set -euo pipefail
 . "$(dirname "$0")/common.sh"
@@ -56,8 +56,8 @@ while read -r word; do
   grep -qxF -- "$word" "$room/long_options" || fail "docs/REFERENCE.md, HOWTO.md: $word is no option"
 done < "$room/used_options"
 
-# Option by option: a line `-c, --copyright TEXT` for each option of a section of the manual page, of the
-# reference, or of a subcommand's help
+# Option by option: a line `-c, --copyright TEXT` for each option of a section of the manual page,
+# of the reference, or of a subcommand's help
 one_each() {
   awk -F', ' '{
     short = ""
@@ -99,8 +99,9 @@ for section in 'Options of all subcommands' 'Dry runs' $(grep -vx help "$room/su
   compared=$((compared + $(wc -l < "$room/in_help")))
 done
 
-# Texts of refusals; three are of calls that the program doesn't make, or not alone, a dry run tells the refusals in place of one, and why styles are bad
-# isn't told, nor is what a folder's fault was, but in notes
+# Texts of refusals; three are of calls that the program doesn't make, or not alone, a dry run tells
+# the refusals in place of one, and why styles are bad isn't told, nor is what a folder's fault was,
+# but in notes
 sed -nE 's/.*#\[error\("(.*)"(, .*)?\)\]$/\1/p' $(find "$top"/crates/*/src -name '*.rt' | grep -vE 'test|style_refusal|disk/fault') | grep -vxE 'device fault|not a good journal text|would be refused|nothing left' \
   | sed -E 's/\{[^}]*\}/\n/g' | sed -E 's/^[: ]+//; s/[: ]+$//' | grep . | sort -u > "$room/refusals"
 while IFS= read -r text; do grep -qF -- "$text" "$room/manual" || fail "the manual page: the refusal $text is not told"; done < "$room/refusals"

@@ -1,7 +1,9 @@
 #!/usr/bin/env bash
-# Runs worked command lines on folders, and compares what is told, the status, and each file that is left, byte for byte: headers, the places that
-# are written, lines that change nothing, replies, limits, rows, dry runs, and steps that are shown and reverted. What annotate changes is undone and
-# redone. Words are run in the tree, without --root. Ends with status 1 at the first fault. Options and faults of words: options.sh.
+# Runs worked command lines on folders, and compares what is told, the status, and each file that is
+# left, byte for byte: headers, the places that are written, lines that change nothing, replies,
+# limits, rows, dry runs, and steps that are shown and reverted. What annotate changes is undone and
+# redone. Words are run in the tree, without --root. Ends with status 1 at the first fault. Options
+# and faults of words: options.sh.
 # usage: tests/worked_lines.sh PROGRAM
 # The tags below are data: REUSE-IgnoreStart
 set -euo pipefail
@@ -31,7 +33,8 @@ sums_of() {
 # The tree has just the files of these sums.
 has_just() { [[ $(files_of "$tree") == "$2" ]] || fail "$1: files are $(files_of "$tree"), not $2"; }
 
-# Runs the program in the tree with words that `|` separates; `status`, `out` and `error` are what comes of it.
+# Runs the program in the tree with words that `|` separates; `status`, `out` and `error` are what
+# comes of it.
 run() {
   local words
   IFS='|' read -ra words <<< "$1|"
@@ -43,7 +46,8 @@ run() {
 }
 differs() { fail "$1: status $status, it prints ${out@Q} and tells ${error@Q}"; }
 
-# The words end with this status and tell just this text with escapes: with status 0 on standard output, else on standard error.
+# The words end with this status and tell just this text with escapes: with status 0 on standard
+# output, else on standard error.
 tells() {
   local text
   printf -v text %b "$3"
@@ -61,7 +65,8 @@ refuses() {
   [[ $status == 2 && ! $out && $error == 'error: '*"$2"* ]] || differs "$1"
 }
 
-# The words behind `annotate` change files or make others: `writes WORDS OLD... to NEW...`. That is undone and redone.
+# The words behind `annotate` change files or make others: `writes WORDS OLD... to NEW...`. That is
+# undone and redone.
 writes() {
   local line="annotate|$1" old=() lines='' before after i
   shift
@@ -83,7 +88,8 @@ writes() {
   written=$((written + 1))
 }
 
-# The words behind `annotate` end with this status and text, and change nothing: `stays WORDS STATUS TEXT FILES...`.
+# The words behind `annotate` end with this status and text, and change nothing:
+# `stays WORDS STATUS TEXT FILES...`.
 stays() {
   local before
   files "${@:4}"
@@ -93,7 +99,8 @@ stays() {
   unchanged=$((unchanged + 1))
 }
 
-# The words become these bytes of a file: `header WORDS PATH OLD NEW`. Once more they change nothing.
+# The words become these bytes of a file: `header WORDS PATH OLD NEW`. Once more they change
+# nothing.
 header() {
   writes "$1|$2" "$2" "$3" to "$2" "$4"
   tells "annotate|$1|$2" 0 'nothing changed\n'
@@ -134,7 +141,8 @@ headers() {
 }
 
 places() {
-  # The neighbour: where it is asked for, where it is there, and where the file is no text or can't hold a comment
+  # The neighbour: where it is asked for, where it is there, and where the file is no text or can't
+  # hold a comment
   writes '--force-dot-license|-l|MIT|a.py' a.py 'x\n' to a.py.license "$tag"
   writes '-s|python|-l|ISC|a.py' a.py 'x\n' a.py.license "$tag" to a.py.license "SPDX-License-Identifier: ISC\n$tag"
   writes '-l|MIT|p.png' p.png '\x89\0' to p.png.license "$tag"
@@ -208,8 +216,9 @@ path_of_length() {
   printf '%s%s.png' "$path" "${letters:0:$1 - ${#path} - 4}"
 }
 
-# Annotates a picture alone in a tree, whose path has this length, and is `@` in the text; then its folder has it, and the neighbour if so stated:
-# `deep LENGTH STATUS TEXT [NEIGHBOUR]`. In parts, since the path may be longer than the system takes.
+# Annotates a picture alone in a tree, whose path has this length, and is `@` in the text; then its
+# folder has it, and the neighbour if so stated: `deep LENGTH STATUS TEXT [NEIGHBOUR]`. In parts,
+# since the path may be longer than the system takes.
 deep() {
   local path name folder folders
   path=$(path_of_length "$1")
@@ -226,7 +235,8 @@ deep() {
 }
 
 limits() {
-  # Where the neighbour is asked for, or there, or the name is that of a picture, it doesn't matter that the file is longer than is read.
+  # Where the neighbour is asked for, or there, or the name is that of a picture, it doesn't matter
+  # that the file is longer than is read.
   files
   head -c 16777217 /dev/zero | tr '\0' x | tee "$tree/big.py" > "$tree/big.png"
   sums_of big.py.license "SPDX-License-Identifier: ISC\n$tag" big.png.license "$tag" > /dev/null
@@ -236,8 +246,8 @@ limits() {
   tells 'annotate|-l|ISC|big.py' 0 'changed big.py.license\n'
   tells 'annotate|-l|MIT|big.png' 0 'changed big.png.license\n'
   has_just 'files that are too long' "$(files_of "$room/wanted")"
-  # A path has at most 4,096 bytes, and eight more than the file's in its neighbour. Each folder is worked through its handle, so
-  # that the system's own limit of 4,095 isn't met.
+  # A path has at most 4,096 bytes, and eight more than the file's in its neighbour. Each folder is
+  # worked through its handle, so that the system's own limit of 4,095 isn't met.
   deep 4085 0 'changed @.license\n' "$tag"
   deep 4088 0 'changed @.license\n' "$tag"
   deep 4089 1 '@: too long'
@@ -251,7 +261,8 @@ moment() {
   printf %s "${text/\"when\":+([0-9])/\"when\":$2}" > "$journal"
 }
 
-# Rows, with the first and the last date that a moment can have; steps that are told before they are made, shown, and reverted
+# Rows, with the first and the last date that a moment can have; steps that are told before they are
+# made, shown, and reverted
 looks() {
   local before jane='-c|Jane Doe|-y|2024|-l|MIT|a.py' row='"command":"annotate","count":1,"date":"2024-01-01","done":true,"number":1,"when":1704067200}'
   files a.py 'print(1)\n' x/MIT.txt 'text\n'
