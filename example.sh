@@ -56,7 +56,8 @@ else
     echo "This build is NOT proved yet: it is compiled without proof, to show what the program does. ./install.sh proves and builds it."
     echo "compiling, which takes a minute or two .." >&2
     cd "$top/crates/reuse_undo"
-    rt try --cases "$room/calls" > "$room/printed" 2> "$room/told" || { tail -n 20 "$room/told" >&2; exit 1; }
+    rt try --cases "$room/calls" > "$room/printed" 2> "$room/told" ||
+        { tail -n 20 "$room/told" >&2; exit 1; }
     as_calls < "$room/printed"
 fi
 for file in a.py b.py; do

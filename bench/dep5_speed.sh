@@ -19,12 +19,15 @@ sys.stdout.write("".join(out))' "$1" "$2"; }
 head="Format: x\n"
 files="\nFiles: *\nCopyright: J\nLicense: MIT\n"
 for size in 8000000 16000000; do
-  { printf "$head"; fill $size '\nFiles: src/{}/*\nCopyright: 2019 Jane Doe\nLicense: MIT\n'; } > "$build/paragraphs.$size"
-  { printf "$head"'\nFiles: '; fill $size '*'; printf '\nCopyright: J\nLicense: MIT\n'; } > "$build/asterisks.$size"
+  { printf "$head"; fill $size '\nFiles: src/{}/*\nCopyright: 2019 Jane Doe\nLicense: MIT\n'; } \
+    > "$build/paragraphs.$size"
+  { printf "$head"'\nFiles: '; fill $size '*'; printf '\nCopyright: J\nLicense: MIT\n'; } \
+    > "$build/asterisks.$size"
   { printf "$head"; fill $size 'Field-{}: x\n'; printf "$files"; } > "$build/fields.$size"
   { printf "$head"; fill $size '\n'; printf "$files"; } > "$build/blank_lines.$size"
 done
 for kind in paragraphs asterisks fields blank_lines; do
   "$program" "$build/$kind.8000000" "$build/$kind.16000000" |
-    awk -v kind=$kind '{ time[NR] = $2; answer = $3 " " $4 } END { printf "%-12s %s s, %s s: ratio %.2f, %s\n", kind, time[1], time[2], (time[1] > 0 ? time[2] / time[1] : 0), answer }'
+    awk -v \
+    kind=$kind '{ time[NR] = $2; answer = $3 " " $4 } END { printf "%-12s %s s, %s s: ratio %.2f, %s\n", kind, time[1], time[2], (time[1] > 0 ? time[2] / time[1] : 0), answer }'
 done

@@ -34,7 +34,9 @@ measure() {
   start=${EPOCHREALTIME/./}
   "$@" > /dev/null
   end=${EPOCHREALTIME/./}
-  if [[ -z ${least[$name]:-} || $((end - start)) -lt ${least[$name]} ]]; then least[$name]=$((end - start)); fi
+  if [[ -z ${least[$name]:-} || $((end - start)) -lt ${least[$name]} ]]; then
+    least[$name]=$((end - start))
+  fi
 }
 for round in {1..5}; do
   rm -rf "$tree/out"

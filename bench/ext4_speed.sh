@@ -25,7 +25,8 @@ seconds() {
   local name=$1 start=${EPOCHREALTIME/./}
   shift
   "$@" > "$room/out"
-  awk -v name="$name" -v took=$((${EPOCHREALTIME/./} - start)) 'BEGIN { printf "  %-22s %5.2f s\n", name, took / 1e6 }'
+  awk -v name="$name" -v took=$((${EPOCHREALTIME/./} - start)) \
+    'BEGIN { printf "  %-22s %5.2f s\n", name, took / 1e6 }'
 }
 undo_tool() { "$program" --root "$tree" "$@"; }
 

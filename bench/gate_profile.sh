@@ -39,7 +39,9 @@ measure() {
   local folder=$1 status=0
   shift
   TIMEFORMAT='%U %S %R'
-  { time (cd "$folder" && "$@" 2>&1) < /dev/null > >(while IFS= read -r line; do printf '%s %s\n' "$EPOCHREALTIME" "$line"; done > "$room/log") || status=$?; } 2> "$room/time"
+  { time (cd "$folder" && "$@" 2>&1) < /dev/null \
+    > >(while IFS= read -r line; do printf '%s %s\n' "$EPOCHREALTIME" "$line"; done \
+    > "$room/log") || status=$?; } 2> "$room/time"
   wait
   spent=$(awk 'END { printf "%.1f\t%.1f", $1 + $2, $3 }' "$room/time")
   return $status
@@ -91,8 +93,10 @@ for crate in "${crates[@]}"; do
   # the libraries that it stands on: as the repository keeps them, or proved now
   for below in "${all[@]}"; do
     [ "$below" != "$crate" ] || break
-    [ -e "$room/crates/$below/out" ] || ! [ -d "$top/crates/$below/out" ] || cp -a "$top/crates/$below/out" "$room/crates/$below/"
-    (cd "$room/crates/$below" && [ -e out/rlib/stamp ] || "$rt" lib --jobs 1) > "$room/below" 2>&1 || { tail -n 20 "$room/below"; exit 1; }
+    [ -e "$room/crates/$below/out" ] || ! [ -d "$top/crates/$below/out" ] ||
+      cp -a "$top/crates/$below/out" "$room/crates/$below/"
+    (cd "$room/crates/$below" && [ -e out/rlib/stamp ] || "$rt" lib --jobs 1) > "$room/below" \
+      2>&1 || { tail -n 20 "$room/below"; exit 1; }
   done
   if [ "$kept" ]; then
     [ -e "$folder/out" ] || cp -a "$top/crates/$crate/out" "$folder/"
@@ -105,7 +109,8 @@ for crate in "${crates[@]}"; do
   tried=("$folder"/must-fail/*.edit)
   if [ "$most" -gt 0 ] && [ -e "${tried[0]}" ]; then
     step=$(((${#tried[@]} + most - 1) / most))
-    cp -r "$folder/src" "$folder/specs" "$folder/proofs" -t "$(mktemp -d "$room/whole.XXXX")" 2> /dev/null || true
+    cp -r "$folder/src" "$folder/specs" "$folder/proofs" -t "$(mktemp -d "$room/whole.XXXX")" \
+      2> /dev/null || true
     whole=$(ls -d "$room"/whole.*)
     for ((at = 0; at < ${#tried[@]}; at += step)); do
       edit=${tried[$at]}
@@ -123,11 +128,13 @@ table=$room/table
 
 echo
 echo 'kind      crate          of                   processor s    wall s'
-awk -F'\t' '$1 != "function" && $1 != "edit" { printf "%-9s %-14s %-24s %8.1f %9.1f\n", $1, $2, $3, $4, $5 }
+awk -F'\t' \
+  '$1 != "function" && $1 != "edit" { printf "%-9s %-14s %-24s %8.1f %9.1f\n", $1, $2, $3, $4, $5 }
   $1 == "edit" { number[$2]++; cpu[$2] += $4; wall[$2] += $5 }
   END { for (crate in number) printf "%-9s %-14s %-24s %8.1f %9.1f\n", "edits", crate, number[crate] " together", cpu[crate], wall[crate] }' "$table"
 for kind in function edit; do
   echo
   echo "the slowest of kind $kind, wall s"
-  awk -F'\t' -v kind=$kind '$1 == kind { printf "%8.1f  %s %s\n", $5, $2, $3 }' "$table" | sort -rn | head -n 20
+  awk -F'\t' -v kind=$kind '$1 == kind { printf "%8.1f  %s %s\n", $5, $2, $3 }' "$table" |
+    sort -rn | head -n 20
 done

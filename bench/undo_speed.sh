@@ -29,7 +29,10 @@ program=$undo
 # kB.
 declare -A best
 note() {
-  if [[ -z ${best[$1]:-} ]] || awk -v one="${2%% *}" -v other="${best[$1]%% *}" 'BEGIN { exit !(one < other) }'; then best[$1]=$2; fi
+  if [[ -z ${best[$1]:-} ]] ||
+    awk -v one="${2%% *}" -v other="${best[$1]%% *}" 'BEGIN { exit !(one < other) }'; then
+    best[$1]=$2
+  fi
 }
 
 # Runs a command, and notes what it took.
@@ -37,7 +40,8 @@ measure() {
   local name=$1 start took
   shift
   start=${EPOCHREALTIME/./}
-  /usr/bin/time -o "$room/time" -f '%U %S %M' "$@" > "$room/out" || { echo "refused: $*" >&2; exit 1; }
+  /usr/bin/time -o "$room/time" -f '%U %S %M' "$@" > "$room/out" ||
+    { echo "refused: $*" >&2; exit 1; }
   took=$((${EPOCHREALTIME/./} - start))
   note "$name" "$((took / 1000000)).$(printf %06d $((took % 1000000))) $(cat "$room/time")"
 }
@@ -55,7 +59,8 @@ report() {
   shift
   for name in "$@"; do
     read -r seconds user system kilobytes <<< "${best[$name]}"
-    awk -v name="$name" -v time="$seconds" -v busy="$user" -v system_busy="$system" -v copy="${best[cp -r]:-0}" -v goal="$goal" -v memory="$kilobytes" 'BEGIN {
+    awk -v name="$name" -v time="$seconds" -v busy="$user" -v system_busy="$system" \
+      -v copy="${best[cp -r]:-0}" -v goal="$goal" -v memory="$kilobytes" 'BEGIN {
       printf "  %-20s %6.2f s (processor %6.2f s) %6.0f MB", name, time, busy + system_busy, memory / 1024
       if (copy > 0) printf "  %5.2f of cp -r", time / copy
       if (goal > 0) printf "  %5.2f of the goal of %.2f s", time / goal, goal
@@ -91,7 +96,8 @@ times_on() {
   floor=${best[floor]%% *}
   report 0 "cp -r" floor
   echo "  hashing each file twice: $hash s"
-  report "$(awk -v floor="$floor" -v hash="$hash" 'BEGIN { print 1.5 * floor + hash }')" annotate undo redo
+  report "$(awk -v floor="$floor" -v hash="$hash" 'BEGIN { print 1.5 * floor + hash }')" annotate \
+    undo redo
   report "$(awk -v floor="$floor" 'BEGIN { print 1.5 * floor }')" "undo without seals"
   report 0 log
 }
@@ -99,8 +105,11 @@ times_on() {
 # Lists one entry so many times, each with a copy of it.
 list_often() {
   local journal=$room/$1/.reuse/undo k
-  for ((k = 2; k <= $2; k++)); do cp "$journal/000001.json" "$journal/$(printf %06d "$k").json"; done
-  printf '{"done":[%s],"format":2,"next":%d,"pending":null,"undone":[]}' "$(seq -s, "$2")" $(($2 + 1)) > "$journal/head.json"
+  for ((k = 2; k <= $2; k++)); do
+    cp "$journal/000001.json" "$journal/$(printf %06d "$k").json"
+  done
+  printf '{"done":[%s],"format":2,"next":%d,"pending":null,"undone":[]}' "$(seq -s, "$2")" \
+    $(($2 + 1)) > "$journal/head.json"
   best=()
   echo "a log of $2 entries of $3 files, $(du -sm --apparent-size "$journal" | cut -f1) MB:"
   for _ in 1 2 3; do measure log "$program" --root "$room/$1" log; done
@@ -130,7 +139,9 @@ done
 times_on "$room/wide" "100,000 files" 5
 rm -rf "$room/tree"
 holders=0
-annotate_one() { "$program" --root "$room/wide" annotate -c "Holder $((++holders))" -l MIT -y 2024 folder50/xaab.py; }
+annotate_one() {
+  "$program" --root "$room/wide" annotate -c "Holder $((++holders))" -l MIT -y 2024 folder50/xaab.py
+}
 echo "one file of 100,000: $(milliseconds annotate_one) ms"
 rm -rf "$room/wide"
 

@@ -52,11 +52,13 @@ for script in "${scripts[@]}"; do
     echo "$script skipped: no time is left" && skipped=$((skipped + 1))
     continue
   fi
-  timeout -k 10 "$((room < limit ? room : limit))" "./$script" "${arguments[@]}" > "$log" 2>&1 < /dev/null &
+  timeout -k 10 "$((room < limit ? room : limit))" "./$script" "${arguments[@]}" > "$log" 2>&1 \
+    < /dev/null &
   running=$!
   wait "$running" || status=$?
   running=
-  ((room >= limit || (status != 124 && status != 137))) || { status=77 && echo 'no time was left' >> "$log"; }
+  ((room >= limit || (status != 124 && status != 137))) ||
+    { status=77 && echo 'no time was left' >> "$log"; }
   case $status in
     0) result=passed passed=$((passed + 1)) ;;
     77) result=skipped skipped=$((skipped + 1)) ;;

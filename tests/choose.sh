@@ -9,17 +9,31 @@ set -euo pipefail
 wants git git
 tree=$room/tree
 export GIT_CONFIG_GLOBAL=/dev/null GIT_CONFIG_NOSYSTEM=1
-git() { command git -c user.name=Jane -c user.email=jane@example.org -c protocol.file.allow=always -c init.defaultBranch=main "$@"; }
+git() {
+  command git -c user.name=Jane -c user.email=jane@example.org -c protocol.file.allow=always \
+    -c init.defaultBranch=main "$@"
+}
 
 # Each file outside of git's and the journal's, with its bytes, and each link with its target
 files_of() {
-  find "$tree" -name .git -prune -o -path "$tree/.reuse" -prune -o \( -type f -o -type l \) -print0 | sort -z | while IFS= read -r -d '' file; do
-    if [[ -L $file ]]; then readlink "$file"; else cat "$file"; fi | sha256sum | (read -r sum _ && printf '%q %s\n' "${file#"$tree/"}" "$sum")
+  find "$tree" -name .git -prune -o -path "$tree/.reuse" -prune -o \( -type f -o -type l \) \
+    -print0 | sort -z | while IFS= read -r -d '' file; do
+    if [[ -L $file ]]; then
+      readlink "$file"
+    else
+      cat "$file"
+    fi | sha256sum | (read -r sum _ && printf '%q %s\n' "${file#"$tree/"}" "$sum")
   done
 }
 # The paths of the files that differ from those of before, a neighbour as its file
-changed() { diff <(echo "$before") <(files_of) | sed -nE 's/^[<>] (.*) [0-9a-f]{64}$/\1/p' | sed -E "s/\.license('?)\$/\1/" | LC_ALL=C sort -u; }
-annotate() { "$program" --root "$tree" annotate -c 'Jane Doe' -y 2024 -l MIT -r --fallback-dot-license "$@" > "$room/out" 2>&1; }
+changed() {
+  diff <(echo "$before") <(files_of) | sed -nE 's/^[<>] (.*) [0-9a-f]{64}$/\1/p' |
+    sed -E "s/\.license('?)\$/\1/" | LC_ALL=C sort -u
+}
+annotate() {
+  "$program" --root "$tree" annotate -c 'Jane Doe' -y 2024 -l MIT -r --fallback-dot-license "$@" \
+    > "$room/out" 2>&1
+}
 undo() {
   "$program" --root "$tree" undo > "$room/out" 2>&1 || fail "undo: $(cat "$room/out")"
   [[ $(files_of) == "$before" ]] || fail "undo: $(diff <(echo "$before") <(files_of))"
@@ -31,8 +45,13 @@ chooses() {
   while [[ $1 != by ]]; do wanted+=("$(printf %q "$1")"); shift; done
   shift
   annotate "$@" || fail "$*: $(cat "$room/out")"
-  [[ $(changed) == "$( ((${#wanted[@]})) && printf '%s\n' "${wanted[@]}" | LC_ALL=C sort)" ]] || fail "$*: changed $(changed)"
-  if ((${#wanted[@]})); then undo; else [[ $(< "$room/out") == 'nothing changed' ]] || fail "$*: $(cat "$room/out")"; fi
+  [[ $(changed) == "$( ((${#wanted[@]})) && printf '%s\n' "${wanted[@]}" | LC_ALL=C sort)" ]] ||
+    fail "$*: changed $(changed)"
+  if ((${#wanted[@]})); then
+    undo
+  else
+    [[ $(< "$room/out") == 'nothing changed' ]] || fail "$*: $(cat "$room/out")"
+  fi
   counted=$((counted + 1))
 }
 # The program refuses the arguments with status 2 and this text, and changes nothing.
@@ -51,8 +70,10 @@ echo 'line = 1' > "$room/library/file.py"
 git -C "$room/library" add -A
 git -C "$room/library" commit -qm First
 
-files .gitignore 'build/\n*.log\n' a.py 'x\n' empty.py '' run 'x\n' src/b.py 'x\n' src/deep/c.c 'int x;\n' src/p.png '\0211\0' src/data.json '{}\n' gone.py 'x\n' \
-  LICENSES/MIT.txt 'text\n' LICENSE 'text\n' REUSE.toml 'version = 1\n' 'odd "é.py' 'x\n' 'two words.py' 'x\n' 'a*.py' 'x\n' 'back\slash.py' 'x\n' build/gen.py 'x\n' \
+files .gitignore 'build/\n*.log\n' a.py 'x\n' empty.py '' run 'x\n' src/b.py 'x\n' src/deep/c.c \
+  'int x;\n' src/p.png '\0211\0' src/data.json '{}\n' gone.py 'x\n' \
+  LICENSES/MIT.txt 'text\n' LICENSE 'text\n' REUSE.toml 'version = 1\n' 'odd "é.py' 'x\n' \
+  'two words.py' 'x\n' 'a*.py' 'x\n' 'back\slash.py' 'x\n' build/gen.py 'x\n' \
   src/build/gen.py 'x\n' src/trace.log 'x\n' new.py 'x\n' src/new.c 'int x;\n'
 printf 'x\n' > "$tree/"$'line\nend.py'
 chmod +x "$tree/run"
@@ -80,20 +101,25 @@ chooses "${tracked[@]}" by --files-from "$room/list" .
 chooses "${tracked[@]}" by --files-from - . < "$room/list"
 chooses "${tracked[@]}" by --files-from - . < <(git -C "$tree" ls-files -z)
 # so is what isn't tracked and not ignored, but for the clone
-chooses "${tracked[@]}" new.py src/new.c by --files-from - . < <(git -C "$tree" ls-files -z --cached --others --exclude-standard)
+chooses "${tracked[@]}" new.py src/new.c by --files-from - . \
+  < <(git -C "$tree" ls-files -z --cached --others --exclude-standard)
 chooses src/b.py src/deep/c.c src/p.png src/data.json by --files-from "$room/list" src
 annotate --files-from "$room/list" . || fail "$(cat "$room/out")"
 for repository in vendor/clone vendor/module; do
-  [[ -z $(git -C "$tree/$repository" status --porcelain) ]] || fail "$repository: $(git -C "$tree/$repository" status --porcelain)"
+  [[ -z $(git -C "$tree/$repository" status --porcelain) ]] ||
+    fail "$repository: $(git -C "$tree/$repository" status --porcelain)"
 done
 undo
 
 # Lists in lines, with and without an end, and words that name no file beneath a PATH
 chooses a.py src/b.py by --files-from - . <<< $'a.py\nsrc/b.py'
 chooses a.py 'two words.py' by --files-from - . < <(printf 'two words.py\na.py')
-chooses a.py 'two words.py' src/b.py by --files-from - . < <(printf 'two words.py\r\na.py\r\nsrc/b.py\r')
+chooses a.py 'two words.py' src/b.py by --files-from - . \
+  < <(printf 'two words.py\r\na.py\r\nsrc/b.py\r')
 chooses src/b.py by --files-from - . < <(printf 'a.py\r\0src/b.py\0')
-chooses a.py src/b.py by --files-from - . < <(printf '%s\n' ./a.py src/./b.py/ '' . .. ../a.py /a.py src//b.py src none.py link.py linked/b.py LICENSE $'\xff.py' .reuse/undo/head.json)
+chooses a.py src/b.py by --files-from - . \
+  < <(printf '%s\n' ./a.py src/./b.py/ '' . .. ../a.py /a.py src//b.py src none.py link.py \
+  linked/b.py LICENSE $'\xff.py' .reuse/undo/head.json)
 chooses $'line\nend.py' by --files-from - . < <(printf 'line\nend.py\0')
 chooses by --files-from - . < <(printf 'line\nend.py\n')
 chooses by --files-from /dev/null .
@@ -103,20 +129,27 @@ chooses a.py src/b.py by --files-from - a.py src <<< src/b.py
 chooses a.py by --files-from /dev/null --exclude '**' a.py .
 
 # Globs
-chooses a.py empty.py 'a*.py' by --files-from - --exclude 'src/**' --exclude run . < <(printf '%s\n' a.py empty.py 'a*.py' src/b.py src/deep/c.c run)
-chooses src/b.py src/deep/c.c src/new.c src/p.png src/trace.log src/data.json by --exclude 'src/build/**' src
-chooses src/b.py src/new.c src/deep/c.c src/p.png src/data.json src/trace.log src/build/gen.py by --exclude '*.py' --exclude '*/*.xyz' src
-chooses src/deep/c.c src/p.png src/data.json src/trace.log src/build/gen.py by --exclude 'src/*.py' --exclude 'src/*.c' src
+chooses a.py empty.py 'a*.py' by --files-from - --exclude 'src/**' --exclude run . \
+  < <(printf '%s\n' a.py empty.py 'a*.py' src/b.py src/deep/c.c run)
+chooses src/b.py src/deep/c.c src/new.c src/p.png src/trace.log src/data.json by \
+  --exclude 'src/build/**' src
+chooses src/b.py src/new.c src/deep/c.c src/p.png src/data.json src/trace.log src/build/gen.py by \
+  --exclude '*.py' --exclude '*/*.xyz' src
+chooses src/deep/c.c src/p.png src/data.json src/trace.log src/build/gen.py by \
+  --exclude 'src/*.py' --exclude 'src/*.c' src
 chooses src/p.png src/data.json src/trace.log by --exclude '**.py' --exclude '**.c' src
-chooses a.py 'back\slash.py' by --files-from "$room/list" --exclude 'src/**' --exclude '**é.py' --exclude 'a\*.py' --exclude '?*' --exclude $'line*' --exclude 'two*' --exclude '.*' \
+chooses a.py 'back\slash.py' by --files-from "$room/list" --exclude 'src/**' --exclude '**é.py' \
+  --exclude 'a\*.py' --exclude '?*' --exclude $'line*' --exclude 'two*' --exclude '.*' \
   --exclude run --exclude empty.py .
-chooses a.py by --files-from - --exclude 'back\\*' --exclude '* *.py' . < <(printf '%s\n' a.py 'back\slash.py' 'two words.py')
+chooses a.py by --files-from - --exclude 'back\\*' --exclude '* *.py' . \
+  < <(printf '%s\n' a.py 'back\slash.py' 'two words.py')
 # a folder is left out whole, however it is written, and at any depth
 for folder in src src/ ./src 'src/**' 'src/.' '**/src' 's*' 'src/*'; do
   chooses a.py by --files-from - --exclude "$folder" . <<< $'a.py\nsrc/b.py\nsrc/deep/c.c'
 done
 chooses a.py src/b.py by --files-from - --exclude '**/deep' . <<< $'a.py\nsrc/b.py\nsrc/deep/c.c'
-chooses a.py src/b.py src/deep/c.c by --files-from - --exclude deep --exclude '*/src' --exclude 'a.py/x' . <<< $'a.py\nsrc/b.py\nsrc/deep/c.c'
+chooses a.py src/b.py src/deep/c.c by --files-from - --exclude deep --exclude '*/src' \
+  --exclude 'a.py/x' . <<< $'a.py\nsrc/b.py\nsrc/deep/c.c'
 chooses src/b.py by --exclude src src/b.py
 
 # Faults

@@ -7,7 +7,8 @@ trap 'rm -rf "$room"' EXIT
 # A dep5 file in a tree
 make_dep5() {
   mkdir -p "$1/.reuse"
-  printf '%s\n' 'Format: https://www.debian.org/doc/packaging-manuals/copyright-format/1.0/' '' 'Files: *.json' \
+  printf '%s\n' 'Format: https://www.debian.org/doc/packaging-manuals/copyright-format/1.0/' '' \
+    'Files: *.json' \
     'Copyright: 2020 Jane Doe' 'License: MIT' > "$1/.reuse/dep5"
 }
 
@@ -31,7 +32,8 @@ state_of() {
 
 # Rewrites a tree's journal as version 1.0 wrote it: in format 1, without the digests of the files
 as_format_1() {
-  sed -i -E 's/"(after|before)":"[0-9a-f]{64}",//g; s/"format":2/"format":1/' "$1"/.reuse/undo/*.json
+  sed -i -E 's/"(after|before)":"[0-9a-f]{64}",//g; s/"format":2/"format":1/' \
+    "$1"/.reuse/undo/*.json
 }
 
 # Whether the journal of a tree tells a step that is under way
@@ -58,9 +60,15 @@ wants() { command -v "$1" > /dev/null || skip "$1 isn't there: apt-get install $
 
 # The words of help: the subcommands; the options of a subcommand, or, without one, those before it;
 # the names that an option of annotate takes
-help_subcommands() { "$program" --help | sed -nE '/^Commands:/,/^$/s/^  ([a-z][a-z0-9-]*) .*/\1/p'; }
+help_subcommands() {
+  "$program" --help | sed -nE '/^Commands:/,/^$/s/^  ([a-z][a-z0-9-]*) .*/\1/p'
+}
 help_options() {
   "$program" "$@" --help | sed -nE '/^Options:/,/^[^ ]*$/p' | sed -nE \
-    -e 's/^ +(-[A-Za-z]), (--[a-z-]+).*/\1\n\2/p' -e 's/^ +(--[a-z-]+).*\[alias(es)?: (--[a-z-]+).*/\1\n\3/p' -e 's/^ +(--[a-z-]+).*/\1/p'
+    -e 's/^ +(-[A-Za-z]), (--[a-z-]+).*/\1\n\2/p' \
+    -e 's/^ +(--[a-z-]+).*\[alias(es)?: (--[a-z-]+).*/\1\n\3/p' -e 's/^ +(--[a-z-]+).*/\1/p'
 }
-help_values() { "$program" annotate --help | sed -nE "s/.*--$1 .*\[possible values: ([^]]*)\].*/\1/p" | sed 's/, /\n/g'; }
+help_values() {
+  "$program" annotate --help | sed -nE "s/.*--$1 .*\[possible values: ([^]]*)\].*/\1/p" |
+    sed 's/, /\n/g'
+}

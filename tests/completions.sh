@@ -9,7 +9,8 @@ wants zsh zsh
 wants fish fish
 completions=$(realpath "$(dirname "$0")/../share/completions")
 mkdir -p "$room/here/source/deep" "$room/there/src/deep" "$room/texts"
-touch "$room/here/setup.py" "$room/here/source/a.py" "$room/there/src/b c.py" "$room/there/src/d.py" "$room/there/sign.png"
+touch "$room/here/setup.py" "$room/here/source/a.py" "$room/there/src/b c.py" \
+  "$room/there/src/d.py" "$room/there/sign.png"
 touch "$room/texts/"{MIT,MIT-0,ISC}.txt "$room/texts/README"
 mkdir "$room/bin"
 ln -s "$program" "$room/bin/reuse-undo"
@@ -70,7 +71,8 @@ ZSH
 
 # What fish completes the line with
 ask_fish() {
-  fish --no-config -c 'source $argv[1]; complete -C "reuse-undo $argv[2..]"' "$completions/reuse-undo.fish" "$@" | cut -f1
+  fish --no-config -c 'source $argv[1]; complete -C "reuse-undo $argv[2..]"' \
+    "$completions/reuse-undo.fish" "$@" | cut -f1
 }
 
 compared=0
@@ -85,7 +87,8 @@ completes() {
   shift
   for shell in bash zsh fish; do
     found=$("ask_$shell" "${words[@]}" | sed -e 's#\\##g' -e 's#/$##' | sort -u)
-    [[ $found == "$(printf '%s\n' "$@" | sort)" ]] || fail "$shell, ${words[*]}: it completes"$'\n'"$found"
+    [[ $found == "$(printf '%s\n' "$@" | sort)" ]] ||
+      fail "$shell, ${words[*]}: it completes"$'\n'"$found"
   done
   compared=$((compared + 1))
 }
@@ -123,7 +126,9 @@ completes download --te gives --texts
 completes download --texts ../texts M gives MIT MIT-0
 completes undo --h gives --help
 # The numbers of the steps
-for holder in A B; do "$program" --root ../there annotate -c $holder --force-dot-license sign.png > "$room/out"; done
+for holder in A B; do
+  "$program" --root ../there annotate -c $holder --force-dot-license sign.png > "$room/out"
+done
 "$program" --root ../there undo > "$room/out"
 completes --root ../there show '' gives 1 2
 completes --root ../there revert '' gives 1

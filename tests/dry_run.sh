@@ -36,8 +36,10 @@ compared=0 applied=0 refused=0
 compare() {
   local before status=0 looked=0
   before=$(whole)
-  "$program" --root "$tree" "${call[@]}" -n --diff > "$room/diff" 2> "$room/looked_error" || looked=$?
-  "$program" --root "$tree" "${call[@]}" -n > "$room/looked" 2> "$room/error" || [[ $looked == "$?" ]] || fail "${call[*]}: --diff changes the status"
+  "$program" --root "$tree" "${call[@]}" -n --diff > "$room/diff" 2> "$room/looked_error" ||
+    looked=$?
+  "$program" --root "$tree" "${call[@]}" -n > "$room/looked" 2> "$room/error" ||
+    [[ $looked == "$?" ]] || fail "${call[*]}: --diff changes the status"
   [[ $(whole) == "$before" ]] || fail "${call[*]}: a dry run writes"
   cmp -s "$room/error" "$room/looked_error" || fail "${call[*]}: --diff changes what is refused"
   rm -rf "$room/made"
@@ -47,12 +49,14 @@ compare() {
   ((status < 2)) || fail "${call[*]}: $(< "$room/error")"
   compared=$((compared + 1))
   if ((status)); then
-    [[ $(head -n 1 "$room/looked_error") == "$(< "$room/error")" ]] || fail "${call[*]}: refused otherwise: $(< "$room/error")"
+    [[ $(head -n 1 "$room/looked_error") == "$(< "$room/error")" ]] ||
+      fail "${call[*]}: refused otherwise: $(< "$room/error")"
     cmp -s "$room/diff" "$room/looked" || fail "${call[*]}: the diff of a call that is refused"
     refused=$((refused + 1))
     return
   fi
-  diff <(sed -nE 's/^(changed|undone|redone) //p' "$room/out" | sort) <(sed -n 's/^would change //p' "$room/looked" | sort) > "$room/differ" \
+  diff <(sed -nE 's/^(changed|undone|redone) //p' "$room/out" | sort) \
+    <(sed -n 's/^would change //p' "$room/looked" | sort) > "$room/differ" \
     || fail "${call[*]}: other paths change: $(< "$room/differ")"
   grep -q '^diff --git ' "$room/diff" || return 0
   rm -rf "$room/made/.reuse/undo"
@@ -64,24 +68,33 @@ compare() {
     cp -a "$tree" "$room/$tool"
     rm -rf "$room/$tool/.reuse/undo"
     case $tool in
-      git) (cd "$room/git" && GIT_DIR=/nowhere git apply --whitespace=nowarn "$room/diff") > "$room/out" 2>&1 ;;
-      patch) patch -d "$room/patch" -p1 -s -f --no-backup-if-mismatch < "$room/diff" > "$room/out" 2>&1 ;;
+      git)
+        (cd "$room/git" && GIT_DIR=/nowhere git apply --whitespace=nowarn "$room/diff") \
+          > "$room/out" 2>&1
+        ;;
+      patch)
+        patch -d "$room/patch" -p1 -s -f --no-backup-if-mismatch < "$room/diff" > "$room/out" 2>&1
+        ;;
     esac || fail "${call[*]}: $tool refuses the diff: $(< "$room/out")"
-    alike "$room/made" "$room/$tool" || fail "${call[*]}: $tool makes another tree: $(< "$room/differ")"
+    alike "$room/made" "$room/$tool" ||
+      fail "${call[*]}: $tool makes another tree: $(< "$room/differ")"
   done
   applied=$((applied + 1))
 }
 
 # The examples of docs/REFERENCE.md, on a tree that has what they name
 example_tree() {
-  files a.py 'print(1)\n' script '#!/bin/sh\necho\n' main.c 'int main;' src/b.py 'x = 1\r\n' src/c.h 'int y;\n' src/odd 'x\n' data.csv '1,2\n'
+  files a.py 'print(1)\n' script '#!/bin/sh\necho\n' main.c 'int main;' src/b.py 'x = 1\r\n' \
+    src/c.h 'int y;\n' src/odd 'x\n' data.csv '1,2\n'
   make_dep5 "$tree"
   mkdir -p "$room/texts"
   echo 'text of MIT' > "$room/texts/MIT.txt"
   printf 'text without an end' > "$room/texts/Apache-2.0.txt"
   echo 'text of GPL' > "$room/texts/GPL-2.0-only.txt"
 }
-mapfile -t examples < <(sed -nE "s/^    reuse-undo ((annotate|convert-dep5|download).*)/\1/p" "$here/../docs/REFERENCE.md" | sed -E 's/ +#.*//; s/ +(--dry-run|-n)( --diff)?$//' | grep -vE -e '--files-from|--exclude ' | sort -u)
+mapfile -t examples < <(sed -nE "s/^    reuse-undo ((annotate|convert-dep5|download).*)/\1/p" \
+  "$here/../docs/REFERENCE.md" | sed -E 's/ +#.*//; s/ +(--dry-run|-n)( --diff)?$//' |
+  grep -vE -e '--files-from|--exclude ' | sort -u)
 ((${#examples[@]} >= 12)) || fail "docs/REFERENCE.md has ${#examples[@]} examples"
 for example in "${examples[@]}"; do
   example_tree
@@ -107,13 +120,16 @@ tells() {
   [[ $(< "$room/error") == "$errors" ]] || fail "${call[*]}: it refuses $(< "$room/error")"
   [[ $status == $((${#errors} > 0)) ]] || fail "${call[*]}: status $status"
 }
-files a.py '# SPDX-License-Identifier: MIT\n\nx\n' b.py 'y\n' odd 'z\n' p.png '\x89' d.toml '' 'LICENSES/MIT.txt' 'text\n'
+files a.py '# SPDX-License-Identifier: MIT\n\nx\n' b.py 'y\n' odd 'z\n' p.png '\x89' d.toml '' \
+  'LICENSES/MIT.txt' 'text\n'
 call=(annotate -n -l MIT -r --skip-unrecognised .)
-tells $'unchanged a.py\nwould change b.py\nwould change d.toml\nskipped odd\nwould change p.png.license' ''
+tells \
+  $'unchanged a.py\nwould change b.py\nwould change d.toml\nskipped odd\nwould change p.png.license' ''
 call=(annotate -n -l ISC --skip-existing --skip-unrecognised a.py b.py odd)
 tells $'skipped a.py\nwould change b.py\nskipped odd' ''
 call=(annotate -n -l MIT a.py none odd LICENSES/MIT.txt b.py)
-tells $'unchanged a.py\nwould change b.py' $'reuse-undo: LICENSES/MIT.txt: not covered\nreuse-undo: none: no such path\nreuse-undo: odd: unrecognised'
+tells \
+  $'unchanged a.py\nwould change b.py' $'reuse-undo: LICENSES/MIT.txt: not covered\nreuse-undo: none: no such path\nreuse-undo: odd: unrecognised'
 call=(annotate -n -l MIT .)
 tells '' 'reuse-undo: .: is a folder'
 call=(download -n --texts "$tree/LICENSES" 'a b' MIT None)
@@ -128,13 +144,16 @@ tells '' 'reuse-undo: no such step: 1'
 echo more >> "$tree/a.py"
 echo less > "$tree/p.png.license"
 call=(undo -n)
-tells $'would change b.py\nwould change d.toml' $'reuse-undo: a.py: moved\nreuse-undo: p.png.license: moved'
+tells $'would change b.py\nwould change d.toml' \
+  $'reuse-undo: a.py: moved\nreuse-undo: p.png.license: moved'
 call=(revert -n 1)
-tells $'would change a.py\nwould change b.py\nwould change d.toml' 'reuse-undo: p.png.license: moved'
+tells $'would change a.py\nwould change b.py\nwould change d.toml' \
+  'reuse-undo: p.png.license: moved'
 call=(revert -n --skip-moved 1)
 tells $'would change a.py\nwould change b.py\nwould change d.toml\nskipped p.png.license' ''
 # Words that are wrong
-for words in 'annotate --diff -l MIT a.py' 'log -n' 'show -n 1' 'show' 'revert' 'revert x' 'show --diff --json 1' 'log --diff'; do
+for words in 'annotate --diff -l MIT a.py' 'log -n' 'show -n 1' 'show' 'revert' 'revert x' \
+  'show --diff --json 1' 'log --diff'; do
   status=0
   "$program" --root "$tree" $words > "$room/out" 2>&1 || status=$?
   ((status == 2)) || fail "$words: status $status"
@@ -185,8 +204,10 @@ for number in range(rounds):
         except OSError:
             pass
 PYTHON
-options=('-c|Jane Doe|-y|2024' '-l|MIT' '-c|Jane Doe|-l|ISC' '--contributor|B' '-c|A --> B|--exclude-year' '-l|GPL-2.0+|--multi-line' '-c|C|-y|2001|--merge-copyrights'
-  '-l|MIT|--no-replace' '-c|D|--single-line' '-l|MIT|--force-dot-license' '-c|E|--copyright-prefix|symbol' '-l|0BSD' '-c|F|-s|c')
+options=('-c|Jane Doe|-y|2024' '-l|MIT' '-c|Jane Doe|-l|ISC' '--contributor|B'
+  '-c|A --> B|--exclude-year' '-l|GPL-2.0+|--multi-line' '-c|C|-y|2001|--merge-copyrights'
+  '-l|MIT|--no-replace' '-c|D|--single-line' '-l|MIT|--force-dot-license' \
+  '-c|E|--copyright-prefix|symbol' '-l|0BSD' '-c|F|-s|c')
 fallbacks=(--fallback-dot-license --fallback-dot-license --skip-unrecognised --skip-existing)
 for ((round = 0; round < rounds; round++)); do
   tree=$room/rounds/$round
@@ -205,7 +226,10 @@ for ((round = 0; round < rounds; round++)); do
     esac
     compare
     "$program" --root "$tree" "${call[@]}" > "$room/out" 2>&1 || true
-    if ((RANDOM % 3 == 0)); then find "$tree" -type f -not -path '*/.reuse/*' -print0 | shuf -z -n 1 | xargs -0 -r sh -c 'echo "more" >> "$1"' sh; fi
+    if ((RANDOM % 3 == 0)); then
+      find "$tree" -type f -not -path '*/.reuse/*' -print0 | shuf -z -n 1 |
+        xargs -0 -r sh -c 'echo "more" >> "$1"' sh
+    fi
   done
   rm -rf "$tree"
 done

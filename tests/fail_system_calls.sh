@@ -10,7 +10,8 @@
 set -euo pipefail
 . "$(dirname "$0")/common.sh"
 wants strace strace
-calls=(openat read write close fchmod fchown statx newfstatat getdents64 rename renameat renameat2 unlink unlinkat mkdir mkdirat fsync fdatasync)
+calls=(openat read write close fchmod fchown statx newfstatat getdents64 rename renameat renameat2
+  unlink unlinkat mkdir mkdirat fsync fdatasync)
 
 # Runs the program on the tree with this fault of this system call at its Nth time.
 run_with() {
@@ -18,7 +19,8 @@ run_with() {
   shift 3
   # The braces keep bash from telling each kill.
   {
-    strace -f -qq -o "$room/trace" -e "trace=$call" -e "inject=$call:$fault:when=$number" "$program" --root "$room/tree" "$@" > "$room/out" 2>&1
+    strace -f -qq -o "$room/trace" -e "trace=$call" -e "inject=$call:$fault:when=$number" \
+      "$program" --root "$room/tree" "$@" > "$room/out" 2>&1
   } 2> /dev/null
 }
 
@@ -39,7 +41,8 @@ make_killed() {
 # Notes the states before and after a run that begins with the tree `$room/FROM`.
 note_states() {
   stand copy "$1"
-  "$program" --root "$room/copy" "${@:2}" > "$room/out" 2>&1 || fail "${*:2} on $1 is refused: $(cat "$room/out")"
+  "$program" --root "$room/copy" "${@:2}" > "$room/out" 2>&1 ||
+    fail "${*:2} on $1 is refused: $(cat "$room/out")"
   after=$(state_of "$room/copy")
   # Opening a tree that a kill has left takes it back.
   stand copy "$1"
@@ -58,7 +61,8 @@ try_all() {
         status=0
         run_with $fault $call $number "$@" || status=$?
         if ((status != 137)) && ! grep -q INJECTED "$room/trace"; then break; fi
-        found=$(state_of "$room/tree") || fail "$* on $from, $call $number $fault: the log is refused"
+        found=$(state_of "$room/tree") ||
+          fail "$* on $from, $call $number $fault: the log is refused"
         if [[ $found == "$after" ]]; then
           as_after=$((as_after + 1))
         elif [[ $found == "$before" ]] && ((status != 0)); then
@@ -86,11 +90,13 @@ fail_syncs() {
         run_with error=EIO $call $number$more "$@" || status=$?
         grep -q INJECTED "$room/trace" || break 2
         ((status != 0)) || fail "$* on $from, $call $number$more fails: status 0"
-        "$program" --root "$room/tree" log > "$room/out" 2>&1 || fail "$* on $from, $call $number$more fails: the log is refused"
+        "$program" --root "$room/tree" log > "$room/out" 2>&1 ||
+          fail "$* on $from, $call $number$more fails: the log is refused"
         # A folder that was made stays, and is no part of the tree.
         find "$room/tree" -mindepth 1 -type d -empty -delete
         found=$(state_of "$room/tree")
-        [[ $found == "$after" || $found == "$before" ]] || fail "$* on $from, $call $number$more fails: not as it may be"
+        [[ $found == "$after" || $found == "$before" ]] ||
+          fail "$* on $from, $call $number$more fails: not as it may be"
         count=$((count + 1))
       done
     done
@@ -107,7 +113,8 @@ leave_syncs_out() {
   stand tree "$from"
   run_with error=EIO fsync,fdatasync,sync,syncfs,sync_file_range,msync 1+ "$1" --no-sync "${@:2}" ||
     fail "$1 --no-sync ${*:2} on $from: $(cat "$room/out")"
-  [[ ! -s $room/trace ]] || fail "$1 --no-sync ${*:2} on $from makes a sync: $(head -n 1 "$room/trace")"
+  [[ ! -s $room/trace ]] ||
+    fail "$1 --no-sync ${*:2} on $from makes a sync: $(head -n 1 "$room/trace")"
   [[ $(state_of "$room/tree") == "$after" ]] || fail "$1 --no-sync ${*:2} on $from: not as after it"
 }
 
@@ -155,10 +162,15 @@ try_all stuck revert --skip-moved --dry-run --diff 1
 try_all edited show --diff 1
 try_all mixed forget 1
 try_all older forget --all
-for name in killed_annotate killed_undo killed_redo killed_older killed_revert; do try_all $name log; done
+for name in killed_annotate killed_undo killed_redo killed_older killed_revert; do
+  try_all $name log
+done
 
-for name in killed_annotate killed_undo killed_redo killed_older killed_revert; do fail_syncs $name log; done
-runs=('plain "${annotate[@]}"' 'plain convert-dep5' 'plain download --texts "$room/texts" MIT' 'done undo' 'undone redo' 'mixed undo' 'older redo'
+for name in killed_annotate killed_undo killed_redo killed_older killed_revert; do
+  fail_syncs $name log
+done
+runs=('plain "${annotate[@]}"' 'plain convert-dep5' 'plain download --texts "$room/texts" MIT'
+  'done undo' 'undone redo' 'mixed undo' 'older redo'
   'edited revert 1' 'stuck revert --skip-moved 1' 'killed_undo undo' 'older forget --all')
 for run in "${runs[@]}"; do
   eval "words=($run)"

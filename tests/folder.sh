@@ -36,7 +36,10 @@ stand() {
 }
 
 # All names, bits and bytes but those of the journal's folder
-all_files() { tar -C "$room" --sort=name --mtime=@0 --exclude='tree/.reuse/undo/*' -cf - tree outside | sha256sum; }
+all_files() {
+  tar -C "$room" --sort=name --mtime=@0 --exclude='tree/.reuse/undo/*' -cf - tree outside |
+    sha256sum
+}
 
 # The call tells just this, and has status 1 where that is a fault. It is made with -v; of the notes
 # those are compared that say what can't be done.
@@ -229,8 +232,10 @@ kept_out() {
     bad_journal $path
   done
   holds .reuse/undo/new y
-  for path in .git/HEAD .git/refs/x .GIT a/.Hg/x a/.svn/x a/.jj/x a/b/.bzr/x a/_darcs/b/x b/.git b/.git/x \
-    a/.SL/x a/.pijul/x a/b/.repo/x a/CVS/Root a/.reuse/undo a/.reuse/undo/head.json c/.reuse-undo-new; do
+  for path in .git/HEAD .git/refs/x .GIT a/.Hg/x a/.svn/x a/.jj/x a/b/.bzr/x a/_darcs/b/x b/.git \
+    b/.git/x \
+    a/.SL/x a/.pijul/x a/b/.repo/x a/CVS/Root a/.reuse/undo a/.reuse/undo/head.json \
+    c/.reuse-undo-new; do
     barred $path
   done
   printf y > "$tree/.reuse/undo/new"
@@ -287,12 +292,14 @@ left_over() {
   absent .reuse/undo/new
   mkdir "$tree/.reuse/undo/new"
   cannot interrupted 'write .reuse/undo/head.json: Is a directory (os error 21)' undo
-  cannot 'store fault' 'write .reuse/undo/000002.json: Is a directory (os error 21)' "${annotate[@]}" made
+  cannot 'store fault' 'write .reuse/undo/000002.json: Is a directory (os error 21)' \
+    "${annotate[@]}" made
   holds made y
 }
 
 no_root() {
-  local call reason calls_there=(log undo redo 'show 1' 'revert 1' convert-dep5 "download --texts $outside/texts MIT" 'annotate -l MIT a.py'
+  local call reason calls_there=(log undo redo 'show 1' 'revert 1' convert-dep5
+    "download --texts $outside/texts MIT" 'annotate -l MIT a.py'
     'annotate -l MIT a/b.py' 'annotate -l MIT -r .')
   stand
   mkdir "$outside/texts"
@@ -325,7 +332,8 @@ long_names() {
   # A file that can stand there, but not its neighbour
   rm -r "$tree/.reuse"
   printf y > "$tree/$longest"
-  cannot 'store fault' "list $longest.license: File name too long (os error 36)" "${annotate[@]}" --force-dot-license "$longest"
+  cannot 'store fault' "list $longest.license: File name too long (os error 36)" "${annotate[@]}" \
+    --force-dot-license "$longest"
 }
 
 # Says what was shown.
@@ -335,6 +343,7 @@ tell_counts() {
 
 # folder_rights.sh reads this file for its functions.
 [[ ${BASH_SOURCE[0]} == "$0" ]] || return 0
-groups=(listing reads_and_writes longer_than_it_seems empty_tree clashes kept_out links left_over no_root long_names)
+groups=(listing reads_and_writes longer_than_it_seems empty_tree clashes kept_out links left_over
+  no_root long_names)
 for group in "${groups[@]}"; do $group; done
 tell_counts "${groups[@]}"

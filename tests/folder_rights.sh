@@ -10,7 +10,8 @@ set -euo pipefail
 # A rewritten file keeps who may read, write and run it, whatever the mask, and loses the other
 # bits. A new one has those of any new file.
 bits() {
-  local mask word call k wanted files=({a..k}) modes=(755 755 666 600 666 440 4755 2750 1666 777 400)
+  local mask word call k wanted files=({a..k}) \
+    modes=(755 755 666 600 666 440 4755 2750 1666 777 400)
   for mask in 000 022 027 077; do
     umask $mask
     stand "${files[@]}" plain
@@ -22,7 +23,8 @@ bits() {
       tells_each $word "${files[@]}" : "${call[@]}"
       for k in "${!files[@]}"; do
         wanted=${modes[k]: -3}
-        [[ $(mode "${files[k]}") == "$wanted" ]] || fail "umask $mask: $word ${files[k]} has bits $(mode "${files[k]}"), not $wanted"
+        [[ $(mode "${files[k]}") == "$wanted" ]] ||
+          fail "umask $mask: $word ${files[k]} has bits $(mode "${files[k]}"), not $wanted"
       done
       [[ $(mode made) == "$(mode plain)" ]] || fail "umask $mask: made has bits $(mode made)"
     done
@@ -37,7 +39,8 @@ bits() {
   removes in/a
   refused 'in/a: no such path' "${annotate[@]}" in/a
   puts in/a
-  [[ $(mode in/a) == "$(mode plain)" && $(mode in/made) == "$(mode plain)" ]] || fail "files made anew have bits $(mode in/a) and $(mode in/made)"
+  [[ $(mode in/a) == "$(mode plain)" && $(mode in/made) == "$(mode plain)" ]] ||
+    fail "files made anew have bits $(mode in/a) and $(mode in/made)"
 }
 
 # As nobody where the caller is root, whom the system refuses nothing. The journal is root's then.
@@ -52,7 +55,8 @@ closed() {
   fi
   stand closed/a .reuse/undo/
   chmod 000 "$tree/closed"
-  tells "reuse-undo: store fault"$'\n'"reuse-undo: note: can't list closed: $denied" "${annotate[@]}" -n -r .
+  tells "reuse-undo: store fault"$'\n'"reuse-undo: note: can't list closed: $denied" \
+    "${annotate[@]}" -n -r .
   lay "done" closed/a
   tells "reuse-undo: store fault"$'\n'"reuse-undo: note: can't read closed/a: $denied" undo
   lay undone closed/b

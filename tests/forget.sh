@@ -22,9 +22,14 @@ told() {
 is() { [[ $1 == "$2" ]] || fail "$3: $1"; }
 
 # The numbers of the log, each with its state
-steps() { "$program" --root "$tree" log | sed -E 's/^([0-9]+) .* (done|undone)$/\1 \2/' | tr '\n' ' '; }
+steps() {
+  "$program" --root "$tree" log | sed -E 's/^([0-9]+) .* (done|undone)$/\1 \2/' | tr '\n' ' '
+}
 
-sums() { (cd "$tree" && find . -path ./.reuse/undo -prune -o -type f -print0 | sort -z | xargs -0 sha256sum); }
+sums() {
+  (cd "$tree" &&
+    find . -path ./.reuse/undo -prune -o -type f -print0 | sort -z | xargs -0 sha256sum)
+}
 
 entries() { (cd "$tree/.reuse/undo" && printf '%s ' 0*.json); }
 
@@ -59,7 +64,8 @@ is "$(told undo)" $'undone c.py\nstatus 0' "undo of that"
 is "$(told undo)" $'undone b.py\nstatus 0' "undo of the step above the oldest"
 is "$(told undo)" $'reuse-undo: nothing to undo\nstatus 1' "undo of what is forgotten"
 is "$(told redo)" $'redone b.py\nstatus 0' "redo of that"
-is "$(told forget 4 2 4)" $'forgot 2\nforgot 4\nstatus 0' "a done and an undone step, one of them twice"
+is "$(told forget 4 2 4)" $'forgot 2\nforgot 4\nstatus 0' \
+  "a done and an undone step, one of them twice"
 is "$(steps)" '3 undone ' "the log without these"
 is "$(told annotate -l ISC d.py)" $'changed d.py\nstatus 0' "a step afterwards"
 is "$(steps)" '5 done ' "no number is given out again"
@@ -77,12 +83,15 @@ done
 printf '{"done":[%s],"format":2,"next":4097,"pending":null,"undone":[]}' "$numbers" \
   > "$tree/.reuse/undo/head.json"
 is "$(told annotate -l ISC d.py)" $'reuse-undo: journal full\nstatus 1' "a full journal"
-is "$(told forget $(seq 1 4000) | tail -n 2)" $'forgot 4000\nstatus 0' "forgetting in a full journal"
-is "$(told annotate -l ISC d.py)" $'changed d.py\nstatus 0' "a step afterwards in what was a full journal"
+is "$(told forget $(seq 1 4000) | tail -n 2)" $'forgot 4000\nstatus 0' \
+  "forgetting in a full journal"
+is "$(told annotate -l ISC d.py)" $'changed d.py\nstatus 0' \
+  "a step afterwards in what was a full journal"
 # The numbers are used up for good
 sed -E 's/"next":[0-9]+/"next":1000000/' -i "$tree/.reuse/undo/head.json"
 is "$(told forget --all | tail -n 1)" 'status 0' "forgetting where no number is left"
-is "$(told annotate -l MIT c.py)" $'reuse-undo: journal full\nstatus 1' "a step where no number is left"
+is "$(told annotate -l MIT c.py)" $'reuse-undo: journal full\nstatus 1' \
+  "a step where no number is left"
 
 # Killed at each system call that changes a file
 make_history

@@ -58,7 +58,8 @@ lacks() { [[ ! -e $1/$2 ]] || fail "$what: $1/$2 is there"; }
 options() {
   row '`-c`, `--copyright TEXT`; `-l`, `--license EXPR`; `-y`, `--year YEAR`' a.py 'x\n'
   both annotate -c 'Jane Doe' -l 'MIT OR ISC' -y 2019 -y 2024 a.py
-  both_have a.py '# SPDX-FileCopyrightText: 2019 - 2024 Jane Doe\n#\n# SPDX-License-Identifier: MIT OR ISC\n\nx\n'
+  both_have \
+    a.py '# SPDX-FileCopyrightText: 2019 - 2024 Jane Doe\n#\n# SPDX-License-Identifier: MIT OR ISC\n\nx\n'
 
   row '`--year 2019-2024`' a.py 'x\n'
   tool 0 '' annotate -c 'Jane Doe' --year 2019-2024 a.py
@@ -93,7 +94,8 @@ options() {
   program 0 '' annotate -l MIT --force-dot-license b.rst
   has "$ours" b.rst.license 'SPDX-License-Identifier: MIT\n'
 
-  row '`--template NAME`' a.py '# Part of Demo.\n# SPDX-License-Identifier: MIT\n\nx\n' .reuse/templates/demo.jinja2 'Part of Demo.\n\n{% for line in copyright_lines %}\n{{ line }}\n{% endfor %}\n{% for expression in spdx_expressions %}\nSPDX-License-Identifier: {{ expression }}\n{% endfor %}\n'
+  row '`--template NAME`' a.py '# Part of Demo.\n# SPDX-License-Identifier: MIT\n\nx\n' \
+    .reuse/templates/demo.jinja2 'Part of Demo.\n\n{% for line in copyright_lines %}\n{{ line }}\n{% endfor %}\n{% for expression in spdx_expressions %}\nSPDX-License-Identifier: {{ expression }}\n{% endfor %}\n'
   tool 0 '' annotate -c 'Jane Doe' -y 2024 --template demo a.py
   program 2 'unexpected argument' annotate -c 'Jane Doe' -y 2024 --template demo a.py
   program 0 '' annotate -c 'Jane Doe' -y 2024 a.py
@@ -130,7 +132,8 @@ options() {
   has "$theirs" b.py '"""\nSPDX-License-Identifier: MIT\n"""\n'
   has "$ours" b.py '# SPDX-License-Identifier: ISC\n\n"""\nSPDX-License-Identifier: MIT\n"""\n'
 
-  row '`-r`, `--recursive`' src/a.py 'x\n' src/build/b.py 'x\n' .gitignore 'build/\n' src/empty.py ''
+  row '`-r`, `--recursive`' src/a.py 'x\n' src/build/b.py 'x\n' .gitignore 'build/\n' src/empty.py \
+    ''
   git -C "$theirs" add -A
   both annotate -l MIT -r src
   both_have src/a.py "$tag\n\nx\n"
@@ -244,10 +247,13 @@ other_words() {
 }
 
 # The first cells of a document's tables, but for their heads
-cells() { sed -nE '/^\|/{s/^\| ([^|]*) \|.*/\1/p}' "$1" | grep -vxE -- '-+|the reuse tool|habit|.*---.*'; }
+cells() {
+  sed -nE '/^\|/{s/^\| ([^|]*) \|.*/\1/p}' "$1" | grep -vxE -- '-+|the reuse tool|habit|.*---.*'
+}
 
 options
 habits
 other_words
-diff <(sort "$room/rows") <(cells "$document" | sort) || fail 'the rows that were tried are not those of the document'
+diff <(sort "$room/rows") <(cells "$document" | sort) ||
+  fail 'the rows that were tried are not those of the document'
 echo "$(wc -l < "$room/rows") rows are as the document says"

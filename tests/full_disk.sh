@@ -15,7 +15,8 @@ fail() {
   echo "fault: $1" >&2
   exit 1
 }
-mount -t tmpfs -o size=1m tmpfs "$disk" 2> "$room/error" || skip "it mounts a disk: $(< "$room/error")"
+mount -t tmpfs -o size=1m tmpfs "$disk" 2> "$room/error" ||
+  skip "it mounts a disk: $(< "$room/error")"
 annotate=(annotate -c "Jane Doe" -l MIT -y 2024 -r .)
 pages=$(($(getconf PAGESIZE) / 1024))
 
@@ -47,7 +48,8 @@ try_all() {
     rm -f "$disk/.git"
     after=$(state_of "$disk") || fail "$name with $room_left kB: the log is refused"
     if ((found == 0)); then break; fi
-    [[ $found == 1 && $after == "$before" ]] || fail "$name with $room_left kB: status $found, and not as before"
+    [[ $found == 1 && $after == "$before" ]] ||
+      fail "$name with $room_left kB: status $found, and not as before"
     case $(< "$room/out") in
       'reuse-undo: store fault') refused=$((refused + 1)) ;;
       'reuse-undo: interrupted') interrupted=$((interrupted + 1)) ;;

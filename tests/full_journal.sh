@@ -9,7 +9,8 @@ files a.py 'print(1)\n' b.py 'print(1)\n'
 "$program" --root "$tree" annotate -c "Jane Doe" -l MIT -y 2024 a.py > "$room/told"
 entry=$tree/.reuse/undo/000001.json
 for number in {2..4096}; do cp "$entry" "$tree/.reuse/undo/$(printf %06d "$number").json"; done
-printf '{"done":[%s],"format":2,"next":4097,"pending":null,"undone":[]}' "$(seq -s, 4096)" > "$tree/.reuse/undo/head.json"
+printf '{"done":[%s],"format":2,"next":4097,"pending":null,"undone":[]}' "$(seq -s, 4096)" \
+  > "$tree/.reuse/undo/head.json"
 
 # told STATUS TEXT WORD..: whether the words have this status and tell this, on one of the two
 # outputs.

@@ -28,7 +28,8 @@ kill_call() {
   local most=$(($1 * 3 / 2)) limit
   shift
   limit=$(((RANDOM * 32768 + RANDOM) % most + 1))
-  timeout --foreground -s KILL "$(printf '%d.%06d' $((limit / 1000000)) $((limit % 1000000)))" "$program" "$@" > "$room/out" 2>&1 || {
+  timeout --foreground -s KILL "$(printf '%d.%06d' $((limit / 1000000)) $((limit % 1000000)))" \
+    "$program" "$@" > "$room/out" 2>&1 || {
     if (($? == 137)); then killed=$((killed + 1)); fi
   }
 }

@@ -50,7 +50,8 @@ outcome() {
 # Takes every step back.
 undo_all() {
   while "$program" --root "$tree" undo > "$room/out" 2> "$room/error"; do :; done
-  [[ $(< "$room/error") == 'reuse-undo: nothing to undo' ]] || fail "undo of all: $(< "$room/error")"
+  [[ $(< "$room/error") == 'reuse-undo: nothing to undo' ]] ||
+    fail "undo of all: $(< "$room/error")"
 }
 
 # Takes every step back after a part of the script, which gives the first tree.
@@ -74,11 +75,14 @@ for ((round = 1; round <= rounds; round++)); do
   done
   wait
   for process in {1..8}; do
-    what=$(outcome $process) || fail "round $round: $(cat "$room/$process.status" "$room/$process.error" "$room/$process.out")"
+    what=$(outcome $process) ||
+      fail \
+      "round $round: $(cat "$room/$process.status" "$room/$process.error" "$room/$process.out")"
     seen[$what]=$((seen[$what] + 1))
   done
   ! is_pending "$tree" || fail "round $round: a step is left under way"
-  "$program" --root "$tree" log > "$room/out" 2>&1 || fail "round $round: the log is refused: $(< "$room/out")"
+  "$program" --root "$tree" log > "$room/out" 2>&1 ||
+    fail "round $round: the log is refused: $(< "$room/out")"
   if ((round % 10 == 0)); then
     undo_to_first "round $round"
     rm -r "$tree/.reuse"
@@ -91,15 +95,18 @@ echo "$rounds rounds of eight on $files files: ${seen[done]} done, ${seen[busy]}
 for round in {1..10}; do
   start annotate annotate -c "Holder $round" -l MIT -y 2024 -r .
   while [[ ! -e $room/annotate.status ]]; do
-    "$program" --root "$tree" log > "$room/out" 2> "$room/error" || [[ $(< "$room/error") == "$busy" && ! -s $room/out ]] ||
+    "$program" --root "$tree" log > "$room/out" 2> "$room/error" ||
+      [[ $(< "$room/error") == "$busy" && ! -s $room/out ]] ||
       fail "a log during an annotate: $(< "$room/error")"
     logs=$((logs + 1))
   done
   wait
   case $(outcome annotate) in
     done)
-      [[ $(wc -l < "$room/annotate.out") == "$files" ]] || fail 'annotate tells another number of files'
-      [[ $(grep -rl "Holder $round\$" "$tree" --include=*.py | wc -l) == "$files" ]] || fail 'a log took files of an annotate back'
+      [[ $(wc -l < "$room/annotate.out") == "$files" ]] ||
+        fail 'annotate tells another number of files'
+      [[ $(grep -rl "Holder $round\$" "$tree" --include=*.py | wc -l) == "$files" ]] ||
+        fail 'a log took files of an annotate back'
       ;;
     busy) ;;
     *) fail "annotate beside logs: $(< "$room/annotate.error")" ;;
@@ -111,12 +118,14 @@ echo "10 annotations with $logs logs beside them: none is taken back"
 
 # A killed run leaves no lock: the very next call is made.
 for round in {1..20}; do
-  "$program" --root "$tree" annotate -c "Holder $round" -l MIT -y 2024 -r . > "$room/out" 2> "$room/error" &
+  "$program" --root "$tree" annotate -c "Holder $round" -l MIT -y 2024 -r . > "$room/out" \
+    2> "$room/error" &
   run=$!
   sleep "0.0$((RANDOM % 90 + 10))"
   if kill -KILL $run 2> "$room/kill"; then kills=$((kills + 1)); fi
   wait $run 2> "$room/wait" || :
-  "$program" --root "$tree" log > "$room/out" 2>&1 || fail "the log after a killed run: $(< "$room/out")"
+  "$program" --root "$tree" log > "$room/out" 2>&1 ||
+    fail "the log after a killed run: $(< "$room/out")"
 done
 undo_to_first 'killed runs'
 echo "$kills runs killed: the next call is made each time"
@@ -133,7 +142,8 @@ for call in 'annotate -l MIT .' undo redo log convert-dep5 "download --texts $ro
   found=0
   # shellcheck disable=SC2086
   "$program" --root "$tree" $call > "$room/out" 2> "$room/error" || found=$?
-  [[ $found == 1 && ! -s $room/out && $(< "$room/error") == "$busy" ]] || fail "$call on a tree in use: status $found, $(< "$room/error")"
+  [[ $found == 1 && ! -s $room/out && $(< "$room/error") == "$busy" ]] ||
+    fail "$call on a tree in use: status $found, $(< "$room/error")"
 done
 "$program" --root "$tree" --help > "$room/out" || fail 'help needs the lock'
 exec 9<&-

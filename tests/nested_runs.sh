@@ -18,7 +18,11 @@ make_tree() {
   rm -rf "$outer"
   mkdir -p "$inner"
   for ((k = 0; k < files; k++)); do
-    if ((k % 2)); then echo "line = $k" > "$outer/file$k.py"; else echo "line = $k" > "$inner/file$k.py"; fi
+    if ((k % 2)); then
+      echo "line = $k" > "$outer/file$k.py"
+    else
+      echo "line = $k" > "$inner/file$k.py"
+    fi
   done
 }
 
@@ -59,23 +63,29 @@ for ((round = 1; round <= rounds; round++)); do
     root=$outer
     ((process % 2)) || root=$inner
     case $((RANDOM % 5)) in
-      0 | 1 | 2) start $process --root "$root" annotate -c "Holder $round.$process." -l MIT -y 2024 -r . ;;
+      0 | 1 | 2)
+        start $process --root "$root" annotate -c "Holder $round.$process." -l MIT -y 2024 -r .
+        ;;
       3) start $process --root "$root" undo ;;
       4) start $process --root "$root" redo ;;
     esac
   done
   wait
   for process in {1..8}; do
-    what=$(outcome $process) || fail "round $round: $(cat "$room/$process.status" "$room/$process.error" "$room/$process.out")"
+    what=$(outcome $process) ||
+      fail \
+      "round $round: $(cat "$room/$process.status" "$room/$process.error" "$room/$process.out")"
     seen[$what]=$((seen[$what] + 1))
     all=$files
     ((process % 2)) || all=$in_inner
     count=$(marked "Holder $round.$process" "$outer")
-    ((count == 0 || count == all)) || fail "round $round: process $process stands in $count files of $all"
+    ((count == 0 || count == all)) ||
+      fail "round $round: process $process stands in $count files of $all"
   done
   for root in "$outer" "$inner"; do
     ! is_pending "$root" || fail "round $round: a step is left under way"
-    "$program" --root "$root" log > "$room/out" 2>&1 || fail "round $round: the log is refused: $(< "$room/out")"
+    "$program" --root "$root" log > "$room/out" 2>&1 ||
+      fail "round $round: the log is refused: $(< "$room/out")"
   done
   ((round % 10)) || make_tree
 done
@@ -93,7 +103,10 @@ for held in "$outer" "$outer/deep" "$room"; do
     found=0
     "$program" --root "$inner" log > "$room/out" 2> "$room/error" || found=$?
     case $kind in
-      -x) [[ $found == 1 && $(< "$room/error") == "$busy" ]] || fail "below a folder that is held: status $found" ;;
+      -x)
+        [[ $found == 1 && $(< "$room/error") == "$busy" ]] ||
+          fail "below a folder that is held: status $found"
+        ;;
       -s) [[ $found == 0 ]] || fail "below a folder that is shared: $(< "$room/error")" ;;
     esac
     exec 9<&-

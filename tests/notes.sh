@@ -29,7 +29,10 @@ try() {
     case $kind in
       quiet) "$program" --root "$tree" "$@" > "$room/out" 2> "$room/quiet" || true ;;
       verbose) "$program" --root "$tree" -v "$@" > "$room/out.verbose" 2> "$room/verbose" || true ;;
-      terminal) script -qec "$(spelt "$@") > $room/out.terminal" /dev/null < /dev/null | told > "$room/terminal" || true ;;
+      terminal)
+        script -qec "$(spelt "$@") > $room/out.terminal" /dev/null < /dev/null |
+          told > "$room/terminal" || true
+        ;;
     esac
     rm -rf "$tree"
     mv "$room/copy" "$tree"
@@ -46,15 +49,21 @@ notes() {
   done
   shift
   try "${call[@]}"
-  [[ $(grep -E "$always" "$room/quiet") == "$(grep -E "$always" "$room/verbose")" ]] || fail "${call[*]}: without -v is told $(cat "$room/quiet")"
+  [[ $(grep -E "$always" "$room/quiet") == "$(grep -E "$always" "$room/verbose")" ]] ||
+    fail "${call[*]}: without -v is told $(cat "$room/quiet")"
   sed -i -E "/$always/d" "$room/quiet"
-  ! grep -q 'reuse-undo: note: ' "$room/quiet" || fail "${call[*]}: a note that nobody asked for: $(cat "$room/quiet")"
+  ! grep -q 'reuse-undo: note: ' "$room/quiet" ||
+    fail "${call[*]}: a note that nobody asked for: $(cat "$room/quiet")"
   cmp -s "$room/out" "$room/out.verbose" || fail "${call[*]}: -v prints $(cat "$room/out.verbose")"
-  sed '/^reuse-undo: note: /d' "$room/verbose" | cmp -s - "$room/quiet" || fail "${call[*]}: -v tells $(cat "$room/verbose")"
-  cmp -s "$room/verbose" "$room/terminal" || fail "${call[*]}: a terminal is told $(cat "$room/terminal")"
-  [[ $(grep -c '^reuse-undo: note: ' "$room/verbose") == $# ]] || fail "${call[*]}: not $# notes: $(cat "$room/verbose")"
+  sed '/^reuse-undo: note: /d' "$room/verbose" | cmp -s - "$room/quiet" ||
+    fail "${call[*]}: -v tells $(cat "$room/verbose")"
+  cmp -s "$room/verbose" "$room/terminal" ||
+    fail "${call[*]}: a terminal is told $(cat "$room/terminal")"
+  [[ $(grep -c '^reuse-undo: note: ' "$room/verbose") == $# ]] ||
+    fail "${call[*]}: not $# notes: $(cat "$room/verbose")"
   for wanted; do
-    grep -qE "^reuse-undo: note: $wanted\$" "$room/verbose" || fail "${call[*]}: no note $wanted: $(cat "$room/verbose")"
+    grep -qE "^reuse-undo: note: $wanted\$" "$room/verbose" ||
+      fail "${call[*]}: no note $wanted: $(cat "$room/verbose")"
     notes=$((notes + 1))
   done
 }
@@ -87,7 +96,8 @@ changes() {
 
 refusals() {
   files b.xyz 'x\n' c.xyz 'x\n' a.py 'x\n'
-  notes annotate -l MIT b.xyz : 'no comment style is known .*--style .*\.reuse/styles\.toml.*--fallback-dot-license.*--skip-unrecognised'
+  notes annotate -l MIT b.xyz \
+    : 'no comment style is known .*--style .*\.reuse/styles\.toml.*--fallback-dot-license.*--skip-unrecognised'
   notes download --texts "$room/texts" Foo : "the text was sought in $room/texts/Foo\.txt"
   "$program" --root "$tree" annotate -l MIT a.py > /dev/null
   echo y >> "$tree/a.py"
@@ -98,24 +108,30 @@ refusals() {
   notes revert 1 : '1 file changed; reuse-undo undo takes that back'
   "$program" --root "$tree" revert 1 > /dev/null
   notes revert 1 : "what the step wrote doesn't stand in this file as it did: .*--skip-moved"
-  notes annotate -n -l MIT b.xyz c.xyz a.py : 'no comment style is known .*' "2 files have names that aren't recognised; --dry-run names them"
-  notes annotate -l MIT b.xyz c.xyz : 'no comment style is known .*' "2 files have names that aren't recognised; --dry-run names them"
-  notes annotate --skip-unrecognised -l MIT b.xyz c.xyz : '2 files passed over, since no comment style is known for the names; --dry-run names them'
+  notes annotate -n -l MIT b.xyz c.xyz a.py : 'no comment style is known .*' \
+    "2 files have names that aren't recognised; --dry-run names them"
+  notes annotate -l MIT b.xyz c.xyz : 'no comment style is known .*' \
+    "2 files have names that aren't recognised; --dry-run names them"
+  notes annotate --skip-unrecognised -l MIT b.xyz c.xyz : \
+    '2 files passed over, since no comment style is known for the names; --dry-run names them'
   notes annotate --skip-unrecognised --skip-existing -l MIT b.xyz c.xyz :
   notes annotate -l MIT zz :
   files a.py 'x\n'
   "$program" --root "$tree" annotate -l MIT a.py > /dev/null
   "$program" --root "$tree" undo > /dev/null
   echo y >> "$tree/a.py"
-  notes redo : 'this file was changed since the step was taken back: take that change back and call again'
+  notes redo : \
+    'this file was changed since the step was taken back: take that change back and call again'
   rm "$tree/a.py"
   notes redo : 'this file is gone: put it back and call again'
   files a.py 'x\n' b.py 'x\n'
   "$program" --root "$tree" annotate -l MIT -r . > /dev/null
   rm "$tree/a.py"
-  notes undo : 'this file is gone: put it back and call again; or reuse-undo revert --skip-moved takes the step out of the other files'
+  notes undo \
+    : 'this file is gone: put it back and call again; or reuse-undo revert --skip-moved takes the step out of the other files'
   notes undo -n : 'this file is gone: .*'
-  notes revert 1 : 'this file is gone: put it back and call again, or leave it out with --skip-moved'
+  notes revert 1 : \
+    'this file is gone: put it back and call again, or leave it out with --skip-moved'
   notes revert -n 1 : 'this file is gone: .*'
   mkdir "$tree/a.py"
   notes undo : 'this file was changed since: .*'
@@ -159,7 +175,8 @@ journal() {
   notes log : "\\.reuse/undo/head\\.json is longer than such a file can be$out"
   whole_journal
   sed -i 's/"format":2/"format":3/' "$undo/head.json"
-  notes log : '\.reuse/undo/head\.json was written by a later version of reuse-undo: use that version'
+  notes log : \
+    '\.reuse/undo/head\.json was written by a later version of reuse-undo: use that version'
   whole_journal
   sed -i 's/"next":3/"next":0/' "$undo/head.json"
   notes log : "\\.reuse/undo/head\\.json says what no file of the journal says: .*$out"
@@ -175,7 +192,8 @@ journal() {
   rm "$undo"
   whole_journal
   rm "$undo/head.json"
-  notes log : 'the history was found empty, though \.reuse/undo has the files of 2 steps: the head of the journal is gone; .*'
+  notes log \
+    : 'the history was found empty, though \.reuse/undo has the files of 2 steps: the head of the journal is gone; .*'
   notes annotate -c Jo -y 2024 a.py : 'the history was found empty, though .*' '1 file changed; .*'
   rm "$undo/000002.json"
   notes log : 'the history was found empty, though \.reuse/undo/000001\.json is there: .*'
@@ -195,7 +213,8 @@ at_terminal() {
 names() {
   local name=$'a\033[31m\177\n\303\274.py' shown='a\x1B[31m\x7F\x0Aü.py' found
   files "$name" 'x\n'
-  [[ $("$program" --root "$tree" annotate -l MIT -n -r .) == "would change $name" ]] || fail 'a pipe: not the name as it is'
+  [[ $("$program" --root "$tree" annotate -l MIT -n -r .) == "would change $name" ]] ||
+    fail 'a pipe: not the name as it is'
   found=$(at_terminal output annotate -l MIT -n -r .)
   [[ $found == "would change $shown" ]] || fail "a dry run at a terminal: $found"
   found=$(at_terminal output annotate -l MIT -r .)
@@ -210,7 +229,8 @@ names() {
   found=$(at_terminal error undo | head -n 1)
   [[ $found == "reuse-undo: $shown: moved" ]] || fail "a refusal at a terminal: $found"
   at_terminal output undo > /dev/null
-  [[ $(< "$room/other") == "reuse-undo: $name: moved" ]] || fail "a refusal in a file: $(cat "$room/other")"
+  [[ $(< "$room/other") == "reuse-undo: $name: moved" ]] ||
+    fail "a refusal in a file: $(cat "$room/other")"
   at_terminal error revert 1 > /dev/null
   [[ $(< "$room/other") == "changed $name" ]] || fail "a line in a file: $(cat "$room/other")"
 }
@@ -224,29 +244,39 @@ faults() {
   notes annotate -l MIT -r . : "can't list in: .*"
   files p.png '\0211'
   ln -s nowhere "$tree/p.png.license"
-  notes annotate -l MIT p.png : "can't write p\.png\.license: a link, .*" 'the next call on this tree, log too, takes back what was begun'
+  notes annotate -l MIT p.png : "can't write p\.png\.license: a link, .*" \
+    'the next call on this tree, log too, takes back what was begun'
   files a.py 'x\n'
   ln -s nowhere "$tree/.reuse"
   notes annotate -l MIT a.py : "can't write \.reuse/undo/000001\.json: a link, .*"
   "$program" -v --root "$room/absent" log 2> "$room/error" || found=$?
   [[ $found == 1 ]] || fail "a root that is absent: status $found"
-  printf '%s\n' 'reuse-undo: store fault' "reuse-undo: note: can't read .reuse: No such file or directory (os error 2)" \
+  printf '%s\n' 'reuse-undo: store fault' \
+    "reuse-undo: note: can't read .reuse: No such file or directory (os error 2)" \
     "reuse-undo: note: there is no folder $room/absent" |
     cmp -s - "$room/error" || fail "a root that is absent: $(cat "$room/error")"
   files a.py 'x\n' b.py ''
   head -c 100000 /dev/zero | tr '\0' x > "$tree/b.py"
-  (trap '' XFSZ && ulimit -f 64 && exec "$program" -v --root "$tree" annotate -l MIT -r .) 2> "$room/error" || true
-  printf '%s\n' 'reuse-undo: interrupted' "reuse-undo: note: can't write b.py: File too large (os error 27)" \
-    'reuse-undo: note: the next call on this tree, log too, takes back what was begun' | cmp -s - "$room/error" || fail "a limit: $(cat "$room/error")"
+  (trap '' XFSZ && ulimit -f 64 && exec "$program" -v --root "$tree" annotate -l MIT -r .) \
+    2> "$room/error" || true
+  printf '%s\n' 'reuse-undo: interrupted' \
+    "reuse-undo: note: can't write b.py: File too large (os error 27)" \
+    'reuse-undo: note: the next call on this tree, log too, takes back what was begun' |
+    cmp -s - "$room/error" || fail "a limit: $(cat "$room/error")"
   is_pending "$tree" || fail 'no step is under way'
   notes log : 'step 1, which a stopped run had begun, was set back \(1 file\)'
-  notes annotate -l MIT a.py : 'step 1, which a stopped run had begun, was set back \(1 file\)' '1 file changed; .*'
+  notes annotate -l MIT a.py : 'step 1, which a stopped run had begun, was set back \(1 file\)' \
+    '1 file changed; .*'
   echo yyy > "$tree/a.py"
-  notes log : 'a stopped run had begun to change this file, and it was changed since: .*reuse-undo recover --skip-moved, which leaves it as it is .*'
-  notes recover : 'a stopped run had begun to change this file, and it was changed since: with --skip-moved it is left as it is, .*'
+  notes log \
+    : 'a stopped run had begun to change this file, and it was changed since: .*reuse-undo recover --skip-moved, which leaves it as it is .*'
+  notes recover \
+    : 'a stopped run had begun to change this file, and it was changed since: with --skip-moved it is left as it is, .*'
   rm "$tree/a.py"
-  notes log : 'a stopped run had begun to change this file, and it is gone: .*reuse-undo recover --skip-moved, which leaves it out .*'
-  notes recover : 'a stopped run had begun to change this file, and it is gone: with --skip-moved it is left out, .*'
+  notes log \
+    : 'a stopped run had begun to change this file, and it is gone: .*reuse-undo recover --skip-moved, which leaves it out .*'
+  notes recover \
+    : 'a stopped run had begun to change this file, and it is gone: with --skip-moved it is left out, .*'
   notes=$((notes + 3))
 }
 
@@ -267,15 +297,19 @@ progress() {
   files
   for ((i = 0; i < 4000; i++)); do echo x > "$tree/$i.py"; done
   call=$(spelt annotate -l MIT -r .)
-  script -qec "$call > $room/out & sleep 0.05; kill -STOP \$!; sleep 1.2; kill -CONT \$!; wait \$!" "$room/typed" < /dev/null > /dev/null
+  script \
+    -qec "$call > $room/out & sleep 0.05; kill -STOP \$!; sleep 1.2; kill -CONT \$!; wait \$!" \
+    "$room/typed" < /dev/null > /dev/null
   run=$(tr '\r' '\n' < "$room/typed")
   [[ $(wc -l < "$room/out") == 4000 ]] || fail 'not all files are changed'
-  grep -qE '^[0-9]+ files read of [0-9]+ in the tree, [0-9]+ written' <<< "$run" || fail "no progress: $run"
+  grep -qE '^[0-9]+ files read of [0-9]+ in the tree, [0-9]+ written' <<< "$run" ||
+    fail "no progress: $run"
   grep -qE $'^\033\\[K' <<< "$run" || fail 'the progress is not cleared'
   while read -r read _ _ _ listed; do
     ((read <= listed)) || fail "more files are read than there are: $read of $listed"
   done < <(grep -oE '^[0-9]+ files read of [0-9]+' <<< "$run")
-  ! "$program" --root "$tree" -v undo 2>&1 > /dev/null | grep -q 'files read' || fail 'progress without a terminal'
+  ! "$program" --root "$tree" -v undo 2>&1 > /dev/null | grep -q 'files read' ||
+    fail 'progress without a terminal'
 }
 
 for group in words changes refusals dep5 journal faults above names progress; do $group; done

@@ -39,13 +39,20 @@ names() {
   local name before
   anew
   mkdir -p "$tree/a b" "$tree/größe"
-  for name in 'a b/c d.py' 'größe/日本語.py' $'a b/line\nend.py' '-r.py' "quote'\".py" 'back\slash.py'; do echo x > "$tree/$name"; done
+  for name in 'a b/c d.py' 'größe/日本語.py' $'a b/line\nend.py' '-r.py' "quote'\".py" \
+    'back\slash.py'; do
+    echo x > "$tree/$name"
+  done
   before=$(cd "$tree" && tar --sort=name --mtime=@0 -cf - . | sha256sum)
-  tells 0 $'changed -r.py\nchanged a b/c d.py\nchanged a b/line\nend.py\nchanged back\\slash.py\nchanged größe/日本語.py\nchanged quote\'".py\n' \
+  tells \
+    0 $'changed -r.py\nchanged a b/c d.py\nchanged a b/line\nend.py\nchanged back\\slash.py\nchanged größe/日本語.py\nchanged quote\'".py\n' \
     "${annotate[@]}"
   [[ $(head -n 1 "$tree/größe/日本語.py") == "$header" ]] || fail 'größe/日本語.py is not annotated'
-  tells 0 $'undone -r.py\nundone a b/c d.py\nundone a b/line\nend.py\nundone back\\slash.py\nundone größe/日本語.py\nundone quote\'".py\n' undo
-  [[ $(cd "$tree" && tar --sort=name --mtime=@0 --exclude=./.reuse -cf - . | sha256sum) == "$before" ]] || fail 'the names are not as before'
+  tells \
+    0 $'undone -r.py\nundone a b/c d.py\nundone a b/line\nend.py\nundone back\\slash.py\nundone größe/日本語.py\nundone quote\'".py\n' undo
+  [[ $(cd "$tree" &&
+    tar --sort=name --mtime=@0 --exclude=./.reuse -cf - . | sha256sum) == "$before" ]] ||
+    fail 'the names are not as before'
   tells 0 $'changed größe/日本語.py\n' annotate -l MIT größe/日本語.py
 }
 
@@ -78,13 +85,16 @@ links() {
   printf '\211' > "$tree/p.png"
   ln -s ../out_of_tree/new "$tree/p.png.license"
   tells 1 $'reuse-undo: interrupted\n' annotate -l MIT p.png
-  tells 0 $'undone own.py\nreuse-undo: note: step 2, which a stopped run had begun, was set back (0 files)\n' undo
-  [[ $(ls "$room/out_of_tree") == a.py && $(< "$room/out_of_tree/a.py") == x ]] || fail 'a link was followed'
+  tells \
+    0 $'undone own.py\nreuse-undo: note: step 2, which a stopped run had begun, was set back (0 files)\n' undo
+  [[ $(ls "$room/out_of_tree") == a.py && $(< "$room/out_of_tree/a.py") == x ]] ||
+    fail 'a link was followed'
   # A journal behind a link isn't written.
   rm -r "$tree/.reuse"
   ln -s ../out_of_tree "$tree/.reuse"
   tells 1 $'reuse-undo: store fault\n' annotate -l MIT own.py
-  [[ $(ls "$room/out_of_tree") == a.py && $(< "$tree/own.py") == x ]] || fail 'the journal is written through a link'
+  [[ $(ls "$room/out_of_tree") == a.py && $(< "$tree/own.py") == x ]] ||
+    fail 'the journal is written through a link'
   # The root itself may be a link.
   rm "$tree/.reuse"
   ln -s tree "$room/link"
@@ -99,9 +109,13 @@ bits() {
     chmod $mode "$tree/$mode.py"
   done
   tells 0 $'changed 444.py\nchanged 600.py\nchanged 755.py\n' "${annotate[@]}"
-  for mode in 444 600 755; do [[ $(stat -c %a "$tree/$mode.py") == $mode ]] || fail "$mode.py has other bits"; done
+  for mode in 444 600 755; do
+    [[ $(stat -c %a "$tree/$mode.py") == $mode ]] || fail "$mode.py has other bits"
+  done
   tells 0 $'undone 444.py\nundone 600.py\nundone 755.py\n' undo
-  for mode in 444 600 755; do [[ $(stat -c %a "$tree/$mode.py") == $mode ]] || fail "$mode.py has other bits after undo"; done
+  for mode in 444 600 755; do
+    [[ $(stat -c %a "$tree/$mode.py") == $mode ]] || fail "$mode.py has other bits after undo"
+  done
 }
 
 read_only() {
@@ -125,7 +139,8 @@ read_only() {
   tells 1 $'reuse-undo: interrupted\n' annotate -l MIT -r .
   chmod 755 "$tree/closed"
   tells 0 $'reuse-undo: note: step 1, which a stopped run had begun, was set back (1 file)\n' log
-  [[ $(state_of "$tree") == "$before" ]] || fail 'a folder that can not be written: files are changed'
+  [[ $(state_of "$tree") == "$before" ]] ||
+    fail 'a folder that can not be written: files are changed'
   chmod 000 "$tree/closed"
   tells 1 $'reuse-undo: store fault\n' annotate -l MIT -r .
   # Paths that are given need no listing, and a file whose neighbour is there needn't be readable.
@@ -160,7 +175,8 @@ in_the_way() {
   ln -s nowhere "$tree/p.png.license/link"
   before=$(state_of "$tree")
   tells 1 $'reuse-undo: interrupted\n' annotate -l MIT -r .
-  tells 0 "1 $(date -u +%F) annotate 2 undone"$'\nreuse-undo: note: step 2, which a stopped run had begun, was set back (1 file)\n' log
+  tells \
+    0 "1 $(date -u +%F) annotate 2 undone"$'\nreuse-undo: note: step 2, which a stopped run had begun, was set back (1 file)\n' log
   [[ $(state_of "$tree") == "$before" ]] || fail 'a folder in the way: files are changed'
 }
 
@@ -174,8 +190,10 @@ mounted() {
     echo 'mounted: not tried, since no mount can be made'
     return
   fi
-  unshare -m bash -c "$script" bash "$tree" "$program" > "$room/out" 2>&1 || fail "below a mount: $(cat "$room/out")"
-  printf '%s\n' 'changed mounted/a.py' "$header" 755 'undone mounted/a.py' x a.py | cmp -s - "$room/out" || fail "below a mount: $(cat "$room/out")"
+  unshare -m bash -c "$script" bash "$tree" "$program" > "$room/out" 2>&1 ||
+    fail "below a mount: $(cat "$room/out")"
+  printf '%s\n' 'changed mounted/a.py' "$header" 755 'undone mounted/a.py' x a.py |
+    cmp -s - "$room/out" || fail "below a mount: $(cat "$room/out")"
 }
 
 # Where the system doesn't show open folders, they are sought by their paths, and a note tells.
@@ -188,8 +206,10 @@ without_proc() {
     echo 'without_proc: not tried, since no mount can be made'
     return
   fi
-  unshare -m bash -c "$script" bash "$tree" "$program" > "$room/out" 2>&1 || fail "without /proc: $(cat "$room/out")"
-  printf '%s\n' 'changed in/a.py' 'reuse-undo: note: 1 file changed; reuse-undo undo takes that back' \
+  unshare -m bash -c "$script" bash "$tree" "$program" > "$room/out" 2>&1 ||
+    fail "without /proc: $(cat "$room/out")"
+  printf '%s\n' 'changed in/a.py' \
+    'reuse-undo: note: 1 file changed; reuse-undo undo takes that back' \
     'reuse-undo: note: there is no /proc: no other program may move folders or make links here meanwhile' 'undone in/a.py' |
     cmp -s - "$room/out" || fail "without /proc: $(cat "$room/out")"
 }
@@ -198,7 +218,8 @@ without_proc() {
 roots() {
   anew
   echo x > "$tree/a.py"
-  for call in "--root $tree annotate -l MIT a.py" "undo --root $tree" "annotate --root $tree -l MIT a.py" "annotate -l MIT a.py --root=$tree" "undo --root $tree"; do
+  for call in "--root $tree annotate -l MIT a.py" "undo --root $tree" \
+    "annotate --root $tree -l MIT a.py" "annotate -l MIT a.py --root=$tree" "undo --root $tree"; do
     # shellcheck disable=SC2086
     (cd / && "$program" $call) > "$room/out" 2>&1 || fail "$call: $(cat "$room/out")"
   done

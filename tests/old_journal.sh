@@ -17,7 +17,10 @@ make_tree() {
   printf '\211\0' > "$1/p.png"
 }
 # One checksum over all names and bytes of a tree outside of the journal
-sum_of() { (cd "$1" && find . -path ./.reuse/undo -prune -o -type f -print0 | sort -z | xargs -0 sha256sum) | sha256sum; }
+sum_of() {
+  (cd "$1" && find . -path ./.reuse/undo -prune -o -type f -print0 | sort -z | xargs -0 sha256sum) |
+    sha256sum
+}
 # Makes a call, and fails where it prints something else than this.
 call() {
   local wanted=$1
@@ -34,7 +37,8 @@ cp "$kept"/*.json "$room/tree/.reuse/undo"
 call "$(cat "$kept/log")" log
 cmp "$kept/head.json" "$room/tree/.reuse/undo/head.json" || fail 'an opening rewrote the head'
 call $'redone a.py\nredone p.png.license\nredone s.css' redo
-grep -q '"format":2' "$room/tree/.reuse/undo/head.json" || fail 'the head that was put has not format 2'
+grep -q '"format":2' "$room/tree/.reuse/undo/head.json" ||
+  fail 'the head that was put has not format 2'
 grep -q 'Jane Doe' "$room/tree/p.png.license" || fail 'the neighbour has no notice'
 call $'redone .reuse/dep5\nredone REUSE.toml' redo
 call $'redone a.py' redo

@@ -13,23 +13,30 @@ set -euo pipefail
 settings() {
   local option style comment
   writes '-l|MIT|a.py' a.py 'x\n' to a.py "$tagged"
-  for option in --single-line --merge-copyrights --no-replace --recursive -r --fallback-dot-license --skip-unrecognised --skip-existing \
+  for option in \
+    --single-line --merge-copyrights --no-replace --recursive -r --fallback-dot-license \
+    --skip-unrecognised --skip-existing \
     --exclude-year --no-sync -- '--recursive|--exclude|**a|--exclude=*'; do
     writes "-l|MIT|$option|a.py" a.py 'x\n' to a.py "$tagged"
   done
   writes '-l|MIT|-s|python|--|-r' -r 'x\n' to -r "$tagged"
-  writes '-l|MIT|k.h' k.h '/* SPDX-License-Identifier: ISC */\nx\n' to k.h '/*\n * SPDX-License-Identifier: ISC\n * SPDX-License-Identifier: MIT\n */\nx\n'
-  writes '-l|MIT|--single-line|k.h' k.h '/* SPDX-License-Identifier: ISC */\nx\n' to k.h "// SPDX-License-Identifier: ISC\n// ${tag}x\n"
+  writes '-l|MIT|k.h' k.h '/* SPDX-License-Identifier: ISC */\nx\n' to k.h \
+    '/*\n * SPDX-License-Identifier: ISC\n * SPDX-License-Identifier: MIT\n */\nx\n'
+  writes '-l|MIT|--single-line|k.h' k.h '/* SPDX-License-Identifier: ISC */\nx\n' to k.h \
+    "// SPDX-License-Identifier: ISC\n// ${tag}x\n"
   writes '-l|MIT|k.c' k.c 'x\n' to k.c "// $tag\nx\n"
   writes '-l|MIT|--multi-line|k.c' k.c 'x\n' to k.c "/*\n * $tag */\n\nx\n"
-  writes '-l|MIT|--recursive|src' src/a.py 'x\n' src/deep/b.py 'x\n' to src/a.py "$tagged" src/deep/b.py "$tagged"
-  writes '-l|MIT|--recursive|-s|python|--exclude|**a|--exclude=a*|.' a.py 'x\n' src/a 'x\n' src/b.py 'x\n' src/deep/ba 'x\n' to src/b.py "$tagged"
+  writes '-l|MIT|--recursive|src' src/a.py 'x\n' src/deep/b.py 'x\n' to src/a.py "$tagged" \
+    src/deep/b.py "$tagged"
+  writes '-l|MIT|--recursive|-s|python|--exclude|**a|--exclude=a*|.' a.py 'x\n' src/a 'x\n' \
+    src/b.py 'x\n' src/deep/ba 'x\n' to src/b.py "$tagged"
   for option in -n --dry-run; do
     stays "-l|MIT|$option|a.py" 0 'would change a.py\n' a.py 'x\n'
     tells log 0 ''
   done
   writes '-l|MIT|--style|python|a.css' a.css 'x\n' to a.css "$tagged"
-  for style in 'c=// @' 'css=/*\n * @ */\n' 'html=<!--\n@-->\n' 'haskell=-- @' 'tex=% @' 'lisp=;; @' 'semicolon=; @' 'ml=(*\n * @ *)\n' 'vim=" @'; do
+  for style in 'c=// @' 'css=/*\n * @ */\n' 'html=<!--\n@-->\n' 'haskell=-- @' 'tex=% @' \
+    'lisp=;; @' 'semicolon=; @' 'ml=(*\n * @ *)\n' 'vim=" @'; do
     comment=${style#*=}
     writes "-l|MIT|-s|${style%%=*}|a.py" a.py 'x\n' to a.py "${comment/@/"$tag"}\nx\n"
   done
@@ -40,9 +47,12 @@ gives() { writes "$1|a.py" a.py '' to a.py "$2"; }
 
 texts() {
   local notice notices=(
-    'spdx SPDX-FileCopyrightText: 2024 A' 'spdx-c SPDX-FileCopyrightText: (C) 2024 A' 'spdx-symbol SPDX-FileCopyrightText: © 2024 A'
-    'spdx-string SPDX-FileCopyrightText: Copyright 2024 A' 'spdx-string-c SPDX-FileCopyrightText: Copyright (C) 2024 A'
-    'spdx-string-symbol SPDX-FileCopyrightText: Copyright © 2024 A' 'string Copyright 2024 A' 'string-c Copyright (C) 2024 A'
+    'spdx SPDX-FileCopyrightText: 2024 A' 'spdx-c SPDX-FileCopyrightText: (C) 2024 A' \
+    'spdx-symbol SPDX-FileCopyrightText: © 2024 A'
+    'spdx-string SPDX-FileCopyrightText: Copyright 2024 A' \
+    'spdx-string-c SPDX-FileCopyrightText: Copyright (C) 2024 A'
+    'spdx-string-symbol SPDX-FileCopyrightText: Copyright © 2024 A' 'string Copyright 2024 A' \
+    'string-c Copyright (C) 2024 A'
     'string-symbol Copyright © 2024 A' 'symbol © 2024 A'
   )
   gives '-c|A' "# SPDX-FileCopyrightText: $(date -u +%Y) A\n"
@@ -53,7 +63,9 @@ texts() {
   gives '--copyright=-x|-y|2024' '# SPDX-FileCopyrightText: 2024 -x\n'
   gives '--contributor|B|--contributor|A' '# SPDX-FileContributor: A\n# SPDX-FileContributor: B\n'
   gives '-l|MIT|--license|0BSD' "# SPDX-License-Identifier: 0BSD\n# $tag"
-  for notice in "${notices[@]}"; do gives "-c|A|-y|2024|--copyright-prefix|${notice%% *}" "# ${notice#* }\n"; done
+  for notice in "${notices[@]}"; do
+    gives "-c|A|-y|2024|--copyright-prefix|${notice%% *}" "# ${notice#* }\n"
+  done
   gives '-c|A|-y|2024|--copyright-style|string' '# Copyright 2024 A\n'
 }
 
@@ -76,12 +88,14 @@ words() {
   local before line
   files a.py 'x\n'
   before=$(files_of "$tree")
-  for line in '--help=Add licensing information' 'annotate|--help=Add copyright and licensing information'; do
+  for line in '--help=Add licensing information' \
+    'annotate|--help=Add copyright and licensing information'; do
     run "${line%=*}"
     [[ $status == 0 && $out == "${line#*=}"* && ! $error ]] || differs "$line"
   done
   version_told
-  for line in 'undo|x' 'annotate|-l|MIT' 'annotate|-l|MIT|-s|none|a.py' 'annotate|-l|MIT|--copyright-prefix|none|a.py' 'download|MIT' 'undo|--diff' \
+  for line in 'undo|x' 'annotate|-l|MIT' 'annotate|-l|MIT|-s|none|a.py' \
+    'annotate|-l|MIT|--copyright-prefix|none|a.py' 'download|MIT' 'undo|--diff' \
     show 'show|x' 'show|1|--diff|--json' 'revert|-1'; do
     refuses "$line" ''
   done
@@ -118,7 +132,8 @@ place_words() {
       .) stays "-s|python|-l|MIT|$word" 1 '.: is a folder' "${before[@]}" ;;
       *) writes "-s|python|-l|MIT|$word" "${before[@]}" to "$place" "$tagged" ;;
     esac
-  done < <(printf '%s\n' 'a.py|a.py' './a.py|a.py' './a/./b/|a/b' 'a.py/|a.py' '.|.' './|.' './.|.' 'a/..b|a/..b' \
+  done < <(printf '%s\n' 'a.py|a.py' './a.py|a.py' './a/./b/|a/b' 'a.py/|a.py' '.|.' './|.' \
+    './.|.' 'a/..b|a/..b' \
     '|none' '/|none' './/|none' 'a//|none' 'a//b|none' 'a/..|none' '../a|none' "$tree/a.py|none")
 }
 

@@ -38,7 +38,8 @@ does() {
   local wanted=$1 found=0
   shift
   run "$@" > "$room/out" 2> "$room/error" || found=$?
-  [[ $found == 0 && $(< "$room/error") == "$wanted" ]] || fail "$*: status $found: $(cat "$room/error")"
+  [[ $found == 0 && $(< "$room/error") == "$wanted" ]] ||
+    fail "$*: status $found: $(cat "$room/error")"
   checks=$((checks + 1))
 }
 
@@ -101,7 +102,9 @@ as_root() {
     has sub/p.png "$two:$two 644" $call
     [[ $call == undo || $call == revert ]] || has sub/p.png.license "$two:$two 644" $call
     for path in .reuse .reuse/undo; do has $path "$one:$team 755" $call; done
-    for path in .reuse/undo/head.json .reuse/undo/000001.json; do has $path "$one:$team 644" $call; done
+    for path in .reuse/undo/head.json .reuse/undo/000001.json; do
+      has $path "$one:$team 644" $call
+    done
   done
   does '' root --trust-journal download --texts "$room/texts" MIT
   has LICENSES "$one:$team 755" download
@@ -134,7 +137,8 @@ in_team() {
   local note='reuse-undo: note: 2 files could not keep owner or group'
   stand $one:$team "a.py $one:$team 664" "b.py $one:$team 775" "c.py $two:$team 600"
   chmod 2775 "$tree"
-  run $two -v annotate "${jane[@]}" -r . > "$room/out" 2> "$room/error" || fail "team: $(cat "$room/error")"
+  run $two -v annotate "${jane[@]}" -r . > "$room/out" 2> "$room/error" ||
+    fail "team: $(cat "$room/error")"
   grep -qxF "$note" "$room/error" || fail "team: no note: $(cat "$room/error")"
   has a.py "$two:$team 664" team
   has b.py "$two:$team 775" team
@@ -160,7 +164,8 @@ in_team() {
   done
   # Unchanged files are of no account.
   stand $two:$team "a.py $one:$team 644" "b.py $two:$team 644"
-  run $one --allow-owner-change annotate "${jane[@]}" a.py 2> "$room/error" > "$room/out" && fail 'a folder that others may not write'
+  run $one --allow-owner-change annotate "${jane[@]}" a.py 2> "$room/error" > "$room/out" &&
+    fail 'a folder that others may not write'
   chown $one "$tree/a.py"
   does '' $two annotate "${jane[@]}" b.py
   does '' $two undo
@@ -171,7 +176,9 @@ in_team() {
 # A group that the owner isn't in
 other_group() {
   stand $one:$one "a.py $one:0 644" "b.py $one:0 640" "c.py $one:0 664" "d.py $one:0 604"
-  for file in b c d; do refused "$file.py: cannot keep its owner" $one annotate "${jane[@]}" $file.py; done
+  for file in b c d; do
+    refused "$file.py: cannot keep its owner" $one annotate "${jane[@]}" $file.py
+  done
   does '' $one annotate "${jane[@]}" a.py
   has a.py "$one:$one 644" group
   # Undo and redo are looked at in the same way.
@@ -192,7 +199,8 @@ rollback() {
   local note='reuse-undo: note: step 1, which a stopped run had begun, was set back (1 file)'
   stand $one:$team "a.py $one:$team 640" "b.py $two:$one 600"
   head -c 100000 /dev/zero | tr '\0' x >> "$tree/b.py"
-  (trap '' XFSZ && ulimit -f 64 && exec "$program" --root "$tree" annotate "${jane[@]}" -r .) > "$room/out" 2>&1 && fail 'no run is stopped'
+  (trap '' XFSZ && ulimit -f 64 && exec "$program" --root "$tree" annotate "${jane[@]}" -r .) \
+    > "$room/out" 2>&1 && fail 'no run is stopped'
   is_pending "$tree" || fail 'no step is pending'
   has a.py "$one:$team 640" stopped
   refused 'journal of another user' root log
@@ -210,7 +218,8 @@ journals() {
     does '' $one annotate "${jane[@]}" a.py
     chmod -R go+rX "$tree/.reuse"
     chown $two "$tree/$path"
-    for call in log undo redo 'show 1' 'revert 1' recover 'undo -n' 'annotate -l MIT a.py' convert-dep5 "download --texts $room/texts MIT"; do
+    for call in log undo redo 'show 1' 'revert 1' recover 'undo -n' 'annotate -l MIT a.py' \
+      convert-dep5 "download --texts $room/texts MIT"; do
       for user in $one root; do
         # shellcheck disable=SC2086
         refused 'journal of another user' $user $call
@@ -234,8 +243,10 @@ journals() {
 links() {
   stand $one:$team "a.py $one:$team 644"
   ln "$tree/a.py" "$tree/link"
-  run $one -v annotate "${jane[@]}" a.py > "$room/out" 2> "$room/error" || fail "links: $(cat "$room/error")"
-  grep -qxF 'reuse-undo: note: 1 file has further names (hard links), which keep the old bytes' "$room/error" ||
+  run $one -v annotate "${jane[@]}" a.py > "$room/out" 2> "$room/error" ||
+    fail "links: $(cat "$room/error")"
+  grep -qxF 'reuse-undo: note: 1 file has further names (hard links), which keep the old bytes' \
+    "$room/error" ||
     fail "links: $(cat "$room/error")"
   [[ $(< "$tree/link") == 'x = 1' ]] || fail 'the other name has other bytes'
 }
@@ -253,7 +264,8 @@ lists() {
   }
   does '' $one annotate "${jane[@]}" a.py
   has a.py "$one:$team 640" lists
-  ! getfacl -cn "$tree/a.py" 2> "$room/error" | grep -q "^user:$two" || fail 'SECURITY.md says that a list is lost'
+  ! getfacl -cn "$tree/a.py" 2> "$room/error" | grep -q "^user:$two" ||
+    fail 'SECURITY.md says that a list is lost'
 }
 
 for group in as_root setgid in_team other_group rollback journals links lists; do $group; done

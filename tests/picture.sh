@@ -6,5 +6,6 @@ set -euo pipefail
 docs=$(dirname "$0")/../docs
 without_date() { sed -E 's/[0-9]{4}-[0-9]{2}-[0-9]{2}/DATE/' "$1"; }
 "$docs/make_picture.sh" "$program" > "$room/picture.svg"
-cmp <(without_date "$room/picture.svg") <(without_date "$docs/picture.svg") || fail 'make the picture again: docs/make_picture.sh PROGRAM > docs/picture.svg'
+cmp <(without_date "$room/picture.svg") <(without_date "$docs/picture.svg") ||
+  fail 'make the picture again: docs/make_picture.sh PROGRAM > docs/picture.svg'
 echo 'the picture is what the program prints'

@@ -19,7 +19,10 @@ ln -s "$program" "$room/bin/reuse-undo"
 PATH=$room/bin:$PATH
 
 # The lines of the document's block that begins with these words
-block() { awk -v "head=\`\`\`$1" '$0 == "```" { shown = 0 } shown { print } $0 == head { shown = 1; any = 1 } END { exit !any }' "$usage"; }
+block() {
+  awk -v "head=\`\`\`$1" \
+    '$0 == "```" { shown = 0 } shown { print } $0 == head { shown = 1; any = 1 } END { exit !any }' "$usage"
+}
 
 # A repository with these files, each by its path and its text with escapes, staged
 repository() {
@@ -44,7 +47,8 @@ hook() {
   git -C "$room/hooks" add -A
   git -C "$room/hooks" commit -q -m hooks
   git -C "$room/hooks" tag v1.0.0
-  repository a.py 'x\n' b.py "# SPDX-License-Identifier: ISC\n\nx\n" sub/c.xyz 'x\n' p.png '\0211\0' LICENSES/MIT.txt 'text\n' LICENSE 'text\n' \
+  repository a.py 'x\n' b.py "# SPDX-License-Identifier: ISC\n\nx\n" sub/c.xyz 'x\n' p.png \
+    '\0211\0' LICENSES/MIT.txt 'text\n' LICENSE 'text\n' \
     REUSE.toml 'version = 1\n' 'sub/d e.c' 'int x;\n'
   ln -s a.py link.py
   block 'yaml pre-commit' | sed "s#https://.*#$room/hooks#" > .pre-commit-config.yaml
@@ -54,11 +58,15 @@ hook() {
   git add -A
   pre-commit install > "$room/out" 2>&1
   if git commit -q -m first > "$room/out" 2>&1; then fail 'files without a header are committed'; fi
-  grep -q 'files were modified by this hook' "$room/out" || fail "the hook tells: $(cat "$room/out")"
-  [[ $(git status --porcelain | grep -v '^A  ') == $'AM a.py\nAM "sub/d e.c"\n?? p.png.license' ]] || fail "the hook changes $(git status --porcelain)"
+  grep -q 'files were modified by this hook' "$room/out" ||
+    fail "the hook tells: $(cat "$room/out")"
+  [[ $(git status --porcelain |
+    grep -v '^A  ') == $'AM a.py\nAM "sub/d e.c"\n?? p.png.license' ]] ||
+    fail "the hook changes $(git status --porcelain)"
   begins a.py '# SPDX-FileCopyrightText: '"$(date -u +%Y)"' Jane Doe'
   git add -A
-  git commit -q -m first > "$room/out" 2>&1 || fail "files with a header are not committed: $(cat "$room/out")"
+  git commit -q -m first > "$room/out" 2>&1 ||
+    fail "files with a header are not committed: $(cat "$room/out")"
   [[ -z $(git ls-files .reuse) ]] || fail 'the journal is committed'
   [[ $(reuse-undo log | wc -l) == 1 ]] || fail "the hook's steps: $(reuse-undo log)"
   reuse-undo undo > "$room/out"
@@ -72,10 +80,14 @@ hook_makes_a_neighbour() {
   git reset -q --hard
   printf '\0211\0' > q.png
   git add q.png
-  if git commit -q -m neighbour > "$room/out" 2>&1; then fail 'a file without its neighbour is committed'; fi
-  [[ $(git status --porcelain) == $'A  q.png\n?? q.png.license' ]] || fail "the hook changes $(git status --porcelain)"
+  if git commit -q -m neighbour > "$room/out" 2>&1; then
+    fail 'a file without its neighbour is committed'
+  fi
+  [[ $(git status --porcelain) == $'A  q.png\n?? q.png.license' ]] ||
+    fail "the hook changes $(git status --porcelain)"
   git add -A
-  git commit -q -m neighbour > "$room/out" 2>&1 || fail "a neighbour is not committed: $(cat "$room/out")"
+  git commit -q -m neighbour > "$room/out" 2>&1 ||
+    fail "a neighbour is not committed: $(cat "$room/out")"
 }
 
 # The alias annotates what git knows.

@@ -157,14 +157,16 @@ round() {
     fail "$name: the run waits"
   fi
   wait $pid || refused=$((refused + 1))
-  look_outside | cmp -s - "$room/seen" || fail "$name: what lies outside was read or written: $(look_outside | diff - "$room/seen")"
+  look_outside | cmp -s - "$room/seen" ||
+    fail "$name: what lies outside was read or written: $(look_outside | diff - "$room/seen")"
   ! grep -rqI secret "$tree" "$away" || fail "$name: what lies outside came in"
   check_files "$tree" '' "$name"
   [[ ! -d $away/sub ]] || check_files "$away/sub" sub/ "$name"
   [[ ! -f $away/a.py ]] || check_files "$away" sub/ "$name"
   put_back "$swap"
   "$program" --root "$tree" log > "$room/out" 2>&1 ||
-    grep -qE '^reuse-undo: (interrupted|sub/[a-z/.]+: moved)' "$room/out" || fail "$name: $(< "$room/out")"
+    grep -qE '^reuse-undo: (interrupted|sub/[a-z/.]+: moved)' "$room/out" ||
+    fail "$name: $(< "$room/out")"
   rounds=$((rounds + 1))
 }
 
@@ -177,7 +179,8 @@ note_calls() {
   rm -rf "$tree"
   cp -a "$room/$1" "$tree"
   # shellcheck disable=SC2086
-  strace -qq -o "$room/trace" -e "trace=$calls" "$program" --root "$tree" ${runs[$1]} > "$room/out" 2>&1
+  strace -qq -o "$room/trace" -e "trace=$calls" "$program" --root "$tree" ${runs[$1]} \
+    > "$room/out" 2>&1
   mapfile -t stops < <(sed 's/(.*//' "$room/trace" | awk '{ print $1, ++times[$1] }')
 }
 

@@ -16,7 +16,8 @@ calls="rename,renameat,renameat2"
 kill_at() {
   local nth=$1
   shift
-  strace -f -o "$room/trace" -e trace=$calls -e "inject=$calls:signal=KILL:when=$nth" "$program" --root "$tree" "$@" > "$room/out" 2>&1 || true
+  strace -f -o "$room/trace" -e trace=$calls -e "inject=$calls:signal=KILL:when=$nth" "$program" \
+    --root "$tree" "$@" > "$room/out" 2>&1 || true
 }
 
 # What a call prints and its status
@@ -34,7 +35,8 @@ files a.py 'x = 1\n' b.py 'y = 2\n'
 is "$(told recover)" $'nothing changed\nstatus 0' "without a journal"
 "$program" --root "$tree" annotate -l MIT -r . > "$room/out"
 is "$(told recover --skip-moved)" $'nothing changed\nstatus 0' "without a pending step"
-is "$(told log | sed 's/[0-9-]\{10\}/DATE/')" $'1 DATE annotate 2 done\nstatus 0' "the log afterwards"
+is "$(told log | sed 's/[0-9-]\{10\}/DATE/')" $'1 DATE annotate 2 done\nstatus 0' \
+  "the log afterwards"
 
 stuck=0
 for ((round = 0; round < rounds; round++)); do
@@ -49,7 +51,8 @@ for ((round = 0; round < rounds; round++)); do
   # An entry and a pending head are put first, by a rename each
   kill_at $((3 + RANDOM % (count + 1))) annotate -l MIT -r .
   is_pending "$tree" || continue
-  mapfile -t changed < <(diff -rq "$room/before" "$tree" | sed -nE 's/^Files .*\/before\/(f[0-9]+\.py) and .*/\1/p')
+  mapfile -t changed < <(diff -rq "$room/before" "$tree" |
+    sed -nE 's/^Files .*\/before\/(f[0-9]+\.py) and .*/\1/p')
   ((${#changed[@]})) || continue
   edited=${changed[RANDOM % ${#changed[@]}]}
   sed -i '1s/^/# edited\n/' "$tree/$edited"
@@ -59,12 +62,16 @@ for ((round = 0; round < rounds; round++)); do
   done
   diff -r "$room/stuck" "$tree" > "$room/out" || fail "a refused call changed the tree"
   rm -rf "$room/stuck"
-  expected=$(for file in "${changed[@]}"; do [[ $file == "$edited" ]] || echo "set back $file"; done)
+  expected=$(for file in "${changed[@]}"; do [[ $file == "$edited" ]] ||
+    echo "set back $file"; done)
   [[ -n $expected ]] || expected='nothing changed'
-  is "$(told recover --skip-moved)" "$expected"$'\n'"skipped $edited"$'\nstatus 0' "recover --skip-moved"
-  is "$(diff -rq -x .reuse "$room/before" "$tree" | sed -E 's/.* and .*\/(f[0-9]+\.py) differ/\1/')" "$edited" "the files that differ afterwards"
+  is "$(told recover --skip-moved)" "$expected"$'\n'"skipped $edited"$'\nstatus 0' \
+    "recover --skip-moved"
+  is \
+    "$(diff -rq -x .reuse "$room/before" "$tree" | sed -E 's/.* and .*\/(f[0-9]+\.py) differ/\1/')" "$edited" "the files that differ afterwards"
   is "$(head -n 1 "$tree/$edited")" '# edited' "the edited file"
-  is "$(told log | sed 's/[0-9-]\{10\}/DATE/')" "1 DATE annotate $count done"$'\nstatus 0' "the log afterwards"
+  is "$(told log | sed 's/[0-9-]\{10\}/DATE/')" "1 DATE annotate $count done"$'\nstatus 0' \
+    "the log afterwards"
   is "$(told recover)" $'nothing changed\nstatus 0' "recover once more"
   "$program" --root "$tree" annotate -l MIT -r . > "$room/out" || fail "no call goes on"
   stuck=$((stuck + 1))
@@ -77,6 +84,7 @@ cp -a "$tree" "$room/clean"
 kill_at 4 annotate -l MIT -r .
 is_pending "$tree" || fail "the run wasn't killed in the middle"
 told recover > "$room/said"
-diff -r -x .reuse "$room/clean" "$tree" > "$room/out" || fail "recover without an edit leaves another tree"
+diff -r -x .reuse "$room/clean" "$tree" > "$room/out" ||
+  fail "recover without an edit leaves another tree"
 grep -q '^set back ' "$room/said" || fail "nothing was set back"
 echo "$stuck of $rounds killed runs left by recover --skip-moved, each other file as before the step"

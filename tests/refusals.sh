@@ -22,7 +22,8 @@ compare() {
   shift 3
   [[ $found == "$status" ]] || fail "$*: status $found, not $status"
   [[ ! -s $room/out ]] || fail "$*: it prints $(cat "$room/out")"
-  printf 'reuse-undo: %s\n' "$text" | cmp -s - "$room/error" || fail "$*: it tells $(cat "$room/error")"
+  printf 'reuse-undo: %s\n' "$text" | cmp -s - "$room/error" ||
+    fail "$*: it tells $(cat "$room/error")"
   refusals=$((refusals + 1))
 }
 
@@ -36,13 +37,16 @@ refused() {
 }
 
 # The call is made.
-made() { "$program" --root "$tree" "$@" > "$room/out" 2> "$room/error" || fail "$*: $(cat "$room/error")"; }
+made() {
+  "$program" --root "$tree" "$@" > "$room/out" 2> "$room/error" || fail "$*: $(cat "$room/error")"
+}
 
 # Where clap refuses, its text begins so.
 refused_words() {
   local found=0
   "$program" "$@" > "$room/out" 2> "$room/error" || found=$?
-  [[ $found == 2 && ! -s $room/out && $(head -c 7 "$room/error") == "error: " ]] || fail "$*: status $found, $(cat "$room/error")"
+  [[ $found == 2 && ! -s $room/out && $(head -c 7 "$room/error") == "error: " ]] ||
+    fail "$*: status $found, $(cat "$room/error")"
   refusals=$((refusals + 1))
 }
 
@@ -154,8 +158,10 @@ histories() {
   sed -i '$d' "$tree/a.py"
   made redo
   # As many steps as the journal takes
-  (cd "$tree/.reuse/undo" && seq -f %06.0f.json 2 4096 | xargs sh -c 'tee "$@" < 000001.json > /dev/null' tee)
-  printf '{"done":[%s],"format":1,"next":4097,"pending":null,"undone":[]}' "$(seq -s, 4096)" > "$tree/.reuse/undo/head.json"
+  (cd "$tree/.reuse/undo" &&
+    seq -f %06.0f.json 2 4096 | xargs sh -c 'tee "$@" < 000001.json > /dev/null' tee)
+  printf '{"done":[%s],"format":1,"next":4097,"pending":null,"undone":[]}' "$(seq -s, 4096)" \
+    > "$tree/.reuse/undo/head.json"
   refused 1 'journal full' annotate "${jane[@]}" a.py
 }
 
@@ -178,7 +184,8 @@ faults() {
   files a.py 'x\n' b.py '' .reuse/dep5 'Format: x\n'
   head -c 100000 /dev/zero | tr '\0' x > "$tree/b.py"
   before=$(state_of "$tree")
-  (trap '' XFSZ && ulimit -f 64 && exec "$program" --root "$tree" annotate -l MIT -r .) > "$room/out" 2> "$room/error" || found=$?
+  (trap '' XFSZ && ulimit -f 64 && exec "$program" --root "$tree" annotate -l MIT -r .) \
+    > "$room/out" 2> "$room/error" || found=$?
   compare 1 interrupted $found 'annotate with a limit'
   is_pending "$tree" || fail 'no step is under way'
   echo yyy > "$tree/a.py"
@@ -193,7 +200,8 @@ faults() {
   files a.py ''
   head -c 16000000 /dev/zero | tr '\0' '\n' > "$tree/a.py"
   found=0
-  (ulimit -v 16000 && exec "$program" --root "$tree" annotate -l MIT a.py) > "$room/out" 2> "$room/error" || found=$?
+  (ulimit -v 16000 && exec "$program" --root "$tree" annotate -l MIT a.py) > "$room/out" \
+    2> "$room/error" || found=$?
   compare 1 'out of memory' $found 'annotate with little memory'
   # What can't be told stands.
   files a.py ''
@@ -201,7 +209,8 @@ faults() {
   : > "$room/out"
   "$program" --root "$tree" annotate -l MIT a.py > /dev/full 2> "$room/error" || found=$?
   compare 1 'write fault' $found 'annotate to a full device'
-  [[ $(< "$tree/a.py") == '# SPDX-License-Identifier: MIT' ]] || fail 'annotate to a full device: the file is not changed'
+  [[ $(< "$tree/a.py") == '# SPDX-License-Identifier: MIT' ]] ||
+    fail 'annotate to a full device: the file is not changed'
 }
 
 for group in words places conversions downloads histories bad_journals faults; do $group; done

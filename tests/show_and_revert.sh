@@ -14,7 +14,11 @@ tree=$room/tree
 calls=0
 
 # One checksum over all files' names, bits and bytes outside of the journal
-all_files() { (cd "$tree" && find . -type f -not -path './.reuse/undo/*' -print0 | sort -z | tar --null --no-recursion -T - --mtime=@0 -cf - | sha256sum); }
+all_files() {
+  (cd "$tree" &&
+    find . -type f -not -path './.reuse/undo/*' -print0 | sort -z |
+    tar --null --no-recursion -T - --mtime=@0 -cf - | sha256sum)
+}
 
 # The call prints this, or is refused with this text.
 prints() {
@@ -29,7 +33,8 @@ refuses() {
   shift
   before=$(all_files)
   "$program" --root "$tree" "$@" > "$room/out" 2> "$room/error" || status=$?
-  [[ $status == 1 && ! -s $room/out && $(< "$room/error") == "reuse-undo: $wanted" ]] || fail "$*: status $status, $(< "$room/error")"
+  [[ $status == 1 && ! -s $room/out && $(< "$room/error") == "reuse-undo: $wanted" ]] ||
+    fail "$*: status $status, $(< "$room/error")"
   [[ $(all_files) == "$before" ]] || fail "$*: files are changed"
   calls=$((calls + 1))
 }
@@ -60,11 +65,17 @@ made LICENSES/MIT.txt" show 3
 refuses 'no such step: 4' show 4
 refuses 'no such step: 0' show 0
 "$program" --root "$tree" show --diff 1 > "$room/out"
-printf '%s\n' "1 $date annotate 4 done" 'changed a.py' 'changed b.c' 'made p.png.license' 'changed sub/d.py' \
-  'diff --git a/a.py b/a.py' '--- a/a.py' '+++ b/a.py' '@@ byte 0 @@' '+# SPDX-License-Identifier: MIT' '+' \
-  'diff --git a/b.c b/b.c' '--- a/b.c' '+++ b/b.c' '@@ byte 0 @@' $'+// SPDX-License-Identifier: MIT\r' $'+\r' \
-  'diff --git a/p.png.license b/p.png.license' 'new file mode 100644' '--- /dev/null' '+++ b/p.png.license' '@@ -0,0 +1,1 @@' '+SPDX-License-Identifier: MIT' \
-  'diff --git a/sub/d.py b/sub/d.py' '--- a/sub/d.py' '+++ b/sub/d.py' '@@ byte 10 @@' '+' '+# SPDX-License-Identifier: MIT' '+' | cmp - "$room/out" || fail "show --diff 1: $(< "$room/out")"
+printf '%s\n' "1 $date annotate 4 done" 'changed a.py' 'changed b.c' 'made p.png.license' \
+  'changed sub/d.py' \
+  'diff --git a/a.py b/a.py' '--- a/a.py' '+++ b/a.py' '@@ byte 0 @@' \
+  '+# SPDX-License-Identifier: MIT' '+' \
+  'diff --git a/b.c b/b.c' '--- a/b.c' '+++ b/b.c' '@@ byte 0 @@' \
+  $'+// SPDX-License-Identifier: MIT\r' $'+\r' \
+  'diff --git a/p.png.license b/p.png.license' 'new file mode 100644' '--- /dev/null' \
+  '+++ b/p.png.license' '@@ -0,0 +1,1 @@' '+SPDX-License-Identifier: MIT' \
+  'diff --git a/sub/d.py b/sub/d.py' '--- a/sub/d.py' '+++ b/sub/d.py' '@@ byte 10 @@' '+' \
+  '+# SPDX-License-Identifier: MIT' '+' | cmp - "$room/out" ||
+  fail "show --diff 1: $(< "$room/out")"
 
 # What is told as JSON is what is told in lines
 python3 - "$program" "$tree" << 'PYTHON' || fail 'JSON'
@@ -115,7 +126,8 @@ refuses 'a.py: moved' revert 4
 holds a.py "${header}x = 1\nx = 2\n"
 # What a later step touched is left, until that is taken back.
 refuses 'a.py: moved' revert 1
-prints $'nothing changed\nskipped a.py\nskipped b.c\nskipped p.png.license\nskipped sub/d.py' revert 1 --skip-moved
+prints $'nothing changed\nskipped a.py\nskipped b.c\nskipped p.png.license\nskipped sub/d.py' \
+  revert 1 --skip-moved
 prints $'undone a.py\nundone b.c\nundone p.png.license\nundone sub/d.py' undo
 prints $'undone a.py\nundone b.c\nundone p.png.license\nundone sub/d.py' undo
 # Files that can't be taken back
@@ -125,7 +137,8 @@ echo '# SPDX-License-Identifier: ISC' > "$tree/p.png.license"
 refuses 'b.c: moved' revert 1
 prints $'changed a.py\nchanged sub/d.py\nskipped b.c\nskipped p.png.license' revert 1 --skip-moved
 holds b.c '# me\n// SPDX-License-Identifier: MIT\r\n\r\nint y;\r\n'
-prints $'nothing changed\nskipped a.py\nskipped b.c\nskipped p.png.license\nskipped sub/d.py' revert --skip-moved 1
+prints $'nothing changed\nskipped a.py\nskipped b.c\nskipped p.png.license\nskipped sub/d.py' \
+  revert --skip-moved 1
 prints $'undone a.py\nundone sub/d.py' undo
 # A step that is undone can't be reverted, nor one that isn't there.
 refuses 'no such step: 6' revert 6
@@ -143,11 +156,13 @@ refuses 'nothing to redo' redo
 # ---- an untouched tree: the last step's revert is its undo
 
 files a.py 'x\n' odd 'y' p.png '\x89'
-prints $'changed a.py\nchanged odd.license\nchanged p.png.license' annotate -l MIT -r --fallback-dot-license .
+prints $'changed a.py\nchanged odd.license\nchanged p.png.license' annotate -l MIT \
+  -r --fallback-dot-license .
 cp -a "$tree" "$room/undone"
 "$program" --root "$room/undone" undo > "$room/out"
 prints $'changed a.py\nchanged odd.license\nchanged p.png.license' revert 1
-diff -r --exclude=.reuse "$tree" "$room/undone" > "$room/differ" || fail "a revert isn't the undo: $(< "$room/differ")"
+diff -r --exclude=.reuse "$tree" "$room/undone" > "$room/differ" ||
+  fail "a revert isn't the undo: $(< "$room/differ")"
 
 # ---- in any order: each step writes files of its own
 
@@ -160,13 +175,19 @@ for ((round = 0; round < rounds; round++)); do
     printf '\x89' > "$tree/$k/p.png"
   done
   before=$(all_files)
-  for ((k = 1; k <= steps; k++)); do "$program" --root "$tree" annotate -c "Holder $k" -l MIT -r "$k" > "$room/out" || fail "annotate $k"; done
+  for ((k = 1; k <= steps; k++)); do
+    "$program" --root "$tree" annotate -c "Holder $k" -l MIT -r "$k" > "$room/out" ||
+      fail "annotate $k"
+  done
   for k in $(seq "$steps" | shuf); do
     "$program" --root "$tree" revert "$k" > "$room/out" || fail "revert $k"
     calls=$((calls + 1))
   done
-  [[ $(all_files) == "$before" ]] || fail "round $round: the reverts of $steps steps don't give the first tree"
-  for ((k = 0; k < 2 * steps; k++)); do "$program" --root "$tree" undo > "$room/out" || fail 'an undo of a revert'; done
+  [[ $(all_files) == "$before" ]] ||
+    fail "round $round: the reverts of $steps steps don't give the first tree"
+  for ((k = 0; k < 2 * steps; k++)); do
+    "$program" --root "$tree" undo > "$room/out" || fail 'an undo of a revert'
+  done
   [[ $(all_files) == "$before" ]] || fail "round $round: the undos don't give the first tree"
 done
 echo "$calls calls show and take back what they are to; reverts in any order give the first tree in $rounds rounds"

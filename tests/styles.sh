@@ -40,13 +40,15 @@ mkdir -p "$plain/.reuse"
 cp "$top/share/styles.toml" "$plain/.reuse/"
 known > "$room/known"
 own > "$room/own"
-[[ $(wc -l < "$room/known") == 58 && $(wc -l < "$room/own") -ge 100 ]] || fail 'fewer names than there were'
+[[ $(wc -l < "$room/known") == 58 && $(wc -l < "$room/own") -ge 100 ]] ||
+  fail 'fewer names than there were'
 make_files known < "$room/known"
 make_files own < "$room/own"
 cp -r "$plain" "$tree"
 files=$(find "$plain" -type f -not -path '*/.reuse/*' | wc -l)
 annotate -r . > "$room/out"
-[[ $(grep -c '^changed ' "$room/out") == "$files" ]] || fail "$files files, $(wc -l < "$room/out") changed"
+[[ $(grep -c '^changed ' "$room/out") == "$files" ]] ||
+  fail "$files files, $(wc -l < "$room/out") changed"
 while read -r _ path; do
   grep -q 'SPDX-License-Identifier: MIT' "$tree/$path" || fail "$path has no header"
 done < "$room/out"
@@ -71,7 +73,8 @@ sample() {
   taken_back "$room/sample"
   passed=$((passed + 1))
 }
-sample a.py '#!/usr/bin/env python3\n# coding: utf-8\n"""Text."""\nfrom __future__ import annotations\nprint(1)\n' python3 -m py_compile
+sample \
+  a.py '#!/usr/bin/env python3\n# coding: utf-8\n"""Text."""\nfrom __future__ import annotations\nprint(1)\n' python3 -m py_compile
 sample a.sh '#!/bin/sh\necho 1\n' bash -n
 sample a.bash 'echo 1\n' bash -n
 sample a.pl '#!/usr/bin/perl\nuse strict;\nprint 1;\n' perl -c
@@ -79,10 +82,14 @@ sample a.awk 'BEGIN { print 1 }\n' awk -f
 sample Makefile 'all:\n\t@echo 1\n' make -f
 sample a.c 'int main(void) { return 0; }\n' gcc -fsyntax-only
 sample a.h '#define ONE 1\n' gcc -fsyntax-only
-for ending in cc cpp cxx hpp hh hxx inl; do sample "a.$ending" 'int one() { return 1; }\n' gcc -x c++ -fsyntax-only; done
+for ending in cc cpp cxx hpp hh hxx inl; do
+  sample "a.$ending" 'int one() { return 1; }\n' gcc -x c++ -fsyntax-only
+done
 sample a.xml '<?xml version="1.0" encoding="UTF-8"?>\n<a/>\n' xmllint --noout
 sample a.html '<!DOCTYPE html>\n<p>1</p>\n' xmllint --html --noout
-for ending in xsl xslt xsd plist xhtml; do sample "a.$ending" '<?xml version="1.0"?>\n<a/>\n' xmllint --noout; done
+for ending in xsl xslt xsd plist xhtml; do
+  sample "a.$ending" '<?xml version="1.0"?>\n<a/>\n' xmllint --noout
+done
 sample a.js '#!/usr/bin/env node\n"use strict";\nconsole.log(1);\n' node --check
 sample a.cjs 'module.exports = 1;\n' node --check
 sample a.mjs 'export default 1;\n' node --check

@@ -33,15 +33,19 @@ help_subcommands > "$room/subcommands"
 (help_options; while read -r word; do [[ $word == help ]] || help_options "$word"; done < "$room/subcommands") | sort -u > "$room/options"
 help_values style > "$room/styles"
 help_values copyright-prefix > "$room/prefixes"
-[[ $(wc -l < "$room/subcommands") -ge 7 && $(wc -l < "$room/options") -ge 27 && $(wc -l < "$room/styles") -ge 10 && $(wc -l < "$room/prefixes") -ge 10 ]] \
+[[ $(wc -l < "$room/subcommands") -ge 7 && $(wc -l < "$room/options") -ge 27 &&
+  $(wc -l < "$room/styles") -ge 10 && $(wc -l < "$room/prefixes") -ge 10 ]] \
   || fail 'help has fewer words than it had'
 
 mandoc -T lint "$page" > "$room/lint" 2>&1 || fail "mandoc: $(cat "$room/lint")"
-LC_ALL=C.UTF-8 man --warnings -E UTF-8 -l -Tutf8 -Z "$page" 2> "$room/lint" > "$room/out" || fail "man: $(cat "$room/lint")"
+LC_ALL=C.UTF-8 man --warnings -E UTF-8 -l -Tutf8 -Z "$page" 2> "$room/lint" > "$room/out" ||
+  fail "man: $(cat "$room/lint")"
 [[ ! -s $room/lint ]] || fail "man: $(cat "$room/lint")"
 
 # The long options in a text
-options_of() { grep -oE -- '(^|[^A-Za-z0-9-])--[a-z][a-z0-9-]*' "$1" | sed -E 's/^[^-]//' | sort -u; }
+options_of() {
+  grep -oE -- '(^|[^A-Za-z0-9-])--[a-z][a-z0-9-]*' "$1" | sed -E 's/^[^-]//' | sort -u
+}
 for list in subcommands options styles prefixes; do
   all_in "the manual page" "$room/$list" "$room/manual"
   all_in "docs/REFERENCE.md" "$room/$list" "$reference"
@@ -53,7 +57,8 @@ same 'options of help and of the manual page' "$room/long_options" "$room/manual
 grep -E 'reuse-undo ' "$reference" "$top/docs/HOWTO.md" | grep -v 'git ' > "$room/lines"
 options_of "$room/lines" > "$room/used_options"
 while read -r word; do
-  grep -qxF -- "$word" "$room/long_options" || fail "docs/REFERENCE.md, HOWTO.md: $word is no option"
+  grep -qxF -- "$word" "$room/long_options" ||
+    fail "docs/REFERENCE.md, HOWTO.md: $word is no option"
 done < "$room/used_options"
 
 # Option by option: a line `-c, --copyright TEXT` for each option of a section of the manual page,
@@ -68,11 +73,13 @@ one_each() {
   }' | sort
 }
 in_manual() {
-  awk -v section=".Ss $1" '/^\.S[hs] / { inside = $0 == section } inside && /^\.It Fl / { print substr($0, 5) }' "$page" |
+  awk -v section=".Ss $1" \
+    '/^\.S[hs] / { inside = $0 == section } inside && /^\.It Fl / { print substr($0, 5) }' "$page" |
     sed -E 's/Fl -/--/g; s/Fl /-/g; s/ Ar / /g; s/ , /, /g' | one_each
 }
 in_reference() {
-  awk -v section="## $1" '/^## / { inside = $0 == section } inside && /^\| `-/ { print }' "$reference" |
+  awk -v section="## $1" '/^## / { inside = $0 == section } inside && /^\| `-/ { print }' \
+    "$reference" |
     sed -E 's/^\| ([^|]*) \|.*/\1/; s/`//g' | one_each
 }
 in_help() {
@@ -83,7 +90,8 @@ compared=0
 for section in 'Options of all subcommands' 'Dry runs' $(grep -vx help "$room/subcommands"); do
   in_manual "$section" > "$room/in_manual"
   in_reference "$section" > "$room/in_reference"
-  same "options of the manual page and of docs/REFERENCE.md, $section" "$room/in_manual" "$room/in_reference"
+  same "options of the manual page and of docs/REFERENCE.md, $section" "$room/in_manual" \
+    "$room/in_reference"
   case $section in
     Options*)
       in_help > "$room/in_help"
@@ -102,12 +110,18 @@ done
 # Texts of refusals; three are of calls that the program doesn't make, or not alone, a dry run tells
 # the refusals in place of one, and why styles are bad isn't told, nor is what a folder's fault was,
 # but in notes
-sed -nE 's/.*#\[error\("(.*)"(, .*)?\)\]$/\1/p' $(find "$top"/crates/*/src -name '*.rt' | grep -vE 'test|style_refusal|disk/fault') | grep -vxE 'device fault|not a good journal text|would be refused|nothing left' \
-  | sed -E 's/\{[^}]*\}/\n/g' | sed -E 's/^[: ]+//; s/[: ]+$//' | grep . | sort -u > "$room/refusals"
-while IFS= read -r text; do grep -qF -- "$text" "$room/manual" || fail "the manual page: the refusal $text is not told"; done < "$room/refusals"
+sed -nE 's/.*#\[error\("(.*)"(, .*)?\)\]$/\1/p' \
+  $(find "$top"/crates/*/src -name '*.rt' | grep -vE 'test|style_refusal|disk/fault') |
+  grep -vxE 'device fault|not a good journal text|would be refused|nothing left' \
+  | sed -E 's/\{[^}]*\}/\n/g' | sed -E 's/^[: ]+//; s/[: ]+$//' | grep . |
+  sort -u > "$room/refusals"
+while IFS= read -r text; do
+  grep -qF -- "$text" "$room/manual" || fail "the manual page: the refusal $text is not told"
+done < "$room/refusals"
 
 version=$("$program" --version | sed -nE '1s/^reuse-undo ([0-9.]+)$/\1/p')
 [[ -n $version ]] || fail "--version tells $("$program" --version)"
-[[ $(sed -nE 's/^## \[([0-9.]+)\].*/\1/p' "$top/CHANGELOG.md" | head -n 1) == "$version" ]] || fail "CHANGELOG.md is not of version $version"
+[[ $(sed -nE 's/^## \[([0-9.]+)\].*/\1/p' "$top/CHANGELOG.md" | head -n 1) == "$version" ]] ||
+  fail "CHANGELOG.md is not of version $version"
 echo "$compared options of help, manual page and reference are the same; $(cat "$room/styles" "$room/prefixes" | wc -l) names" \
   "and $(wc -l < "$room/refusals") texts of refusals are told, and no others"

@@ -31,7 +31,9 @@ sums_of() {
 }
 
 # The tree has just the files of these sums.
-has_just() { [[ $(files_of "$tree") == "$2" ]] || fail "$1: files are $(files_of "$tree"), not $2"; }
+has_just() {
+  [[ $(files_of "$tree") == "$2" ]] || fail "$1: files are $(files_of "$tree"), not $2"
+}
 
 # Runs the program in the tree with words that `|` separates; `status`, `out` and `error` are what
 # comes of it.
@@ -119,21 +121,27 @@ headers() {
   header '-c|Jane Doe|-y|2024' k.h '/* SPDX-License-Identifier: GPL-2.0 */\nint a;\n' \
     '/*\n * SPDX-FileCopyrightText: 2024 Jane Doe\n *\n * SPDX-License-Identifier: GPL-2.0\n */\nint a;\n'
   header '-c|A --> B|-y|2024' a.py 'x\n' '# SPDX-FileCopyrightText: 2024 A --> B\n\nx\n'
-  header '-c|Jane Doe|-y|2024|-l|MIT' i.html '<p>\n' "<!--\nSPDX-FileCopyrightText: 2024 Jane Doe\n\n$tag-->\n\n<p>\n"
+  header '-c|Jane Doe|-y|2024|-l|MIT' i.html '<p>\n' \
+    "<!--\nSPDX-FileCopyrightText: 2024 Jane Doe\n\n$tag-->\n\n<p>\n"
   # The other lines of a block are kept.
   header '-c|Jane Doe|-y|2024' n.py '# Tool.\n#\n# SPDX-License-Identifier: MIT\n# More.\nx\n' \
     '# SPDX-FileCopyrightText: 2024 Jane Doe\n#\n# SPDX-License-Identifier: MIT\n#\n# Tool.\n#\n# More.\nx\n'
   # Behind a barrier there is no block.
-  header '-l|ISC' s.py "# REUSE-IgnoreStart\n# $tag" "# SPDX-License-Identifier: ISC\n\n# REUSE-IgnoreStart\n# $tag"
-  header '-c|Jane Doe|--exclude-year|--copyright-prefix|string-c' a.py 'x\n' '# Copyright (C) Jane Doe\n\nx\n'
+  header '-l|ISC' s.py "# REUSE-IgnoreStart\n# $tag" \
+    "# SPDX-License-Identifier: ISC\n\n# REUSE-IgnoreStart\n# $tag"
+  header '-c|Jane Doe|--exclude-year|--copyright-prefix|string-c' a.py 'x\n' \
+    '# Copyright (C) Jane Doe\n\nx\n'
   # Two years of one holder, merged and not.
-  header '-l|ISC|--merge-copyrights' a.py '# SPDX-FileCopyrightText: 2019 Jane Doe\n# Copyright 2021 Jane Doe\nx\n' \
+  header '-l|ISC|--merge-copyrights' a.py \
+    '# SPDX-FileCopyrightText: 2019 Jane Doe\n# Copyright 2021 Jane Doe\nx\n' \
     '# Copyright 2019 - 2021 Jane Doe\n#\n# SPDX-License-Identifier: ISC\nx\n'
-  header '-c|Jane Doe|-y|2024|--merge-copyrights' m.py '# SPDX-FileCopyrightText: 2019 Jane Doe\nx\n' \
+  header '-c|Jane Doe|-y|2024|--merge-copyrights' m.py \
+    '# SPDX-FileCopyrightText: 2019 Jane Doe\nx\n' \
     '# SPDX-FileCopyrightText: 2019 - 2024 Jane Doe\nx\n'
   header '-c|Jane Doe|-y|2024' m.py '# SPDX-FileCopyrightText: 2019 Jane Doe\nx\n' \
     '# SPDX-FileCopyrightText: 2019 Jane Doe\n# SPDX-FileCopyrightText: 2024 Jane Doe\nx\n'
-  header '-c|Jane Doe|-y|2024' s.css 'a{}\n' '/*\n * SPDX-FileCopyrightText: 2024 Jane Doe\n */\n\na{}\n'
+  header '-c|Jane Doe|-y|2024' s.css 'a{}\n' \
+    '/*\n * SPDX-FileCopyrightText: 2024 Jane Doe\n */\n\na{}\n'
   header '-l|MIT' p.php '<?php\necho 1;\n' "<?php\n\n// $tag\necho 1;\n"
   # A comment with text behind its closer is no block.
   header '-l|ISC' w.html '<!-- SPDX-License-Identifier: MIT --> x\n' \
@@ -144,31 +152,41 @@ places() {
   # The neighbour: where it is asked for, where it is there, and where the file is no text or can't
   # hold a comment
   writes '--force-dot-license|-l|MIT|a.py' a.py 'x\n' to a.py.license "$tag"
-  writes '-s|python|-l|ISC|a.py' a.py 'x\n' a.py.license "$tag" to a.py.license "SPDX-License-Identifier: ISC\n$tag"
+  writes '-s|python|-l|ISC|a.py' a.py 'x\n' a.py.license "$tag" to a.py.license \
+    "SPDX-License-Identifier: ISC\n$tag"
   writes '-l|MIT|p.png' p.png '\x89\0' to p.png.license "$tag"
   writes '-s|python|-l|MIT|p.png' p.png '\x89\0' to p.png.license "$tag"
   writes '-l|MIT|a.py' a.py 'x\xFF' to a.py.license "$tag"
-  writes '-c|Jane Doe|-y|2024|-l|MIT|a.json' a.json '{}\n' to a.json.license "SPDX-FileCopyrightText: 2024 Jane Doe\n\n$tag"
+  writes '-c|Jane Doe|-y|2024|-l|MIT|a.json' a.json '{}\n' to a.json.license \
+    "SPDX-FileCopyrightText: 2024 Jane Doe\n\n$tag"
   # The file, in the style that is given
-  writes '-s|tex|-l|MIT|a.py|b.xyz|c.json' a.py 'x\n' b.xyz 'x\n' c.json '{}\n' to a.py "% $tag\nx\n" b.xyz "% $tag\nx\n" c.json "% $tag\n{}\n"
+  writes '-s|tex|-l|MIT|a.py|b.xyz|c.json' a.py 'x\n' b.xyz 'x\n' c.json '{}\n' to a.py \
+    "% $tag\nx\n" b.xyz "% $tag\nx\n" c.json "% $tag\n{}\n"
   # A name without a style
-  writes '--fallback-dot-license|-l|MIT|a.py|b.xyz' a.py 'x\n' b.xyz 'x\n' to a.py "$tagged" b.xyz.license "$tag"
+  writes '--fallback-dot-license|-l|MIT|a.py|b.xyz' a.py 'x\n' b.xyz 'x\n' to a.py "$tagged" \
+    b.xyz.license "$tag"
   writes '--skip-unrecognised|-l|MIT|a.py|b.xyz' a.py 'x\n' b.xyz 'x\n' to a.py "$tagged"
   # The covered files of a folder, and of the root
-  writes '-r|-l|MIT|src' src/LICENSE 'x\n' src/a.py 'x\n' src/p.json 'x\n' to src/a.py "$tagged" src/p.json.license "$tag"
-  writes '-r|-l|MIT|.' .git/a.py 'x\n' .reuse/a.py 'x\n' COPYING 'x\n' LICENSES/a.py 'x\n' REUSE.toml 'x\n' a.py 'x\n' b.license 'x\n' \
+  writes '-r|-l|MIT|src' src/LICENSE 'x\n' src/a.py 'x\n' src/p.json 'x\n' to src/a.py "$tagged" \
+    src/p.json.license "$tag"
+  writes '-r|-l|MIT|.' .git/a.py 'x\n' .reuse/a.py 'x\n' COPYING 'x\n' LICENSES/a.py 'x\n' \
+    REUSE.toml 'x\n' a.py 'x\n' b.license 'x\n' \
     b.spdx 'x\n' src/LICENCE-b.py 'x\n' src/b.py 'x\n' to a.py "$tagged" src/b.py "$tagged"
   # A neighbour is skipped where it holds a tag.
-  writes '--skip-existing|-l|ISC|p.png' p.png '\x89\0' p.png.license 'x\n' to p.png.license 'SPDX-License-Identifier: ISC\n\nx\n'
+  writes '--skip-existing|-l|ISC|p.png' p.png '\x89\0' p.png.license 'x\n' to p.png.license \
+    'SPDX-License-Identifier: ISC\n\nx\n'
   writes '--skip-existing|-l|MIT|p.png' p.png '\x89\0' to p.png.license "$tag"
   # The old header stays where that is asked.
-  writes '--no-replace|-l|ISC|a.py' a.py "# ${tag}x\n" to a.py "# SPDX-License-Identifier: ISC\n\n# ${tag}x\n"
-  writes '--no-replace|-l|ISC|p.png' p.png '\x89\0' p.png.license "$tag" to p.png.license "SPDX-License-Identifier: ISC\n\n$tag"
+  writes '--no-replace|-l|ISC|a.py' a.py "# ${tag}x\n" to a.py \
+    "# SPDX-License-Identifier: ISC\n\n# ${tag}x\n"
+  writes '--no-replace|-l|ISC|p.png' p.png '\x89\0' p.png.license "$tag" to p.png.license \
+    "SPDX-License-Identifier: ISC\n\n$tag"
 }
 
 nothing_changed() {
   stays '-c|A --> B|-y|2024|i.html' 1 'i.html: holds the closer' i.html '<p>\n'
-  stays '-l|ISC|--single-line|u.c' 1 'u.c: block would not be found again' u.c '/* SPDX-License-Identifier: MIT */\n// x\n'
+  stays '-l|ISC|--single-line|u.c' 1 'u.c: block would not be found again' u.c \
+    '/* SPDX-License-Identifier: MIT */\n// x\n'
   stays '-l|ISC|--multi-line|a.py' 1 'a.py: no such form' a.py 'x\n'
   stays '-l|MIT|a.py|b.xyz' 1 'b.xyz: unrecognised' a.py 'x\n' b.xyz 'x\n'
   stays '-l|MIT|.' 1 '.: is a folder' a.py 'x\n'
@@ -184,7 +202,8 @@ nothing_changed() {
 
 # What annotations and downloads print, and a reply that can't be printed
 replies() {
-  local after file=LICENSES/MIT.txt jane='# SPDX-FileCopyrightText: 2024 Jane Doe\n#\n# SPDX-License-Identifier: MIT\n\nprint(1)\n'
+  local after file=LICENSES/MIT.txt \
+    jane='# SPDX-FileCopyrightText: 2024 Jane Doe\n#\n# SPDX-License-Identifier: MIT\n\nprint(1)\n'
   after=$(sums_of a.py "$jane")
   files a.py 'print(1)\n'
   tells undo 1 'nothing to undo'
@@ -203,7 +222,8 @@ replies() {
   has_just 'undo of a download' "$(sums_of x/MIT.txt 'text\n')"
   files a.py 'print(1)\n'
   run 'annotate|-c|Jane Doe|-y|2024|-l|MIT|a.py' /dev/full
-  [[ $status == 1 && $error == $'reuse-undo: write fault\n' ]] || differs 'annotate to a full device'
+  [[ $status == 1 && $error == $'reuse-undo: write fault\n' ]] ||
+    differs 'annotate to a full device'
   has_just 'annotate to a full device' "$after"
 }
 
@@ -231,7 +251,8 @@ deep() {
     printf '\0' > "$name"
   )
   tells "annotate|-l|MIT|$path" "$2" "${3/@/"$path"}"
-  [[ $(files_of "$tree/${path%/*}") == "$(sums_of "$name" '\0' ${4:+"$name.license" "$4"})" ]] || fail "a path of $1 bytes: wrong files"
+  [[ $(files_of "$tree/${path%/*}") == "$(sums_of "$name" '\0' ${4:+"$name.license" "$4"})" ]] ||
+    fail "a path of $1 bytes: wrong files"
 }
 
 limits() {
@@ -264,7 +285,8 @@ moment() {
 # Rows, with the first and the last date that a moment can have; steps that are told before they are
 # made, shown, and reverted
 looks() {
-  local before jane='-c|Jane Doe|-y|2024|-l|MIT|a.py' row='"command":"annotate","count":1,"date":"2024-01-01","done":true,"number":1,"when":1704067200}'
+  local before \
+    jane='-c|Jane Doe|-y|2024|-l|MIT|a.py' row='"command":"annotate","count":1,"date":"2024-01-01","done":true,"number":1,"when":1704067200}'
   files a.py 'print(1)\n' x/MIT.txt 'text\n'
   tells 'annotate|-l|MIT|a.py' 0 'changed a.py\n'
   moment 1 0
@@ -273,17 +295,20 @@ looks() {
   tells 'download|--texts|x|MIT' 0 'changed LICENSES/MIT.txt\n'
   moment 3 250000000000
   tells undo 0 'undone LICENSES/MIT.txt\n'
-  tells log 0 '1 1970-01-01 annotate 1 done\n2 2024-01-01 annotate 1 done\n3 9892-03-08 download 1 undone\n'
+  tells log 0 \
+    '1 1970-01-01 annotate 1 done\n2 2024-01-01 annotate 1 done\n3 9892-03-08 download 1 undone\n'
   files a.py 'print(1)\n'
   before=$(files_of "$tree")
   tells log 0 ''
-  tells "annotate|-n|--diff|$jane" 0 'would change a.py\ndiff --git a/a.py b/a.py\n--- a/a.py\n+++ b/a.py\n@@ -1,1 +1,5 @@
+  tells "annotate|-n|--diff|$jane" 0 \
+    'would change a.py\ndiff --git a/a.py b/a.py\n--- a/a.py\n+++ b/a.py\n@@ -1,1 +1,5 @@
 +# SPDX-FileCopyrightText: 2024 Jane Doe\n+#\n+# SPDX-License-Identifier: MIT\n+\n print(1)\n'
   tells log 0 ''
   tells 'undo|-n' 1 'nothing to undo'
   # where it would be refused, the refusal is told behind what would change
   run 'annotate|-n|-l|MIT|a.py|none'
-  [[ $status == 1 && $out == $'would change a.py\n' && $error == $'reuse-undo: none: no such path\n' ]] || differs 'annotate|-n|-l|MIT|a.py|none'
+  [[ $status == 1 && $out == $'would change a.py\n' &&
+    $error == $'reuse-undo: none: no such path\n' ]] || differs 'annotate|-n|-l|MIT|a.py|none'
   has_just 'dry runs' "$before"
   tells "annotate|$jane" 0 'changed a.py\n'
   moment 1 1704067200
