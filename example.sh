@@ -53,7 +53,8 @@ if [ -x "$proved" ]; then
     done | as_calls
 else
     command -v rt > /dev/null || { echo "The Rattle kit isn't there: no command rt." >&2; exit 1; }
-    echo "This build is NOT proved yet: it is compiled without proof, to show what the program does. ./install.sh proves and builds it."
+    echo "This build is NOT proved yet: it is compiled without proof, to show what the program" \
+      "does. ./install.sh proves and builds it."
     echo "compiling, which takes a minute or two .." >&2
     cd "$top/crates/reuse_undo"
     rt try --cases "$room/calls" > "$room/printed" 2> "$room/told" ||

@@ -1,6 +1,7 @@
 # Builds a measuring program in a temporary folder, over crates of this repository and of the kit.
-# usage, in a script of this folder:  . build.sh NAME CRATE..   It sets `program`, and removes the folder at the end. Where `build` is set, it is
-# built in that folder, which stays.
+# usage, in a script of this folder:  . build.sh NAME CRATE..
+# It sets `program`, and removes the folder at the end. Where `build` is set, it is built in that
+# folder, which stays.
 name=$1
 shift
 top=$(cd "$(dirname "${BASH_SOURCE[0]}")/.." && pwd)

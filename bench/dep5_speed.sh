@@ -28,6 +28,10 @@ for size in 8000000 16000000; do
 done
 for kind in paragraphs asterisks fields blank_lines; do
   "$program" "$build/$kind.8000000" "$build/$kind.16000000" |
-    awk -v \
-    kind=$kind '{ time[NR] = $2; answer = $3 " " $4 } END { printf "%-12s %s s, %s s: ratio %.2f, %s\n", kind, time[1], time[2], (time[1] > 0 ? time[2] / time[1] : 0), answer }'
+    awk -v kind=$kind '
+      { time[NR] = $2; answer = $3 " " $4 }
+      END {
+        ratio = time[1] > 0 ? time[2] / time[1] : 0
+        printf "%-12s %s s, %s s: ratio %.2f, %s\n", kind, time[1], time[2], ratio, answer
+      }'
 done

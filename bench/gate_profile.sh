@@ -8,7 +8,8 @@
 #   -k         begins with the work that the repository keeps in out/: no proof from nothing, but a
 #              check of nothing new, which is what each edit costs at least, and the edits
 #   -m EDITS   tries so many edits of each crate, evenly chosen (0: none), and not all
-#   -o TABLE   keeps all figures in this file too: kind, crate, name, processor seconds, wall seconds
+#   -o TABLE   keeps all figures in this file too: kind, crate, name, processor seconds, wall
+#              seconds
 # Without a CRATE it measures all of them, which takes hours.
 set -euo pipefail
 top=$(cd "$(dirname "$0")/.." && pwd)
@@ -54,7 +55,11 @@ note() {
 # What each function took
 functions() {
   awk -v crate="$1" '
-    $2 == "checked" { sub(/,$/, "", $3); took = $1 - last; if (last) printf "function\t%s\t%s\t%.1f\t%.1f\n", crate, $3, took, took }
+    $2 == "checked" {
+      sub(/,$/, "", $3)
+      took = $1 - last
+      if (last) printf "function\t%s\t%s\t%.1f\t%.1f\n", crate, $3, took, took
+    }
     { last = $1 }' "$room/log" >> "$room/table"
 }
 
@@ -128,10 +133,13 @@ table=$room/table
 
 echo
 echo 'kind      crate          of                   processor s    wall s'
-awk -F'\t' \
-  '$1 != "function" && $1 != "edit" { printf "%-9s %-14s %-24s %8.1f %9.1f\n", $1, $2, $3, $4, $5 }
+awk -F'\t' '
+  function row(kind, crate, of, busy, took) {
+    printf "%-9s %-14s %-24s %8.1f %9.1f\n", kind, crate, of, busy, took
+  }
+  $1 != "function" && $1 != "edit" { row($1, $2, $3, $4, $5) }
   $1 == "edit" { number[$2]++; cpu[$2] += $4; wall[$2] += $5 }
-  END { for (crate in number) printf "%-9s %-14s %-24s %8.1f %9.1f\n", "edits", crate, number[crate] " together", cpu[crate], wall[crate] }' "$table"
+  END { for (it in number) row("edits", it, number[it] " together", cpu[it], wall[it]) }' "$table"
 for kind in function edit; do
   echo
   echo "the slowest of kind $kind, wall s"

@@ -10,5 +10,6 @@ set -euo pipefail
 "$program" 8388608 16777216 |
   awk '{ print $1 ", " $2 " bytes: found " $3 ", written " $4 ": find " $5 " s, annotate " $6 " s" }
     ($1 in find) && find[$1] > 0 && write[$1] > 0 {
-      printf "%s, twice as many: find %.2f times as long, annotate %.2f times\n", $1, $5 / find[$1], $6 / write[$1] }
+      printf "%s, twice as many: find %.2f times as long, annotate %.2f times\n",
+        $1, $5 / find[$1], $6 / write[$1] }
     { find[$1] = $5; write[$1] = $6 }'

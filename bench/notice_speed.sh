@@ -7,6 +7,8 @@ set -euo pipefail
 . "$(dirname "$0")/build.sh" notice_speed reuse_text reuse_notice
 
 "$program" 100000 200000 400000 |
-  awk '{ print $1 " notices, " $2 " bytes: read " $4 " s, merged to " $3 " in " $5 " s"; read[NR] = $4; merge[NR] = $5 }
+  awk '{ print $1 " notices, " $2 " bytes: read " $4 " s, merged to " $3 " in " $5 " s" }
+    { read[NR] = $4; merge[NR] = $5 }
     NR > 1 && read[NR - 1] > 0 && merge[NR - 1] > 0 {
-      printf "twice as many: read %.2f times as long, merge %.2f times\n", read[NR] / read[NR - 1], merge[NR] / merge[NR - 1] }'
+      printf "twice as many: read %.2f times as long, merge %.2f times\n",
+        read[NR] / read[NR - 1], merge[NR] / merge[NR - 1] }'

@@ -61,7 +61,8 @@ report() {
     read -r seconds user system kilobytes <<< "${best[$name]}"
     awk -v name="$name" -v time="$seconds" -v busy="$user" -v system_busy="$system" \
       -v copy="${best[cp -r]:-0}" -v goal="$goal" -v memory="$kilobytes" 'BEGIN {
-      printf "  %-20s %6.2f s (processor %6.2f s) %6.0f MB", name, time, busy + system_busy, memory / 1024
+      printf "  %-20s %6.2f s (processor %6.2f s) %6.0f MB",
+        name, time, busy + system_busy, memory / 1024
       if (copy > 0) printf "  %5.2f of cp -r", time / copy
       if (goal > 0) printf "  %5.2f of the goal of %.2f s", time / goal, goal
       print ""
@@ -153,4 +154,5 @@ make_tree "$room/long" 100
 "$program" --root "$room/long" "${annotate[@]}" > "$room/out"
 list_often long 1000 100
 rm -rf "$room/long"
-echo "help: $(milliseconds "$program" --help) ms; help of annotate: $(milliseconds "$program" annotate --help) ms"
+echo "help: $(milliseconds "$program" --help) ms; help of annotate:" \
+  "$(milliseconds "$program" annotate --help) ms"

@@ -46,7 +46,10 @@ for crate in "${crates[@]}"; do
           last = file
           name = "`" fn "`"
           for (at = 1; at <= count; at++) {
-            if (line && length("|  |  |  |" shown name line clause[at]) > 98) { row(line); line = "" }
+            if (line && length("|  |  |  |" shown name line clause[at]) > 98) {
+              row(line)
+              line = ""
+            }
             line = line (line ? ", " : "") clause[at]
           }
           row(line)
@@ -56,14 +59,20 @@ for crate in "${crates[@]}"; do
       }
       /^(pub )?(impl|trait)/ { finish(); head = $0; is_head = 1 }
       is_head && !/^(pub )?(impl|trait)/ { head = head " " $0 }
-      is_head && /\{/ { owner = owner_of(head); is_trait = head ~ /^(pub )?trait/ || owner ~ / for /; is_head = 0; next }
+      is_head && /\{/ {
+        owner = owner_of(head)
+        is_trait = head ~ /^(pub )?trait/ || owner ~ / for /
+        is_head = 0
+        next
+      }
       /^}/ { finish(); owner = "" }
       /^(    )?(pub |pub\(crate\) )?(const )?fn / {
         finish()
         is_member = /^    /
         is_public = /^ *pub (const )?fn / || (is_member && is_trait)
         match($0, /fn [A-Za-z0-9_]+/)
-        fn = is_public ? (is_member && owner ? owner "::" : "") substr($0, RSTART + 3, RLENGTH - 3) : ""
+        fn = substr($0, RSTART + 3, RLENGTH - 3)
+        fn = is_public ? (is_member && owner ? owner "::" : "") fn : ""
         next
       }
       /^(    )?\{/ { finish() }

@@ -30,14 +30,21 @@ session | awk '
   { gsub(/&/, "\\&amp;"); gsub(/</, "\\&lt;"); gsub(/>/, "\\&gt;"); lines[NR] = $0 }
   END {
     height = 20 * NR + 28
-    printf "<svg xmlns=\"http://www.w3.org/2000/svg\" width=\"820\" height=\"%d\" viewBox=\"0 0 820 %d\" role=\"img\">\n", height, height
-    print "<title>reuse-undo on a file: a dry run with its diff, annotate, log, undo and redo</title>"
+    printf "<svg xmlns=\"http://www.w3.org/2000/svg\" width=\"820\" height=\"%d\"", height
+    printf " viewBox=\"0 0 820 %d\" role=\"img\">\n", height
+    printf "<title>reuse-undo on a file: a dry run with its diff, annotate, log, undo and redo"
+    print "</title>"
     print "<!-- The tags below are data: REUSE-IgnoreStart -->"
     print "<rect width=\"100%\" height=\"100%\" rx=\"8\" fill=\"#1d2433\"/>"
-    print "<g font-family=\"ui-monospace, Menlo, Consolas, DejaVu Sans Mono, monospace\" font-size=\"14\" fill=\"#d8dee9\">"
+    printf "<g font-family=\"ui-monospace, Menlo, Consolas, DejaVu Sans Mono, monospace\""
+    print " font-size=\"14\" fill=\"#d8dee9\">"
     for (k = 1; k <= NR; k++) {
-      colour = lines[k] ~ /^\$ / ? " fill=\"#8fd694\"" : lines[k] ~ /^\+/ ? " fill=\"#88c0d0\"" : lines[k] ~ /^(-|@@)/ ? " fill=\"#b48ead\"" : ""
-      printf "<text x=\"18\" y=\"%d\" xml:space=\"preserve\"%s>%s</text>\n", 20 * k + 12, colour, lines[k]
+      colour = ""
+      if (lines[k] ~ /^\$ /) colour = " fill=\"#8fd694\""
+      else if (lines[k] ~ /^\+/) colour = " fill=\"#88c0d0\""
+      else if (lines[k] ~ /^(-|@@)/) colour = " fill=\"#b48ead\""
+      printf "<text x=\"18\" y=\"%d\" xml:space=\"preserve\"", 20 * k + 12
+      printf "%s>%s</text>\n", colour, lines[k]
     }
     print "</g>"
     print "</svg>"

@@ -169,4 +169,5 @@ for option in --files-from --exclude; do
   "$program" --root "$tree" annotate -l MIT "$option" x a.py > "$room/out" 2>&1 || status=$?
   [[ $status == 2 ]] && grep -q -- --recursive "$room/out" || fail "$option: $(cat "$room/out")"
 done
-echo "just the files that are asked for are annotated: ${#tracked[@]} that git tracks, and by $counted other calls; $(git -C "$tree" ls-files -z | tr -cd '\0' | wc -c) paths are listed"
+echo "just the files that are asked for are annotated: ${#tracked[@]} that git tracks, and by" \
+  "$counted other calls; $(git -C "$tree" ls-files -z | tr -cd '\0' | wc -c) paths are listed"

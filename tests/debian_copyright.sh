@@ -22,4 +22,5 @@ while IFS= read -r file; do
   fi
 done < <(grep -lsE '^Format: .*copyright-format/1\.0/?' "$folder"/*/copyright) > "$room/answers"
 sort "$room/answers" | uniq -c | sort -rn
-echo "$(wc -l < "$room/answers") files, $(grep -cx converted "$room/answers") of them converted and taken back"
+echo "$(wc -l < "$room/answers") files, $(grep -cx converted "$room/answers") of them converted" \
+  "and taken back"

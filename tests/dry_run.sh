@@ -124,12 +124,15 @@ files a.py '# SPDX-License-Identifier: MIT\n\nx\n' b.py 'y\n' odd 'z\n' p.png '\
   'LICENSES/MIT.txt' 'text\n'
 call=(annotate -n -l MIT -r --skip-unrecognised .)
 tells \
-  $'unchanged a.py\nwould change b.py\nwould change d.toml\nskipped odd\nwould change p.png.license' ''
+  $'unchanged a.py\nwould change b.py\nwould change d.toml\nskipped odd\nwould change p.png.license' \
+  ''
 call=(annotate -n -l ISC --skip-existing --skip-unrecognised a.py b.py odd)
 tells $'skipped a.py\nwould change b.py\nskipped odd' ''
 call=(annotate -n -l MIT a.py none odd LICENSES/MIT.txt b.py)
 tells \
-  $'unchanged a.py\nwould change b.py' $'reuse-undo: LICENSES/MIT.txt: not covered\nreuse-undo: none: no such path\nreuse-undo: odd: unrecognised'
+  $'unchanged a.py\nwould change b.py' \
+  "$(printf 'reuse-undo: %s\n' 'LICENSES/MIT.txt: not covered' 'none: no such path' \
+    'odd: unrecognised')"
 call=(annotate -n -l MIT .)
 tells '' 'reuse-undo: .: is a folder'
 call=(download -n --texts "$tree/LICENSES" 'a b' MIT None)
@@ -162,7 +165,9 @@ done
 mkdir "$room/nul"
 printf 'a\0b' > "$room/nul/MIT-0.txt"
 call=(download -n --diff --texts "$room/nul" MIT-0)
-tells $'would change LICENSES/MIT-0.txt\ndiff --git a/LICENSES/MIT-0.txt b/LICENSES/MIT-0.txt\nnew file mode 100644\nBinary files /dev/null and b/LICENSES/MIT-0.txt differ' ''
+tells "$(printf '%s\n' 'would change LICENSES/MIT-0.txt' \
+  'diff --git a/LICENSES/MIT-0.txt b/LICENSES/MIT-0.txt' 'new file mode 100644' \
+  'Binary files /dev/null and b/LICENSES/MIT-0.txt differ')" ''
 
 # Random trees
 python3 - "$rounds" "$room/rounds" << 'PYTHON'
@@ -175,10 +180,15 @@ for top in ('/usr/lib/python3', '/usr/share'):
     for path, folders, names in os.walk(top):
         folders[:] = [name for name in folders if name != '__pycache__']
         real += [os.path.join(path, name) for name in names]
-real = [path for path in random.sample(real, min(len(real), 4000)) if os.path.isfile(path) and not os.path.islink(path) and os.path.getsize(path) < 60000]
-lines = ['x = 1', '', '# SPDX-License-Identifier: MIT', '# SPDX-FileCopyrightText: 2020 Jane Doe', '#', '/* SPDX-License-Identifier: ISC */', '// SPDX-FileCopyrightText: A',
-         '#!/bin/sh', '<?xml version="1.0"?>', '# -*- coding: utf-8 -*-', 'é', '--- a', '+++ b', '@@ -1 +1 @@', '\\ No newline', ' ', '/*', ' * SPDX-FileContributor: B', ' */', '\t']
-endings = ['.py', '.c', '.sh', '.html', '.css', '.tex', '.el', '.ml', '.json', '.png', '.vim', '.unknown', '']
+def is_taken(path):
+    return os.path.isfile(path) and not os.path.islink(path) and os.path.getsize(path) < 60000
+real = [path for path in random.sample(real, min(len(real), 4000)) if is_taken(path)]
+lines = ['x = 1', '', '# SPDX-License-Identifier: MIT', '# SPDX-FileCopyrightText: 2020 Jane Doe',
+         '#', '/* SPDX-License-Identifier: ISC */', '// SPDX-FileCopyrightText: A', '#!/bin/sh',
+         '<?xml version="1.0"?>', '# -*- coding: utf-8 -*-', 'é', '--- a', '+++ b', '@@ -1 +1 @@',
+         '\\ No newline', ' ', '/*', ' * SPDX-FileContributor: B', ' */', '\t']
+endings = ['.py', '.c', '.sh', '.html', '.css', '.tex', '.el', '.ml', '.json', '.png', '.vim',
+           '.unknown', '']
 names = ['a', 'b c', 'é', 'q"q', 'b\\s', 't\tt', "a'b", '-x', 'z', 'deep/er/f', 'd/e', ' s ', '#h']
 
 def text():
@@ -233,5 +243,6 @@ for ((round = 0; round < rounds; round++)); do
   done
   rm -rf "$tree"
 done
-echo "$compared dry runs on ${#examples[@]} examples and $rounds random trees: $refused refused as the calls were; $applied diffs gave the tree of the call," \
+echo "$compared dry runs on ${#examples[@]} examples and $rounds random trees: $refused refused" \
+  "as the calls were; $applied diffs gave the tree of the call," \
   "$in_examples of them of examples"

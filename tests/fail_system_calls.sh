@@ -73,7 +73,8 @@ try_all() {
       done
     done
   done
-  echo "$* on $from: $((as_before + as_after)) faults; found as before $as_before, as after $as_after"
+  echo "$* on $from: $((as_before + as_after)) faults; found as before $as_before, as after" \
+    "$as_after"
 }
 
 # Makes each sync fail of a run that begins with the tree `$room/FROM`, alone and with all syncs of

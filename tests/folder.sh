@@ -184,7 +184,8 @@ longer_than_it_seems() {
   printf '#!/bin/sh' > /proc/$$/comm
   [[ $(stat -c %s /proc/$$/comm) == 0 ]] || fail '/proc/comm has a length'
   root=/proc/$$
-  tells "$(printf '%s\n' 'would change comm' 'diff --git a/comm b/comm' '--- a/comm' '+++ b/comm' '@@ -1,1 +1,3 @@' ' #!/bin/sh' + \
+  tells "$(printf '%s\n' 'would change comm' 'diff --git a/comm b/comm' '--- a/comm' \
+    '+++ b/comm' '@@ -1,1 +1,3 @@' ' #!/bin/sh' + \
     '+# SPDX-License-Identifier: MIT')" "${annotate[@]}" -n --diff comm
   root=$tree
 }

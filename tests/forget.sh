@@ -117,5 +117,6 @@ for call in rename renameat renameat2 unlink unlinkat fsync fdatasync; do
   done
 done
 ((was_before && was_after)) || fail "no kill left the history of before, or none that of after"
-echo "the oldest, a middle one, undone ones and all are forgotten; $((was_before + was_after)) kills:" \
+echo "the oldest, a middle one, undone ones and all are forgotten; $((was_before + was_after))" \
+  "kills:" \
   "the log is that of before $was_before times, of after $was_after"

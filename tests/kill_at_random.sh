@@ -74,5 +74,6 @@ while ((round < rounds)); do
   fi
   before=$found
 done
-echo "$rounds rounds on $(find "$room/tree" -type f -not -path '*/.reuse/undo/*' | wc -l) files: $killed killed, of them $openings openings;" \
+echo "$rounds rounds on $(find "$room/tree" -type f -not -path '*/.reuse/undo/*' | wc -l) files:" \
+  "$killed killed, of them $openings openings;" \
   "a step was under way $pending times; found as before $was_before, as after $was_after"

@@ -98,5 +98,6 @@ leaves before undo
 leaves after redo
 leaves before revert 1
 count=$(find "$room/before" -type f | wc -l)
-echo "$count files, of 1 to 16,777,216 bytes before or after: annotate, undo, redo and revert leave" \
+echo "$count files, of 1 to 16,777,216 bytes before or after: annotate, undo, redo and revert" \
+  "leave" \
   "the bytes that are expected"

@@ -89,7 +89,8 @@ for ((round = 1; round <= rounds; round++)); do
   fi
 done
 undo_to_first 'the rounds'
-echo "$rounds rounds of eight on $files files: ${seen[done]} done, ${seen[busy]} refused as in use, ${seen[idle]} with nothing to undo or redo"
+echo "$rounds rounds of eight on $files files: ${seen[done]} done, ${seen[busy]} refused as in" \
+  "use, ${seen[idle]} with nothing to undo or redo"
 
 # Logs while an annotate runs: it does what it tells, whatever they see.
 for round in {1..10}; do

@@ -90,7 +90,8 @@ for ((round = 1; round <= rounds; round++)); do
   ((round % 10)) || make_tree
 done
 ((seen[busy] > 0)) || fail 'no call was refused as in use'
-echo "$rounds rounds of eight, half of them in a folder within the tree: ${seen[done]} done, ${seen[busy]} refused as in use," \
+echo "$rounds rounds of eight, half of them in a folder within the tree: ${seen[done]} done," \
+  "${seen[busy]} refused as in use," \
   "${seen[moved]} as moved, ${seen[idle]} with nothing to undo or redo"
 
 # Where another process holds a folder above exclusively, a run is refused; where it is shared, or a

@@ -100,4 +100,5 @@ for path in vendor/clone/.git vendor/clone/.git/config vendor/module/.git .git \
     fail "$path: status $found, $(< "$room/error")"
 done
 [[ $(foreign) == "$before" ]] || fail 'a path that is nested is touched'
-echo "$(wc -l <<< "$before") files of a repository, a clone, a submodule, other version control and a nested journal are as they were"
+echo "$(wc -l <<< "$before") files of a repository, a clone, a submodule, other version control" \
+  "and a nested journal are as they were"

@@ -182,8 +182,10 @@ in_the_way() {
 
 # Below a mount the new file is written beside the one that it is to be.
 mounted() {
-  local script='mount -t tmpfs none "$1/mounted" && echo x > "$1/mounted/a.py" && chmod 755 "$1/mounted/a.py" && "$2" --root "$1" annotate -l MIT -r . &&
-    head -n 1 "$1/mounted/a.py" && stat -c %a "$1/mounted/a.py" && "$2" undo --root "$1" && cat "$1/mounted/a.py" && ls -A "$1/mounted"'
+  local script='mount -t tmpfs none "$1/mounted" && echo x > "$1/mounted/a.py" &&
+    chmod 755 "$1/mounted/a.py" && "$2" --root "$1" annotate -l MIT -r . &&
+    head -n 1 "$1/mounted/a.py" && stat -c %a "$1/mounted/a.py" && "$2" undo --root "$1" &&
+    cat "$1/mounted/a.py" && ls -A "$1/mounted"'
   anew
   mkdir "$tree/mounted"
   if ! unshare -m mount -t tmpfs none "$tree/mounted" 2> "$room/error"; then
@@ -198,7 +200,8 @@ mounted() {
 
 # Where the system doesn't show open folders, they are sought by their paths, and a note tells.
 without_proc() {
-  local script='mount -t tmpfs none /proc && "$2" -v --root "$1" annotate -l MIT -r . && "$2" undo --root "$1"'
+  local script='mount -t tmpfs none /proc && "$2" -v --root "$1" annotate -l MIT -r . &&
+    "$2" undo --root "$1"'
   anew
   mkdir "$tree/in"
   echo x > "$tree/in/a.py"

@@ -21,7 +21,8 @@ PATH=$room/bin:$PATH
 # The lines of the document's block that begins with these words
 block() {
   awk -v "head=\`\`\`$1" \
-    '$0 == "```" { shown = 0 } shown { print } $0 == head { shown = 1; any = 1 } END { exit !any }' "$usage"
+    '$0 == "```" { shown = 0 } shown { print }
+    $0 == head { shown = 1; any = 1 } END { exit !any }' "$usage"
 }
 
 # A repository with these files, each by its path and its text with escapes, staged

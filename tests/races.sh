@@ -197,4 +197,5 @@ for run in annotate undo rollback; do
   done
   echo "$run: no swap does harm, at $count of its ${#stops[@]} calls"
 done
-echo "$rounds rounds, of which $refused were refused: nothing outside was read or written, and no run waits"
+echo "$rounds rounds, of which $refused were refused: nothing outside was read or written, and" \
+  "no run waits"

@@ -6,9 +6,11 @@
 set -euo pipefail
 . "$(dirname "$0")/common.sh"
 wants nm binutils
-sockets='epoll_\w+|eventfd|socket|socketpair|bind|connect|listen|accept4?|getaddrinfo|getnameinfo|gethostby\w+|(send|recv)(to|from|msg)?'
+sockets='epoll_\w+|eventfd|socket|socketpair|bind|connect|listen|accept4?|getaddrinfo|getnameinfo'
+sockets+='|gethostby\w+|(send|recv)(to|from|msg)?'
 threads='pthread_create|thrd_create'
-processes='posix_spawn\w*|fork|vfork|clone3?|execv\w*|execl\w*|fexecve|system|popen|wait(pid|id|[34])?'
+processes='posix_spawn\w*|fork|vfork|clone3?|execv\w*|execl\w*|fexecve|system|popen'
+processes+='|wait(pid|id|[34])?'
 
 nm -D --undefined-only "$program" | sed -E 's/.* ([^ @]+).*/\1/' > "$room/names"
 grep -qx write "$room/names" || fail "the program can't write, so its names were not read"

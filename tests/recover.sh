@@ -68,7 +68,8 @@ for ((round = 0; round < rounds; round++)); do
   is "$(told recover --skip-moved)" "$expected"$'\n'"skipped $edited"$'\nstatus 0' \
     "recover --skip-moved"
   is \
-    "$(diff -rq -x .reuse "$room/before" "$tree" | sed -E 's/.* and .*\/(f[0-9]+\.py) differ/\1/')" "$edited" "the files that differ afterwards"
+    "$(diff -rq -x .reuse "$room/before" "$tree" |
+      sed -E 's/.* and .*\/(f[0-9]+\.py) differ/\1/')" "$edited" "the files that differ afterwards"
   is "$(head -n 1 "$tree/$edited")" '# edited' "the edited file"
   is "$(told log | sed 's/[0-9-]\{10\}/DATE/')" "1 DATE annotate $count done"$'\nstatus 0' \
     "the log afterwards"
@@ -87,4 +88,5 @@ told recover > "$room/said"
 diff -r -x .reuse "$room/clean" "$tree" > "$room/out" ||
   fail "recover without an edit leaves another tree"
 grep -q '^set back ' "$room/said" || fail "nothing was set back"
-echo "$stuck of $rounds killed runs left by recover --skip-moved, each other file as before the step"
+echo "$stuck of $rounds killed runs left by recover --skip-moved, each other file as before the" \
+  "step"

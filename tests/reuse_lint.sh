@@ -29,27 +29,35 @@ rm "$copy/REUSE.toml"
 
 # The tag in two parts, so that these lines hold none
 ignored='REUSE-Ignore' tag='SPDX-License-Identifier'":[ \t]"
-open_tags=$(cd "$copy" && find . -type f -not -path './.git/*' -not -path './.reuse/*' -not -path './LICENSES/*' -exec awk -v "start=${ignored}Start" -v "end=${ignored}End" -v "tag=$tag" '
+open_tags=$(cd "$copy" && find . -type f -not -path './.git/*' -not -path './.reuse/*' \
+  -not -path './LICENSES/*' \
+  -exec awk -v "start=${ignored}Start" -v "end=${ignored}End" -v "tag=$tag" '
   FNR == 1 { hidden = 0 }
   index($0, start) { hidden = 1 }
   index($0, end) { hidden = 0 }
   !hidden && $0 ~ tag { print FILENAME ":" FNR }' {} +)
-[[ -z $open_tags ]] || fail "write ${ignored}Start in a comment above the tags of these files: $open_tags"
+[[ -z $open_tags ]] ||
+  fail "write ${ignored}Start in a comment above the tags of these files: $open_tags"
 echo "no file has a licence tag of its own"
 
-(cd "$copy" && LC_ALL=C.UTF-8 reuse lint) > "$room/out" 2> "$room/error" || fail "reuse lint: $(cat "$room/out" "$room/error")"
+(cd "$copy" && LC_ALL=C.UTF-8 reuse lint) > "$room/out" 2> "$room/error" ||
+  fail "reuse lint: $(cat "$room/out" "$room/error")"
 [[ ! -s $room/error ]] || fail "reuse lint tells: $(cat "$room/error")"
 grep -q '^Congratulations!' "$room/out" || fail "reuse lint: $(cat "$room/out")"
 grep -E '^\* (Used licenses|Files with)' "$room/out"
 
 "$program" --root "$copy" convert-dep5 > "$room/out" || fail 'the dep5 is not converted'
-[[ $(< "$room/out") == $'changed .reuse/dep5\nchanged REUSE.toml' ]] || fail "convert-dep5 tells: $(cat "$room/out")"
+[[ $(< "$room/out") == $'changed .reuse/dep5\nchanged REUSE.toml' ]] ||
+  fail "convert-dep5 tells: $(cat "$room/out")"
 cmp "$copy/REUSE.toml" "$top/REUSE.toml" || fail 'convert-dep5 gives another REUSE.toml'
-[[ $(grep -c '^\[\[annotations\]\]' "$top/REUSE.toml") == 1 ]] || fail 'REUSE.toml has not one table'
+[[ $(grep -c '^\[\[annotations\]\]' "$top/REUSE.toml") == 1 ]] ||
+  fail 'REUSE.toml has not one table'
 echo "convert-dep5 gives the REUSE.toml"
 
 cp /usr/share/common-licenses/Apache-2.0 "$room/texts/Apache-2.0.txt"
 mkdir "$room/tree"
-"$program" --root "$room/tree" download --texts "$room/texts" Apache-2.0 > "$room/out" || fail 'the licence is not copied'
-cmp "$room/tree/LICENSES/Apache-2.0.txt" "$top/LICENSES/Apache-2.0.txt" || fail 'download gives another text'
+"$program" --root "$room/tree" download --texts "$room/texts" Apache-2.0 > "$room/out" ||
+  fail 'the licence is not copied'
+cmp "$room/tree/LICENSES/Apache-2.0.txt" "$top/LICENSES/Apache-2.0.txt" ||
+  fail 'download gives another text'
 echo "download gives the licence's text"

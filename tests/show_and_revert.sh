@@ -82,10 +82,12 @@ python3 - "$program" "$tree" << 'PYTHON' || fail 'JSON'
 import json, subprocess, sys
 program, tree = sys.argv[1:]
 def told(*words):
-    return subprocess.run([program, '--root', tree, *words], check=True, capture_output=True, text=True).stdout
+    call = [program, '--root', tree, *words]
+    return subprocess.run(call, check=True, capture_output=True, text=True).stdout
 def line(row):
     assert list(row) == sorted(row), row
-    return '{number} {date} {command} {count} {state}'.format(state='done' if row['done'] else 'undone', **row)
+    state = 'done' if row['done'] else 'undone'
+    return '{number} {date} {command} {count} {state}'.format(state=state, **row)
 rows = [json.loads(text) for text in told('log', '--json').splitlines()]
 assert [line(row) for row in rows] == told('log').splitlines(), rows
 for row in rows:
@@ -190,4 +192,5 @@ for ((round = 0; round < rounds; round++)); do
   done
   [[ $(all_files) == "$before" ]] || fail "round $round: the undos don't give the first tree"
 done
-echo "$calls calls show and take back what they are to; reverts in any order give the first tree in $rounds rounds"
+echo "$calls calls show and take back what they are to; reverts in any order give the first tree" \
+  "in $rounds rounds"

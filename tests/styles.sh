@@ -100,4 +100,5 @@ sample a.tcl 'puts 1\n' tclsh
 sample a.php '<?php\necho 1;\n' php -l
 sample a.go 'package a\n' gofmt -e
 sample a.rs 'fn main() {}\n' rustc --emit metadata
-echo "$files names are annotated and taken back; $passed of $samples samples pass their languages' own tools, and the others' aren't there"
+echo "$files names are annotated and taken back; $passed of $samples samples pass their" \
+  "languages' own tools, and the others' aren't there"

@@ -30,7 +30,12 @@ all_in() {
 }
 
 help_subcommands > "$room/subcommands"
-(help_options; while read -r word; do [[ $word == help ]] || help_options "$word"; done < "$room/subcommands") | sort -u > "$room/options"
+{
+  help_options
+  while read -r word; do
+    [[ $word == help ]] || help_options "$word"
+  done < "$room/subcommands"
+} | sort -u > "$room/options"
 help_values style > "$room/styles"
 help_values copyright-prefix > "$room/prefixes"
 [[ $(wc -l < "$room/subcommands") -ge 7 && $(wc -l < "$room/options") -ge 27 &&
@@ -84,7 +89,9 @@ in_reference() {
 }
 in_help() {
   "$program" "$@" --help | sed -nE '/^Options:/,/^$/s/^ +(-.*)/\1/p' |
-    sed -E 's/^((-[a-zA-Z], )?--[a-z-]+( <[A-Z]+>)?)(.*\[alias(es)?: (--[a-z-]+)\])?.*/\1, \6\3/; s/, ( <[A-Z]+>)?$//; s/[<>]//g' | one_each
+    sed -E \
+      -e 's/^((-[a-zA-Z], )?--[a-z-]+( <[A-Z]+>)?)(.*\[alias(es)?: (--[a-z-]+)\])?.*/\1, \6\3/' \
+      -e 's/, ( <[A-Z]+>)?$//; s/[<>]//g' | one_each
 }
 compared=0
 for section in 'Options of all subcommands' 'Dry runs' $(grep -vx help "$room/subcommands"); do
@@ -100,7 +107,10 @@ for section in 'Options of all subcommands' 'Dry runs' $(grep -vx help "$room/su
     Dry*) cp "$room/in_manual" "$room/in_dry_runs" && continue ;;
     *)
       in_help "$section" | grep -vxFf "$room/in_each" > "$room/in_help" || true
-      case $section in recover | forget | log | show) ;; *) cat "$room/in_dry_runs" >> "$room/in_manual" ;; esac
+      case $section in
+        recover | forget | log | show) ;;
+        *) cat "$room/in_dry_runs" >> "$room/in_manual" ;;
+      esac
       ;;
   esac
   same "options of help and of the manual page, $section" "$room/in_help" "$room/in_manual"
@@ -123,5 +133,6 @@ version=$("$program" --version | sed -nE '1s/^reuse-undo ([0-9.]+)$/\1/p')
 [[ -n $version ]] || fail "--version tells $("$program" --version)"
 [[ $(sed -nE 's/^## \[([0-9.]+)\].*/\1/p' "$top/CHANGELOG.md" | head -n 1) == "$version" ]] ||
   fail "CHANGELOG.md is not of version $version"
-echo "$compared options of help, manual page and reference are the same; $(cat "$room/styles" "$room/prefixes" | wc -l) names" \
+echo "$compared options of help, manual page and reference are the same;" \
+  "$(cat "$room/styles" "$room/prefixes" | wc -l) names" \
   "and $(wc -l < "$room/refusals") texts of refusals are told, and no others"

@@ -286,7 +286,8 @@ moment() {
 # made, shown, and reverted
 looks() {
   local before \
-    jane='-c|Jane Doe|-y|2024|-l|MIT|a.py' row='"command":"annotate","count":1,"date":"2024-01-01","done":true,"number":1,"when":1704067200}'
+    jane='-c|Jane Doe|-y|2024|-l|MIT|a.py' row='"command":"annotate","count":1,"date":"2024-01-01"'
+  row+=',"done":true,"number":1,"when":1704067200}'
   files a.py 'print(1)\n' x/MIT.txt 'text\n'
   tells 'annotate|-l|MIT|a.py' 0 'changed a.py\n'
   moment 1 0
@@ -326,7 +327,8 @@ looks() {
 
 # Says what was shown.
 tell_counts() {
-  echo "$written worked lines write what is stated, and are undone and redone; $unchanged change nothing; $calls calls tell what is stated"
+  echo "$written worked lines write what is stated, and are undone and redone; $unchanged change" \
+    "nothing; $calls calls tell what is stated"
 }
 
 # options.sh reads this file for its functions.
