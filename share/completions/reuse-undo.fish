@@ -117,7 +117,7 @@ end
 for word in annotate convert-dep5
     complete -c reuse-undo -n "__reuse_undo_subcommand_is $word" -l exit-non-zero-on-change -d 'Exit with status 1 if a file changes'
 end
-complete -c reuse-undo -n '__reuse_undo_subcommand_is recover' -l skip-moved -d 'Leave a file where it cannot be set back'
+complete -c reuse-undo -n '__reuse_undo_subcommand_is recover' -l skip-moved -d 'Leave a file if it cannot be rolled back'
 complete -c reuse-undo -n '__reuse_undo_subcommand_is revert' -l skip-moved -d 'Leave a file where the step cannot be taken back'
 complete -c reuse-undo -n '__reuse_undo_subcommand_is revert' -a '(__reuse_undo_steps done)'
 complete -c reuse-undo -n '__reuse_undo_subcommand_is forget' -l all -d 'Forget all steps'

@@ -12,8 +12,8 @@ Examples:
   reuse-undo annotate -c \"Jane Doe\" -l MIT -r src --dry-run --diff
   reuse-undo undo
 
-Status: 0 on success, 1 if a call was refused, 2 if the words are wrong. With --check it is 1 too
-if a file would change, and with --exit-non-zero-on-change if one changed.";
+Status: 0 on success, 1 if a call was refused, 2 if the arguments are wrong. With --check it is 1
+too if a file would change, and with --exit-non-zero-on-change if one changed.";
 
 pub const AFTER_ANNOTATE: &str = "\
 PATHs are relative to the root. A file that can't hold a comment gets its information in
@@ -65,16 +65,18 @@ pub const AFTER_REVERT: &str = "\
 This makes a new step, which undo takes back in turn. In each file of step NUMBER, what the step
 wrote must stand where it was written, whatever follows it. A file that the step made must be as it
 was made, and where it removed a file there must be none. If the step only took bytes away, the file
-must be as the step left it. If one file isn't so, none is changed.
+must be as the step left it. A file that a later step touched waits until that step is taken back.
+If one file isn't so, none is changed.
 
 Example:
   reuse-undo revert 3 --dry-run --diff";
 
 pub const AFTER_RECOVER: &str = "\
-Each file that is as the step left it is set back, and each that is as before the step stays. If a
-file is neither, since it was edited after the run was stopped, it is refused as `PATH: moved`, and
-none is changed. With --skip-moved such files are left as they are, and the others are set back. The
-history then lists the steps that were done before. If no step is half made, nothing is changed.
+Each file that is as the step left it is rolled back, and each that is as before the step stays. If
+a file is neither, since it was edited after the run was stopped, it is refused as `PATH: moved`,
+and none is changed. With --skip-moved such files are left as they are, and the others are rolled
+back. The history then lists the steps that were done before. If no step is half made, nothing is
+changed.
 
 Example:
   reuse-undo recover --skip-moved";

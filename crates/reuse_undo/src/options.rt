@@ -358,7 +358,7 @@ pub const RECOVER: &[Argument] = &[Argument(
     None,
     Takes::Nothing,
     Rule::Free,
-    "Leave a file as it is if it can't be set back",
+    "Leave a file as it is if it can't be rolled back",
 )];
 
 pub const FORGET: &[Argument] = &[
