@@ -1,7 +1,6 @@
 #!/usr/bin/env bash
-# Runs words with each option of annotate, words that ask for help, words that are refused, and
-# words for places, and compares as worked_lines.sh does, whose functions it takes. Ends with status
-# 1 at the first fault.
+# Runs words with each option of annotate, words that ask for help, words that are refused, and words for places, and compares as worked_lines.sh
+# does, whose functions it takes. Ends with status 1 at the first fault.
 # usage: tests/options.sh PROGRAM
 # The tags below are data: REUSE-IgnoreStart
 set -euo pipefail
