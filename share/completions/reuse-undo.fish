@@ -75,7 +75,7 @@ complete -c reuse-undo -n '__reuse_undo_subcommand_is ""' -a download -d 'Copy l
 complete -c reuse-undo -n '__reuse_undo_subcommand_is ""' -a undo -d 'Take the last step back'
 complete -c reuse-undo -n '__reuse_undo_subcommand_is ""' -a redo -d 'Make the step again that was undone last'
 complete -c reuse-undo -n '__reuse_undo_subcommand_is ""' -a revert -d 'Take a step back by a new one'
-complete -c reuse-undo -n '__reuse_undo_subcommand_is ""' -a recover -d 'Set back a step that a stopped run left half made'
+complete -c reuse-undo -n '__reuse_undo_subcommand_is ""' -a recover -d 'Roll back a step that a stopped run left half made'
 complete -c reuse-undo -n '__reuse_undo_subcommand_is ""' -a forget -d 'Take steps out of the history'
 complete -c reuse-undo -n '__reuse_undo_subcommand_is ""' -a log -d 'List the steps'
 complete -c reuse-undo -n '__reuse_undo_subcommand_is ""' -a show -d 'Tell what a step changed'

@@ -59,7 +59,7 @@ pub const STEPS: &[Subcommand] = &[
 pub const HISTORY: &[Subcommand] = &[
     Subcommand(
         "recover",
-        "Set back a step that a stopped run left half made",
+        "Roll back a step that a stopped run left half made",
         AFTER_RECOVER,
         RECOVER,
         &[],
