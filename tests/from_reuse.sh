@@ -247,9 +247,7 @@ other_words() {
 }
 
 # The first cells of a document's tables, but for their heads
-cells() {
-  sed -nE '/^\|/{s/^\| ([^|]*) \|.*/\1/p}' "$1" | grep -vxE -- '-+|the reuse tool|habit|.*---.*'
-}
+cells() { sed -nE '/^\|/{s/^\| ([^|]*) \|.*/\1/p}' "$1" | grep -vxE -- '-+|the reuse tool|habit|.*---.*'; }
 
 options
 habits
