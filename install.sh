@@ -34,7 +34,7 @@ files() {
     echo "share/completions/reuse-undo.fish share/fish/vendor_completions.d/reuse-undo.fish 644"
     echo "share/styles.toml share/reuse-undo/styles.toml 644"
 }
-# Makes a folder and those above it, and tells of each that wasn't there its path from the prefix.
+# Makes a folder and those above it, and prints the path from the prefix of each that wasn't there.
 make_folder() {
     [ ! -d "$1" ] || return 0
     make_folder "$(dirname "$1")"
@@ -81,7 +81,7 @@ say() {
 }
 
 [ ! "$uninstall" ] || { uninstall_files; exit; }
-# (so that a prefix that can't be written is told now, and not after the proofs)
+# (so that a prefix that can't be written is reported now, and not after the proofs)
 above=$prefix/bin
 while [ ! -e "$above" ]; do above=$(dirname "$above"); done
 [ -d "$above" ] && [ -w "$above" ] || { echo "$above can't be written" >&2; exit 1; }
