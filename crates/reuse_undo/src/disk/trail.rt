@@ -33,8 +33,8 @@ pub struct Trail {
 }
 
 impl Trail {
-    /// The trail that begins at the root of this path, of a process that is root's or not. Nothing
-    /// is asked of the system yet.
+    /// The trail that begins at the root of this path, of a process that is root's or not. Nothing is
+    /// asked of the system yet.
     pub fn new(alloc: Global, root: String, is_of_root: bool) -> Trail {
         Trail {
             root,
