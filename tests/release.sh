@@ -64,6 +64,7 @@ package() {
   ! grep -v ' root/root ' "$room/list" || fail 'files of the package have another owner'
   dpkg-deb --fsys-tarfile "$deb" | tar -xOf - ./usr/share/doc/reuse-undo/copyright > "$room/owners"
   grep -q '^Of clap ' "$room/owners" || fail 'the licence of a library is not told'
+  grep -q 'crates of the Rattle kit' "$room/owners" || fail 'the kit is not told'
   ! grep -w 'reuse_[a-z]*' "$room/owners" || fail 'a crate of ours is told as a library of the kit'
   lintian --fail-on error "$deb" > "$room/lint" 2> "$room/error" || fail "$(cat "$room/lint")"
   cat "$room/lint"
