@@ -61,6 +61,14 @@ unfoldable pub licence_amended : List Replacement → List ℕ → Option (List 
 licence_amended [] value = Some value
 licence_amended (r ∷ replacements) value = option_and_then (licence_amended replacements) (licence_replaced r value)
 
+-- a text that is not to be removed
+abbrev pub unless_removed : List (List ℕ) → List ℕ → Option (List ℕ)
+unless_removed removed text = if is_among removed text then None else Some text
+
+-- what becomes of one licence: none where that leaves the grammar, and no text where it is removed
+abbrev pub licence_alone : Amendments → List ℕ → Option (Option (List ℕ))
+licence_alone a value = option_map (unless_removed a.removed_licences) (licence_amended a.replaced_licences value)
+
 -- each text as it becomes, if each becomes one
 unfoldable pub each_made : (List ℕ → Option (List ℕ)) → List (List ℕ) → Option (List (List ℕ))
 each_made make [] = Some []

@@ -2,7 +2,7 @@
 ghost use Rattle.std.specs.Prelude.{◌≡◌, ◌++◌, IfOk, OnOk};
 ghost use Rattle.std.specs.Option.{option_to_list};
 ghost use Rattle.reuse_notice.specs.TagViews.{notice_view};
-ghost use Rattle.reuse_notice.specs.Amending.{each_made, licence_amended, text_amended, text_replaced, years_until, years_amended, prefix_amended, notice_saying, notice_amended, notices_amended, contributors_amended, licences_amended};
+ghost use Rattle.reuse_notice.specs.Amending.{each_made, licence_amended, text_amended, text_replaced, years_until, years_amended, prefix_amended, notice_saying, notice_amended, notices_amended, contributors_amended, licences_amended, licence_alone, unless_removed};
 ghost use Rattle.reuse_notice.specs.AmendmentViews.{IsAnswer};
 
 use crate::adding::write_notice;
@@ -29,6 +29,34 @@ pub(crate) fn amend_licences(
     let texts = amend_each(alloc, licences, amendments.replaced_licences.as_slice())?;
     let removed = amendments.removed_licences.as_slice();
     Ok(texts.without(removed).into_set())
+}
+
+/// What the amendments make of one licence: none where it is removed.
+///
+/// # Errors
+/// `BadExpression` where an identifier is replaced by what can't stand in its place.
+pub fn amend_one_licence(
+    alloc: Global,
+    value: &[u8],
+    amendments: &Amendments,
+) -> Result<Option<Bytes>, AmendRefusal>
+    ensures { IsAnswer (licence_alone amendments.now value.now) result }
+{
+    match amend_licence(alloc, value, amendments.replaced_licences.as_slice()) {
+        Ok(text) => Ok(unless_removed(text, amendments.removed_licences.as_slice())),
+        Err(refusal) => Err(refusal),
+    }
+}
+
+// A text that is not to be removed.
+fn unless_removed(text: Bytes, removed: &[Bytes]) -> Option<Bytes>
+    ensures { result ≡ unless_removed removed.now text }
+{
+    if is_among(removed, text.as_slice()) {
+        None
+    } else {
+        Some(text)
+    }
 }
 
 // Each licence as the replacements make it.
@@ -122,6 +150,20 @@ fn push_if(texts: &mut Vec<Bytes>, text: Option<Bytes>) -> Result<(), AllocError
         texts.push(text)?;
     }
     Ok(())
+}
+
+/// What the amendments make of one notice: none where its holder is removed.
+///
+/// # Errors
+/// There was no memory.
+pub fn amend_one_notice(
+    alloc: Global,
+    text: &[u8],
+    amendments: &Amendments,
+) -> Result<Option<Bytes>, AllocError>
+    ensures { IfOk result (λ amended. amended ≡ notice_amended amendments.now text.now) }
+{
+    amend_notice(alloc, text, amendments)
 }
 
 // What a notice becomes, none where its holder is removed.

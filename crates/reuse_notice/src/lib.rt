@@ -24,6 +24,7 @@ pub use amend_laws::{
     amended_years_include_the_old, licences_are_their_pieces, the_same_is_said_by_the_same,
     unnamed_information_stays,
 };
+pub use amending::{amend_one_licence, amend_one_notice};
 pub use amendments::{AmendRefusal, Amendments};
 pub use blanks::{is_all_blank, is_all_filler, trim_blank_end};
 pub use expressions::{BadExpression, Token, check_expression};
