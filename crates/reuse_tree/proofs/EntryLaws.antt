@@ -29,7 +29,7 @@ use Rattle.reuse_tree.specs.declared.change.Change.{Change}
 use Rattle.reuse_tree.specs.declared.change.Change.TheVariants.{Make, Drop, Splice}
 use Rattle.reuse_tree.specs.declared.journal.entry.Entry.{Entry}
 use Rattle.reuse_tree.specs.declared.command_name.CommandName.{CommandName}
-use Rattle.reuse_tree.specs.declared.command_name.CommandName.TheVariants.{Annotate, ConvertDep5, Download, Revert}
+use Rattle.reuse_tree.specs.declared.command_name.CommandName.TheVariants.{Annotate, ConvertDep5, Download, Revert, Amend}
 use Rattle.reuse_tree.proofs.JsonPrinting.{IsReadable, read-compact_text}
 use Rattle.reuse_tree.proofs.JoinedTexts.{◌⊹◌, length-join-le, IsUtf8-join, AllByRecursion-weaker}
 use Rattle.reuse_tree.proofs.EntryTexts.{entry_compact}
@@ -165,6 +165,7 @@ name_utf8 Annotate = IsUtf8-are_ascii _ refl
 name_utf8 ConvertDep5 = IsUtf8-are_ascii _ refl
 name_utf8 Download = IsUtf8-are_ascii _ refl
 name_utf8 Revert = IsUtf8-are_ascii _ refl
+name_utf8 Amend = IsUtf8-are_ascii _ refl
 
 entry_utf8 : (e : Entry) → IsEntryInMemory e → IsUtf8 (entry_text e)
 entry_utf8 e sound =
@@ -264,6 +265,7 @@ name_length Annotate = omega arith
 name_length ConvertDep5 = omega arith
 name_length Download = omega arith
 name_length Revert = omega arith
+name_length Amend = omega arith
 
 format_length : (second : Bool) → length (decimal (format_number second)) ≤ 20
 format_length second = number_length (format_number second) (few_formats second)

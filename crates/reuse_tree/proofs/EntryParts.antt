@@ -1,8 +1,6 @@
 -- What is read of an entry's value is the entry, and nothing else is.
 use Rattle.std.proofs.Common.{◌≡◌, ℕ, ◌≤◌, Bool, true, false, cond, ◌==◌, eqb-true, eq-eqb, List, [], ◌∷◌, length, codes, Option, Some, None, is_some, refl, sym, ap, ap₂, ◌∙◌, subst, le-leb, leb-true, Result, Ok, Err, ◌⊎◌, inl, inr}
-use Rattle.std.specs.Prelude.{IsTrue, IfOk}
-use Rattle.reuse_tree.specs.declared.journal.fault.DecodeFault.{DecodeFault}
-use Rattle.reuse_tree.specs.Decoded.{Gives, IsAnswer}
+use Rattle.std.specs.Prelude.{IsTrue}
 use Rattle.std.specs.List.{AllByRecursion, AllZip}
 use Rattle.std.specs.Result.{result_ok}
 use Rattle.std.specs.Str.{bytes_eq}
@@ -19,17 +17,17 @@ use Rattle.reuse_tree.specs.Path.{is_path}
 use Rattle.reuse_tree.specs.Change.{path_of, is_sealed}
 use Rattle.reuse_tree.specs.declared.digest.Seal.{Seal}
 use Rattle.reuse_tree.specs.Entry.{AreAllSealed}
-use Rattle.reuse_tree.specs.Json.{count, array_of, members_of, IsJson}
+use Rattle.reuse_tree.specs.Json.{count, array_of, members_of}
 use Rattle.reuse_tree.specs.Format.{knows, format_number}
-use Rattle.reuse_tree.specs.EntryText.{command_name, whole_members, splice_members, IsWholeValue, IsHex, IsHexDigest, IsChangeValue, IsEntryValue, HavePaths, IsJsonEntry, IsGoodEntry}
+use Rattle.reuse_tree.specs.EntryText.{command_name, whole_members, splice_members, IsWholeValue, IsHex, IsHexDigest, IsChangeValue, IsEntryValue, HavePaths, IsGoodEntry}
 use Rattle.reuse_tree.specs.JsonReading.{first_member, field_in, if_none_left, format_in, number_in, read_items}
 use Rattle.reuse_tree.specs.EntryReading.{if_text, digest_in, first_digest, seal_of, hex_in, path_in, command_from, command_in, if_known, moment_in, whole_in, make_in, drop_in, splice_in, splice_bytes_in, splice_end_in, change_in, changes_in, entry_in}
 use Rattle.reuse_tree.specs.declared.change.Change.{Change}
 use Rattle.reuse_tree.specs.declared.change.Change.TheVariants.{Make, Drop, Splice}
 use Rattle.reuse_tree.specs.declared.journal.entry.Entry.{Entry}
 use Rattle.reuse_tree.specs.declared.command_name.CommandName.{CommandName}
-use Rattle.reuse_tree.specs.declared.command_name.CommandName.TheVariants.{Annotate, ConvertDep5, Download, Revert}
-use Rattle.reuse_tree.proofs.JsonParts.{either, named, bind_some, first_member_found, field_found, field_is, none_left_found, object_found, array_found, string_found, number_found, format_found, format_again, IfOk-from_gives, IsAnswer-from_gives, same_json}
+use Rattle.reuse_tree.specs.declared.command_name.CommandName.TheVariants.{Annotate, ConvertDep5, Download, Revert, Amend}
+use Rattle.reuse_tree.proofs.JsonParts.{either, named, bind_some, first_member_found, field_found, field_is, none_left_found, object_found, array_found, string_found, number_found, format_found, format_again, same_json}
 
 -- ---- parts
 
@@ -57,14 +55,14 @@ path_found d path e =
     let t = cond_some (is_path s.0) s.0 path s.2 in
     (string_found d s.0 s.1 ∙ ap string t.1, subst (λ (p : List ℕ). is_path p ≡ true) t.1 t.0)
 
-moment_found : (d : Data) (n : ℕ) → moment_in d ≡ Some n → (d ≡ count n) × (n ≤ 250_000_000_000)
+pub moment_found : (d : Data) (n : ℕ) → moment_in d ≡ Some n → (d ≡ count n) × (n ≤ 250_000_000_000)
 moment_found d n e =
     let m = bind_some _ (number_in d) n e in
     let t = cond_some _ m.0 n m.2 in
     let same : m.0 ≡ n = t.1 in
     (number_found d m.0 m.1 ∙ ap count same, subst (λ (k : ℕ). k ≤ 250_000_000_000) same (leb-true m.0 250000000000 t.0))
 
-moment_again : (n : ℕ) → n ≤ 250_000_000_000 → moment_in (count n) ≡ Some n
+pub moment_again : (n : ℕ) → n ≤ 250_000_000_000 → moment_in (count n) ≡ Some n
 moment_again n h = rw (le-leb n 250000000000 h) refl
 
 command_found : (name : List ℕ) (w : CommandName) → command_from name ≡ Some w → name ≡ command_name w
@@ -74,18 +72,22 @@ command_found name w e = elim (either (bytes_eq name (codes "annotate")) Annotat
     | inl second ↦ named command_name name ConvertDep5 w second
     | inr third ↦ elim (either (bytes_eq name (codes "download")) Download w _ third) [
       | inl is ↦ named command_name name Download w is
-      | inr last ↦ named command_name name Revert w (cond_some (bytes_eq name (codes "revert")) Revert w last)
+      | inr fourth ↦ elim (either (bytes_eq name (codes "revert")) Revert w _ fourth) [
+        | inl is ↦ named command_name name Revert w is
+        | inr last ↦ named command_name name Amend w (cond_some (bytes_eq name (codes "amend")) Amend w last)
+      ]
     ]
   ]
 ]
 
-command_again : (w : CommandName) → command_from (command_name w) ≡ Some w
+pub command_again : (w : CommandName) → command_from (command_name w) ≡ Some w
 command_again Annotate = refl
 command_again ConvertDep5 = refl
 command_again Download = refl
 command_again Revert = refl
+command_again Amend = refl
 
-command_there : (d : Data) (w : CommandName) → command_in d ≡ Some w → d ≡ string (command_name w)
+pub command_there : (d : Data) (w : CommandName) → command_in d ≡ Some w → d ≡ string (command_name w)
 command_there d w e = let name = bind_some _ (as_str d) w e in string_found d name.0 name.1 ∙ ap string (command_found name.0 w name.2)
 
 path_there : (d : Data) (path : List ℕ) → path_in d ≡ Some path → d ≡ string path
@@ -230,7 +232,7 @@ of_kind false true b3 x y z c e = inr (inl e)
 of_kind false false true x y z c e = inr (inr e)
 of_kind false false false x y z c e = absurd (none-some c e)
 
-change_found : (sealed : Bool) (d : Data) (c : Change) → change_in sealed d ≡ Some c → IsValueIn sealed c d
+pub change_found : (sealed : Bool) (d : Data) (c : Change) → change_in sealed d ≡ Some c → IsValueIn sealed c d
 unfolding change_in
 change_found sealed d c e =
     let kind = bind_some _ (get (codes "kind") d) c e in
@@ -273,14 +275,14 @@ changes_again_in sealed (c ∷ cs) (d ∷ ds) h are sound =
     let first : change_in sealed d ≡ Some c = subst (λ (b : Bool). change_in b d ≡ Some c) are.0 (change_again c d h.0 (All-head is_good c cs sound)) in
     rw (first, changes_again_in sealed cs ds h.1 are.1 (All-tail is_good c cs sound)) refl
 
-changes_found : (sealed : Bool) (d : Data) (cs : List Change) → changes_in sealed d ≡ Some cs → (values : List Data) × (d ≡ array_of values) × AreValuesIn sealed cs values
+pub changes_found : (sealed : Bool) (d : Data) (cs : List Change) → changes_in sealed d ≡ Some cs → (values : List Data) × (d ≡ array_of values) × AreValuesIn sealed cs values
 unfolding changes_in
 changes_found sealed d cs e =
     let items = bind_some _ (as_array d) cs e in
     let rest = changes_found_in sealed items.0 cs items.2 in
     (rest.0, array_found d items.0 items.1 ∙ ap array rest.1, rest.2)
 
-changes_again : (sealed : Bool) (cs : List Change) (values : List Data) → AllZip IsChangeValue cs values → AreAllSealed sealed cs → HavePaths cs → changes_in sealed (array_of values) ≡ Some cs
+pub changes_again : (sealed : Bool) (cs : List Change) (values : List Data) → AllZip IsChangeValue cs values → AreAllSealed sealed cs → HavePaths cs → changes_in sealed (array_of values) ≡ Some cs
 unfolding changes_in
 changes_again sealed cs values h are sound =
     let IsAs : Change → Type 0 = λ c. is_sealed c ≡ sealed in
@@ -288,7 +290,7 @@ changes_again sealed cs values h are sound =
 
 -- ---- an entry
 
-known_again : (sealed : Bool) (command : CommandName) → knows sealed command ≡ true → if_known sealed command ≡ Some tt
+pub known_again : (sealed : Bool) (command : CommandName) → knows sealed command ≡ true → if_known sealed command ≡ Some tt
 known_again sealed command is = ap (λ b. cond b (Some tt) None) is
 
 -- what is read as an entry is a value of it
@@ -320,16 +322,6 @@ entry_again : (d : Data) (entry : Entry) → HavePaths entry.changes → entry.w
 unfolding entry_in
 entry_again d entry paths when h =
     rw h.5 (rw (command_again entry.command, format_again h.0, known_again h.0 entry.command h.3, moment_again entry.when when, changes_again h.0 entry.changes h.1 h.4 h.2 paths) refl)
-
--- ---- what `read_entry` answers
-
-pub entry_ok : (r : Result Entry DecodeFault) (text : List ℕ) (d : Data) → IsJson text d → Gives r (entry_in d) → IfOk r (λ e. IsJsonEntry text e × (e.when ≤ 250_000_000_000))
-entry_ok r text d is gives =
-    IfOk-from_gives r (entry_in d) (λ e. IsJsonEntry text e × (e.when ≤ 250_000_000_000)) (λ entry e. let f = entry_found d entry e in ((d, is, f.0), f.1)) gives
-
-pub entry_only : (r : Result Entry DecodeFault) (text : List ℕ) (d : Data) → IsJson text d → Gives r (entry_in d) → (entry : Entry) → HavePaths entry.changes → entry.when ≤ 250_000_000_000 → IsJsonEntry text entry → IsAnswer r entry
-entry_only r text d is gives entry paths when other =
-    IsAnswer-from_gives r (entry_in d) entry gives (entry_again d entry paths when (subst (IsEntryValue entry) (same_json text other.0 d other.1 is) other.2))
 
 -- a text stands for one entry at most
 pub one_entry : (text : List ℕ) (a b : Entry) → IsGoodEntry text a → IsGoodEntry text b → a ≡ b

@@ -10,7 +10,7 @@ use Rattle.reuse_tree.specs.declared.change.Change.{Change}
 use Rattle.reuse_tree.specs.declared.change.Change.TheVariants.{Make, Drop, Splice}
 use Rattle.reuse_tree.specs.declared.journal.entry.Entry.{Entry}
 use Rattle.reuse_tree.specs.declared.command_name.CommandName.{CommandName}
-use Rattle.reuse_tree.specs.declared.command_name.CommandName.TheVariants.{Annotate, ConvertDep5, Download, Revert}
+use Rattle.reuse_tree.specs.declared.command_name.CommandName.TheVariants.{Annotate, ConvertDep5, Download, Revert, Amend}
 use Rattle.reuse_tree.proofs.EntryValues.{change_value, entry_value}
 use Rattle.reuse_tree.proofs.JsonPrinting.{items_text-map}
 
@@ -85,6 +85,7 @@ command_text Annotate = refl
 command_text ConvertDep5 = refl
 command_text Download = refl
 command_text Revert = refl
+command_text Amend = refl
 
 unfoldable pub entry_shape : (items name format when : List ℕ) → List ℕ
 entry_shape items name format when = codes "{\"changes\":[" ++ (items ++ (codes ",\"command\":" ++ (name ++ (codes ",\"format\":" ++ (format ++ (codes ",\"when\":" ++ (when ++ codes "}")))))))

@@ -1,8 +1,6 @@
 -- What is read of a head's value is the head, and nothing else is.
-use Rattle.std.proofs.Common.{◌≡◌, ℕ, ◌^◌, ◌<◌, ◌≤◌, Bool, List, [], ◌∷◌, codes, Option, Some, None, option_map, refl, sym, ap, ◌∙◌, subst, arith, inl, inr, length, ◌-◌, ◌++◌, Result}
-use Rattle.std.specs.Prelude.{⊤, IfOk}
-use Rattle.reuse_tree.specs.declared.journal.fault.DecodeFault.{DecodeFault}
-use Rattle.reuse_tree.specs.Decoded.{Gives, IsAnswer}
+use Rattle.std.proofs.Common.{◌≡◌, ℕ, ◌^◌, ◌<◌, ◌≤◌, Bool, List, [], ◌∷◌, codes, Option, Some, None, option_map, refl, sym, ap, ◌∙◌, subst, arith, inl, inr, length, ◌-◌, ◌++◌}
+use Rattle.std.specs.Prelude.{⊤}
 use Rattle.std.specs.List.{AllByRecursion, All, slice_get}
 use Rattle.std.proofs.lemmas.List.Elements.{All-get_or, All-weaker, recursion_from_All, All-nil, All-cons, All-head, All-tail}
 use Rattle.std.proofs.lemmas.Option.{none-some, same_Some, cond_some, slice_get_within, get_or_from_slice_get}
@@ -10,8 +8,8 @@ use Rattle.std.specs.Str.{bytes_eq}
 use Rattle.reuse_tree.specs.Format.{format_number}
 use Rattle.serde_json.specs.Data.{Data, null, string, object, member}
 use Rattle.serde_json.specs.Find.{as_object, as_str}
-use Rattle.reuse_tree.specs.Json.{count, counts, IsJson}
-use Rattle.reuse_tree.specs.Head.{way_name, pending_value, head_value, FitsWay, PendingFits, IsJsonHead, IsSoundHead, IsGoodHead}
+use Rattle.reuse_tree.specs.Json.{count, counts}
+use Rattle.reuse_tree.specs.Head.{way_name, pending_value, head_value, FitsWay, PendingFits, IsSoundHead, IsGoodHead}
 use Rattle.reuse_tree.specs.JsonReading.{field_in, if_none_left, small_in, smalls_in, format_in}
 use Rattle.reuse_tree.specs.HeadReading.{way_from, way_in, some_pending_in, pending_in, head_in}
 use Rattle.reuse_tree.specs.declared.journal.head.Head.{Head}
@@ -19,7 +17,7 @@ use Rattle.reuse_tree.specs.declared.journal.head.Pending.{Pending}
 use Rattle.reuse_tree.specs.declared.journal.head.PendingWay.{PendingWay}
 use Rattle.reuse_tree.specs.declared.journal.head.PendingWay.TheVariants.{Do, Undo, Redo}
 use Rattle.reuse_tree.proofs.JoinedTexts.{AllByRecursion-weaker}
-use Rattle.reuse_tree.proofs.JsonParts.{either, named, bind_some, field_is, none_left_found, object_found, string_found, small_found, small_again, smalls_found, smalls_again, format_found, format_again, IfOk-from_gives, IsAnswer-from_gives, same_json}
+use Rattle.reuse_tree.proofs.JsonParts.{either, named, bind_some, field_is, none_left_found, object_found, string_found, small_found, small_again, smalls_found, smalls_again, format_found, format_again, same_json}
 
 way_found : (name : List ℕ) (w : PendingWay) → way_from name ≡ Some w → name ≡ way_name w
 way_found name w e = elim (either (bytes_eq name (codes "do")) Do w _ e) [
@@ -168,15 +166,6 @@ small_from_sound h sound =
       next = omega (arith, sound.next);
       pending = small_from_six h.pending six.pending;
     }
-
--- ---- what `read_head` answers
-
-pub head_ok : (r : Result Head DecodeFault) (text : List ℕ) (d : Data) → IsJson text d → Gives r (head_in d) → IfOk r (IsJsonHead text)
-head_ok r text d is gives = IfOk-from_gives r (head_in d) (IsJsonHead text) (λ h e. let f = head_found d h e in (f.0, subst (IsJson text) f.1 is)) gives
-
-pub head_only : (r : Result Head DecodeFault) (text : List ℕ) (d : Data) → IsJson text d → Gives r (head_in d) → (h : Head) → IsSoundHead h → IsJsonHead text h → IsAnswer r h
-head_only r text d is gives h sound other =
-    IsAnswer-from_gives r (head_in d) h gives (ap head_in (same_json text d (head_value other.0 h) is other.1) ∙ head_again other.0 h (small_from_sound h sound))
 
 -- a text stands for one head at most
 pub one_head : (text : List ℕ) (a b : Head) → IsGoodHead text a → IsGoodHead text b → a ≡ b

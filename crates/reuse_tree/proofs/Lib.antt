@@ -19,6 +19,11 @@ pub mod HeadTexts
 pub mod JoinedTexts
 pub mod JsonParts
 pub mod JsonPrinting
+pub mod JsonKinds
+pub mod JsonTurns
+pub mod Trimming
+pub mod TrimmedEntries
+pub mod TrimmedHeads
 pub mod ListingLemmas
 pub mod NeedLemmas
 pub mod PlainTexts

@@ -1,10 +1,10 @@
 -- For private clauses: an entry's value as it is taken apart.
-use Rattle.std.specs.Prelude.{ℕ, ◌==◌, nat_le, Bool, true, false, List, length, codes, Option, Some, None, if◌then◌else◌}
+use Rattle.std.specs.Prelude.{ℕ, ◌==◌, nat_le, nat_lt, Bool, true, false, List, [], ◌∷◌, ◌++◌, length, codes, Option, Some, None, option_and_then, option_map, if◌then◌else◌}
 use Rattle.std.specs.Result.{result_ok}
 use Rattle.std.specs.Str.{bytes_eq}
 use Rattle.hex.specs.Hex.{decode_of}
 use Rattle.serde_json.specs.Data.{Data, Members}
-use Rattle.serde_json.specs.Find.{as_array, as_object, as_str, get}
+use Rattle.serde_json.specs.Find.{as_array, as_object, as_str, get, get_member}
 use Rattle.reuse_tree.specs.Path.{is_path}
 use Rattle.reuse_tree.specs.Format.{knows}
 use Rattle.reuse_tree.specs.JsonReading.{◌>>=◌, first_member, field_in, if_none_left, format_in, number_in, read_items}
@@ -13,7 +13,7 @@ use Rattle.reuse_tree.specs.declared.digest.Seal.{Seal}
 use Rattle.reuse_tree.specs.declared.change.Change.TheVariants.{Make, Drop, Splice}
 use Rattle.reuse_tree.specs.declared.journal.entry.Entry.{Entry}
 use Rattle.reuse_tree.specs.declared.command_name.CommandName.{CommandName}
-use Rattle.reuse_tree.specs.declared.command_name.CommandName.TheVariants.{Annotate, ConvertDep5, Download, Revert}
+use Rattle.reuse_tree.specs.declared.command_name.CommandName.TheVariants.{Annotate, ConvertDep5, Download, Revert, Amend}
 
 -- the value is this text
 abbrev pub if_text : List ℕ → Data → Option Unit
@@ -37,6 +37,7 @@ command_from name =
     else if bytes_eq name (codes "convert-dep5") then Some ConvertDep5
     else if bytes_eq name (codes "download") then Some Download
     else if bytes_eq name (codes "revert") then Some Revert
+    else if bytes_eq name (codes "amend") then Some Amend
     else None
 
 abbrev pub command_in : Data → Option CommandName
@@ -134,6 +135,33 @@ unfoldable pub changes_in : Bool → Data → Option (List Change)
 changes_in sealed d = do
   ds ← as_array d
   read_items (change_in sealed) ds
+
+-- of an entry, all but its changes: the command, whether the format is the second, and the moment
+unfoldable pub frame_in : Data → Option (CommandName × Bool × ℕ)
+frame_in d = do
+  fields ← as_object d
+  changes ← first_member (codes "changes") fields
+  command ← field_in command_in (codes "command") changes.1
+  format ← field_in format_in (codes "format") command.1
+  _ ← if_known format.0 command.0
+  when ← field_in moment_in (codes "when") format.1
+  _ ← if_none_left when.1
+  Some (command.0, format.0, when.0)
+
+-- changes, unless they are too many
+abbrev pub if_few_changes : Option (List Change) → Option (List Change)
+if_few_changes read = do
+  changes ← read
+  if nat_le (length changes) 100000 then Some changes else None
+
+-- the changes of an object that is an entry of this format
+abbrev pub listed_in : Bool → Members → Option (List Change)
+listed_in sealed fields = if_few_changes (option_and_then (changes_in sealed) (get_member (codes "changes") fields))
+
+-- the changes that were read, and the next one, unless they are too many
+abbrev pub with_next : Option (List Change) → Option Change → Option (List Change)
+with_next None next = None
+with_next (Some changes) next = if nat_lt (length changes) 100000 then option_map (λ change. changes ++ change ∷ []) next else None
 
 unfoldable pub entry_in : Data → Option Entry
 entry_in d = do

@@ -14,7 +14,7 @@ use Rattle.reuse_tree.specs.Format.{format_number, knows}
 use Rattle.reuse_tree.specs.Json.{IsJson, count, object_of, array_of}
 use Rattle.reuse_tree.specs.declared.journal.entry.Entry.{Entry}
 use Rattle.reuse_tree.specs.declared.command_name.CommandName.{CommandName}
-use Rattle.reuse_tree.specs.declared.command_name.CommandName.TheVariants.{Annotate, ConvertDep5, Download, Revert}
+use Rattle.reuse_tree.specs.declared.command_name.CommandName.TheVariants.{Annotate, ConvertDep5, Download, Revert, Amend}
 
 -- ---- the text that is written
 
@@ -24,6 +24,7 @@ command_name Annotate = codes "annotate"
 command_name ConvertDep5 = codes "convert-dep5"
 command_name Download = codes "download"
 command_name Revert = codes "revert"
+command_name Amend = codes "amend"
 
 -- bytes in small hexadecimal digits, as a JSON string
 abbrev pub hex_text : List ℕ → List ℕ

@@ -19,6 +19,7 @@ pub mod Head
 pub mod HeadReading
 pub mod Json
 pub mod JsonReading
+pub mod Trimmed
 pub mod Format
 pub mod Decoded
 pub mod Tree

@@ -11,4 +11,6 @@ pub enum CommandName {
     Download,
     /// `revert`.
     Revert,
+    /// `amend`.
+    Amend,
 }

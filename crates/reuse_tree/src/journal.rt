@@ -1,4 +1,5 @@
 //! The texts of the journal: its head and its entries as JSON, and back.
+mod changes_reading;
 mod entry;
 mod entry_changes;
 mod entry_checks;
@@ -9,10 +10,13 @@ mod fault;
 mod fields;
 mod head;
 mod head_text;
+mod json_number;
 mod json_writing;
 pub mod laws;
 mod numbers;
+mod room;
 mod small_hex;
+mod trimmed;
 mod written_entry;
 mod written_text;
 

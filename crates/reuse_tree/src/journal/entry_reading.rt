@@ -1,23 +1,30 @@
 //! An entry's text, read.
-ghost use Rattle.std.specs.Prelude.{◌≡◌, ◌≤◌, IfOk, codes, length};
-ghost use Rattle.serde_json.specs.View.{view, items_view, members_view};
+ghost use Rattle.std.specs.Prelude.{◌≡◌, ◌≤◌, None, Some, IfOk, codes, length};
+ghost use Rattle.serde_json.specs.Data.{Data};
+ghost use Rattle.serde_json.specs.View.{view, members_view};
 ghost use Rattle.reuse_tree.specs.Decoded.{Gives, GivesBy, IsAnswer};
 ghost use Rattle.reuse_tree.specs.EntryText.{HavePaths, IsGoodEntry, IsJsonEntry};
-ghost use Rattle.reuse_tree.specs.EntryReading.{change_in, changes_in, command_from, command_in, drop_in, entry_in, if_known, make_in, seal_of, splice_bytes_in, splice_end_in, splice_in, whole_in};
-ghost use Rattle.reuse_tree.specs.JsonReading.{field_in, read_items};
+ghost use Rattle.reuse_tree.specs.EntryReading.{change_in, command_from, command_in, drop_in, frame_in, if_known, make_in, seal_of, splice_bytes_in, splice_end_in, splice_in, whole_in};
+ghost use Rattle.reuse_tree.specs.Json.{IsJson};
+ghost use Rattle.reuse_tree.specs.JsonReading.{field_in};
+ghost use Rattle.reuse_tree.specs.Trimmed.{trim};
 ghost use Rattle.reuse_tree.specs.declared.journal.entry.Entry.{Entry};
 
 use crate::change::Change;
 use crate::command_name::CommandName;
 use crate::digest::{Digest, Seal};
+use crate::journal::changes_reading::read_changes;
 use crate::journal::entry::{Changes, Entry};
 use crate::journal::entry_checks::are_sound;
 use crate::journal::fault::DecodeFault;
 use crate::journal::fields::{
     Fields, expect_next, field, fields, finish, moment_of, next_bytes, next_digest, next_format,
-    next_number, next_path, parse, text_of,
+    next_number, next_path, text_of,
 };
+use crate::journal::room::Room;
+use crate::journal::trimmed::parse_trimmed;
 use crate::journal::written_entry::{knows, read_written};
+use crate::moment::Moment;
 use crate::path::PathText;
 use reuse_text::Bytes;
 use serde_json::Value;
@@ -54,33 +61,45 @@ fn judge(alloc: Global, text: &[u8]) -> Result<Entry, DecodeFault>
     }
 }
 
-// The entry whose value the text is, sound or not.
+// The entry whose value the text is, sound or not. It reads the text twice: the format, which may
+// stand behind the changes, says how each of them is read.
 fn read_entry(alloc: Global, text: &[u8]) -> Result<Entry, DecodeFault>
     ensures ok { IfOk result (λ entry. IsJsonEntry text.now entry × (entry.when ≤ 250_000_000_000)) }
     ensures only { (entry : Entry) → HavePaths entry.changes → entry.when ≤ 250_000_000_000
-        → IsJsonEntry text.now entry → IsAnswer result entry }
+        → length entry.changes ≤ 100_000 → IsJsonEntry text.now entry → IsAnswer result entry }
 {
-    let value = parse(alloc, text)?;
-    entry_of(alloc, &value)
+    let frame = read_frame(alloc, text)?;
+    let (command, sealed, when) = frame;
+    let changes = read_changes(alloc, text, sealed)?;
+    Ok(Entry {
+        changes: Changes::new(changes),
+        command,
+        when,
+    })
 }
 
-#[tactic(auto, unfolding(crate::specs::EntryReading::entry_in))]
-fn entry_of(alloc: Global, value: &Value) -> Result<Entry, DecodeFault>
-    ensures { Gives result (entry_in (view value.now)) }
+// Of the entry whose value the text is, all but the changes.
+fn read_frame(alloc: Global, text: &[u8]) -> Result<(CommandName, bool, Moment), DecodeFault>
+    ensures ok { IfOk result (λ frame. (d : Data) × IsJson text.now d × (frame_in (trim Room.Entry d) ≡ Some frame)) }
+    ensures refused { result ≡ Err DecodeFault.NotGood
+        → (d : Data) → IsJson text.now d → frame_in (trim Room.Entry d) ≡ None }
+{
+    let value = parse_trimmed(alloc, text, Room::Entry)?;
+    frame_of(&value)
+}
+
+#[tactic(auto, unfolding(crate::specs::EntryReading::frame_in))]
+fn frame_of(value: &Value) -> Result<(CommandName, bool, Moment), DecodeFault>
+    ensures { Gives result (frame_in (view value.now)) }
 {
     let mut members = fields(value)?;
-    let changes = field(&mut members, "changes")?;
+    let _changes = field(&mut members, "changes")?;
     let command = next_command(&mut members)?;
     let sealed = next_format(&mut members, "format")?;
     expect_known(sealed, command)?;
     let when = moment_of(field(&mut members, "when")?)?;
     finish(members)?;
-    let changes = changes_of(alloc, changes, sealed)?;
-    Ok(Entry {
-        changes,
-        command,
-        when,
-    })
+    Ok((command, sealed, when))
 }
 
 fn next_command(members: &mut Fields<'_>) -> Result<CommandName, DecodeFault>
@@ -100,6 +119,8 @@ fn command_of(name: &str) -> Result<CommandName, DecodeFault>
         Ok(CommandName::Download)
     } else if name == "revert" {
         Ok(CommandName::Revert)
+    } else if name == "amend" {
+        Ok(CommandName::Amend)
     } else {
         Err(DecodeFault::NotGood)
     }
@@ -116,31 +137,9 @@ fn expect_known(sealed: bool, command: CommandName) -> Result<(), DecodeFault>
     }
 }
 
-#[tactic(auto, unfolding(crate::specs::EntryReading::changes_in))]
-fn changes_of(alloc: Global, value: &Value, sealed: bool) -> Result<Changes, DecodeFault>
-    ensures { Gives result (changes_in sealed (view value.now)) }
-{
-    match value {
-        Value::Array(values) => {
-            let changes = change_list(alloc, values.as_slice(), sealed)?;
-            Ok(Changes::new(changes))
-        }
-        _ => Err(DecodeFault::NotGood),
-    }
-}
-
-fn change_list(alloc: Global, values: &[Value], sealed: bool) -> Result<Vec<Change>, DecodeFault>
-    ensures { GivesBy (λ v. v.items) result (read_items (change_in sealed) (items_view values.now)) }
-{
-    let mut changes = Vec::with_capacity(alloc, values.len())?;
-    for value in values {
-        changes.push(change_of(alloc, value, sealed)?)?;
-    }
-    Ok(changes)
-}
-
+/// The change that the value is.
 #[tactic(auto, unfolding(crate::specs::EntryReading::change_in))]
-fn change_of(alloc: Global, value: &Value, sealed: bool) -> Result<Change, DecodeFault>
+pub(crate) fn change_of(alloc: Global, value: &Value, sealed: bool) -> Result<Change, DecodeFault>
     ensures { Gives result (change_in sealed (view value.now)) }
 {
     let kind = value.get("kind").ok_or(DecodeFault::NotGood)?;

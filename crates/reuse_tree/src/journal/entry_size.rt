@@ -5,7 +5,8 @@ ghost use Rattle.reuse_tree.specs.Change.{is_sealed};
 
 use crate::change::Change;
 
-const MOST_CHANGES: usize = 100_000;
+/// The most changes that an entry has.
+pub(crate) const MOST_CHANGES: usize = 100_000;
 
 const LARGEST_ENTRY: usize = 268_435_456;
 

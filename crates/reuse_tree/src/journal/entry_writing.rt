@@ -140,6 +140,7 @@ fn name_of(command: CommandName) -> &'static str
         CommandName::ConvertDep5 => "convert-dep5",
         CommandName::Download => "download",
         CommandName::Revert => "revert",
+        CommandName::Amend => "amend",
     }
 }
 

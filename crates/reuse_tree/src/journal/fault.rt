@@ -1,4 +1,5 @@
 //! Why a text of the journal was not read.
+use json::Invalid;
 use std::alloc::{AllocError, AllocFailed};
 use thiserror::Error;
 
@@ -32,5 +33,16 @@ impl<T: Drop> From<AllocFailed<T>> for DecodeFault {
 
     fn from(_error: AllocFailed<T>) -> DecodeFault {
         DecodeFault::Memory
+    }
+}
+
+impl From<Invalid> for DecodeFault {
+    ghost use Rattle.std.specs.Prelude.{◌≡◌};
+    ghost use Rattle.reuse_tree.specs.declared.journal.fault.DecodeFault.TheVariants.{NotGood};
+
+    ghost from_gives = { λ _ e. e ≡ NotGood };
+
+    fn from(_error: Invalid) -> DecodeFault {
+        DecodeFault::NotGood
     }
 }

@@ -1,12 +1,9 @@
 //! A JSON value taken apart, member by member.
-ghost use Rattle.std.specs.Prelude.{◌≡◌, IfOk};
-ghost use Rattle.serde_json.specs.Data.{Data};
 ghost use Rattle.serde_json.specs.Find.{as_object, as_str};
 ghost use Rattle.serde_json.specs.View.{view, items_view, members_view};
 ghost use Rattle.reuse_tree.specs.Decoded.{Gives, GivesBy};
 ghost use Rattle.reuse_tree.specs.EntryReading.{digest_in, first_digest, hex_in, if_text, moment_in, path_in};
 ghost use Rattle.reuse_tree.specs.JsonReading.{field_in, first_member, if_none_left, format_in, number_in, small_in, smalls_in, read_items};
-ghost use Rattle.reuse_tree.specs.Json.{IsJson};
 
 use crate::digest::Digest;
 use crate::journal::fault::DecodeFault;
@@ -21,21 +18,6 @@ use std::collections::btree_map::Iter;
 
 /// The members of an object that are left, in the order of their keys.
 pub(crate) type Fields<'a> = Iter<'a, String, Value>;
-
-/// The value that the text is.
-pub(crate) fn parse(alloc: Global, text: &[u8]) -> Result<Value, DecodeFault>
-    ensures ok { IfOk result (λ v. IsJson text.now (view v)) }
-    ensures refused { result ≡ Err DecodeFault.NotGood → (d : Data) → IsJson text.now d → ⊥ }
-{
-    match Value::from_slice(alloc, text) {
-        Ok(value) => Ok(value),
-        Err(error) => if error.is_memory() {
-            Err(DecodeFault::Memory)
-        } else {
-            Err(DecodeFault::NotGood)
-        },
-    }
-}
 
 /// The members of an object.
 pub(crate) fn fields(value: &Value) -> Result<Fields<'_>, DecodeFault>

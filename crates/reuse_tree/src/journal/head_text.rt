@@ -9,9 +9,11 @@ ghost use Rattle.reuse_tree.specs.declared.journal.head.Head.{Head};
 
 use crate::journal::fault::DecodeFault;
 use crate::journal::fields::{
-    field, fields, finish, next_format, next_numbers, next_small, parse, text_of,
+    field, fields, finish, next_format, next_numbers, next_small, text_of,
 };
 use crate::journal::head::{Head, Pending, PendingWay};
+use crate::journal::room::Room;
+use crate::journal::trimmed::parse_trimmed;
 use reuse_text::LONGEST_FILE;
 use serde_json::{Value, json};
 use std::alloc::{AllocError, Global};
@@ -84,7 +86,7 @@ fn read_head(alloc: Global, text: &[u8]) -> Result<Head, DecodeFault>
     ensures ok { IfOk result (IsJsonHead text.now) }
     ensures only { (h : Head) → IsSoundHead h → IsJsonHead text.now h → IsAnswer result h }
 {
-    let value = parse(alloc, text)?;
+    let value = parse_trimmed(alloc, text, Room::Head)?;
     head_of(alloc, &value)
 }
 

@@ -13,6 +13,7 @@ use crate::command_name::CommandName;
 use crate::digest::{Digest, Seal};
 use crate::journal::entry::{Changes, Entry};
 use crate::journal::entry_checks::are_sound;
+use crate::journal::entry_size::MOST_CHANGES;
 use crate::journal::fault::DecodeFault;
 use crate::journal::written_text::WrittenText;
 use crate::moment::Moment;
@@ -60,7 +61,7 @@ pub(crate) fn knows(sealed: bool, command: CommandName) -> bool
     ensures { result ≡ knows sealed command }
 {
     match command {
-        CommandName::Revert => sealed,
+        CommandName::Revert | CommandName::Amend => sealed,
         _ => true,
     }
 }
@@ -102,19 +103,24 @@ fn read_command(text: &mut WrittenText<'_>) -> Result<CommandName, DecodeFault>
         Ok(CommandName::Download)
     } else if text.skip("revert") {
         Ok(CommandName::Revert)
+    } else if text.skip("amend") {
+        Ok(CommandName::Amend)
     } else {
         Err(DecodeFault::NotGood)
     }
 }
 
-// One change or more, with commas between.
+// One change or more, with commas between. One too many ends the reading.
 fn read_changes(alloc: Global, text: &mut WrittenText<'_>) -> Result<Vec<Change>, DecodeFault>
     ensures text { IfOk result (λ changes. text.old ≡ join_with_byte 44 (map change_text changes.items) ++ text.new) }
     ensures some { IfOk result (λ changes. 0 < length changes.items) }
     ensures changes { IfOk result (λ changes. All IsChangeInMemory changes.items) }
 {
     let mut changes = Vec::new(alloc);
-    loop {
+    'changes: loop {
+        if changes.len() >= MOST_CHANGES {
+            return Err(DecodeFault::NotGood);
+        }
         changes.push(read_change(alloc, text)?)?;
         if !text.skip(",") {
             return Ok(changes);

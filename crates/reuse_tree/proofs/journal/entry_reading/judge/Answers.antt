@@ -19,6 +19,6 @@ returns-then-are_sound-clause-ok c =
 pub returns-else-are_sound-clause-only : goal.returns-else-are_sound-clause-only
 returns-else-are_sound-clause-only c =
     λ entry good.
-    let same : c.in_ok-entry.entry ≡ entry = c.in_ok-entry.ensures.only entry good.paths good.when good.value in
+    let same : c.in_ok-entry.entry ≡ entry = c.in_ok-entry.ensures.only entry good.paths good.when good.changes.few good.value in
     let passes : Passes c.as_slice.result.now = subst Passes (sym c.as_slice.ensures) (subst (λ (e : Entry). Passes e.changes) (sym same) (tests_from_entry entry.changes good.changes good.paths)) in
     false≢true (sym c.if-are_sound.false ∙ c.are_sound.ensures.1 passes)

@@ -5,8 +5,8 @@ use Rattle.reuse_tree.proofs.WrittenEntries.{with_comma}
 use Rattle.reuse_tree.proofs.journal.written_entry.read_changes.Given as goal
 
 -- what is read are the changes so far, each with its comma
-abbrev pub invariant-loop-changes : goal.invariant-loop-changes
-invariant-loop-changes l = (l.fn.text ≡ flat_map with_comma l.changes.items ++ l.text) × All IsChangeInMemory l.changes.items
+abbrev pub invariant-changes : goal.invariant-changes
+invariant-changes l = (l.fn.text ≡ flat_map with_comma l.changes.items ++ l.text) × All IsChangeInMemory l.changes.items
 
-abbrev pub decreases-loop-changes : goal.decreases-loop-changes
-decreases-loop-changes l = length l.text
+abbrev pub decreases-changes : goal.decreases-changes
+decreases-changes l = length l.text
