@@ -1,7 +1,8 @@
 -- What an amendment writes, where it answers an edit.
-use Rattle.std.proofs.Common.{◌≡◌, ℕ, Bool, true, false, List, [], Option, None, Some, refl, sym, ap, subst, ◌∙◌}
+use Rattle.std.proofs.Common.{◌≡◌, ℕ, Bool, true, false, List, [], length, nat_lt, Option, None, Some, refl, sym, ap, subst, ◌∙◌}
 use Rattle.std.specs.Prelude.{Result, Ok, Err, if◌then◌else◌, ◌↔◌, Contains}
 use Rattle.std.specs.Option.{option_map, option_map_or}
+use Rattle.reuse_text.specs.declared.TheConstants.{LONGEST_FILE}
 use Rattle.reuse_text.specs.Text.{TextLine, AreLines, lines_of, after_mark, mark_len_of, text_of}
 use Rattle.reuse_notice.specs.declared.infos.Info.{Info}
 use Rattle.reuse_notice.specs.declared.amendments.Amendments.{Amendments}
@@ -154,13 +155,15 @@ pub record NeighbourAmended (a : Amendments) (file : List ℕ) (edit : Edit) : T
   pub info : Info
   pub is : IsAmended a (info_of [] (neighbour_contents file)) info
   pub same : edit ≡ neighbour_edit true file (block_text neighbour_marks (kind_of_file file) info)
+  pub few : nat_lt LONGEST_FILE (length (edited file edit)) ≡ false
 
-neighbour_edit_ok : (file : List ℕ) (info : Info) (edit : Edit) → neighbour_written true file info ≡ Ok edit → edit ≡ neighbour_edit true file (block_text neighbour_marks (kind_of_file file) info)
+neighbour_edit_ok : (file : List ℕ) (info : Info) (edit : Edit) → neighbour_written true file info ≡ Ok edit
+    → (edit ≡ neighbour_edit true file (block_text neighbour_marks (kind_of_file file) info)) × (nat_lt LONGEST_FILE (length (edited file edit)) ≡ false)
 unfolding neighbour_written
 neighbour_edit_ok file info edit e =
     let first = neighbour_edit true file (block_text neighbour_marks (kind_of_file file) info) in
     let s = settled_ok (edited file first) first edit (neighbour_stands true (edited file first) (text_start first) (text_end first)) e in
-    s.same
+    (s.same, ap (λ (x : Edit). nat_lt LONGEST_FILE (length (edited file x))) s.same ∙ s.few)
 
 pub neighbour_amendment_ok : (a : Amendments) (file : List ℕ) (edit : Edit) → neighbour_amendment_of a file ≡ Ok (Some edit) → NeighbourAmended a file edit
 unfolding neighbour_amendment_of
@@ -170,7 +173,8 @@ neighbour_amendment_ok a file edit e = by (is_text file) e
     by false e' = absurd (no_refusal (Header NotText) (Some edit) e')
     by true e' =
         let w = write_ok (neighbour_written true file) (amended_information a (info_of [] (neighbour_contents file))) edit e' in
-        record { info = w.0; is = amended_ok a (info_of [] (neighbour_contents file)) w.0 w.1; same = neighbour_edit_ok file w.0 edit w.2 }
+        let is = neighbour_edit_ok file w.0 edit w.2 in
+        record { info = w.0; is = amended_ok a (info_of [] (neighbour_contents file)) w.0 w.1; same = is.0; few = is.1 }
 
 pub amends_neighbour : (a : Amendments) (file : List ℕ) (edit : Edit) → neighbour_amendment_of a file ≡ Ok (Some edit) → AmendsNeighbour a file edit
 amends_neighbour a file edit e =

@@ -1,11 +1,12 @@
 //! Laws of amending.
-ghost use Rattle.std.specs.Prelude.{◌≡◌, ◌++◌, ℕ, List, Option, None, Some, Ok, true, take, drop};
+ghost use Rattle.std.specs.Prelude.{◌≡◌, ◌++◌, ◌+◌, ◌≤◌, ℕ, List, Option, None, Some, Ok, true, length, take, drop};
 ghost use Rattle.std.specs.Option.{option_map};
 ghost use Rattle.reuse_notice.specs.declared.infos.Info.{Info};
 ghost use Rattle.reuse_notice.specs.declared.amendments.Amendments.{Amendments};
 ghost use Rattle.reuse_notice.specs.Infos.{info_of, says_the_same};
 ghost use Rattle.reuse_notice.specs.Amending.{amended};
 ghost use Rattle.reuse_text.specs.Text.{mark_len_of};
+ghost use Rattle.reuse_text.specs.declared.TheConstants.{LONGEST_FILE};
 ghost use Rattle.reuse_header.specs.declared.style.Style.{Style};
 ghost use Rattle.reuse_header.specs.declared.style.Form.{Form};
 ghost use Rattle.reuse_header.specs.Styles.{punctuation_of};
@@ -38,6 +39,16 @@ pub fn amending_keeps_other_bytes()
         → option_map (span_in file) (header_of style file) ≡ Some span → edited file edit ≡ take span.start file ++ edit.text ++ drop span.end file }
     ensures neighbours { (a : Amendments) (file : List ℕ) (edit : Edit) → neighbour_amendment_of a file ≡ Ok (Some edit)
         → edited file edit ≡ take (mark_len_of file) file ++ edit.text ++ drop (neighbour_end file) file }
+{
+    lines_are_one();
+}
+
+/// The edit that amending is lies within its file, and the file that it makes has at most 16 MiB.
+pub fn amendments_fit()
+    ensures files { (style : Style) (a : Amendments) (file : List ℕ) (edit : Edit) → amendment_of style a file ≡ Ok (Some edit)
+        → (edit.start + edit.old_len ≤ length file) × (length (edited file edit) ≤ LONGEST_FILE) }
+    ensures neighbours { (a : Amendments) (file : List ℕ) (edit : Edit) → neighbour_amendment_of a file ≡ Ok (Some edit)
+        → (edit.start + edit.old_len ≤ length file) × (length (edited file edit) ≤ LONGEST_FILE) }
 {
     lines_are_one();
 }

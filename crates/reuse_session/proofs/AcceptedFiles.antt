@@ -42,14 +42,14 @@ use Rattle.reuse_session.proofs.TargetReasons.{Takes, aimed, is_read, no_neighbo
 abbrev pub IsDone : Result (Option Edit) Refusal → Type 0
 IsDone at = (given : Option Edit) × (at ≡ Ok given)
 
-done_nothing : (b : Bool) (rest : Result (Option Edit) Refusal) → b ≡ true → IsDone (cond b (done None) rest)
+pub done_nothing : (b : Bool) (rest : Result (Option Edit) Refusal) → b ≡ true → IsDone (cond b (done None) rest)
 done_nothing b rest e = (None, ap (λ t. cond t (done None) rest) e)
 
-done_rest : (b : Bool) (first rest : Result (Option Edit) Refusal) → b ≡ false → IsDone rest → IsDone (cond b first rest)
+pub done_rest : (b : Bool) (first rest : Result (Option Edit) Refusal) → b ≡ false → IsDone rest → IsDone (cond b first rest)
 done_rest b first rest e more = (more.0, ap (λ t. cond t first rest) e ∙ more.1)
 
 -- an annotation that the header rules accept is done
-done_by : (path at bytes : List ℕ) (due : Due) → IsOk (header.made_by bytes due) → IsDone (edit_by path at bytes due)
+pub done_by : (path at bytes : List ℕ) (due : Due) → IsOk (header.made_by bytes due) → IsDone (edit_by path at bytes due)
 done_by path at bytes (Err refusal) is = absurd (false≢true is)
 done_by path at bytes (Ok edit) is = by_test (bytes_eq (header.edited bytes edit) bytes) _
   where

@@ -25,7 +25,7 @@ use Rattle.reuse_session.proofs.Outcomes.{Holds, edits_of_tree, held, tree_comes
 use Rattle.reuse_session.proofs.Results.{err_or}
 
 -- where each is done they are done together
-all_at : (at : List ℕ → Result (Option Edit) Refusal) (paths : List (List ℕ)) → ((path : List ℕ) → In path paths → IsDone (at path)) → (edits : List Edit) × (edits_at at paths ≡ Ok edits)
+pub all_at : (at : List ℕ → Result (Option Edit) Refusal) (paths : List (List ℕ)) → ((path : List ℕ) → In path paths → IsDone (at path)) → (edits : List Edit) × (edits_at at paths ≡ Ok edits)
 all_at at [] each = ([], refl)
 all_at at (path ∷ paths) each =
     let first = each path (inl refl) in
@@ -38,11 +38,11 @@ all_at at (path ∷ paths) each =
     joined (Some edit) edits = (edit ∷ edits, refl)
 
 -- the root is given only where folders are gone through
-root_from_test : (recursive root : Bool) → (not recursive && root) ≡ false → root ≡ true → recursive ≡ true
+pub root_from_test : (recursive root : Bool) → (not recursive && root) ≡ false → root ≡ true → recursive ≡ true
 root_from_test true root e given = refl
 root_from_test false root e given = absurd (false≢true (sym e ∙ given))
 
-test_from_root : (recursive root : Bool) → (root ≡ true → recursive ≡ true) → (not recursive && root) ≡ false
+pub test_from_root : (recursive root : Bool) → (root ≡ true → recursive ≡ true) → (not recursive && root) ≡ false
 test_from_root true root through = refl
 test_from_root false false through = refl
 test_from_root false true through = absurd (false≢true (through refl))

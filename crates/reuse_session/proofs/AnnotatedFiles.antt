@@ -54,11 +54,11 @@ abbrev pub pair : Option (List ℕ) → Option (List ℕ) → Pair
 pair file neighbour = record { file = file; neighbour = neighbour }
 
 -- these bytes are made of those at a place: nothing is done where they are the same
-abbrev IsEditTo : List ℕ → List ℕ → List ℕ → Option Edit → Type 0
+abbrev pub IsEditTo : List ℕ → List ℕ → List ℕ → Option Edit → Type 0
 IsEditTo at bytes made None = made ≡ bytes
 IsEditTo at bytes made (Some edit) = (edit.path ≡ at) × (edit.file ≡ Some made) × (bytes_eq made bytes ≡ false)
 
-makes_by : (path at bytes : List ℕ) (due : Due) (given : Option Edit) → edit_by path at bytes due ≡ Ok given → (edit : header.Edit) × (due ≡ Ok edit) × IsEditTo at bytes (header.edited bytes edit) given
+pub makes_by : (path at bytes : List ℕ) (due : Due) (given : Option Edit) → edit_by path at bytes due ≡ Ok given → (edit : header.Edit) × (due ≡ Ok edit) × IsEditTo at bytes (header.edited bytes edit) given
 makes_by path at bytes (Err refusal) given h = absurd (cc)
 makes_by path at bytes (Ok edit) given h = (edit, refl, of_test (bytes_eq (header.edited bytes edit) bytes) refl h)
   where
@@ -70,11 +70,11 @@ makes_by path at bytes (Ok edit) given h = (edit, refl, of_test (bytes_eq (heade
     of_test false e k = subst (IsEditTo at bytes (header.edited bytes edit)) (same_Ok (Some it) given k) (refl, refl, e)
 
 module _ (tree : Files) (at bytes made : List ℕ) where
-  then_here : (given : Option Edit) → IsEditTo at bytes made given → get tree at ≡ Some bytes → file_then tree given at ≡ Some made
+  pub then_here : (given : Option Edit) → IsEditTo at bytes made given → get tree at ≡ Some bytes → file_then tree given at ≡ Some made
   then_here None makes here = here ∙ ap (λ xs. Some xs) (sym makes)
   then_here (Some edit) makes here = ap (λ b. cond b edit.file (get tree at)) ((bytes_eq-Decides at edit.path).1 (sym makes.0)) ∙ makes.1
 
-  then_other : (given : Option Edit) (path : List ℕ) → IsEditTo at bytes made given → path ≢ at → file_then tree given path ≡ get tree path
+  pub then_other : (given : Option Edit) (path : List ℕ) → IsEditTo at bytes made given → path ≢ at → file_then tree given path ≡ get tree path
   then_other None path makes other = refl
   then_other (Some edit) path makes other = ap (λ b. cond b edit.file (get tree path)) (of_test (bytes_eq path edit.path) refl)
     where
@@ -90,7 +90,7 @@ then_made tree at made (Some edit) makes here = ap (λ b. cond b edit.file (get 
     some_made [] e = absurd (false≢true (sym e))
     some_made (byte ∷ bytes) e = refl
 
-apart : (path : List ℕ) → path ≢ neighbour_of path
+pub apart : (path : List ℕ) → path ≢ neighbour_of path
 apart path same = let size = ap length same in omega (arith, size, length-append path (codes ".license"))
 
 -- ---- bytes that stay

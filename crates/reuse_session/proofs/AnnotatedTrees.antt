@@ -1,13 +1,6 @@
 -- Where an annotate isn't refused, each file that is gone through is annotated, and all else stays.
-use Rattle.std.proofs.Common.{◌≡◌, ◌≢◌, ◌⊎◌, inl, inr, ℕ, Bool, true, false, cond, not, ◌&&◌, List, [], ◌∷◌, Less, Option, Some, None, Result, Ok, Err, refl, sym, ap, ap₂, subst, ◌∙◌}
-use Rattle.std.specs.Ordering.{nat_cmp}
-use Rattle.std.specs.Cmp.Lexicographic.{slice_cmp}
-use Rattle.std.specs.List.{AllByRecursion}
-use Rattle.std.specs.Str.{bytes_eq}
+use Rattle.std.proofs.Common.{◌≡◌, ◌⊎◌, inl, inr, ℕ, true, not, ◌&&◌, List, Option, Some, Result, Ok, Err, refl, sym, ap₂, subst}
 use Rattle.std.specs.FinMap.{get}
-use Rattle.std.proofs.lemmas.Bool.{false≢true}
-use Rattle.std.proofs.lemmas.Map.Keys.{sorted_head, sorted_tail}
-use Rattle.std.proofs.lemmas.Slice.Eq.{bytes_eq-Decides}
 use Rattle.reuse_notice.specs.declared.adding.Additions.{Additions}
 use Rattle.reuse_notice.proofs.SetLemmas.{In, In-from_contains, Contains-from_in}
 use Rattle.reuse_header.specs.declared.annotation.How.{How}
@@ -18,7 +11,7 @@ use Rattle.reuse_session.specs.Command.{has_root}
 use Rattle.reuse_session.specs.Covered.{is_covered}
 use Rattle.reuse_session.specs.Edit.{Edit}
 use Rattle.reuse_tree.specs.Listing.{ArePaths}
-use Rattle.reuse_session.specs.Outcome.{with_file, edited, edits_at, edits_by_names, annotation_edits, outcome_of}
+use Rattle.reuse_session.specs.Outcome.{edited, edits_at, edits_by_names, annotation_edits, outcome_of}
 use Rattle.reuse_session.specs.TreeStyles.{OwnNames, styles_in}
 use Rattle.reuse_session.specs.Worked.{worked_paths}
 use Rattle.reuse_session.specs.declared.command.Command.TheVariants.{Annotate}
@@ -27,102 +20,32 @@ use Rattle.reuse_session.specs.declared.command.Place.TheVariants as place
 use Rattle.reuse_session.specs.declared.command.Scope.{Scope}
 use Rattle.reuse_session.specs.declared.reply.Refusal.{Refusal}
 use Rattle.reuse_session.specs.declared.reply.Refusal.TheVariants as refusals
-use Rattle.reuse_session.proofs.AnnotatedFiles.{ReplacesBlock, InsertsBlock, ReplacesNeighbour, InsertsNeighbour, file_then, annotated_there, pair}
-use Rattle.reuse_session.proofs.Annotating.{first_is, no_edits, if_not}
+use Rattle.reuse_session.proofs.AnnotatedFiles.{ReplacesBlock, InsertsBlock, ReplacesNeighbour, InsertsNeighbour, annotated_there, pair}
+use Rattle.reuse_session.proofs.Annotating.{if_not}
 use Rattle.reuse_session.proofs.Choosing.{worked_ascend}
-use Rattle.reuse_session.proofs.Fitting.{is_placed, uncovered_neighbour, same_file}
-use Rattle.reuse_session.proofs.Planning.{with_same, with_other, not_itself}
+use Rattle.reuse_session.proofs.Fitting.{is_placed}
+use Rattle.reuse_session.proofs.PlacedEdits as placed_edits
+use Rattle.reuse_session.proofs.PlacedEdits.{IsPlaceOf, HoldsDone}
 use Rattle.reuse_session.proofs.Outcomes.{edits_of_tree}
-use Rattle.reuse_session.proofs.TextsPut.{pick}
-
-abbrev pub IsPlaceOf : List ℕ → List ℕ → Type 0
-IsPlaceOf path place = (place ≡ path) ⊎ (place ≡ neighbour_of path)
-
--- a place of one covered file is none of another
-one_file : (path other q : List ℕ) → is_covered path ≡ true → is_covered other ≡ true → IsPlaceOf path q → IsPlaceOf other q → path ≡ other
-one_file path other q covered too (inl a) (inl b) = sym a ∙ b
-one_file path other q covered too (inl a) (inr b) = absurd (false≢true (sym (uncovered_neighbour other) ∙ ap is_covered (sym b ∙ a) ∙ covered))
-one_file path other q covered too (inr a) (inl b) = absurd (false≢true (sym (uncovered_neighbour path) ∙ ap is_covered (sym a ∙ b) ∙ too))
-one_file path other q covered too (inr a) (inr b) = same_file path other (sym a ∙ b)
-
-not_above : (path other : List ℕ) (paths : List (List ℕ)) → AllByRecursion (λ p. slice_cmp nat_cmp path p ≡ Less) paths → In other paths → path ≢ other
-not_above path other paths above there = not_itself path other (pick (λ p. slice_cmp nat_cmp path p ≡ Less) paths other there above)
-
--- the file at a path once another edit is made, or that one
-module _ (files tree : Files) (edit : Edit) (q : List ℕ) (same : get files q ≡ get tree q) where
-  put_then : get (with_file files edit.path edit.file) q ≡ file_then tree (Some edit) q
-  put_then = of_test (bytes_eq q edit.path) refl
-    where
-      of_test : (b : Bool) → bytes_eq q edit.path ≡ b → get (with_file files edit.path edit.file) q ≡ cond b edit.file (get tree q)
-      of_test true e = let at = (bytes_eq-Decides q edit.path).0 e in ap (get (with_file files edit.path edit.file)) at ∙ with_same files edit.path edit.file
-      of_test false e = with_other files edit.path edit.file q (λ at. false≢true (sym e ∙ (bytes_eq-Decides q edit.path).1 at)) ∙ same
 
 module _ (replaces : ReplacesBlock) (inserts : InsertsBlock) (replaces_beside : ReplacesNeighbour) (inserts_beside : InsertsNeighbour)
     (additions : Additions) (how : How) (scope : Scope) (own : OwnNames) (tree : Files) where
   abbrev pub at : List ℕ → Result (Option Edit) Refusal
   at = annotated_at how scope additions own tree
 
-  placed : (path : List ℕ) (edit : Edit) → at path ≡ Ok (Some edit) → IsPlaceOf path edit.path × (is_covered path ≡ true)
+  pub placed : (path : List ℕ) (edit : Edit) → at path ≡ Ok (Some edit) → IsPlaceOf path edit.path × (is_covered path ≡ true)
   placed path edit h = let is = is_placed how scope additions tree path edit own h in (elim is.placed [ inl here ↦ inl here | inr beside ↦ inr beside.0 ], is.covered)
 
-  outside : (paths : List (List ℕ)) (edits : List Edit) → edits_at at paths ≡ Ok edits → (q : List ℕ) → ((path : List ℕ) → In path paths → IsPlaceOf path q → ⊥) → get (edited tree edits) q ≡ get tree q
-  outside [] edits h q none = ap (λ es. get (edited tree es) q) (no_edits edits h)
-  outside (path ∷ paths) edits h q none = elim (first_is (at path) (edits_at at paths) edits h) [
-    | inl nothing ↦ outside paths edits nothing.1 q (λ p there. none p (inr there))
-    | inr some ↦
-        let rest = outside paths some.1 some.3 q (λ p there. none p (inr there)) in
-        let other : q ≢ some.0.path = λ same. none path (inl refl) (subst (IsPlaceOf path) (sym same) (placed path some.0 some.2).0) in
-        ap (λ es. get (edited tree es) q) some.4 ∙ with_other (edited tree some.1) some.0.path some.0.file q other ∙ rest
-  ]
-
-  covered_of : (path : List ℕ) (given : Option Edit) → at path ≡ Ok given → is_covered path ≡ true
+  pub covered_of : (path : List ℕ) (given : Option Edit) → at path ≡ Ok given → is_covered path ≡ true
   covered_of path given h = (annotated_there replaces inserts replaces_beside inserts_beside additions how scope own tree path given h).covered
 
+  -- what is done at each of the paths
   pub each_done : (paths : List (List ℕ)) (edits : List Edit) → edits_at at paths ≡ Ok edits → (path : List ℕ) → In path paths → (given : Option Edit) × (at path ≡ Ok given)
-  each_done [] edits h path there = absurd there
-  each_done (first ∷ paths) edits h path (inl same) = elim (first_is (at first) (edits_at at paths) edits h) [
-    | inl nothing ↦ (None, ap at same ∙ nothing.0)
-    | inr some ↦ (Some some.0, ap at same ∙ some.2)
-  ]
-  each_done (first ∷ paths) edits h path (inr later) = elim (first_is (at first) (edits_at at paths) edits h) [
-    | inl nothing ↦ each_done paths edits nothing.1 path later
-    | inr some ↦ each_done paths some.1 some.3 path later
-  ]
-
-  -- the first path's places are none of the later ones'
-  none_later : (path : List ℕ) (given : Option Edit) → at path ≡ Ok given → (paths : List (List ℕ)) (edits : List Edit) → edits_at at paths ≡ Ok edits → ArePaths (path ∷ paths)
-      → (q : List ℕ) → IsPlaceOf path q → (other : List ℕ) → In other paths → IsPlaceOf other q → ⊥
-  none_later path given h paths edits k sorted q here other there too =
-      let later = each_done paths edits k other there in
-      not_above path other paths (sorted_head (slice_cmp nat_cmp) path paths sorted) there (one_file path other q (covered_of path given h) (covered_of other later.0 later.1) here too)
+  each_done = placed_edits.each_done at tree placed covered_of
 
   -- what a path holds that is gone through, and its neighbour
-  abbrev pub HoldsDone : List Edit → List ℕ → Type 0
-  HoldsDone edits path = (given : Option Edit) × (at path ≡ Ok given) × ((q : List ℕ) → IsPlaceOf path q → get (edited tree edits) q ≡ file_then tree given q)
-
-  pub all_done : (paths : List (List ℕ)) (edits : List Edit) → edits_at at paths ≡ Ok edits → ArePaths paths → (path : List ℕ) → In path paths → HoldsDone edits path
-  all_done [] edits h sorted path there = absurd there
-  all_done (first ∷ paths) edits h sorted path (inl same) = subst (HoldsDone edits) (sym same) (elim (first_is (at first) (edits_at at paths) edits h) [
-    | inl nothing ↦ (None, nothing.0, λ q here. outside paths edits nothing.1 q (none_later first None nothing.0 paths edits nothing.1 sorted q here))
-    | inr some ↦ (
-      Some some.0,
-      some.2,
-      λ q here. ap (λ es. get (edited tree es) q) some.4
-          ∙ put_then (edited tree some.1) tree some.0 q (outside paths some.1 some.3 q (none_later first (Some some.0) some.2 paths some.1 some.3 sorted q here)),
-    )
-  ])
-  all_done (first ∷ paths) edits h sorted path (inr later) = elim (first_is (at first) (edits_at at paths) edits h) [
-    | inl nothing ↦ all_done paths edits nothing.1 (sorted_tail (slice_cmp nat_cmp) first paths sorted) path later
-    | inr some ↦
-        let rest = all_done paths some.1 some.3 (sorted_tail (slice_cmp nat_cmp) first paths sorted) path later in (
-          rest.0,
-          rest.1,
-          λ q here. ap (λ es. get (edited tree es) q) some.4
-              ∙ with_other (edited tree some.1) some.0.path some.0.file q
-              (λ same. none_later first (Some some.0) some.2 paths some.1 some.3 sorted q (subst (IsPlaceOf first) (sym same) (placed first some.0 some.2).0) path later here)
-              ∙ rest.2 q here,
-        )
-  ]
+  pub all_done : (paths : List (List ℕ)) (edits : List Edit) → edits_at at paths ≡ Ok edits → ArePaths paths → (path : List ℕ) → In path paths → HoldsDone at tree placed covered_of edits path
+  all_done = placed_edits.all_done at tree placed covered_of
 
   annotated_tree : (places : List Place) (edits : List Edit) → styles_in tree ≡ Ok own → edits_at at (worked_paths scope places tree) ≡ Ok edits → Annotates places additions how scope tree (edited tree edits)
   annotated_tree places edits styles h = record {
@@ -132,7 +55,7 @@ module _ (replaces : ReplacesBlock) (inserts : InsertsBlock) (replaces_beside : 
         let is = all_done (worked_paths scope places tree) edits h (worked_ascend scope places tree) path (In-from_contains (worked_paths scope places tree) path there) in
         subst (IsAnnotated additions how scope own path (pair_at tree path)) (sym (ap₂ pair (is.2 path (inl refl)) (is.2 (neighbour_of path) (inr refl))))
         (annotated_there replaces inserts replaces_beside inserts_beside additions how scope own tree path is.0 is.1);
-    others = λ other none. outside (worked_paths scope places tree) edits h other (λ path there.
+    others = λ other none. placed_edits.outside at tree placed covered_of (worked_paths scope places tree) edits h other (λ path there.
         let apart = none path (Contains-from_in (worked_paths scope places tree) path there) in
         λ place. elim place [ inl here ↦ apart.0 here | inr beside ↦ apart.1 beside ]);
   }

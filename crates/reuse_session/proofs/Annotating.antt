@@ -23,10 +23,12 @@ use Rattle.reuse_tree.specs.Tree.{is_of_tree}
 use Rattle.reuse_session.specs.Covered.{is_in, is_covered}
 use Rattle.reuse_tree.specs.Listing.{ArePaths, is_among, is_folder_of}
 use Rattle.reuse_session.specs.Outcome.{Edit, with_edit, or_first, edits_at, edited, tree_after}
+use Rattle.reuse_session.specs.Amend.{amended_where, amended_at}
 use Rattle.reuse_session.specs.Annotate.{annotated_where, annotated_at}
 use Rattle.reuse_header.specs.declared.annotation.How.{How}
 use Rattle.reuse_session.specs.TreeStyles.{OwnNames}
 use Rattle.reuse_notice.specs.declared.adding.Additions.{Additions}
+use Rattle.reuse_notice.specs.declared.amendments.Amendments.{Amendments}
 use Rattle.reuse_session.specs.declared.command.Scope.{Scope}
 use Rattle.reuse_session.specs.Shown.{ShowsPair}
 use Rattle.reuse_session.specs.Plan.{IsPlan, IsRefusalOf, CarriesOutEdit, MakesEdit, MakesEach, MakesEdits}
@@ -201,6 +203,12 @@ module _ (tree : Files) (path : List ℕ) (paths : List (List ℕ)) (same : is_a
 pub absent_answer : (tree : Files) (path : List ℕ) (paths : List (List ℕ)) → ShowsPair paths tree path → (how : How) (scope : Scope) (additions : Additions) (own : OwnNames) (b : Bool) → is_among paths path ≡ false → is_folder_of paths path ≡ b → annotated_at how scope additions own tree path ≡ cond b (refused (refusals.IsFolder (place.Path path))) (refused (refusals.NoSuchPath path))
 absent_answer tree path paths are how scope additions own b none folder =
     ap (annotated_where how scope additions own tree path) (is_absent tree path paths are.there none)
+    ∙ ap (λ t. cond t (refused (refusals.IsFolder (place.Path path))) (refused (refusals.NoSuchPath path))) (sym (are.folder (sym are.there ∙ none)) ∙ folder)
+
+pub absent_amended : (tree : Files) (path : List ℕ) (paths : List (List ℕ)) → ShowsPair paths tree path → (amendments : Amendments) (scope : Scope) (own : OwnNames) (b : Bool) → is_among paths path ≡ false → is_folder_of paths path ≡ b
+    → amended_at amendments scope own tree path ≡ cond b (refused (refusals.IsFolder (place.Path path))) (refused (refusals.NoSuchPath path))
+absent_amended tree path paths are amendments scope own b none folder =
+    ap (amended_where amendments scope own tree path) (is_absent tree path paths are.there none)
     ∙ ap (λ t. cond t (refused (refusals.IsFolder (place.Path path))) (refused (refusals.NoSuchPath path))) (sym (are.folder (sym are.there ∙ none)) ∙ folder)
 
 -- ---- the plan

@@ -11,19 +11,20 @@ use Rattle.std.proofs.lemmas.Slice.Eq.{bytes_eq-Decides}
 use Rattle.reuse_notice.specs.Sets.{set_of}
 use Rattle.reuse_header.specs.Annotation as header
 use Rattle.reuse_tree.specs.Files.{Files}
+use Rattle.reuse_session.specs.Amend.{amended_at}
 use Rattle.reuse_session.specs.Annotate.{edit_by, annotated_at}
 use Rattle.reuse_session.specs.Annotations.{Due}
 use Rattle.reuse_session.specs.Command.{has_root, HoldsEntry}
 use Rattle.reuse_session.specs.Downloads.{ids_refusal, licence_edit, unless_refused, download_edits}
 use Rattle.reuse_session.specs.Edit.{Edit, made, dropped}
-use Rattle.reuse_session.specs.Fates.{is_skipped, fate_by, fate_at, annotation_fates, edit_fates, or_else, revert_fate, path_fates, limit_fates, fates_of}
+use Rattle.reuse_session.specs.Fates.{is_skipped, fate_by, fate_at, annotation_fates, amendment_fate, amendment_fates, edit_fates, or_else, revert_fate, path_fates, limit_fates, fates_of}
 use Rattle.reuse_session.specs.Licence.{licence_path}
 use Rattle.reuse_tree.specs.Listing.{is_among}
-use Rattle.reuse_session.specs.Outcome.{with_file, edited, edits_at, edits_by_names, edits_of, outcome_of}
+use Rattle.reuse_session.specs.Outcome.{with_file, edited, edits_at, edits_by_names, amendments_by_names, edits_of, outcome_of}
 use Rattle.reuse_session.specs.TreeStyles.{OwnNames, styles_in}
 use Rattle.reuse_session.specs.Worked.{worked_paths}
 use Rattle.reuse_session.specs.declared.command.Command.{Command}
-use Rattle.reuse_session.specs.declared.command.Command.TheVariants.{Annotate, ConvertDep5, Download, Revert}
+use Rattle.reuse_session.specs.declared.command.Command.TheVariants.{Annotate, Amend, ConvertDep5, Download, Revert}
 use Rattle.reuse_session.specs.declared.command.Place.TheVariants as place
 use Rattle.reuse_session.specs.declared.fate.Fate.{Fate}
 use Rattle.reuse_session.specs.declared.fate.Fate.TheVariants as fate
@@ -126,6 +127,15 @@ of_command (Annotate places additions how scope) tree path edits h = by_styles (
         let parts = err_or (not scope.recursive && has_root places) (refusals.IsFolder place.Root) (edits_at (annotated_at how scope additions own tree) (worked_paths scope places tree)) edits e in
         ap (λ b. list_any (is_change path) (cond b (fate.Refused (refusals.IsFolder place.Root) ∷ []) (map (fate_at how scope additions own tree) (worked_paths scope places tree)))) parts.0
         ∙ of_paths (annotated_at how scope additions own tree) (is_skipped scope own tree) path (worked_paths scope places tree) edits parts.1
+of_command (Amend places amendments scope) tree path edits h = by_styles (styles_in tree) h
+  where
+    by_styles : (styles : Result OwnNames Refusal) → amendments_by_names places amendments scope tree styles ≡ Ok edits
+        → list_any (is_change path) (amendment_fates places amendments scope tree styles) ≡ is_among (paths_at edits) path
+    by_styles (Err refusal) e = absurd (cc)
+    by_styles (Ok own) e =
+        let parts = err_or (not scope.recursive && has_root places) (refusals.IsFolder place.Root) (edits_at (amended_at amendments scope own tree) (worked_paths scope places tree)) edits e in
+        ap (λ b. list_any (is_change path) (cond b (fate.Refused (refusals.IsFolder place.Root) ∷ []) (map (amendment_fate amendments scope own tree) (worked_paths scope places tree)))) parts.0
+        ∙ of_paths (amended_at amendments scope own tree) (λ p. false) path (worked_paths scope places tree) edits parts.1
 of_command ConvertDep5 tree path edits h = ap (λ r. list_any (is_change path) (edit_fates r)) h ∙ of_edits path edits
 of_command (Download ids texts) tree path edits h =
     let none = none_or (ids_refusal tree texts (set_of ids)) (map (licence_edit texts) (set_of (map licence_path (set_of ids)))) edits h in
@@ -190,6 +200,7 @@ each_differs command tree edits holds h =
   where
     all_proper : (command : Command) → HoldsEntry command → EachTakenBack IsProper command
     all_proper (Annotate places additions how scope) holds = tt
+    all_proper (Amend places amendments scope) holds = tt
     all_proper ConvertDep5 holds = tt
     all_proper (Download ids texts) holds = tt
     all_proper (Revert changes touched skip_moved) holds = recursion_from_All IsProper changes holds.0.proper

@@ -13,6 +13,7 @@ use Rattle.reuse_header.specs.Neighbour.{neighbour_annotation_of}
 use Rattle.reuse_tree.specs.Files.{Files}
 use Rattle.reuse_tree.specs.declared.change.Change.{Change}
 use Rattle.reuse_text.specs.declared.TheConstants.{LONGEST_FILE}
+use Rattle.reuse_session.specs.Amend.{amended_at}
 use Rattle.reuse_session.specs.Annotate.{neighbour_of, neighbour_is_tagged, target_of, edit_by, edit_neighbour, edit_target, annotated_where, annotated_at}
 use Rattle.reuse_session.specs.Annotations.{Due}
 use Rattle.reuse_tree.specs.Clash.{is_clash}
@@ -23,12 +24,12 @@ use Rattle.reuse_session.specs.Downloads.{text_for, ids_refusal, licence_edit, d
 use Rattle.reuse_session.specs.Edit.{Edit, made, dropped}
 use Rattle.reuse_session.specs.Licence.{licence_path, licence_id}
 use Rattle.reuse_tree.specs.Listing.{is_folder}
-use Rattle.reuse_session.specs.Outcome.{edits_at, edits_by_names, edits_of}
+use Rattle.reuse_session.specs.Outcome.{edits_at, edits_by_names, amendments_by_names, edits_of}
 use Rattle.reuse_session.specs.Reverting.{taken_back_on, taken_back_unless, stuck_on}
 use Rattle.reuse_session.specs.TreeStyles.{OwnNames, styles_in}
 use Rattle.reuse_session.specs.Worked.{worked_paths}
 use Rattle.reuse_session.specs.declared.command.Command.{Command}
-use Rattle.reuse_session.specs.declared.command.Command.TheVariants.{Annotate, ConvertDep5, Download, Revert}
+use Rattle.reuse_session.specs.declared.command.Command.TheVariants.{Annotate, Amend, ConvertDep5, Download, Revert}
 use Rattle.reuse_session.specs.declared.command.Place.TheVariants as place
 use Rattle.reuse_session.specs.declared.command.Scope.{Scope}
 use Rattle.reuse_session.specs.declared.licence.LicenceText.{LicenceText}
@@ -36,6 +37,7 @@ use Rattle.reuse_session.specs.declared.target.Target.{Target}
 use Rattle.reuse_session.specs.declared.target.Target.TheVariants.{Inside, Beside, Nowhere}
 use Rattle.reuse_session.specs.declared.reply.Refusal.{Refusal}
 use Rattle.reuse_session.specs.declared.reply.Refusal.TheVariants as refusals
+use Rattle.reuse_session.proofs.Amending.{amends_there}
 use Rattle.reuse_session.proofs.Annotating.{both_err, if_not, all_edits}
 use Rattle.reuse_session.proofs.Downloading.{IsMade, are_made}
 use Rattle.reuse_session.proofs.Outcomes.{edits_unless, some_edit, unskipped}
@@ -122,6 +124,16 @@ module _
         by_styles (Ok own) e =
             all_edits (annotated_at how scope additions own tree) P (λ p edit k. of_annotation how scope additions p edit own k) (worked_paths scope places tree) edits
             (if_not (not scope.recursive && has_root places) (refusals.IsFolder place.Root) (edits_at (annotated_at how scope additions own tree) (worked_paths scope places tree)) edits e)
+    each_edit (Amend places amendments scope) edits wanted h = by_styles (styles_in tree) h
+      where
+        of_amendment : (own : OwnNames) (path : List ℕ) (edit : Edit) → amended_at amendments scope own tree path ≡ some_edit edit → P edit
+        of_amendment own path edit e = let h = amends_there amendments scope own tree path edit e in there path h.at h.bytes (Ok h.one) edit h.here h.by
+
+        by_styles : (styles : Result OwnNames Refusal) → amendments_by_names places amendments scope tree styles ≡ Ok edits → AllByRecursion P edits
+        by_styles (Err refusal) e = absurd (cc)
+        by_styles (Ok own) e =
+            all_edits (amended_at amendments scope own tree) P (of_amendment own) (worked_paths scope places tree) edits
+            (if_not (not scope.recursive && has_root places) (refusals.IsFolder place.Root) (edits_at (amended_at amendments scope own tree) (worked_paths scope places tree)) edits e)
     each_edit ConvertDep5 edits wanted h = of_conversion edits h
     each_edit (Download ids texts) edits wanted h = of_download ids texts edits h
     each_edit (Revert changes touched skip_moved) edits wanted h =

@@ -39,7 +39,7 @@ fits_by bytes (Err refusal) each = tt
 abbrev answered : Option Splice → Result (Option Splice) HeaderRefusal
 answered splice = Ok splice
 
-abbrev edited_to : Option Edit → Result (Option Edit) Refusal
+abbrev pub edited_to : Option Edit → Result (Option Edit) Refusal
 edited_to edit = Ok edit
 
 refused_is_none : (refusal : HeaderRefusal) (splice : Splice) → Err refusal ≡ answered (Some splice) → ⊥
@@ -156,7 +156,7 @@ long_is path file rest refusal e = by_test (nat_lt LONGEST_FILE (length file)) e
 
 -- ---- the edit of a neighbour, and of a file, by the tests of the code
 
-abbrev refused : Refusal → Result (Option Edit) Refusal
+abbrev pub refused : Refusal → Result (Option Edit) Refusal
 refused refusal = Err refusal
 
 pub some_bytes : (file : Option (List ℕ)) → IsSome file → (bytes : List ℕ) × (file ≡ Some bytes)

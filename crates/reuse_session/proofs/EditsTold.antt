@@ -20,7 +20,7 @@ use Rattle.reuse_session.specs.EditBytes.{TakesAndWrites}
 use Rattle.reuse_session.specs.Outcome.{edits_of}
 use Rattle.reuse_session.specs.Reverting.{stands_as_written, is_short, put_back, taken_back, taken_back_on}
 use Rattle.reuse_session.specs.declared.command.Command.{Command}
-use Rattle.reuse_session.specs.declared.command.Command.TheVariants.{Annotate, ConvertDep5, Download, Revert}
+use Rattle.reuse_session.specs.declared.command.Command.TheVariants.{Annotate, Amend, ConvertDep5, Download, Revert}
 use Rattle.reuse_session.proofs.EditLemmas.{take_none, drop_none}
 use Rattle.reuse_session.proofs.EachEdit.{EachTakenBack, each_edit}
 use Rattle.reuse_session.proofs.Outcomes.{some_edit, same_edit, unskipped}
@@ -100,6 +100,7 @@ edits_told command tree edits h =
 
     nothing : (command : Command) → EachTakenBack (λ change. Unit {0}) command
     nothing (Annotate places additions how scope) = tt
+    nothing (Amend places amendments scope) = tt
     nothing ConvertDep5 = tt
     nothing (Download ids texts) = tt
     nothing (Revert changes touched skip_moved) = each_nothing changes

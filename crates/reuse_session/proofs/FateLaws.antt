@@ -3,18 +3,19 @@ use Rattle.std.proofs.Common.{◌≡◌, ◌↔◌, ℕ, Bool, true, false, cond
 use Rattle.std.specs.Option.{option_or}
 use Rattle.reuse_notice.specs.Sets.{set_of}
 use Rattle.reuse_tree.specs.Files.{Files}
+use Rattle.reuse_session.specs.Amend.{amended_at}
 use Rattle.reuse_session.specs.Annotate.{annotated_at}
 use Rattle.reuse_session.specs.Command.{has_root}
 use Rattle.reuse_session.specs.Conversion.{conversion_edits}
 use Rattle.reuse_session.specs.Downloads.{ids_refusal, licence_edit, unless_refused, download_edits}
 use Rattle.reuse_session.specs.Edit.{Edit}
-use Rattle.reuse_session.specs.Fates.{is_skipped, fate_by, fate_at, annotation_fates, edit_fates, id_refusals, or_else, download_fates, revert_fate, path_fates, limit_fates, fates_of, first_refusal}
+use Rattle.reuse_session.specs.Fates.{is_skipped, fate_by, fate_at, annotation_fates, amendment_fate, amendment_fates, edit_fates, id_refusals, or_else, download_fates, revert_fate, path_fates, limit_fates, fates_of, first_refusal}
 use Rattle.reuse_session.specs.Licence.{licence_path}
-use Rattle.reuse_session.specs.Outcome.{edited, is_too_many, or_first, edits_at, edits_by_names, edits_of, tree_after, outcome_of}
+use Rattle.reuse_session.specs.Outcome.{edited, is_too_many, or_first, edits_at, edits_by_names, amendments_by_names, edits_of, tree_after, outcome_of}
 use Rattle.reuse_session.specs.TreeStyles.{OwnNames, styles_in}
 use Rattle.reuse_session.specs.Worked.{worked_paths}
 use Rattle.reuse_session.specs.declared.command.Command.{Command}
-use Rattle.reuse_session.specs.declared.command.Command.TheVariants.{Annotate, ConvertDep5, Download, Revert}
+use Rattle.reuse_session.specs.declared.command.Command.TheVariants.{Annotate, Amend, ConvertDep5, Download, Revert}
 use Rattle.reuse_session.specs.declared.command.Place.TheVariants as place
 use Rattle.reuse_session.specs.declared.fate.Fate.{Fate}
 use Rattle.reuse_session.specs.declared.fate.Fate.TheVariants as fate
@@ -116,6 +117,17 @@ first_of_command (Annotate places additions how scope) tree = by_styles (styles_
     by_root own false = first_of_paths (annotated_at how scope additions own tree) (is_skipped scope own tree) (worked_paths scope places tree)
 
     by_styles : (styles : Result OwnNames Refusal) → first_refusal (annotation_fates places additions how scope tree styles) ≡ refusal_in (edits_by_names places additions how scope tree styles)
+    by_styles (Err refusal) = refl
+    by_styles (Ok own) = by_root own (not scope.recursive && has_root places)
+first_of_command (Amend places amendments scope) tree = by_styles (styles_in tree)
+  where
+    by_root : (own : OwnNames) (b : Bool)
+        → first_refusal (cond b (fate.Refused (refusals.IsFolder place.Root) ∷ []) (map (amendment_fate amendments scope own tree) (worked_paths scope places tree)))
+        ≡ refusal_in (cond b (Err (refusals.IsFolder place.Root)) (edits_at (amended_at amendments scope own tree) (worked_paths scope places tree)))
+    by_root own true = refl
+    by_root own false = first_of_paths (amended_at amendments scope own tree) (λ p. false) (worked_paths scope places tree)
+
+    by_styles : (styles : Result OwnNames Refusal) → first_refusal (amendment_fates places amendments scope tree styles) ≡ refusal_in (amendments_by_names places amendments scope tree styles)
     by_styles (Err refusal) = refl
     by_styles (Ok own) = by_root own (not scope.recursive && has_root places)
 first_of_command ConvertDep5 tree = first_of_edits (conversion_edits tree)

@@ -13,6 +13,7 @@ use Rattle.std.proofs.lemmas.Map.Keys.{IsDistinct-cons, IsDistinct-from_sorted, 
 use Rattle.std.proofs.lemmas.Map.Text.{is_eq-slice_cmp}
 use Rattle.std.proofs.lemmas.Slice.Eq.{bytes_eq-Decides}
 use Rattle.reuse_notice.specs.declared.adding.Additions.{Additions}
+use Rattle.reuse_notice.specs.declared.amendments.Amendments.{Amendments}
 use Rattle.reuse_notice.proofs.SetLemmas.{sorted-set_of}
 use Rattle.reuse_header.specs.declared.style.Style.{Style}
 use Rattle.reuse_header.specs.declared.annotation.How.{How}
@@ -23,24 +24,26 @@ use Rattle.reuse_tree.specs.Path.{is_path, lies_under, journal_folder}
 use Rattle.reuse_tree.specs.Files.{Files, AreFiles}
 use Rattle.reuse_text.specs.declared.TheConstants.{LONGEST_FILE}
 use Rattle.reuse_session.specs.Edit.{Edit}
+use Rattle.reuse_session.specs.Amend.{amended_at}
 use Rattle.reuse_session.specs.Annotate.{neighbour_of, neighbour_is_tagged, target_of, edit_by, edit_inside, edit_neighbour, edit_beside, edit_target, annotated_where, annotated_at}
 use Rattle.reuse_session.specs.Annotations.{Due}
 use Rattle.reuse_tree.specs.Clash.{is_clash}
 use Rattle.reuse_session.specs.Command.{has_root, paths_among, HoldsEntry}
 use Rattle.reuse_session.specs.Covered.{last_part, is_in, is_outside, has_stem, is_covered}
 use Rattle.reuse_tree.specs.Listing.{ArePaths, is_among, is_folder}
-use Rattle.reuse_session.specs.Outcome.{edits_at, edits_by_names, edits_of}
+use Rattle.reuse_session.specs.Outcome.{edits_at, edits_by_names, amendments_by_names, edits_of}
 use Rattle.reuse_tree.specs.Tree.{is_of_tree}
 use Rattle.reuse_session.specs.TreeStyles.{OwnNames, styles_in}
 use Rattle.reuse_session.specs.Worked.{expanded, worked_paths}
 use Rattle.reuse_session.specs.declared.command.Command.{Command}
-use Rattle.reuse_session.specs.declared.command.Command.TheVariants.{Annotate, ConvertDep5, Download, Revert}
+use Rattle.reuse_session.specs.declared.command.Command.TheVariants.{Annotate, Amend, ConvertDep5, Download, Revert}
 use Rattle.reuse_session.specs.declared.command.Place.TheVariants as place
 use Rattle.reuse_session.specs.declared.command.Scope.{Scope}
 use Rattle.reuse_session.specs.declared.target.Target.{Target}
 use Rattle.reuse_session.specs.declared.target.Target.TheVariants.{Inside, Beside, Nowhere}
 use Rattle.reuse_session.specs.declared.reply.Refusal.{Refusal}
 use Rattle.reuse_session.specs.declared.reply.Refusal.TheVariants as refusals
+use Rattle.reuse_session.proofs.Amending.{IsInside, IsBeside, AmendsThere, amends_there}
 use Rattle.reuse_session.proofs.Annotating.{starts_reuse, and_all, covered_of_tree, first_is, no_edits, all_edits, both_err, if_not}
 use Rattle.reuse_session.proofs.Converting.{conversion_fits}
 use Rattle.reuse_session.proofs.Downloading.{download_fits}
@@ -193,6 +196,21 @@ module _ (how : How) (scope : Scope) (additions : Additions) (tree : Files) (pat
           let k = err_or (not (is_covered path)) (refusals.NotCovered path) _ (Some edit) h in
           record { there = ap is_some is; covered = not_false (is_covered path) k.0; placed = target_at bytes (target_of scope own tree path bytes) k.1 }
 
+-- an amendment is of a file that is there
+pub amendment_placed : (amendments : Amendments) (scope : Scope) (own : OwnNames) (tree : Files) (path : List ℕ) (edit : Edit) → amended_at amendments scope own tree path ≡ some_edit edit → IsPlaced tree path edit
+amendment_placed amendments scope own tree path edit e =
+    let h = amends_there amendments scope own tree path edit e in
+    let same = edit_at path h.at h.bytes (Ok h.one) edit h.by in
+    record { there = h.is_file; covered = h.covered; placed = of_place h same h.placed }
+  where
+    there : (h : AmendsThere amendments scope own tree path edit) → edit.path ≡ h.at → get tree edit.path ≡ None → is_clash tree edit.path ≡ false
+    there h same none = absurd (some_is_none h.bytes (sym h.here ∙ ap (get tree) (sym same) ∙ none))
+
+    of_place : (h : AmendsThere amendments scope own tree path edit) → edit.path ≡ h.at → IsInside amendments scope own tree path h.at h.bytes h.one ⊎ IsBeside amendments path h.at h.bytes h.one
+        → (edit.path ≡ path) ⊎ ((edit.path ≡ path ++ ending) × (length edit.path ≤ 4096) × (get tree edit.path ≡ None → is_clash tree edit.path ≡ false))
+    of_place h same (inl inside) = inl (same ∙ inside.same)
+    of_place h same (inr beside) = inr (same ∙ beside.same, subst (λ p. length p ≤ 4096) (sym (same ∙ beside.same)) beside.few, there h same)
+
 -- ---- one edit is fit
 
 module _ (tree : Files) (are : AreFiles tree) (path : List ℕ) (edit : Edit) (h : IsPlaced tree path edit) where
@@ -276,10 +294,7 @@ among_all P (e ∷ edits) each q h = by_case (or_either (bytes_eq q e.path) (is_
     by_case (inl same) rest = subst P (sym ((bytes_eq-Decides q e.path).0 same)) each.0
     by_case (inr later) rest = rest later
 
-module _ (how : How) (scope : Scope) (additions : Additions) (own : OwnNames) (tree : Files) where
-  abbrev at : List ℕ → Result (Option Edit) Refusal
-  at = annotated_at how scope additions own tree
-
+module _ (at : List ℕ → Result (Option Edit) Refusal) (tree : Files) (placed : (path : List ℕ) (edit : Edit) → at path ≡ some_edit edit → IsPlaced tree path edit) where
   others : (path : List ℕ) (edit : Edit) → IsPlaced tree path edit → (ps : List (List ℕ)) (edits : List Edit) → edits_at at ps ≡ Ok edits
       → AllByRecursion (λ p. slice_cmp nat_cmp path p ≡ Less) ps → AllByRecursion (λ q. bytes_eq edit.path q ≡ false) (paths_at edits)
   others path edit here [] edits h above = subst (λ es. AllByRecursion (λ q. bytes_eq edit.path q ≡ false) (paths_at es)) (sym (no_edits edits h)) tt
@@ -288,7 +303,7 @@ module _ (how : How) (scope : Scope) (additions : Additions) (own : OwnNames) (t
     | inr some ↦
         let rest : AllByRecursion (λ q. bytes_eq edit.path q ≡ false) (paths_at some.1) = others path edit here ps some.1 some.3 above.1 in
         subst (λ es. AllByRecursion (λ q. bytes_eq edit.path q ≡ false) (paths_at es)) (sym some.4)
-        (differ tree path p edit some.0 here (is_placed how scope additions tree p some.0 own some.2) (not_itself path p above.0), rest)
+        (differ tree path p edit some.0 here (placed p some.0 some.2) (not_itself path p above.0), rest)
   ]
 
   are_distinct : (ps : List (List ℕ)) (edits : List Edit) → edits_at at ps ≡ Ok edits → ArePaths ps → AreDistinct edits
@@ -297,18 +312,18 @@ module _ (how : How) (scope : Scope) (additions : Additions) (own : OwnNames) (t
     | inl none ↦ are_distinct ps edits none.1 (sorted_tail (slice_cmp nat_cmp) p ps sorted)
     | inr some ↦
         let rest : AreDistinct some.1 = are_distinct ps some.1 some.3 (sorted_tail (slice_cmp nat_cmp) p ps sorted) in
-        let apart = others p some.0 (is_placed how scope additions tree p some.0 own some.2) ps some.1 some.3 (sorted_head (slice_cmp nat_cmp) p ps sorted) in
+        let apart = others p some.0 (placed p some.0 some.2) ps some.1 some.3 (sorted_head (slice_cmp nat_cmp) p ps sorted) in
         subst (λ es. IsDistinct bytes_eq (paths_at es)) (sym some.4) (IsDistinct-cons bytes_eq some.0.path (paths_at some.1) apart rest)
   ]
 
   -- the edits at paths in byte order
   pub edits_fit : AreFiles tree → (ps : List (List ℕ)) (edits : List Edit) → edits_at at ps ≡ Ok edits → ArePaths ps → AreFit tree edits
   edits_fit are ps edits h sorted =
-      let all : AllByRecursion (λ (e : Edit). Stands tree e.path) edits = all_edits at (λ (e : Edit). Stands tree e.path) (λ p e k. stands tree p e (is_placed how scope additions tree p e own k)) ps edits h in
+      let all : AllByRecursion (λ (e : Edit). Stands tree e.path) edits = all_edits at (λ (e : Edit). Stands tree e.path) (λ p e k. stands tree p e (placed p e k)) ps edits h in
       record {
         distinct = are_distinct ps edits h sorted;
         apart = λ p q in_p in_q. are_apart tree are p q (among_all (Stands tree) edits all p in_p) (among_all (Stands tree) edits all q in_q);
-        each = all_edits at (IsFit tree) (λ p e k. is_fit tree are p e (is_placed how scope additions tree p e own k)) ps edits h;
+        each = all_edits at (IsFit tree) (λ p e k. is_fit tree are p e (placed p e k)) ps edits h;
       }
 
 -- edits in byte order are of distinct paths
@@ -325,8 +340,16 @@ command_fits (Annotate places additions how scope) tree holds are edits h = by_n
     by_names : (styles : Result OwnNames Refusal) → edits_by_names places additions how scope tree styles ≡ Ok edits → AreFit tree edits
     by_names (Err refusal) e = absurd (cc)
     by_names (Ok own) e =
-        edits_fit how scope additions own tree are (worked_paths scope places tree) edits
+        edits_fit (annotated_at how scope additions own tree) tree (λ p e k. is_placed how scope additions tree p e own k) are (worked_paths scope places tree) edits
         (if_not (not scope.recursive && has_root places) (refusals.IsFolder place.Root) (edits_at (annotated_at how scope additions own tree) (worked_paths scope places tree)) edits e)
+        (sorted-set_of (cond scope.recursive (flat_map (expanded scope tree) places) (paths_among places)))
+command_fits (Amend places amendments scope) tree holds are edits h = by_names (styles_in tree) h
+  where
+    by_names : (styles : Result OwnNames Refusal) → amendments_by_names places amendments scope tree styles ≡ Ok edits → AreFit tree edits
+    by_names (Err refusal) e = absurd (cc)
+    by_names (Ok own) e =
+        edits_fit (amended_at amendments scope own tree) tree (amendment_placed amendments scope own tree) are (worked_paths scope places tree) edits
+        (if_not (not scope.recursive && has_root places) (refusals.IsFolder place.Root) (edits_at (amended_at amendments scope own tree) (worked_paths scope places tree)) edits e)
         (sorted-set_of (cond scope.recursive (flat_map (expanded scope tree) places) (paths_among places)))
 command_fits ConvertDep5 tree holds are edits h = fit_of tree edits (conversion_fits tree edits h)
 command_fits (Download ids texts) tree holds are edits h = fit_of tree edits (download_fits ids texts tree edits h)

@@ -4,7 +4,7 @@ use Rattle.std.proofs.lemmas.Result.{err_from_is_err_and}
 use Rattle.reuse_tree.specs.declared.fault.StoreFault.TheVariants as faults
 use Rattle.reuse_tree.specs.declared.store.Store.{Ghosts}
 use Rattle.reuse_tree.specs.Asked.{OnlyReads}
-use Rattle.reuse_session.specs.Answer.{IsEarly, IsOfPlan, IsReadRefusal, IsStop, IsTestRefusal, HasCause}
+use Rattle.reuse_session.specs.Answer.{IsEarly, IsOfPlan, IsPutRefusal, IsReadRefusal, IsStop, IsTestRefusal, HasCause}
 use Rattle.reuse_tree.specs.declared.cause.Cause.{Cause}
 use Rattle.reuse_tree.specs.declared.cause.Cause.TheVariants as causes
 use Rattle.reuse_session.specs.declared.reply.Refusal.{Refusal}
@@ -18,6 +18,10 @@ early_is_no_stop refusal early stop = stop
 pub read_early : (refusal : Refusal) → IsReadRefusal refusal → IsEarly refusal
 read_early (Interrupted cause) is = is
 read_early refusal is = tt
+
+pub put_early : (refusal : Refusal) → IsPutRefusal refusal → IsEarly refusal
+put_early (Interrupted cause) is = is
+put_early refusal is = tt
 
 pub planned_early : (refusal : Refusal) → IsOfPlan refusal → IsEarly refusal
 planned_early (Interrupted cause) is = is

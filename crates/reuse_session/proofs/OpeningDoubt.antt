@@ -109,7 +109,7 @@ module _ {S : Type 0} (store : Ghosts S) (earlier held next : State) where
 
   -- ---- what is rolled back
 
-  standing_safe : (files : Files) → IsStanding files held → IsSafeOn earlier held files
+  pub standing_safe : (files : Files) → IsStanding files held → IsSafeOn earlier held files
   standing_safe files stands = record { tree = stands.tree; opens = inl stands }
 
   module _ (way : PendingWay) (step : Recorded) (leads : IsStep way step held next) where

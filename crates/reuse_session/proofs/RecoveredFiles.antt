@@ -33,7 +33,7 @@ use Rattle.reuse_session.proofs.Settling.{is_entry, is_stuck, none_in_files, non
 module _ (before : Files) (pending : Pending) (memory : Memory) (journal : Journal) (read : IsRead before (Some pending) memory journal) (entry : Entry) (says : EntrySays (get (undo_folder_of before) (entry_path pending.entry)) entry)
     (changed skipped : List (List ℕ)) (found : AreFound (way_of pending.way) (tree_of before) entry.changes changed skipped)
   where
-    good : IsEntry entry.changes
+    pub good : IsEntry entry.changes
     good = is_entry before pending memory journal read entry says
 
     abbrev Stuck : Change → Type 0
@@ -55,7 +55,7 @@ module _ (before : Files) (pending : Pending) (memory : Memory) (journal : Journ
     skipped_ascend = picked_ascend Stuck Free entry.changes skipped found.stuck good.ascending
 
     -- each change can't be set back, and its path is skipped, or it can
-    each_picked : All (IsPicked Stuck Free skipped) entry.changes
+    pub each_picked : All (IsPicked Stuck Free skipped) entry.changes
     each_picked = picked Stuck Free entry.changes skipped found.stuck good.ascending
 
     pub is_part : ArePart part

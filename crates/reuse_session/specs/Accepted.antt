@@ -4,15 +4,17 @@ use Rattle.std.specs.List.{Contains}
 use Rattle.std.specs.FinMap.{get}
 use Rattle.reuse_text.specs.declared.TheConstants.{LONGEST_FILE}
 use Rattle.reuse_notice.specs.declared.adding.Additions.{Additions}
+use Rattle.reuse_notice.specs.declared.amendments.Amendments.{Amendments}
 use Rattle.reuse_header.specs.Annotation.{annotated}
-use Rattle.reuse_header.specs.Neighbour.{neighbour_annotated}
+use Rattle.reuse_header.specs.Amendment.{amended_file, amendment_of, neighbour_amendment_of}
+use Rattle.reuse_header.specs.Neighbour.{is_text, neighbour_annotated}
 use Rattle.reuse_header.specs.declared.annotation.How.{How}
 use Rattle.reuse_header.specs.declared.style.Style.{Style}
 use Rattle.reuse_header.specs.declared.style.Kind.TheVariants as kind
 use Rattle.reuse_dep5.specs.Conversion.{converted}
 use Rattle.reuse_tree.specs.Files.{Files, Clashes}
 use Rattle.reuse_session.specs.Annotate.{neighbour_of}
-use Rattle.reuse_session.specs.Annotated.{Pair, pair_at, HasKind, IsSkipped, TakesComment, TakesNeighbour}
+use Rattle.reuse_session.specs.Annotated.{Pair, pair_at, HasKind, IsSkipped, IsStyleOf, TakesComment, TakesNeighbour}
 use Rattle.reuse_session.specs.Command.{has_root}
 use Rattle.reuse_session.specs.Conversion.{dep5_path, toml_path}
 use Rattle.reuse_session.specs.Covered.{is_covered}
@@ -22,7 +24,7 @@ use Rattle.reuse_session.specs.Outcome.{edit_count, edits_of, recorded_size}
 use Rattle.reuse_session.specs.TreeStyles.{OwnNames, styles_in}
 use Rattle.reuse_session.specs.Worked.{worked_paths}
 use Rattle.reuse_session.specs.declared.command.Command.{Command}
-use Rattle.reuse_session.specs.declared.command.Command.TheVariants.{Annotate, ConvertDep5, Download}
+use Rattle.reuse_session.specs.declared.command.Command.TheVariants.{Amend, Annotate, ConvertDep5, Download}
 use Rattle.reuse_session.specs.declared.command.Place.{Place}
 use Rattle.reuse_session.specs.declared.command.Scope.{Scope}
 use Rattle.reuse_session.specs.declared.licence.LicenceText.{LicenceText}
@@ -96,3 +98,33 @@ pub record CanAnnotate (places : List Place) (additions : Additions) (how : How)
   pub root : has_root places ≡ true → scope.recursive ≡ true
   pub each : (path : List ℕ) → Contains (worked_paths scope places tree) path → CanBeAnnotated additions how scope own tree path
   pub fits : FitsEntry (Annotate places additions how scope) tree
+
+-- ---- amendments
+
+-- the path of the neighbour isn't too long, nor is the neighbour, and the rules accept its bytes
+pub record CanNeighbourBeAmended (amendments : Amendments) (path beside : List ℕ) : Type 0 where
+  pub short_path : length (neighbour_of path) ≤ 4096
+  pub short : length beside ≤ LONGEST_FILE
+  pub accepted : IsOk (amended_file beside (neighbour_amendment_of amendments beside))
+
+-- the file isn't too long, and the rules accept its bytes in the style, where it is text
+pub record CanFileBeAmended (amendments : Amendments) (style : Style) (bytes : List ℕ) : Type 0 where
+  pub short : length bytes ≤ LONGEST_FILE
+  pub accepted : is_text bytes ≡ true → IsOk (amended_file bytes (amendment_of style amendments bytes))
+
+-- the path has a covered file; its neighbour can be amended where that is there, else the file itself where it has a style
+pub record CanBeAmended (amendments : Amendments) (scope : Scope) (own : OwnNames) (tree : Files) (path : List ℕ) : Type 0 where
+  pub bytes : List ℕ
+  pub there : get tree path ≡ Some bytes
+  pub covered : is_covered path ≡ true
+  pub by_neighbour : (beside : List ℕ) → get tree (neighbour_of path) ≡ Some beside → CanNeighbourBeAmended amendments path beside
+  pub by_file : get tree (neighbour_of path) ≡ None → (style : Style) → IsStyleOf scope own path style → CanFileBeAmended amendments style bytes
+
+-- the tree's own styles are good, the root is given only where folders are gone through, each path that is gone through can be amended,
+-- and one entry holds them all
+pub record CanAmend (places : List Place) (amendments : Amendments) (scope : Scope) (tree : Files) : Type 0 where
+  pub own : OwnNames
+  pub styles : styles_in tree ≡ Ok own
+  pub root : has_root places ≡ true → scope.recursive ≡ true
+  pub each : (path : List ℕ) → Contains (worked_paths scope places tree) path → CanBeAmended amendments scope own tree path
+  pub fits : FitsEntry (Amend places amendments scope) tree

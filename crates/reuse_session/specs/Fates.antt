@@ -3,12 +3,14 @@ use Rattle.std.specs.Prelude.{◌≡◌, ℕ, Bool, true, false, not, ◌&&◌, 
 use Rattle.std.specs.Option.{option_map}
 use Rattle.std.specs.FinMap.{get}
 use Rattle.reuse_notice.specs.declared.adding.Additions.{Additions}
+use Rattle.reuse_notice.specs.declared.amendments.Amendments.{Amendments}
 use Rattle.reuse_notice.specs.Sets.{set_of}
 use Rattle.reuse_header.specs.declared.annotation.How.{How}
 use Rattle.reuse_header.specs.Header.{header_of}
 use Rattle.reuse_tree.specs.Files.{Files}
 use Rattle.reuse_tree.specs.Change.{path_of}
 use Rattle.reuse_tree.specs.declared.change.Change.{Change}
+use Rattle.reuse_session.specs.Amend.{amended_at}
 use Rattle.reuse_session.specs.Annotate.{neighbour_of, neighbour_is_tagged, target_of, annotated_at}
 use Rattle.reuse_session.specs.Command.{has_root}
 use Rattle.reuse_session.specs.Conversion.{conversion_edits}
@@ -20,7 +22,7 @@ use Rattle.reuse_session.specs.Reverting.{taken_back_unless}
 use Rattle.reuse_session.specs.TreeStyles.{OwnNames, styles_in}
 use Rattle.reuse_session.specs.Worked.{worked_paths}
 use Rattle.reuse_session.specs.declared.command.Command.{Command}
-use Rattle.reuse_session.specs.declared.command.Command.TheVariants.{Annotate, ConvertDep5, Download, Revert}
+use Rattle.reuse_session.specs.declared.command.Command.TheVariants.{Annotate, Amend, ConvertDep5, Download, Revert}
 use Rattle.reuse_session.specs.declared.command.Place.{Place}
 use Rattle.reuse_session.specs.declared.command.Place.TheVariants as place
 use Rattle.reuse_session.specs.declared.command.Scope.{Scope}
@@ -66,12 +68,23 @@ fate_at how scope additions own tree path = fate_by path (is_skipped scope own t
 
 -- ---- commands
 
--- of an annotation: one fate for each path that is gone through; bad styles and the root where folders aren't gone through stand alone
+-- one fate for each path that is gone through; the root where folders aren't gone through stands alone
+abbrev pub fates_at_places : (List ℕ → Fate) → Scope → List Place → Files → List Fate
+fates_at_places fate_of scope places tree =
+    if not scope.recursive && has_root places then Refused (IsFolder place.Root) ∷ [] else map fate_of (worked_paths scope places tree)
+
+-- of an annotation; bad styles stand alone
 abbrev pub annotation_fates : List Place → Additions → How → Scope → Files → Result OwnNames Refusal → List Fate
 annotation_fates places additions how scope tree (Err refusal) = Refused refusal ∷ []
-annotation_fates places additions how scope tree (Ok own) =
-    if not scope.recursive && has_root places then Refused (IsFolder place.Root) ∷ []
-    else map (fate_at how scope additions own tree) (worked_paths scope places tree)
+annotation_fates places additions how scope tree (Ok own) = fates_at_places (fate_at how scope additions own tree) scope places tree
+
+-- of an amendment of a path: nothing is skipped
+abbrev pub amendment_fate : Amendments → Scope → OwnNames → Files → List ℕ → Fate
+amendment_fate amendments scope own tree path = fate_by path false (amended_at amendments scope own tree path)
+
+abbrev pub amendment_fates : List Place → Amendments → Scope → Files → Result OwnNames Refusal → List Fate
+amendment_fates places amendments scope tree (Err refusal) = Refused refusal ∷ []
+amendment_fates places amendments scope tree (Ok own) = fates_at_places (amendment_fate amendments scope own tree) scope places tree
 
 -- of edits that are all made or refused together
 abbrev pub edit_fates : Result (List Edit) Refusal → List Fate
@@ -100,6 +113,7 @@ revert_fate touched skip_moved tree change =
 
 abbrev pub path_fates : Command → Files → List Fate
 path_fates (Annotate places additions how scope) tree = annotation_fates places additions how scope tree (styles_in tree)
+path_fates (Amend places amendments scope) tree = amendment_fates places amendments scope tree (styles_in tree)
 path_fates ConvertDep5 tree = edit_fates (conversion_edits tree)
 path_fates (Download ids texts) tree = download_fates ids texts tree
 path_fates (Revert changes touched skip_moved) tree = map (revert_fate touched skip_moved tree) changes

@@ -1,17 +1,21 @@
 -- What a loss of power leaves of a tree and its journal.
-use Rattle.std.specs.Prelude.{◌≡◌, ◌⊎◌, List, ℕ, Some, Result, Ok, Err}
+use Rattle.std.specs.Prelude.{◌≡◌, ◌⊎◌, List, ℕ, Some, Result, Ok, Err, MatchResult}
 use Rattle.reuse_tree.specs.Asked.{Leaves, IsSynced}
-use Rattle.reuse_tree.specs.Entry.{LeadsBy}
+use Rattle.reuse_tree.specs.Entry.{LeadsBy, SomeMade}
 use Rattle.reuse_tree.specs.Files.{Files, tree_of}
+use Rattle.reuse_tree.specs.Head.{way_of}
 use Rattle.reuse_tree.specs.Lasting.{IsMidway}
 use Rattle.reuse_tree.specs.Tree.{undo_folder_of, Sets}
 use Rattle.reuse_tree.specs.declared.change.Change.{Change}
 use Rattle.reuse_tree.specs.declared.journal.head.PendingWay.{PendingWay}
 use Rattle.reuse_tree.specs.declared.store.Store.{Ghosts}
 use Rattle.reuse_tree.specs.declared.way.Way.{Way}
+use Rattle.reuse_session.specs.Answer.{IsStop}
 use Rattle.reuse_session.specs.Carried.{SetsHead, IsStopped}
 use Rattle.reuse_session.specs.Journal.{Recorded, State}
 use Rattle.reuse_session.specs.JournalFiles.{head_path}
+use Rattle.reuse_session.specs.Recovery.{RecoversTo}
+use Rattle.reuse_session.specs.declared.reply.Recovered.{Recovered}
 use Rattle.reuse_session.specs.declared.reply.Reply.{Reply}
 use Rattle.reuse_session.specs.declared.reply.Reply.TheVariants.{NothingChanged}
 use Rattle.reuse_session.specs.declared.reply.Refusal.{Refusal}
@@ -61,11 +65,51 @@ SurvivesCall store IsNext result old new =
     store.honest (store_of new) → (earlier held : State) → StandsOn store.files old held → AreSafeOn store earlier held (store_of old)
     → Survives store (IsNext held) earlier held result (store_of new)
 
--- ---- for private clauses
+-- ---- recovering
+
+-- Files in doubt were recovered. They are one of the two committed states, and all that may be left is safe on it; or
+-- that failed, and they are in doubt still.
+abbrev pub SurvivesInDoubt : {S : Type 0} → Ghosts S → (earlier held next : State) → Result Recovered Refusal → S
+    → Type 0
+SurvivesInDoubt store earlier held next result new =
+    MatchResult result
+    (λ recovered. (IsStanding (store.files new) held × AreSafeOn store earlier held new)
+    ⊎ (IsStanding (store.files new) next × AreSafeOn store held next new))
+    (λ refusal. AreInDoubt store earlier held next new)
 
 -- all that may be left has one tree
 abbrev pub HaveTree : {S : Type 0} → Ghosts S → S → Files → Type 0
 HaveTree store new tree = Leaves store new (λ left. tree_of left ≡ tree)
+
+-- A step is pending in the files, and recovering them leads to the committed state, in which a path that can't be set
+-- back is as it is found. Each tree that a loss of power may leave is that of the state with some of the step's changes
+-- made, whatever its journal tells.
+pub record AwaitsRecovery {S : Type 0} (store : Ghosts S) (way : PendingWay) (step : Recorded) (held : State) (new : S)
+    : Type 0 where
+  pub files : RecoversTo way step held (store.files new)
+  pub trees : Leaves store new (λ left. SomeMade (way_of way) step.changes held.tree (tree_of left))
+
+-- they await it still; or they are that state, and all that may be left has its tree
+abbrev pub AwaitsOrIs : {S : Type 0} → Ghosts S → PendingWay → Recorded → State → S → Type 0
+AwaitsOrIs store way step held new =
+    AwaitsRecovery store way step held new
+    ⊎ (IsStanding (store.files new) held × HaveTree store new held.tree)
+
+-- what is left is the committed state, or recovering leads to it
+abbrev pub IsOrRecoversTo : PendingWay → Recorded → State → Files → Type 0
+IsOrRecoversTo way step held left = IsStanding left held ⊎ RecoversTo way step held left
+
+-- Files that await it were recovered. They are the committed state, and nothing else may be left. Or that failed: they
+-- await it still, or are the state; and if it stopped, each that may be left is the state, or recovering leads to it.
+abbrev pub SurvivesRecovery : {S : Type 0} → Ghosts S → PendingWay → Recorded → State → Result Recovered Refusal → S
+    → Type 0
+SurvivesRecovery store way step held result new =
+    MatchResult result
+    (λ recovered. IsStanding (store.files new) held × IsSynced store new)
+    (λ refusal. AwaitsOrIs store way step held new
+    × (IsStop refusal → Leaves store new (IsOrRecoversTo way step held)))
+
+-- ---- for private clauses
 
 -- a head was put on these files, or not, in the files and in what may be left
 abbrev pub MayHaveHead : {S : Type 0} → Ghosts S → List ℕ → Files → S → Type 0

@@ -11,11 +11,11 @@ use Rattle.reuse_tree.specs.Tree.{undo_folder_of}
 use Rattle.reuse_tree.specs.declared.change.Change.{Change}
 use Rattle.reuse_tree.specs.declared.journal.head.PendingWay.{PendingWay}
 use Rattle.reuse_tree.specs.declared.way.Way.{Way}
-use Rattle.reuse_session.specs.Journal.{Recorded, Journal}
+use Rattle.reuse_session.specs.Journal.{Recorded, Journal, State}
 use Rattle.reuse_session.specs.JournalFiles.{head_path, number_of, IsKeptIn, KeepsJournal}
 use Rattle.reuse_session.specs.Opening.{NoFileAbove, IsFirstBad, IsStuckAt}
 use Rattle.reuse_session.specs.Session.{IsSameBut}
-use Rattle.reuse_session.specs.Standing.{IsStanding}
+use Rattle.reuse_session.specs.Standing.{IsStanding, IsTree}
 use Rattle.reuse_session.specs.declared.reply.Recovered.{Recovered}
 use Rattle.reuse_session.specs.declared.reply.Refusal.{Refusal}
 use Rattle.reuse_session.specs.declared.reply.Refusal.TheVariants.{BadJournal, Moved}
@@ -70,6 +70,12 @@ pub record IsRecovered (way : PendingWay) (step : Recorded) (journal : Journal) 
   pub tree : RecoversTree (way_of way) step.changes (tree_of before) (tree_of after)
   pub stands : IsStanding after (record { tree = tree_of after; journal = journal })
   pub folder : IsSameBut head_path (undo_folder_of before) (undo_folder_of after)
+
+-- the step is pending, and recovering these files leads to the committed state
+pub record RecoversTo (way : PendingWay) (step : Recorded) (held : State) (files : Files) : Type 0 where
+  pub good : IsTree held.tree
+  pub pending : HasPending way step held.journal files
+  pub tree : RecoversTree (way_of way) step.changes (tree_of files) held.tree
 
 -- the answer tells the step, and each path that was set back or left; no path is left where that wasn't asked for
 pub record TellsRecovery (skip_moved : Bool) (way : PendingWay) (step : Recorded) (files : Files) (told : Recovered) : Type 0 where

@@ -7,12 +7,14 @@ ghost use Rattle.std.specs.List.Sorted.{IsPermutation, IsStrictlySortedBy};
 ghost use Rattle.std.specs.FinMap.{get};
 ghost use Rattle.reuse_header.specs.declared.annotation.How.{How};
 ghost use Rattle.reuse_notice.specs.declared.adding.Additions.{Additions};
+ghost use Rattle.reuse_notice.specs.declared.amendments.Amendments.{Amendments};
 ghost use Rattle.reuse_notice.specs.Plain.{ArePlain, AreUtf8};
 ghost use Rattle.reuse_tree.specs.Files.{Files, AreFiles, Clashes};
 ghost use Rattle.reuse_tree.specs.Change.{inverse_of};
 ghost use Rattle.reuse_tree.specs.declared.change.Change.{Change};
 ghost use Rattle.reuse_text.specs.declared.TheConstants.{LONGEST_FILE};
-ghost use Rattle.reuse_session.specs.Accepted.{CanAnnotate, CanConvert, CanDownload};
+ghost use Rattle.reuse_session.specs.Accepted.{CanAmend, CanAnnotate, CanConvert, CanDownload};
+ghost use Rattle.reuse_session.specs.Amended.{Amends, HaveSamePaths};
 ghost use Rattle.reuse_session.specs.Annotated.{Annotates, IsSkippedAt, StaysOrIsText, pair_at};
 ghost use Rattle.reuse_session.specs.Choice.{is_chosen};
 ghost use Rattle.reuse_session.specs.Chosen.{IsNamed, StandsBeneath, IsAskedFor};
@@ -42,7 +44,7 @@ ghost use Rattle.reuse_session.specs.TreeStyles.{OwnNames, styles_in};
 ghost use Rattle.reuse_session.specs.Worked.{worked_paths};
 ghost use Rattle.reuse_session.specs.declared.command.Command.{Command};
 ghost use Rattle.reuse_tree.specs.Listing.{is_among};
-ghost use Rattle.reuse_session.specs.declared.command.Command.TheVariants.{Annotate, ConvertDep5, Download, Revert};
+ghost use Rattle.reuse_session.specs.declared.command.Command.TheVariants.{Amend, Annotate, ConvertDep5, Download, Revert};
 ghost use Rattle.reuse_session.specs.declared.command.Place.{Place};
 ghost use Rattle.reuse_session.specs.declared.command.Scope.{Scope};
 ghost use Rattle.reuse_tree.specs.declared.way.Way.{Way};
@@ -54,7 +56,9 @@ ghost use Rattle.reuse_session.specs.declared.reply.Refusal.{Refusal};
 ghost use Rattle.reuse_session.specs.declared.reply.Refusal.TheVariants.{Moved};
 ghost use Rattle.reuse_session.specs.declared.reply.Reply.{Reply};
 
-use reuse_header::{annotated_texts_are_texts, annotating_keeps_other_bytes};
+use reuse_header::{
+    amending_keeps_other_bytes, annotated_texts_are_texts, annotating_keeps_other_bytes,
+};
 
 /// Any files open in one way: at most one path is the first at fault, at most one is where the
 /// pending step is stuck, at most one standing can be opened on, and no two of these three are
@@ -108,6 +112,27 @@ pub fn annotations_change_chosen_places_alone()
 {
     annotating_keeps_other_bytes();
     annotated_texts_are_texts();
+}
+
+/// What amend does on a tree, in other words. Where it isn't refused, each file that is gone through
+/// has a neighbour, which holds what the rules make of its own bytes; or, where it has none, it is
+/// text of some style and holds what the rules make of its own bytes in that style; or it is neither,
+/// and stays. Every byte outside the header block stays, and so does every other path. These words
+/// leave one tree. No file is made and none is removed. A run that isn't refused leaves that tree. It
+/// isn't refused exactly where the tree's own styles are good, the root is given only where folders
+/// are gone through, each path that is gone through can be amended by itself, and one entry holds
+/// them all.
+pub fn amendments_change_selected_places_alone()
+    ensures accepted { (places : List Place) (amendments : Amendments) (scope : Scope) (tree : Files) → ((after : Files) × (outcome_of (Amend places amendments scope) tree ≡ Ok after))
+        ↔ CanAmend places amendments scope tree }
+    ensures made { (places : List Place) (amendments : Amendments) (scope : Scope) (tree after : Files) → outcome_of (Amend places amendments scope) tree ≡ Ok after → Amends places amendments scope tree after }
+    ensures one { (places : List Place) (amendments : Amendments) (scope : Scope) (before after other : Files) → Amends places amendments scope before after
+        → Amends places amendments scope before other → after ≡ other }
+    ensures files { (places : List Place) (amendments : Amendments) (scope : Scope) (before after : Files) → Amends places amendments scope before after → HaveSamePaths before after }
+    ensures left { (places : List Place) (amendments : Amendments) (scope : Scope) (when : ℕ) (old new : State) (reply : Reply) → Runs (Amend places amendments scope) when old (Ok reply) new
+        → Amends places amendments scope old.tree new.tree }
+{
+    amending_keeps_other_bytes();
 }
 
 /// Where a conversion isn't refused, `.reuse/dep5` was there and is gone, `REUSE.toml` wasn't and holds the text that the dep5 is

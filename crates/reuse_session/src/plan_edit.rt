@@ -1,17 +1,21 @@
-//! The change of a place, by what an annotation makes of its bytes.
+//! The change of a place, by what an annotation or an amendment makes of its bytes.
 ghost use Rattle.std.specs.Prelude.{◌≡◌, ◌≤◌, [], IfOk, IfErr, Some, None, length};
 ghost use Rattle.reuse_text.specs.declared.TheConstants.{LONGEST_FILE};
 ghost use Rattle.reuse_session.specs.Reading.{get, Files};
 ghost use Rattle.reuse_header.specs.Splices.{IsDue, answer_of};
+ghost use Rattle.reuse_header.specs.Amendment.{amendment_answer, IsAmendmentDue};
+ghost use Rattle.reuse_session.specs.Amend.{amendment_edit, amend_refused_by};
+ghost use Rattle.reuse_session.specs.AmendmentPlan as amending;
 ghost use Rattle.reuse_session.specs.Annotate.{edit_by};
 ghost use Rattle.reuse_session.specs.HeaderFaults.{refused_by};
 ghost use Rattle.reuse_session.specs.Annotations.{Fits, Due};
 ghost use Rattle.reuse_session.specs.Plan.{AnswersEdit};
 ghost use Rattle.reuse_session.specs.Refused.{IsNoFault};
 
+use crate::amend_fault::AmendFault;
 use crate::header_fault::HeaderFault;
 use crate::reply::Refusal;
-use reuse_header::{HeaderRefusal, Splice};
+use reuse_header::{AmendHeaderRefusal, HeaderRefusal, Splice};
 use reuse_text::Bytes;
 use reuse_tree::{Change, PathText};
 use std::alloc::{AllocError, Global};
@@ -58,6 +62,41 @@ pub(crate) fn making_by(
         Ok(None) => Ok(None),
         Ok(Some(splice)) => Ok(Some(Change::sealed_make(at.try_clone(alloc)?, splice.new))),
     }
+}
+
+/// The change of a file that is there, of these bytes, by what an amendment makes of it. A refusal names `path`.
+pub(crate) fn amendment_by(
+    alloc: Global,
+    path: &PathText,
+    at: &PathText,
+    file: &[u8],
+    made: Result<Option<Splice>, AmendHeaderRefusal>,
+) -> Result<Option<Change>, Refusal>
+    ensures edit { (tree : Files) (due : amending.Due) → get tree at.now ≡ Some file.now → length file.now ≤ LONGEST_FILE → amending.Fits file.now due
+        → IsAmendmentDue (amendment_answer file.now due) made → AnswersEdit tree (amendment_edit path.now at.now file.now due) result }
+    ensures no_fault { IfErr result IsNoFault }
+{
+    match made {
+        Ok(None) => Ok(None),
+        Ok(Some(splice)) => change_by(alloc, path, at, file, Ok(Some(splice))),
+        Err(refusal) => Err(amend_refused_by(alloc, path, refusal)?),
+    }
+}
+
+// The refusal of an amendment, with the path of its file.
+fn amend_refused_by(
+    alloc: Global,
+    path: &PathText,
+    refusal: AmendHeaderRefusal,
+) -> Result<Refusal, AllocError>
+    ensures { IfOk result (λ refused. refused ≡ amend_refused_by path.now refusal) }
+{
+    let fault = match refusal {
+        AmendHeaderRefusal::BadExpression => AmendFault::BadExpression,
+        AmendHeaderRefusal::NothingLeft => AmendFault::NothingLeft,
+        AmendHeaderRefusal::Header(refusal) => return refused_by(alloc, path, refusal),
+    };
+    Ok(Refusal::Amend(path.try_clone(alloc)?, fault))
 }
 
 // A header's refusal, with the path of its file.

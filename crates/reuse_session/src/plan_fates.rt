@@ -2,12 +2,12 @@
 ghost use Rattle.std.specs.Prelude.{◌≡◌, ◌++◌, ◌∷◌, [], Result, Ok, Err, Option, Some, None, List, IfOk, IfErr, OnOk, not, ◌&&◌, if◌then◌else◌};
 ghost use Rattle.reuse_session.specs.Shown.{ShowsEach, ShowsOne, ShowsPair};
 ghost use Rattle.reuse_session.specs.Reading.{tree_of, Files, OnlyReads, ReadsAlone, RefusedAsRead};
-ghost use Rattle.reuse_session.specs.AnnotationPlan.{AddsPath, PlansPaths, PlansPlaces};
+ghost use Rattle.reuse_session.specs.Asked.{passed_by, done_by, AddsPath, PlansPaths, PlansPlaces};
 ghost use Rattle.reuse_session.specs.Command.{has_root};
 ghost use Rattle.reuse_session.specs.Edit.{Edit};
 ghost use Rattle.reuse_session.specs.FatePlan.{MakesUnlessRefused, Plans};
-ghost use Rattle.reuse_session.specs.Fates.{annotation_fates, path_fates, limit_fates, fates_of};
-ghost use Rattle.reuse_session.specs.Outcome.{edits_by_names, edits_of};
+ghost use Rattle.reuse_session.specs.Fates.{annotation_fates, amendment_fates, path_fates, limit_fates, fates_of};
+ghost use Rattle.reuse_session.specs.Outcome.{edits_by_names, amendments_by_names, edits_of};
 ghost use Rattle.reuse_session.specs.Previews.{IsLookRefusal};
 ghost use Rattle.reuse_session.specs.TreeStyles.{styles_in};
 ghost use Rattle.reuse_session.specs.declared.fate.Fate.{Fate};
@@ -15,7 +15,7 @@ ghost use Rattle.reuse_session.specs.declared.fate.Fate.TheVariants as fate;
 ghost use Rattle.reuse_session.specs.declared.reply.Refusal.{Refusal};
 ghost use Rattle.reuse_session.specs.declared.reply.Refusal.TheVariants.{TooMany};
 
-use crate::annotation::Annotation;
+use crate::annotation::{Amendment, Annotation, Asked};
 use crate::command::{Command, Place, Scope};
 use crate::download_fates::plan_download;
 use crate::fate::{Fate, Fates};
@@ -29,7 +29,7 @@ use crate::revert_fates::plan_revert;
 use crate::skipped::is_skipped;
 use crate::tree_paths::pair_paths;
 use reuse_header::How;
-use reuse_notice::Additions;
+use reuse_notice::{Additions, Amendments};
 use reuse_tree::{Change, PathText, Store, is_too_many};
 use std::alloc::{AllocError, Global};
 
@@ -64,6 +64,11 @@ fn plan_command<S: Store>(
             how,
             scope,
         } => plan_annotation(alloc, store, places.as_slice(), additions, how, scope),
+        Command::Amend {
+            places,
+            amendments,
+            scope,
+        } => plan_amendment(alloc, store, places.as_slice(), amendments, scope),
         Command::ConvertDep5 => of_changes(alloc, plan_conversion(alloc, store)),
         Command::Download { ids, texts } => {
             plan_download(alloc, store, ids.as_slice(), texts.as_slice())
@@ -114,32 +119,58 @@ fn plan_annotation<S: Store>(
 {
     match read_styles(alloc, store) {
         Ok(styles) => {
-            let asked = Annotation {
+            let asked = Asked::Annotation(Annotation {
                 additions,
                 how,
                 scope,
                 styles: &styles,
-            };
+            });
             plan_places(alloc, store, places, &asked)
         }
         Err(refusal) => refused(alloc, refusal),
     }
 }
 
-// What is found of an annotation by the styles of the tree.
+// What is found of an amendment.
+fn plan_amendment<S: Store>(
+    alloc: Global,
+    store: &mut S,
+    places: &[Place],
+    amendments: &Amendments,
+    scope: &Scope,
+) -> Result<Planned, Refusal>
+    ensures planned { S.honest store.new → IfOk result (Plans (tree_of (S.files store.old))
+        (amendment_fates places.now amendments.now scope.now (tree_of (S.files store.old)) (styles_in (tree_of (S.files store.old))))
+        (amendments_by_names places.now amendments.now scope.now (tree_of (S.files store.old)) (styles_in (tree_of (S.files store.old))))) }
+    ensures asks { ReadsAlone S.Store IsLookRefusal store.old store.new result }
+{
+    match read_styles(alloc, store) {
+        Ok(styles) => {
+            let asked = Asked::Amendment(Amendment {
+                amendments,
+                scope,
+                styles: &styles,
+            });
+            plan_places(alloc, store, places, &asked)
+        }
+        Err(refusal) => refused(alloc, refusal),
+    }
+}
+
+// What is found at the places, by what is asked of each file and by the styles of the tree.
 fn plan_places<S: Store>(
     alloc: Global,
     store: &mut S,
     places: &[Place],
-    asked: &Annotation<'_>,
+    asked: &Asked<'_>,
 ) -> Result<Planned, Refusal>
     ensures planned { S.honest store.new → IfOk result (PlansPlaces asked.now (tree_of (S.files store.old)) places.now) }
     ensures asks { ReadsAlone S.Store IsLookRefusal store.old store.new result }
 {
-    if gives_root(places, asked.scope) {
+    if gives_root(places, asked.scope()) {
         return refused(alloc, Refusal::IsFolder(Place::Root));
     }
-    let worked = find_worked(alloc, store, places, asked.scope)?;
+    let worked = find_worked(alloc, store, places, asked.scope())?;
     plan_paths(alloc, store, &worked.paths, &worked.listing, asked)
 }
 
@@ -149,7 +180,7 @@ fn plan_paths<S: Store>(
     store: &mut S,
     worked: &[PathText],
     listing: &Listing,
-    asked: &Annotation<'_>,
+    asked: &Asked<'_>,
 ) -> Result<Planned, Refusal>
     ensures planned { S.honest store.new → ShowsEach listing.now (tree_of (S.files store.old)) worked.now → IfOk result (PlansPaths asked.now (tree_of (S.files store.old)) worked.now) }
     ensures asks { ReadsAlone S.Store IsLookRefusal store.old store.new result }
@@ -168,7 +199,7 @@ fn plan_one<S: Store>(
     planned: &mut Planned,
     path: &PathText,
     listing: &Listing,
-    asked: &Annotation<'_>,
+    asked: &Asked<'_>,
 ) -> Result<(), Refusal>
     ensures adds { S.honest store.new → ShowsOne listing.now (tree_of (S.files store.old)) path.now → OnOk result (AddsPath asked.now (tree_of (S.files store.old)) path.now planned.old planned.new) }
     ensures asks { ReadsAlone S.Store IsLookRefusal store.old store.new result }
@@ -185,7 +216,7 @@ fn plan_alone<S: Store>(
     store: &mut S,
     planned: &mut Planned,
     path: &PathText,
-    asked: &Annotation<'_>,
+    asked: &Asked<'_>,
 ) -> Result<(), Refusal>
     ensures adds { S.honest store.new → OnOk result (AddsPath asked.now (tree_of (S.files store.old)) path.now planned.old planned.new) }
     ensures asks { ReadsAlone S.Store IsLookRefusal store.old store.new result }
@@ -201,7 +232,7 @@ fn plan_next<S: Store>(
     planned: &mut Planned,
     paths: &[PathText],
     path: &PathText,
-    asked: &Annotation<'_>,
+    asked: &Asked<'_>,
 ) -> Result<(), Refusal>
     ensures adds { S.honest store.new → ShowsPair paths.now (tree_of (S.files store.old)) path.now → OnOk result (AddsPath asked.now (tree_of (S.files store.old)) path.now planned.old planned.new) }
     ensures asks { ReadsAlone S.Store IsLookRefusal store.old store.new result }
@@ -209,9 +240,28 @@ fn plan_next<S: Store>(
     match plan_path(alloc, store, paths, path, asked) {
         Ok(Some(change)) => Ok(planned.push_change(alloc, change)?),
         Ok(None) => {
-            let skipped = is_skipped(alloc, store, paths, path, asked)?;
+            let skipped = is_passed(alloc, store, paths, path, asked)?;
             Ok(planned.push_idle(alloc, path, skipped)?)
         }
         Err(refusal) => planned.push_refusal(refusal),
+    }
+}
+
+// Whether a file was skipped that stays as it is. `paths` show it and its neighbour.
+fn is_passed<S: Store>(
+    alloc: Global,
+    store: &mut S,
+    paths: &[PathText],
+    path: &PathText,
+    asked: &Asked<'_>,
+) -> Result<bool, Refusal>
+    ensures skipped { S.honest store.new → ShowsPair paths.now (tree_of (S.files store.old)) path.now
+        → done_by asked.now (tree_of (S.files store.old)) path.now ≡ Ok None
+        → IfOk result (λ skipped. skipped ≡ passed_by asked.now (tree_of (S.files store.old)) path.now) }
+    ensures asks { ReadsAlone S.Store IsLookRefusal store.old store.new result }
+{
+    match asked {
+        Asked::Annotation(asked) => is_skipped(alloc, store, paths, path, asked),
+        Asked::Amendment(_) => Ok(false),
     }
 }

@@ -7,6 +7,8 @@ ghost use Rattle.reuse_tree.specs.Clash.{is_clash};
 ghost use Rattle.reuse_header.specs.declared.annotation.How.{How};
 ghost use Rattle.reuse_session.specs.TreeStyles.{OwnNames};
 ghost use Rattle.reuse_notice.specs.declared.adding.Additions.{Additions};
+ghost use Rattle.reuse_notice.specs.declared.amendments.Amendments.{Amendments};
+ghost use Rattle.reuse_session.specs.Amend.{amended_at};
 ghost use Rattle.reuse_session.specs.Annotate.{neighbour_of, annotated_at};
 ghost use Rattle.reuse_session.specs.AnnotationPlan.{inside_by, neighbour_by};
 ghost use Rattle.reuse_tree.specs.Listing.{is_among};
@@ -44,6 +46,7 @@ pub(crate) fn plan_absent(
     path: &PathText,
 ) -> Result<Option<Change>, Refusal>
     ensures edit { (how : How) (scope : Scope) (additions : Additions) (own : OwnNames) (tree : Files) → ShowsPair paths.now tree path.now → is_among paths.now path.now ≡ false → AnswersEdit tree (annotated_at how scope additions own tree path.now) result }
+    ensures amended { (amendments : Amendments) (scope : Scope) (own : OwnNames) (tree : Files) → ShowsPair paths.now tree path.now → is_among paths.now path.now ≡ false → AnswersEdit tree (amended_at amendments scope own tree path.now) result }
     ensures no_fault { IfErr result IsNoFault }
 {
     let refused = path.try_clone(alloc)?;
@@ -89,8 +92,12 @@ pub(crate) fn plan_reading(
     }
 }
 
-// The bytes that were read of a file, unless they are too many. A refusal names `path`.
-fn short_bytes(alloc: Global, path: &PathText, reading: Reading) -> Result<Bytes, Refusal>
+/// The bytes that were read of a file, unless they are too many. A refusal names `path`.
+pub(crate) fn short_bytes(
+    alloc: Global,
+    path: &PathText,
+    reading: Reading,
+) -> Result<Bytes, Refusal>
     ensures answer { (file : List ℕ) → reading ≡ reading_of (Some file) LONGEST_FILE → AnswersOf (short_file path.now file) result }
     ensures short { IfOk result (λ bytes. length bytes ≤ LONGEST_FILE) }
     ensures no_fault { IfErr result IsNoFault }

@@ -5,20 +5,23 @@
 //! first, and nothing is put before all are.
 ghost use Rattle.std.specs.Prelude.{◌≡◌, ◌≢◌, ◌<◌, ◌⊎◌, ◌∷◌, [], ℕ, List, not, true, false, Some, None, IfOk, IfErr, OnOk, MatchResult};
 ghost use Rattle.std.specs.FinMap as map;
-ghost use Rattle.reuse_tree.specs.Asked.{OnlyReads, IsLater};
+ghost use Rattle.reuse_tree.specs.Asked.{OnlyReads, IsLater, IsSynced, Leaves};
 ghost use Rattle.reuse_tree.specs.Change.{path_of, IsProper};
 ghost use Rattle.std.specs.List.{All};
-ghost use Rattle.reuse_tree.specs.Entry.{makes, opposite, IsEntry, IsSmall, CanBeSetBack};
-ghost use Rattle.reuse_tree.specs.Files.{Clashes, tree_of};
+ghost use Rattle.reuse_tree.specs.Entry.{makes, opposite, IsEntry, IsSmall, SomeMade, ArePartlyMade, CanBeSetBack};
+ghost use Rattle.reuse_tree.specs.Files.{Files, Clashes, tree_of};
 ghost use Rattle.reuse_tree.specs.Listing.{ArePaths, is_among};
 ghost use Rattle.reuse_tree.specs.Tree.{is_of_tree, undo_folder_of, Sets};
 ghost use Rattle.reuse_tree.specs.declared.cause.Cause.{Cause};
 ghost use Rattle.reuse_tree.specs.declared.cause.Cause.TheVariants as causes;
 ghost use Rattle.reuse_tree.specs.declared.fault.StoreFault.{StoreFault};
+ghost use Rattle.reuse_tree.specs.declared.journal.head.PendingWay.{PendingWay};
 ghost use Rattle.reuse_session.specs.Answer.{HasCause, IsEarly, IsFailure, IsRollBackRefusal, IsNoClash, IsOpenRefusal, IsPutRefusal, IsTestRefusal, RefusedAsRead, TellsNoFault};
 ghost use Rattle.reuse_session.specs.Carried.{IsRolledBack, StopsBack};
-ghost use Rattle.reuse_session.specs.Journal.{Journal, State};
+ghost use Rattle.reuse_session.specs.Journal.{Journal, Recorded, State};
 ghost use Rattle.reuse_session.specs.JournalFiles.{head_path};
+ghost use Rattle.reuse_session.specs.Losses.{AreInDoubt, AwaitsRecovery, SurvivesInDoubt, SurvivesRecovery};
+ghost use Rattle.reuse_session.specs.Losses.{HaveTree, MayHaveHead, StopsBackWithDoubt};
 ghost use Rattle.reuse_session.specs.Opening.{IsFirstBad, IsStuckAt, IsRead};
 ghost use Rattle.reuse_session.specs.Recovery.{ArePart, HasNonePending, RecoversFiles, StopsRecovering, RefusesRecovery, FindsNext, AreFound, changes_besides};
 ghost use Rattle.reuse_session.specs.Session.{IsSameBut};
@@ -73,6 +76,15 @@ pub fn recover<S: Store>(
     ensures settles { S.honest result.0 → (first second : State) → InDoubt first second (S.files store)
         → MatchResult result.1 (λ recovered. IsStanding (S.files result.0) first ⊎ IsStanding (S.files result.0) second)
         (λ refusal. IsFailure refusal × InDoubt first second (S.files result.0)) }
+
+    // If all that a loss of power may leave is in doubt between two committed states too, it is
+    // safe then on the one that recovering leaves. If that fails, it is still in doubt.
+    ensures survives { S.honest result.0 → (earlier held next : State) → AreInDoubt S.Store earlier held next store
+        → SurvivesInDoubt S.Store earlier held next result.1 result.0 }
+    // The same of a step of which some paths can't be set back. Once it is recovered, a loss of
+    // power leaves what is there. If that stops, recovering what is left leads to the same files.
+    ensures lasting { S.honest result.0 → (way : PendingWay) → (step : Recorded) → (held : State)
+        → AwaitsRecovery S.Store way step held store → SurvivesRecovery S.Store way step held result.1 result.0 }
     ensures refusal { IfErr result.1 IsOpenRefusal }
     ensures clash { S.honest result.0 → IfErr result.1 IsNoClash }
     ensures fault { IfErr result.1 (HasCause (S.failures store < S.failures result.0)) }
@@ -97,6 +109,10 @@ fn recover_journal<S: Store>(
     ensures late { (cause : Cause) → result ≡ Err (Refusal.Interrupted cause) → cause ≢ causes.Moved → S.moves store.old < S.moves store.new }
     ensures quiet { S.honest store.new → (journal : Journal) → HasNonePending journal (S.files store.old) → OnlyReads S.Store store.old store.new }
     ensures folder { S.honest store.new → IsSameBut head_path (undo_folder_of (S.files store.old)) (undo_folder_of (S.files store.new)) }
+    ensures survives { S.honest store.new → (earlier held next : State) → AreInDoubt S.Store earlier held next store.old
+        → SurvivesInDoubt S.Store earlier held next result store.new }
+    ensures lasting { S.honest store.new → (way : PendingWay) → (step : Recorded) → (held : State)
+        → AwaitsRecovery S.Store way step held store.old → SurvivesRecovery S.Store way step held result store.new }
     ensures refusal { IfErr result IsOpenRefusal }
     ensures clash { S.honest store.new → IfErr result IsNoClash }
     ensures fault { IfErr result (HasCause (S.failures store.old < S.failures store.new)) }
@@ -133,6 +149,10 @@ fn recover_step<S: Store>(
     ensures late { (cause : Cause) → result ≡ Err (Refusal.Interrupted cause) → cause ≢ causes.Moved → S.moves store.old < S.moves store.new }
     ensures folder { S.honest store.new → (journal : Journal) → IsRead (S.files store.old) (Some pending) history.now journal
         → IsSameBut head_path (undo_folder_of (S.files store.old)) (undo_folder_of (S.files store.new)) }
+    ensures lasting { S.honest store.new
+        → (journal : Journal) → IsRead (S.files store.old) (Some pending) history.now journal
+        → (way : PendingWay) → (step : Recorded) → (held : State) → AwaitsRecovery S.Store way step held store.old
+        → SurvivesRecovery S.Store way step held result store.new }
     ensures refusal { IfErr result IsOpenRefusal }
     ensures clash { S.honest store.new → (journal : Journal) → IsRead (S.files store.old) (Some pending) history.now journal → IfErr result IsNoClash }
     ensures fault { IfErr result (HasCause (S.failures store.old < S.failures store.new)) }
@@ -172,6 +192,17 @@ fn roll_back_part<S: Store>(
     ensures done { S.honest store.new → ArePart changes.now → OnOk result (IsRolledBack way changes.now settled.now (S.files store.old) (S.files store.new)) }
     ensures back { S.honest store.new → ArePart changes.now → (cause : Cause) → result ≡ Err (Refusal.Interrupted cause)
         → StopsBack way changes.now settled.now (S.files store.old) (S.files store.new) }
+    // What a loss of power may leave, if each tree that might be left before is the start with some
+    // of the changes made.
+    ensures lasting { S.honest store.new → ArePart changes.now
+        → (start : Files) → ArePartlyMade way changes.now start (tree_of (S.files store.old))
+        → Leaves S.Store store.old (λ kept. SomeMade way changes.now start (tree_of kept))
+        → OnOk result (IsSynced S.Store store.new) }
+    ensures left { S.honest store.new → ArePart changes.now
+        → (start : Files) → ArePartlyMade way changes.now start (tree_of (S.files store.old))
+        → Leaves S.Store store.old (λ kept. SomeMade way changes.now start (tree_of kept))
+        → (cause : Cause) → result ≡ Err (Refusal.Interrupted cause)
+        → StopsBackWithDoubt S.Store way changes.now settled.now start (S.files store.old) store.new }
     ensures never_moved { S.honest store.new → ArePart changes.now → All (CanBeSetBack way (tree_of (S.files store.old))) changes.now
         → (path : List ℕ) → result ≢ Err (Refusal.Moved path) }
     ensures refusal { IfErr result IsRollBackRefusal }
@@ -199,6 +230,11 @@ fn clear_head<S: Store>(
     ensures done { S.honest store.new → OnOk result (Sets head_path (Some settled.now) (S.files store.old) (S.files store.new)) }
     ensures stopped { S.honest store.new → (cause : Cause) → result ≡ Err (Refusal.Interrupted cause)
         → (S.files store.new ≡ S.files store.old) ⊎ Sets head_path (Some settled.now) (S.files store.old) (S.files store.new) }
+    ensures lasting { S.honest store.new → HaveTree S.Store store.old (tree_of (S.files store.old))
+        → OnOk result (IsSynced S.Store store.new) }
+    ensures left { S.honest store.new → HaveTree S.Store store.old (tree_of (S.files store.old))
+        → (cause : Cause) → result ≡ Err (Refusal.Interrupted cause)
+        → MayHaveHead S.Store settled.now (S.files store.old) store.new }
     ensures refusal { IfErr result IsRollBackRefusal }
     ensures never_moved { (path : List ℕ) → result ≢ Err (Refusal.Moved path) }
     ensures clash { S.honest store.new → ¬ (Clashes (S.files store.old) head_path) → IfErr result IsNoClash }

@@ -1,7 +1,7 @@
 use Rattle.std.proofs.Common.{Err, ap, subst, sym, ◌∙◌}
 use Rattle.reuse_tree.specs.Files.{tree_of}
 use Rattle.reuse_session.specs.Answer.{IsOfPlan}
-use Rattle.reuse_session.specs.AnnotationPlan.{AnswersPath}
+use Rattle.reuse_session.specs.Asked.{AnswersPath}
 use Rattle.reuse_session.specs.Shown.{ShowsPair}
 use Rattle.reuse_session.proofs.Asking.{later}
 use Rattle.reuse_session.proofs.plan.plan_alone.Goals as goal

@@ -1,6 +1,6 @@
 use Rattle.std.proofs.Common.{Err, ap, subst, sym, ◌∙◌, OnOk}
 use Rattle.reuse_tree.specs.Files.{tree_of}
-use Rattle.reuse_session.specs.AnnotationPlan.{AddsPath}
+use Rattle.reuse_session.specs.Asked.{AddsPath}
 use Rattle.reuse_session.specs.Previews.{IsLookRefusal}
 use Rattle.reuse_session.specs.Shown.{ShowsPair}
 use Rattle.reuse_session.proofs.Asking.{later}

@@ -3,8 +3,8 @@ use Rattle.reuse_tree.specs.Files.{tree_of}
 use Rattle.reuse_session.specs.Conversion.{conversion_edits}
 use Rattle.reuse_session.specs.Downloads.{download_edits}
 use Rattle.reuse_session.specs.FatePlan.{Plans}
-use Rattle.reuse_session.specs.Fates.{annotation_fates, download_fates, path_fates}
-use Rattle.reuse_session.specs.Outcome.{edits_by_names, edits_of}
+use Rattle.reuse_session.specs.Fates.{annotation_fates, amendment_fates, download_fates, path_fates}
+use Rattle.reuse_session.specs.Outcome.{edits_by_names, amendments_by_names, edits_of}
 use Rattle.reuse_session.specs.TreeStyles.{styles_in}
 use Rattle.reuse_session.specs.declared.reply.Refusal.{Refusal}
 use Rattle.reuse_session.specs.declared.reply.Refusal.TheVariants.{Memory}
@@ -17,6 +17,13 @@ returns-in-Annotate-clause-planned g c honest =
     subst (λ k. IfOk c.plan_annotation.result (Plans tree (path_fates k tree) (edits_of k tree))) (sym c.in-Annotate.is)
     (subst (λ ps. IfOk c.plan_annotation.result (Plans tree (annotation_fates ps c.in-Annotate.additions c.in-Annotate.how c.in-Annotate.scope tree (styles_in tree)) (edits_by_names ps c.in-Annotate.additions c.in-Annotate.how c.in-Annotate.scope tree (styles_in tree)))) c.as_slice.ensures
     (c.plan_annotation.ensures.planned honest))
+
+pub returns-in-Amend-clause-planned : goal.returns-in-Amend-clause-planned
+returns-in-Amend-clause-planned g c honest =
+    let tree = tree_of (g.S.Store.files c.args.store.now) in
+    subst (λ k. IfOk c.plan_amendment.result (Plans tree (path_fates k tree) (edits_of k tree))) (sym c.in-Amend.is)
+    (subst (λ ps. IfOk c.plan_amendment.result (Plans tree (amendment_fates ps c.in-Amend.amendments c.in-Amend.scope tree (styles_in tree)) (amendments_by_names ps c.in-Amend.amendments c.in-Amend.scope tree (styles_in tree)))) c.as_slice-in-Amend.ensures
+    (c.plan_amendment.ensures.planned honest))
 
 pub returns-in-ConvertDep5-clause-planned : goal.returns-in-ConvertDep5-clause-planned
 returns-in-ConvertDep5-clause-planned g c honest =

@@ -4,7 +4,7 @@ use Rattle.reuse_session.proofs.ShownLemmas.{one_of_each}
 use Rattle.std.proofs.lemmas.List.{drop_all}
 use Rattle.reuse_tree.specs.Files.{tree_of}
 use Rattle.reuse_tree.proofs.AskedLemmas.{reads_more}
-use Rattle.reuse_session.specs.AnnotationPlan.{annotated_by, told_by}
+use Rattle.reuse_session.specs.Asked.{done_by, told_by}
 use Rattle.reuse_session.specs.FatePlan.{Adds}
 use Rattle.reuse_tree.proofs.AtChange.{left_here}
 use Rattle.reuse_session.proofs.FatePlans.{FatesSoFar, after_adds, at_last}
@@ -15,7 +15,7 @@ loop-path-preserved g c = record {
   reads = reads_more g.S.Store _ _ _ c.loop-path.invariant.reads c.plan_one.ensures.asks.reads;
   so_far = λ h are.
       let before = c.plan_one.ensures.asks.reads.was_honest h in
-      let at = annotated_by c.args.asked.now in
+      let at = done_by c.args.asked.now in
       let tell = told_by c.args.asked.now in
       let tree = tree_of (g.S.Store.files c.args.store.now) in
       let worked = c.args.worked.now in
@@ -29,7 +29,7 @@ loop-path-preserved g c = record {
 pub returns-clause-planned : goal.returns-clause-planned
 returns-clause-planned g c h are =
     let tree = tree_of (g.S.Store.files c.args.store.now) in
-    let at = annotated_by c.args.asked.now tree in
+    let at = done_by c.args.asked.now tree in
     let tell = told_by c.args.asked.now tree in
     at_last at tell tree c.args.worked.now c.loop-path.planned
     (subst (λ left. FatesSoFar at tell tree c.args.worked.now left c.loop-path.planned) (drop_all c.loop-path.path-index c.args.worked.now c.loop-path-test.false) (c.loop-path.invariant.so_far h are))

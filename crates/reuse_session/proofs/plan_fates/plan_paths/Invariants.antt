@@ -2,7 +2,7 @@ use Rattle.std.proofs.Common.{drop}
 use Rattle.reuse_session.specs.Shown.{ShowsEach}
 use Rattle.reuse_tree.specs.Files.{tree_of}
 use Rattle.reuse_tree.specs.Asked.{OnlyReads}
-use Rattle.reuse_session.specs.AnnotationPlan.{annotated_by, told_by}
+use Rattle.reuse_session.specs.Asked.{done_by, told_by}
 use Rattle.reuse_session.proofs.FatePlans.{FatesSoFar}
 use Rattle.reuse_session.proofs.plan_fates.plan_paths.Given as goal
 
@@ -11,6 +11,6 @@ abbrev pub invariant-loop-path : goal.invariant-loop-path
 invariant-loop-path g l = record {
   reads : OnlyReads g.S.Store l.initial.store l.store;
   so_far : g.S.Store.honest l.store → ShowsEach l.listing (tree_of (g.S.Store.files l.initial.store)) l.worked
-      → FatesSoFar (annotated_by l.asked (tree_of (g.S.Store.files l.initial.store))) (told_by l.asked (tree_of (g.S.Store.files l.initial.store)))
+      → FatesSoFar (done_by l.asked (tree_of (g.S.Store.files l.initial.store))) (told_by l.asked (tree_of (g.S.Store.files l.initial.store)))
       (tree_of (g.S.Store.files l.initial.store)) l.worked (drop l.path-index l.worked) l.planned;
 }

@@ -1,6 +1,15 @@
-use Rattle.std.proofs.Common.{◌≡◌, inl, false, None, Some, sym, subst, rules}
+use Rattle.std.proofs.Common.{◌≡◌, inl, inr, ⊎_elim, false, None, Some, sym, subst, rules}
 use Rattle.reuse_session.specs.Journal.{Journal}
+use Rattle.reuse_session.proofs.OnlyReading.{is_refused, read_early}
+use Rattle.reuse_session.proofs.OpeningDoubt.{doubt_stays, reads_standing, refused_in_doubt}
+use Rattle.reuse_session.proofs.RecoveryDoubt.{awaits_still, recovers_in_doubt, refused_on_the_way}
+use Rattle.reuse_tree.specs.Tree.{undo_folder_of}
+use Rattle.reuse_session.specs.JournalFiles.{number_of}
+use Rattle.reuse_session.specs.Losses.{AreSafeOn}
 use Rattle.reuse_session.specs.Opening.{IsRead, IsStuckAt}
+use Rattle.reuse_session.specs.Session.{Remembers}
+use Rattle.reuse_session.specs.Standing.{IsStanding}
+use Rattle.reuse_session.proofs.OneOpening.{none_pending}
 use Rattle.reuse_session.specs.Recovery.{StopsRecovering}
 use Rattle.reuse_session.proofs.recovery.recover_journal.Given.{Over}
 use Rattle.reuse_session.proofs.recovery.recover_journal.Goals.{After-recover_step}
@@ -34,3 +43,60 @@ returns-clause-interrupted g c honest cause e =
     let at = (goal.at.returns-clause-interrupted g c).After-recover_step in
     let read = read_then g at honest in
     subst (λ files. StopsRecovering files (g.S.Store.files c.recover_step.new.store)) (same_files g at honest) (c.recover_step.ensures.interrupted honest read.0 read.1 cause e)
+
+-- what may be left of files that await recovery, or that are in doubt
+pub returns-in_err-pending-clause-lasting : goal.returns-in_err-pending-clause-lasting
+returns-in_err-pending-clause-lasting g c honest way step held awaits =
+    refused_on_the_way way step held g.S.Store c.args.store.now c.read_journal.new.store c.from_residual.result
+    c.in_err-pending.field-0.0 (is_refused c.from_residual.result c.from_residual.ensures.1)
+    (read_early c.in_err-pending.field-0.0 c.in_err-pending.ensures.refusal) c.read_journal.ensures.reads honest awaits
+
+pub returns-in_err-pending-clause-survives : goal.returns-in_err-pending-clause-survives
+returns-in_err-pending-clause-survives g c honest earlier held next doubt =
+    refused_in_doubt g.S.Store earlier held next c.args.store.now c.read_journal.new.store c.read_journal.ensures.reads
+    honest c.from_residual.result c.in_err-pending.field-0.0 _
+    (is_refused c.from_residual.result c.from_residual.ensures.1) doubt
+
+pub returns-in-None-clause-lasting : goal.returns-in-None-clause-lasting
+returns-in-None-clause-lasting g c honest way step held awaits =
+    let r = c.in_ok-pending.ensures.ok honest in
+    let read : IsRead (g.S.Store.files c.args.store.now) None c.in_ok-pending.history r.0 = subst
+    (λ p. IsRead (g.S.Store.files c.args.store.now) p c.in_ok-pending.history r.0) c.in-None.is r.1 in
+    absurd (none_pending (undo_folder_of (g.S.Store.files c.args.store.now)) r.0 held.journal
+    (record { entry = number_of step; way = way }) read.keeps awaits.files.pending.keeps)
+
+pub returns-in-None-clause-survives : goal.returns-in-None-clause-survives
+returns-in-None-clause-survives g c honest earlier held next doubt =
+    let store = g.S.Store in
+    let new = c.read_journal.new.store in
+    let r = c.in_ok-pending.ensures.ok honest in
+    let memory = c.in_ok-pending.history in
+    let read : IsRead (store.files c.args.store.now) None memory r.0 = subst
+    (λ p. IsRead (store.files c.args.store.now) p memory r.0) c.in-None.is r.1 in
+    ⊎_elim
+    (λ (first : IsStanding (store.files new) held × Remembers memory held.journal
+    × AreSafeOn store earlier held new). inl (first.0, first.2))
+    (λ (second : IsStanding (store.files new) next × Remembers memory next.journal × AreSafeOn store held next new). inr
+    (second.0, second.2))
+    (reads_standing store earlier held next c.args.store.now new c.read_journal.ensures.reads honest memory r.0 read
+    doubt)
+
+-- the files await recovery still, once the journal was read
+pub returns-clause-lasting : goal.returns-clause-lasting
+returns-clause-lasting g c honest way step held awaits =
+    let at = (goal.at.returns-clause-lasting g c).After-recover_step in
+    let read = read_then g at honest in
+    c.recover_step.ensures.lasting honest read.0 read.1 way step held
+    (awaits_still way step held g.S.Store c.args.store.now c.read_journal.new.store c.read_journal.ensures.reads
+    (c.recover_step.ensures.later.was_honest honest) awaits)
+
+pub returns-clause-survives : goal.returns-clause-survives
+returns-clause-survives g c honest earlier held next doubt =
+    let at = (goal.at.returns-clause-survives g c).After-recover_step in
+    let read = read_then g at honest in
+    recovers_in_doubt g.S.Store earlier held next c.read_journal.new.store c.recover_step.new.store honest
+    c.in-Some.pending c.in_ok-pending.history read.0 read.1
+    c.recover_step.result c.recover_step.ensures.early
+    (λ way step. c.recover_step.ensures.lasting honest read.0 read.1 way step held)
+    (doubt_stays g.S.Store earlier held next c.args.store.now c.read_journal.new.store c.read_journal.ensures.reads
+    (c.recover_step.ensures.later.was_honest honest) doubt)

@@ -1,11 +1,12 @@
-use Rattle.std.proofs.Common.{◌≡◌, ◌<◌, ⊎_elim, List, [], ◌∷◌, length, arith, refl, ap}
+use Rattle.std.proofs.Common.{◌≡◌, ◌<◌, inl, inr, ⊎_elim, List, [], ◌∷◌, length, arith, refl, ap}
 use Rattle.std.proofs.lemmas.Bool.Decides.{nat_tests}
 use Rattle.std.proofs.lemmas.Result.{on_ok_weaker}
 use Rattle.reuse_tree.specs.Entry.{CanBeSetBack, IsEntry}
 use Rattle.reuse_tree.specs.Files.{tree_of}
 use Rattle.reuse_tree.specs.declared.change.Change.{Change}
 use Rattle.reuse_tree.proofs.Walk.{none_without}
-use Rattle.reuse_session.proofs.ClearedHeads.{cleared, cleared_alone, cleared_or_not}
+use Rattle.reuse_session.specs.Recovery.{ArePart}
+use Rattle.reuse_session.proofs.ClearedHeads.{cleared, cleared_alone, cleared_or_not, cleared_with_doubt, starts_certain}
 use Rattle.reuse_session.proofs.recovery.roll_back_part.Goals as goal
 
 none_there : (changes : List Change) → length changes ≡ 0 → changes ≡ []
@@ -36,3 +37,34 @@ returns-else-is_empty-clause-never_moved g c honest part can path e =
     (λ (none : c.args.changes.now ≡ []). absurd (omega (arith, some, ap length none)))
     (λ (good : IsEntry c.args.changes.now). none_without (CanBeSetBack c.args.way (tree_of (g.S.Store.files c.args.store.now))) c.args.changes.now path can (c.roll_back.ensures.moved honest good path e))
     part
+
+-- what may be left where the head alone is put
+pub returns-then-is_empty-clause-lasting : goal.returns-then-is_empty-clause-lasting
+returns-then-is_empty-clause-lasting g c honest part start partly sure =
+    let none : length c.args.changes.now ≡ 0 = grind (arith, nat_tests, c.is_empty.ensures, c.if-is_empty.true) in
+    c.clear_head.ensures.lasting honest
+    (starts_certain g.S.Store c.args.way c.args.settled.now c.args.changes.now
+    (none_there c.args.changes.now none) start c.args.store.now c.clear_head.new.store partly sure)
+
+pub returns-then-is_empty-clause-left : goal.returns-then-is_empty-clause-left
+returns-then-is_empty-clause-left g c honest part start partly sure cause e =
+    let none = none_there c.args.changes.now (grind (arith, nat_tests, c.is_empty.ensures, c.if-is_empty.true)) in
+    let have = starts_certain g.S.Store c.args.way c.args.settled.now c.args.changes.now none start c.args.store.now
+    c.clear_head.new.store partly sure in
+    cleared_with_doubt g.S.Store c.args.way c.args.settled.now c.args.changes.now none start c.args.store.now
+    c.clear_head.new.store partly (c.clear_head.ensures.left honest have cause e)
+
+-- where some changes can be set back, they are changes of an entry
+some_entry : (changes : List Change) → 0 < length changes → ArePart changes → IsEntry changes
+some_entry changes some (inl none) = absurd (omega (arith, some, ap length none))
+some_entry changes some (inr good) = good
+
+pub returns-else-is_empty-clause-lasting : goal.returns-else-is_empty-clause-lasting
+returns-else-is_empty-clause-lasting g c honest part start partly sure =
+    let some : 0 < length c.args.changes.now = grind (arith, nat_tests, c.is_empty.ensures, c.if-is_empty.false) in
+    c.roll_back.ensures.lasting honest (some_entry c.args.changes.now some part) start partly sure
+
+pub returns-else-is_empty-clause-left : goal.returns-else-is_empty-clause-left
+returns-else-is_empty-clause-left g c honest part start partly sure cause e =
+    let some : 0 < length c.args.changes.now = grind (arith, nat_tests, c.is_empty.ensures, c.if-is_empty.false) in
+    c.roll_back.ensures.left honest (some_entry c.args.changes.now some part) start partly sure cause e

@@ -17,9 +17,9 @@ use Rattle.reuse_session.proofs.Asking.{no_fault, short, failed, later, plan_fau
 use Rattle.reuse_tree.proofs.TreeLemmas.{read_there}
 use Rattle.reuse_session.proofs.Annotating.{some_file}
 use Rattle.reuse_session.proofs.EditLemmas.{some_bytes, uncovered_is, covered_is}
-use Rattle.reuse_session.proofs.plan.plan_path.Given.{Over}
-use Rattle.reuse_session.proofs.plan.plan_path.Goals.{After-is_covered, In_ok-goes_beside}
-use Rattle.reuse_session.proofs.plan.plan_path.Goals as goal
+use Rattle.reuse_session.proofs.plan.plan_annotated.Given.{Over}
+use Rattle.reuse_session.proofs.plan.plan_annotated.Goals.{After-is_covered, In_ok-goes_beside}
+use Rattle.reuse_session.proofs.plan.plan_annotated.Goals as goal
 
 pub returns-then-not-is_among-clause-edit : goal.returns-then-not-is_among-clause-edit
 returns-then-not-is_among-clause-edit g c honest are =
