@@ -23,7 +23,8 @@ _reuse_undo_read() {
       --root=*) root=${words[index]#*=} ;;
       --texts=*) texts=${words[index]#*=} ;;
       --texts) texts=${words[++index]-.} ;;
-      --copyright | -c | --license | -l | --contributor | --year | -y | --style | -s | --copyright-prefix | --copyright-style | --files-from | --exclude) index=$((index + 1)) ;;
+      --copyright | -c | --license | -l | --contributor | --year | -y | --style | -s | --copyright-prefix | --copyright-style | --files-from | --exclude | --remove-license | --remove-holder | --remove-contributor | --until | --holder) index=$((index + 1)) ;;
+      --replace-license | --replace-holder | --replace-contributor) index=$((index + 2)) ;;
       --) only_paths=yes ;;
       -*) ;;
       *) subcommand=${subcommand:-${words[index]}} ;;
@@ -79,7 +80,10 @@ _reuse_undo() {
         return
         ;;
       --copyright | -c | --license | -l | --contributor | --year | -y | --exclude) return ;;
+      --remove-license | --remove-holder | --remove-contributor | --until | --holder) return ;;
+      --replace-license | --replace-holder | --replace-contributor) return ;;
     esac
+    case ${words[*]: -2:1} in --replace-license | --replace-holder | --replace-contributor) return ;; esac
   fi
   if [[ $word == -* && -z $only_paths ]]; then
     local every='--root --verbose --no-sync --allow-owner-change --trust-journal'
@@ -89,6 +93,10 @@ _reuse_undo() {
         _reuse_undo_of "--copyright --license --contributor --year --exclude-year --style --copyright-prefix --copyright-style
           --merge-copyrights --single-line --multi-line --no-replace --recursive --files-from --exclude --force-dot-license --fallback-dot-license
           --skip-unrecognised --skip-existing --exit-non-zero-on-change --dry-run --check --diff --json $every --help"
+        ;;
+      amend)
+        _reuse_undo_of "--replace-license --remove-license --replace-holder --remove-holder --replace-contributor --remove-contributor --until
+          --copyright-prefix --holder --style --recursive --files-from --exclude --exit-non-zero-on-change --dry-run --check --diff --json $every --help"
         ;;
       download) _reuse_undo_of "--texts --dry-run --check --diff --json $every --help" ;;
       convert-dep5) _reuse_undo_of "--exit-non-zero-on-change --dry-run --check --diff --json $every --help" ;;
@@ -103,11 +111,11 @@ _reuse_undo() {
     return
   fi
   case $subcommand in
-    '') _reuse_undo_of 'annotate convert-dep5 download undo redo revert recover forget log show help' ;;
-    help) _reuse_undo_of 'annotate convert-dep5 download undo redo revert recover forget log show' ;;
+    '') _reuse_undo_of 'annotate amend convert-dep5 download undo redo revert recover forget log show help' ;;
+    help) _reuse_undo_of 'annotate amend convert-dep5 download undo redo revert recover forget log show' ;;
     revert) _reuse_undo_steps done ;;
     show | forget) _reuse_undo_steps ;;
-    annotate) _reuse_undo_paths "$root" ;;
+    annotate | amend) _reuse_undo_paths "$root" ;;
     download)
       while IFS= read -r id; do COMPREPLY+=("${id%.txt}"); done < <(cd -- "$texts" 2> /dev/null && compgen -f -X '!*.txt' -- "$word")
       ;;

@@ -70,6 +70,7 @@ complete -c reuse-undo -n 'not __reuse_undo_subcommand_is help' -s h -l help -d 
 complete -c reuse-undo -n '__reuse_undo_subcommand_is ""' -s V -l version -d 'Print the version'
 
 complete -c reuse-undo -n '__reuse_undo_subcommand_is ""' -a annotate -d 'Add copyright and licensing information to files'
+complete -c reuse-undo -n '__reuse_undo_subcommand_is ""' -a amend -d 'Change the copyright and licensing information that files have'
 complete -c reuse-undo -n '__reuse_undo_subcommand_is ""' -a convert-dep5 -d 'Put a REUSE.toml in the place of .reuse/dep5'
 complete -c reuse-undo -n '__reuse_undo_subcommand_is ""' -a download -d 'Copy licence texts into LICENSES'
 complete -c reuse-undo -n '__reuse_undo_subcommand_is ""' -a undo -d 'Take the last step back'
@@ -80,7 +81,7 @@ complete -c reuse-undo -n '__reuse_undo_subcommand_is ""' -a forget -d 'Take ste
 complete -c reuse-undo -n '__reuse_undo_subcommand_is ""' -a log -d 'List the steps'
 complete -c reuse-undo -n '__reuse_undo_subcommand_is ""' -a show -d 'Tell what a step changed'
 complete -c reuse-undo -n '__reuse_undo_subcommand_is ""' -a help -d 'Print help'
-complete -c reuse-undo -n '__reuse_undo_subcommand_is help' -a 'annotate convert-dep5 download undo redo revert recover forget log show'
+complete -c reuse-undo -n '__reuse_undo_subcommand_is help' -a 'annotate amend convert-dep5 download undo redo revert recover forget log show'
 
 set -l annotate -c reuse-undo -n '__reuse_undo_subcommand_is annotate'
 set -l prefixes 'spdx spdx-c spdx-symbol spdx-string spdx-string-c spdx-string-symbol string string-c string-symbol symbol'
@@ -105,16 +106,32 @@ complete $annotate -l skip-unrecognised -d 'Skip a path whose style is unknown'
 complete $annotate -l skip-existing -d 'Skip a path that has licensing information'
 complete $annotate -a '(__reuse_undo_paths)'
 
+set -l amend -c reuse-undo -n '__reuse_undo_subcommand_is amend'
+complete $amend -l replace-license -x -d 'Write another licence'
+complete $amend -l remove-license -x -d 'Remove a licence'
+complete $amend -l replace-holder -x -d 'Write another holder'
+complete $amend -l remove-holder -x -d 'Remove the notices of a holder'
+complete $amend -l replace-contributor -x -d 'Write another contributor'
+complete $amend -l remove-contributor -x -d 'Remove a contributor'
+complete $amend -l until -x -d 'The year that the years of notices are to reach'
+complete $amend -l copyright-prefix -x -a $prefixes -d 'What a notice begins with'
+complete $amend -l holder -x -d 'The holder whose notices get the year or the prefix'
+complete $amend -s s -l style -x -a 'python c css html haskell tex lisp semicolon ml vim' -d 'The comment style of all paths'
+complete $amend -s r -l recursive -d 'Amend the files beneath folders'
+complete $amend -l files-from -r -F -d 'Of the files beneath folders those that a file lists'
+complete $amend -l exclude -x -d 'Of the files beneath folders none that a glob matches'
+complete $amend -a '(__reuse_undo_paths)'
+
 complete -c reuse-undo -n '__reuse_undo_subcommand_is download' -l texts -x -a '(__fish_complete_directories)' -d 'The folder of the licence texts'
 complete -c reuse-undo -n '__reuse_undo_subcommand_is download' -a '(__reuse_undo_ids)'
 
-for word in annotate convert-dep5 download undo redo revert
+for word in annotate amend convert-dep5 download undo redo revert
     complete -c reuse-undo -n "__reuse_undo_subcommand_is $word" -s n -l dry-run -d 'Print what would change, and make no step'
     complete -c reuse-undo -n "__reuse_undo_subcommand_is $word" -l check -d 'A dry run, with status 1 if a file would change'
     complete -c reuse-undo -n "__reuse_undo_subcommand_is $word" -l diff -d 'With --dry-run or --check, print a diff too'
     complete -c reuse-undo -n "__reuse_undo_subcommand_is $word" -l json -d 'With --dry-run or --check, print JSON objects'
 end
-for word in annotate convert-dep5
+for word in annotate amend convert-dep5
     complete -c reuse-undo -n "__reuse_undo_subcommand_is $word" -l exit-non-zero-on-change -d 'Exit with status 1 if a file changes'
 end
 complete -c reuse-undo -n '__reuse_undo_subcommand_is recover' -l skip-moved -d 'Leave a file if it cannot be rolled back'

@@ -29,3 +29,4 @@ pub mod TextLines
 pub mod Told
 pub mod Within
 pub mod WriterFaults
+pub mod RefusalTexts

@@ -9,6 +9,7 @@ use Rattle.reuse_tree.specs.Change.{path_of}
 use Rattle.reuse_tree.specs.declared.change.Change.{Change}
 use Rattle.reuse_tree.specs.Json.{count, object_of, array_of}
 use Rattle.reuse_session.specs.Command.{place_text}
+use Rattle.reuse_session.specs.RefusalTexts.{refusal_text}
 use Rattle.reuse_session.specs.declared.fate.Fate.{Fate}
 use Rattle.reuse_session.specs.declared.fate.Fate.TheVariants.{Changes, Unchanged, Skipped, Refused}
 use Rattle.reuse_session.specs.declared.reply.Refusal.{Refusal}
@@ -69,6 +70,7 @@ refused_path (refusals.NotCovered path) = Some path
 refused_path (refusals.TooLong path) = Some path
 refused_path (refusals.Unrecognised path) = Some path
 refused_path (refusals.Header path fault) = Some path
+refused_path (refusals.Amend path fault) = Some path
 refused_path (refusals.Exists path) = Some path
 refused_path (refusals.Clash path) = Some path
 refused_path (refusals.Moved path) = Some path
@@ -79,17 +81,20 @@ abbrev pub path_value : Option (List ℕ) → Data
 path_value (Some path) = string path
 path_value None = null
 
--- a refusal, with its path, if it names one, and the text of its reason
-abbrev pub refused_value : Refusal → List ℕ → Data
-refused_value refusal reason =
-    object_of ((codes "outcome", string (codes "refused")) ∷ (codes "path", path_value (refused_path refusal)) ∷ (codes "reason", string reason) ∷ [])
+-- a refusal, with its path, if it names one, and its text
+abbrev pub refused_value : Refusal → Data
+refused_value refusal =
+    object_of (
+    (codes "outcome", string (codes "refused")) ∷ (codes "path", path_value (refused_path refusal))
+    ∷ (codes "reason", string (refusal_text refusal)) ∷ []
+    )
 
 -- the object of what would become of a path, on a line
 abbrev pub IsFateObject : Fate → List ℕ → Type 0
 IsFateObject (Changes path) text = text ≡ object_line (outcome_value (codes "would change") path)
 IsFateObject (Unchanged path) text = text ≡ object_line (outcome_value (codes "unchanged") path)
 IsFateObject (Skipped path) text = text ≡ object_line (outcome_value (codes "skipped") path)
-IsFateObject (Refused refusal) text = (reason : List ℕ) × (text ≡ object_line (refused_value refusal reason))
+IsFateObject (Refused refusal) text = text ≡ object_line (refused_value refusal)
 
 -- one for each
 abbrev pub AreFateObjects : List Fate → List ℕ → Type 0

@@ -14,7 +14,7 @@ use Rattle.reuse_undo.specs.declared.request.Request.TheVariants as requests
 
 -- what changes the tree asks for; the texts are those that were found for a download
 abbrev pub done : Deed → ℕ → List LicenceText → Request
-done (deeds.Annotate command) moment texts = requests.Call (events.Run command moment)
+done (deeds.Run command) moment texts = requests.Call (events.Run command moment)
 done deeds.ConvertDep5 moment texts = requests.Call (events.Run ConvertDep5 moment)
 done (deeds.Download folder ids) moment texts = requests.Call (events.Run (Download ids texts) moment)
 done deeds.Undo moment texts = requests.Call events.Undo
@@ -23,7 +23,7 @@ done (deeds.Revert number skip_moved) moment texts = requests.Revert number skip
 
 -- what a dry run of it asks for
 abbrev pub foretold : Deed → List LicenceText → Request
-foretold (deeds.Annotate command) texts = requests.Call (events.Preview (calls.Run command))
+foretold (deeds.Run command) texts = requests.Call (events.Preview (calls.Run command))
 foretold deeds.ConvertDep5 texts = requests.Call (events.Preview (calls.Run ConvertDep5))
 foretold (deeds.Download folder ids) texts = requests.Call (events.Preview (calls.Run (Download ids texts)))
 foretold deeds.Undo texts = requests.Call (events.Preview calls.Undo)

@@ -7,13 +7,14 @@ use Rattle.jiff.specs.Words.{date_text}
 use Rattle.reuse_undo.specs.Dates.{IsDateOf}
 use Rattle.reuse_session.specs.declared.reply.Row.{Row}
 use Rattle.reuse_tree.specs.declared.command_name.CommandName.{CommandName}
-use Rattle.reuse_tree.specs.declared.command_name.CommandName.TheVariants.{Annotate, ConvertDep5, Download, Revert}
+use Rattle.reuse_tree.specs.declared.command_name.CommandName.TheVariants.{Annotate, ConvertDep5, Download, Revert, Amend}
 
 abbrev pub command_word : CommandName → List ℕ
 command_word Annotate = codes "annotate"
 command_word ConvertDep5 = codes "convert-dep5"
 command_word Download = codes "download"
 command_word Revert = codes "revert"
+command_word Amend = codes "amend"
 
 abbrev pub state_word : Bool → List ℕ
 state_word done = if done then codes "done" else codes "undone"

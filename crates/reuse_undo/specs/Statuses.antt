@@ -7,7 +7,7 @@ use Rattle.reuse_undo.specs.declared.line.ChangeStatus.TheVariants.{Zero, One}
 use Rattle.reuse_undo.specs.declared.line.LineFault.{LineFault}
 use Rattle.reuse_undo.specs.declared.status.Ending.{Ending}
 use Rattle.reuse_undo.specs.declared.status.Ending.TheVariants.{BadClock, NoLine, Denied, Called}
-use Rattle.reuse_undo.specs.declared.line.LineFault.TheVariants.{Usage, Help, BadPath, BadAdditions, BadGlob, Unreadable, Memory}
+use Rattle.reuse_undo.specs.declared.line.LineFault.TheVariants.{Usage, Help, BadPath, BadAdditions, NothingToAmend, BadGlob, Unreadable, Memory}
 
 -- after a call, by how many paths changed, or would change in a dry run: 1 where it was refused or failed, and 1 where a path changed and that is asked for
 abbrev pub call_status_of : ChangeStatus → Result ℕ Fault → ℕ
@@ -22,6 +22,7 @@ line_status_of (Help text) = 0
 line_status_of Memory = 1
 line_status_of (BadAdditions (notices.Memory error)) = 1
 line_status_of (BadAdditions refusal) = 2
+line_status_of NothingToAmend = 2
 line_status_of (Usage text) = 2
 line_status_of (BadPath text) = 2
 line_status_of (BadGlob text) = 2

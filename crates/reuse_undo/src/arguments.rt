@@ -2,7 +2,7 @@
 use crate::help::{ABOUT, AFTER};
 use crate::options::{Argument, BEFORE, Choice, Rule, Subcommand, Takes};
 use crate::prefix_name::prefix_names;
-use crate::subcommands::{HISTORY, STEPS};
+use crate::subcommands::{HEADERS, HISTORY, STEPS};
 use clap::builder::ValueParser;
 use clap::{Arg, ArgAction, ArgGroup, Command};
 use reuse_header::style_names;
@@ -34,6 +34,10 @@ fn valued<'a>(arg: Arg<'a>, id: &'static str, takes: Takes) -> Arg<'a> {
             .default_value(value)
             .action(ArgAction::Set),
         Takes::Values(name) => option.value_name(name).action(ArgAction::Append),
+        Takes::Pairs(names) => option
+            .value_names(names)
+            .num_args(2)
+            .action(ArgAction::Append),
         Takes::Style => one_of(option, style_names()),
         Takes::Prefix => one_of(option, prefix_names()),
         Takes::Nothing | Takes::Words | Takes::Number | Takes::Numbers => {
@@ -130,7 +134,11 @@ fn with_subcommands<'a>(
     Ok(command)
 }
 
-// The tables are large: each is added by a function of its own, so that no proof reads both.
+// The tables are large: each is added by a function of its own, so that no proof reads two.
+fn with_headers<'a>(alloc: Global, command: Command<'a>) -> Result<Command<'a>, AllocError> {
+    with_subcommands(alloc, command, HEADERS)
+}
+
 fn with_steps<'a>(alloc: Global, command: Command<'a>) -> Result<Command<'a>, AllocError> {
     with_subcommands(alloc, command, STEPS)
 }
@@ -152,5 +160,6 @@ pub fn whole<'a>(alloc: Global) -> Result<Command<'a>, AllocError> {
         .after_help(AFTER)
         .subcommand_required(true);
     let command = with_options(alloc, command)?;
+    let command = with_headers(alloc, command)?;
     with_history(alloc, with_steps(alloc, command)?)
 }

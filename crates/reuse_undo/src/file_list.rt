@@ -1,4 +1,4 @@
-//! Lists of files: of the files beneath folders, those that are annotated.
+//! Lists of files: of the files beneath folders, those that are annotated or amended.
 ghost use Rattle.std.specs.Prelude.{◌≡◌, ◌++◌, IfOk, OnOk};
 ghost use Rattle.std.specs.Option.{option_to_list};
 ghost use Rattle.reuse_notice.specs.Sets.{set_of};
@@ -40,10 +40,10 @@ pub fn with_list<R: Files + Input>(
     }
 }
 
-/// Of the files beneath folders an annotation goes through those of the list alone.
+/// Of the files beneath folders the command goes through those of the list alone.
 fn set_listed(action: &mut Action, listed: PathList) {
     if let Action::Do(deed) | Action::Foretell(deed) = action {
-        if let Deed::Annotate(Command::Annotate { scope, .. }) = deed {
+        if let Deed::Run(Command::Annotate { scope, .. } | Command::Amend { scope, .. }) = deed {
             scope.listed = Some(listed);
         }
     }

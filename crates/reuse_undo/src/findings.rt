@@ -48,7 +48,7 @@ pub enum Task {
 impl Task {
     fn of(action: &Action) -> Task {
         match action {
-            Action::Do(Deed::Annotate(_) | Deed::Download { .. }) => Task::Step,
+            Action::Do(Deed::Run(_) | Deed::Download { .. }) => Task::Step,
             Action::Do(Deed::ConvertDep5) => Task::Conversion,
             Action::Do(Deed::Undo) => Task::Undo,
             Action::Do(Deed::Redo) => Task::Redo,

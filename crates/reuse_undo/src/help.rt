@@ -36,6 +36,22 @@ tracks, and a check of these in CI:
   git ls-files -z | reuse-undo annotate -c \"Jane Doe\" -l MIT -r --skip-existing --check \\
     --files-from - .";
 
+pub const AFTER_AMEND: &str = "\
+PATHs, FILE and GLOB are as those of annotate. No header is made: a PATH without one is unchanged,
+and so is one whose header has nothing of what is named. If one file is refused, none is changed.
+
+Texts are compared byte for byte, without their outer spaces. If OLD is an identifier such as
+GPL-2.0, it is replaced within expressions, too, and GPL-2.0+ and GPL-2.0-only are others. First
+licences are replaced, then removed; then holders and contributors; last come years and prefix.
+So HOLDER is as --replace-holder leaves it. A text that begins with `-` takes a space in front.
+
+Examples: another licence, another name of a holder, this year in all notices of a holder, and the
+files without a contributor:
+  reuse-undo amend --replace-license GPL-2.0 GPL-2.0-or-later --recursive .
+  reuse-undo amend --replace-holder \"Jane Doe\" \"Jane Roe\" --recursive . --dry-run --diff
+  reuse-undo amend --until 2026 --holder \"Jane Doe\" --recursive src
+  reuse-undo amend --remove-contributor \"Joe Bloggs\" --recursive .";
+
 pub const AFTER_DOWNLOAD: &str = "\
 Nothing is fetched from a network: the text of ID is DIR/ID.txt. DIR is relative to the working
 folder.

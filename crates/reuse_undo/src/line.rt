@@ -12,8 +12,8 @@ use thiserror::Error;
 /// What changes a tree.
 #[derive(Drop)]
 pub enum Deed {
-    /// To run this command, which is `annotate`.
-    Annotate(Command),
+    /// To run this command, which is `annotate` or `amend`.
+    Run(Command),
     /// To run `convert-dep5`.
     ConvertDep5,
     /// To run `download`.
@@ -171,9 +171,12 @@ pub enum LineFault {
     /// A word names no place of a tree.
     #[error("bad path: {0}")]
     BadPath(String),
-    /// The arguments of `annotate` add nothing.
+    /// The arguments of `annotate` or `amend` can't be written, or add nothing.
     #[error("{0}")]
     BadAdditions(NoticeRefusal),
+    /// Nothing that `amend` is to change is given.
+    #[error("nothing to amend")]
+    NothingToAmend,
     /// A word is no glob.
     #[error("bad glob: {0}")]
     BadGlob(String),

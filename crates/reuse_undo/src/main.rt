@@ -2,6 +2,7 @@
 #![tactic(auto)]
 
 mod above;
+mod amend_options;
 mod answering;
 mod arguments;
 mod carried_out;

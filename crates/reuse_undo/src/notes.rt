@@ -7,7 +7,7 @@ use crate::findings::{Findings, Task, unrecognised_among};
 use crate::line::LineFault;
 use reuse_dep5::{Dep5Cause, Dep5Refusal};
 use reuse_notice::NoticeRefusal;
-use reuse_session::{Fate, Refusal};
+use reuse_session::{AmendFault, Fate, Refusal};
 use std::fmt::Display;
 
 /// Tells a note. Where standard error can't be written, there is nobody to tell.
@@ -17,11 +17,17 @@ fn note(rt: &impl Eprint, text: impl Display + Drop) {
 
 /// Tells what to do about words that are no line.
 pub fn note_words(rt: &impl Eprint, fault: &LineFault) {
-    if let LineFault::BadAdditions(NoticeRefusal::BadYear(_)) = fault {
-        note(
+    match fault {
+        LineFault::BadAdditions(NoticeRefusal::BadYear(_)) => note(
             rt,
-            "a year has four digits; a range is two years, as in --year 2019 --year 2024",
-        );
+            "a year has four digits; annotate takes a range as two years, as in --year 2019 --year 2024",
+        ),
+        LineFault::NothingToAmend => note(
+            rt,
+            "say what is to be changed, as by --replace-license OLD NEW, --replace-holder OLD NEW or --until YEAR; \
+            reuse-undo amend --help lists the options",
+        ),
+        _ => {}
     }
 }
 
@@ -29,6 +35,8 @@ const BAD_JOURNAL: &str =
     "this file of the journal is damaged, missing or of a later version: put it \
     back from a backup; or delete the folder .reuse/undo, which forgets the history and changes no \
     other file";
+
+const DEP5: &str = ".reuse/dep5";
 
 /// What can be done about a refusal, where a note says that.
 fn advice(refusal: &Refusal, is_begun: bool, findings: &Findings) -> Option<&'static str> {
@@ -46,6 +54,11 @@ fn advice(refusal: &Refusal, is_begun: bool, findings: &Findings) -> Option<&'st
         }
         Refusal::BadJournal(_) => Some(BAD_JOURNAL),
         Refusal::Dep5(refusal) => dep5_advice(refusal),
+        Refusal::NotCovered(path) if path.text() == DEP5 => Some(
+            "this file is neither annotated nor amended: convert it first, by reuse-undo convert-dep5, \
+            which puts a REUSE.toml in its place",
+        ),
+        Refusal::Amend(_, fault) => Some(amend_advice(*fault)),
         _ => None,
     }
 }
@@ -114,6 +127,23 @@ fn dep5_advice(refusal: &Dep5Refusal) -> Option<&'static str> {
             "REUSE.toml has no sign for one character: write * in place of ?, or list the files",
         ),
         _ => None,
+    }
+}
+
+/// What can be done about licensing information that can't be amended.
+fn amend_advice(fault: AmendFault) -> &'static str {
+    match fault {
+        AmendFault::BadExpression => {
+            "a licence of this file would be no expression any more: in front of WITH stands an identifier alone, \
+            and behind it one without a plus sign"
+        }
+        AmendFault::NothingLeft => {
+            "neither a licence nor a notice nor a contributor would be left: remove the header by hand, \
+            or take the step back that wrote it, by reuse-undo revert"
+        }
+        AmendFault::CannotBeAmended => {
+            "a value over several lines would change: write it on one line, and call again"
+        }
     }
 }
 

@@ -4,6 +4,7 @@ ghost use Rattle.std.specs.List.{flat_map};
 ghost use Rattle.std.specs.Io.KnownBytes.{Appends};
 ghost use Rattle.serde_json.specs.View.{view};
 ghost use Rattle.serde_json.specs.Written.{has_float};
+ghost use Rattle.reuse_session.specs.RefusalTexts.{refusal_text};
 ghost use Rattle.reuse_undo.specs.Objects.{row_value, shown_value, change_value, changes_value, outcome_value, refused_path, refused_value, json_byte, object_line, AreFateObjects, AreRowObjects, IsFateObject, IsRowObject, IsShownObject};
 ghost use Rattle.reuse_undo.specs.RowLines.{AppendsSome};
 
@@ -162,24 +163,20 @@ fn outcome_value(alloc: Global, outcome: &str, path: &PathText) -> Result<Value,
 fn print_refused<W: Write>(out: &mut W, alloc: Global, refusal: &Refusal) -> io::Result<()>
     ensures { OnOk result (AppendsSome (W.contents out.old) (W.contents out.new) (IsFateObject (Fate.Refused refusal.now))) }
 {
-    let reason = format!(in alloc; "{refusal}")?;
-    print_reason(out, alloc, refusal, reason.as_str())
-}
-
-fn print_reason<W: Write>(
-    out: &mut W,
-    alloc: Global,
-    refusal: &Refusal,
-    reason: &str,
-) -> io::Result<()>
-    ensures { OnOk result (Appends (W.contents out.old) (W.contents out.new) (object_line (refused_value refusal.now reason.now))) }
-{
-    let value = refused_value(alloc, refusal, reason)?;
+    let value = refused_value(alloc, refusal)?;
     print_value(out, alloc, &value)
 }
 
-fn refused_value(alloc: Global, refusal: &Refusal, reason: &str) -> Result<Value, AllocError>
-    ensures { IfOk result (λ value. view value ≡ refused_value refusal.now reason.now) }
+fn refused_value(alloc: Global, refusal: &Refusal) -> Result<Value, AllocError>
+    ensures { IfOk result (λ value. view value ≡ refused_value refusal.now) }
+{
+    let reason = format!(in alloc; "{refusal}")?;
+    refused_with(alloc, refusal, reason.as_str())
+}
+
+// A refusal of this text.
+fn refused_with(alloc: Global, refusal: &Refusal, reason: &str) -> Result<Value, AllocError>
+    ensures { reason.now ≡ refusal_text refusal.now → IfOk result (λ value. view value ≡ refused_value refusal.now) }
 {
     match refused_path(refusal) {
         Some(path) => { json!(in alloc; {"outcome": "refused", "path": path, "reason": reason}) }
@@ -198,6 +195,7 @@ fn refused_path(refusal: &Refusal) -> Option<&str>
         | Refusal::TooLong(path)
         | Refusal::Unrecognised(path)
         | Refusal::Header(path, _)
+        | Refusal::Amend(path, _)
         | Refusal::Exists(path)
         | Refusal::Clash(path)
         | Refusal::Moved(path)

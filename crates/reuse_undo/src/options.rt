@@ -11,6 +11,8 @@ pub enum Takes {
     Default(&'static str, &'static str),
     /// An option that may be repeated, each time with a value.
     Values(&'static str),
+    /// An option that may be repeated, each time with two values.
+    Pairs(&'static [&'static str]),
     /// An option that takes the name of a comment style.
     Style,
     /// An option that takes the name of a prefix.
@@ -146,9 +148,9 @@ pub const LOOK_JSON: Argument = Argument(
 );
 
 /// A dry run may be asked for by either name, and is printed in one way.
-const LOOK: Choice = Choice::AnyOf("look", "dry-run", "check");
+pub const LOOK: Choice = Choice::AnyOf("look", "dry-run", "check");
 
-const PRINTED: Choice = Choice::OneOf("printed", "diff", "json");
+pub const PRINTED: Choice = Choice::OneOf("printed", "diff", "json");
 
 pub const LOOKS: &[Choice] = &[LOOK, PRINTED];
 
@@ -388,12 +390,4 @@ pub const SHOW: &[Argument] = &[
     ),
     JSON,
     NUMBER,
-];
-
-/// The form of the comments, what is done if a style is unknown, and those of each dry run.
-pub const ANNOTATE_CHOICES: &[Choice] = &[
-    Choice::OneOf("form", "single-line", "multi-line"),
-    Choice::OneOf("unknown", "fallback-dot-license", "skip-unrecognised"),
-    LOOK,
-    PRINTED,
 ];

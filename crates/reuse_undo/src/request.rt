@@ -56,7 +56,7 @@ fn done(deed: Deed, moment: Moment, texts: LicenceTexts) -> Request
     ensures { result ≡ done deed moment texts }
 {
     match deed {
-        Deed::Annotate(command) => Request::Call(Event::Run(command, moment)),
+        Deed::Run(command) => Request::Call(Event::Run(command, moment)),
         Deed::ConvertDep5 => Request::Call(Event::Run(Command::ConvertDep5, moment)),
         Deed::Download { folder: _, ids } => {
             Request::Call(Event::Run(Command::Download { ids, texts }, moment))
@@ -75,7 +75,7 @@ fn foretold(deed: Deed, texts: LicenceTexts) -> Request
     ensures { result ≡ foretold deed texts }
 {
     match deed {
-        Deed::Annotate(command) => Request::Call(Event::Preview(Call::Run(command))),
+        Deed::Run(command) => Request::Call(Event::Preview(Call::Run(command))),
         Deed::ConvertDep5 => Request::Call(Event::Preview(Call::Run(Command::ConvertDep5))),
         Deed::Download { folder: _, ids } => {
             Request::Call(Event::Preview(Call::Run(Command::Download { ids, texts })))

@@ -60,6 +60,7 @@ pub fn command_word(command: CommandName) -> &'static str
         CommandName::ConvertDep5 => "convert-dep5",
         CommandName::Download => "download",
         CommandName::Revert => "revert",
+        CommandName::Amend => "amend",
     }
 }
 

@@ -67,6 +67,7 @@ fn line_status(fault: &LineFault) -> u8
         LineFault::Usage(_)
         | LineFault::BadPath(_)
         | LineFault::BadAdditions(_)
+        | LineFault::NothingToAmend
         | LineFault::BadGlob(_)
         | LineFault::Unreadable(_) => 2,
     }

@@ -1,15 +1,24 @@
 //! The subcommands of the command line, as tables.
+use crate::amend_options::{AMEND, AMEND_CHOICES};
 use crate::help::{
-    AFTER_ANNOTATE, AFTER_CONVERT, AFTER_DOWNLOAD, AFTER_FORGET, AFTER_LOG, AFTER_RECOVER,
-    AFTER_REDO, AFTER_REVERT, AFTER_SHOW, AFTER_UNDO,
+    AFTER_AMEND, AFTER_ANNOTATE, AFTER_CONVERT, AFTER_DOWNLOAD, AFTER_FORGET, AFTER_LOG,
+    AFTER_RECOVER, AFTER_REDO, AFTER_REVERT, AFTER_SHOW, AFTER_UNDO,
 };
 use crate::options::{
-    ANNOTATE, ANNOTATE_CHOICES, CHECK, DIFF, DOWNLOAD, DRY_RUN, EXIT_NON_ZERO, FORGET, JSON,
-    LOOK_JSON, LOOKS, RECOVER, REVERT, SHOW, Subcommand,
+    ANNOTATE, CHECK, Choice, DIFF, DOWNLOAD, DRY_RUN, EXIT_NON_ZERO, FORGET, JSON, LOOK, LOOK_JSON,
+    LOOKS, PRINTED, RECOVER, REVERT, SHOW, Subcommand,
 };
 
-/// The subcommands that make steps, and those that take them back and make them again.
-pub const STEPS: &[Subcommand] = &[
+/// The form of the comments, what is done if a style is unknown, and those of each dry run.
+const ANNOTATE_CHOICES: &[Choice] = &[
+    Choice::OneOf("form", "single-line", "multi-line"),
+    Choice::OneOf("unknown", "fallback-dot-license", "skip-unrecognised"),
+    LOOK,
+    PRINTED,
+];
+
+/// The subcommands that write the headers of files.
+pub const HEADERS: &[Subcommand] = &[
     Subcommand(
         "annotate",
         "Add copyright and licensing information to files",
@@ -17,6 +26,17 @@ pub const STEPS: &[Subcommand] = &[
         ANNOTATE,
         ANNOTATE_CHOICES,
     ),
+    Subcommand(
+        "amend",
+        "Change the copyright and licensing information that files have",
+        AFTER_AMEND,
+        AMEND,
+        AMEND_CHOICES,
+    ),
+];
+
+/// The other subcommands that make steps, and those that take them back and make them again.
+pub const STEPS: &[Subcommand] = &[
     Subcommand(
         "convert-dep5",
         "Put a REUSE.toml in the place of .reuse/dep5",

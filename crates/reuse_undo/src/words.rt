@@ -1,4 +1,6 @@
 //! From the words of a command line to what they ask for.
+mod amend_words;
+
 use crate::arguments::whole;
 use crate::date::year_of;
 use crate::disk::{OwnerChange, Syncs};
@@ -9,6 +11,7 @@ use crate::line::{
 use crate::place_word::place_of_word;
 use crate::prefix_name::prefix_of_name;
 use crate::settings::Settings;
+use amend_words::read_amendments;
 use clap::error::ErrorKind;
 use clap::{ArgMatches, Error};
 use reuse_header::{Form, How, Style};
@@ -24,7 +27,7 @@ pub struct Said {
     pub verbose: bool,
     /// What is asked for of all calls alike.
     pub settings: Settings,
-    /// The file that lists the files of an annotation, where one is named.
+    /// The file that lists the files to be annotated or amended, where one is named.
     pub files_from: Option<String>,
     pub asked: Result<Asked, LineFault>,
 }
@@ -45,7 +48,7 @@ impl Said {
 /// moment.
 ///
 /// Faults come in this order: those of the words themselves, the first word that names no place, those of what
-/// `annotate` is to add, and the first glob that is none.
+/// `annotate` is to add or `amend` to change, and the first glob that is none.
 pub fn words_to_command(alloc: Global, words: &[String], moment: Moment) -> Said {
     match matches_of(alloc, words) {
         Ok(matches) => match files_from(alloc, &matches) {
@@ -153,7 +156,8 @@ fn read_action(
     let deed = match name {
         "log" => return Ok(Action::Log),
         "show" => return Ok(Action::Show(read_number(matches))),
-        "annotate" => Deed::Annotate(read_annotate(alloc, matches, moment)?),
+        "annotate" => Deed::Run(read_annotate(alloc, matches, moment)?),
+        "amend" => Deed::Run(read_amend(alloc, matches)?),
         "convert-dep5" => Deed::ConvertDep5,
         "download" => Deed::Download {
             folder: read_texts(alloc, matches)?,
@@ -250,6 +254,14 @@ fn read_annotate(
     })
 }
 
+fn read_amend(alloc: Global, matches: &ArgMatches<'_>) -> Result<Command, LineFault> {
+    Ok(Command::Amend {
+        places: read_places(alloc, matches)?,
+        amendments: read_amendments(alloc, matches)?,
+        scope: read_scope(alloc, matches)?,
+    })
+}
+
 fn read_places(alloc: Global, matches: &ArgMatches<'_>) -> Result<Places, LineFault> {
     let mut places = Vec::new(alloc);
     for word in matches.get_strs("PATH").unwrap_or(&[]) {
@@ -266,9 +278,14 @@ fn read_place(alloc: Global, word: &str) -> Result<Place, LineFault> {
 }
 
 fn read_prefix(alloc: Global, matches: &ArgMatches<'_>) -> Result<Prefix, LineFault> {
-    let Some(name) = matches.get_str("copyright-prefix") else {
-        return Ok(Prefix::Spdx);
-    };
+    match matches.get_str("copyright-prefix") {
+        Some(name) => prefix_in(alloc, name),
+        None => Ok(Prefix::Spdx),
+    }
+}
+
+/// The prefix of this name. The command line takes no other names.
+fn prefix_in(alloc: Global, name: &str) -> Result<Prefix, LineFault> {
     match prefix_of_name(name) {
         Some(prefix) => Ok(prefix),
         None => Err(unread(alloc, "a prefix that nothing reads")?),
@@ -300,6 +317,7 @@ fn read_how(matches: &ArgMatches<'_>) -> How {
     }
 }
 
+/// Which files are taken. Options that a subcommand hasn't are as if they weren't given.
 fn read_scope(alloc: Global, matches: &ArgMatches<'_>) -> Result<Scope, LineFault> {
     let unknown = if matches.get_flag("fallback-dot-license") {
         Unknown::Neighbour

@@ -60,7 +60,7 @@ pub struct RootFolder<R: Files<File = File> + AllocGlobal + Clone + Drop> {
 impl<R: Files<File = File> + AllocGlobal + Clone + Drop> RootFolder<R> {
     /// The folder at this path, in which what is written is made lasting or not.
     pub fn new(rt: R, root: String, syncs: Syncs, keeping: Keeping) -> RootFolder<R> {
-        let trail = Trail::new(rt.alloc(), root, keeping.is_of_root());
+        let trail = Trail::new(rt.alloc(), root, keeping.process());
         let listed = String::new(rt.alloc());
         let unsynced = Unsynced::new(rt.alloc(), syncs);
         let reads = Vec::new(rt.alloc());

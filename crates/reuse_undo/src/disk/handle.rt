@@ -9,6 +9,7 @@ use crate::disk::bare::is_bare_repository;
 use crate::disk::fault::{FolderFault, Obstacle};
 use crate::disk::owner::Owner;
 use crate::disk::place::{FileStatus, Found, Identity, look_at};
+use crate::disk::process::ProcessIds;
 use std::alloc::{AllocError, Global};
 use std::fs::{self, File, Metadata, OpenOptions};
 use std::io::{self, ErrorKind};
@@ -42,8 +43,7 @@ pub struct OpenFolder {
 struct Ways {
     /// Whether the system shows a handle as a path, so that calls go through it.
     is_shown: bool,
-    /// The process' effective user, if that is known.
-    user: Option<u32>,
+    process: ProcessIds,
 }
 
 /// What stands at a name: a folder, which is opened, or anything else.
@@ -56,7 +56,7 @@ pub enum Below {
 }
 
 impl OpenFolder {
-    /// The root at this path. A root that is a link to a folder will do.
+    /// The root at this path, opened by this process. A root that is a link to a folder will do.
     ///
     /// # Errors
     /// `NoRoot` if the path is empty; `Changing` if another folder took its place; else what the
@@ -65,13 +65,15 @@ impl OpenFolder {
         rt: &impl Files<File = File>,
         alloc: Global,
         root: &str,
+        process: ProcessIds,
     ) -> Result<OpenFolder, FolderFault> {
         let path = root_path(alloc, root)?;
         let identity = root_identity(rt, path.as_str())?;
         let handle = open_folder(rt, path.as_str())?;
+        let shown = handle_path(alloc, &handle, process)?;
         let ways = Ways {
-            is_shown: is_shown(rt, alloc, &handle, identity)?,
-            user: own_user(rt),
+            is_shown: is_shown(rt, shown.as_str(), identity),
+            process,
         };
         OpenFolder::of(alloc, handle, path, ways)?.seen_as(identity)
     }
@@ -85,7 +87,7 @@ impl OpenFolder {
     ) -> Result<OpenFolder, FolderFault> {
         let metadata = handle.metadata()?;
         let prefix = if ways.is_shown {
-            handle_path(alloc, &handle)?
+            handle_path(alloc, &handle, ways.process)?
         } else {
             path
         };
@@ -94,7 +96,7 @@ impl OpenFolder {
             identity: Identity::of(&metadata),
             prefix,
             ways,
-            is_shared: is_shared(&metadata, ways.user),
+            is_shared: is_shared(&metadata, ways.process.user),
             owner: Owner::of(&metadata),
             passes_group: metadata.mode() & PASSES_GROUP != 0,
         })
@@ -304,36 +306,28 @@ fn seen_file(opened: io::Result<File>, seen: FileStatus) -> Result<Option<File>,
     }
 }
 
-/// The process' effective user, to whom the system's folder of the process belongs.
-fn own_user(rt: &impl Files) -> Option<u32> {
-    match fs::metadata(rt, "/proc/self") {
-        Ok(metadata) => Some(metadata.uid()),
-        Err(_) => None,
-    }
-}
-
 /// Whether others than this user, and root, may put something else at a name in this folder.
-fn is_shared(folder: &Metadata, user: Option<u32>) -> bool {
+fn is_shared(folder: &Metadata, user: u32) -> bool {
     let owner = folder.uid();
-    let is_of_other = owner != 0 && user != Some(owner);
+    let is_of_other = owner != 0 && owner != user;
     is_of_other || folder.mode() & WRITTEN_BY_OTHERS != 0
 }
 
-/// The path at which the system shows an open folder of this process.
-fn handle_path(alloc: Global, handle: &File) -> Result<String, AllocError> {
-    format!(in alloc; "/proc/self/fd/{}/", handle.as_raw_fd())
+/// The path at which the system shows an open folder of this process. By the number of the process
+/// the system comes there sooner than by `self`, which is a link.
+fn handle_path(alloc: Global, handle: &File, process: ProcessIds) -> Result<String, AllocError> {
+    let handle = handle.as_raw_fd();
+    match process.number {
+        Some(number) => format!(in alloc; "/proc/{number}/fd/{handle}/"),
+        None => format!(in alloc; "/proc/self/fd/{handle}/"),
+    }
 }
 
-/// Whether the system shows this open folder as a path.
-fn is_shown(
-    rt: &impl Files,
-    alloc: Global,
-    handle: &File,
-    identity: Identity,
-) -> Result<bool, AllocError> {
-    match fs::metadata(rt, handle_path(alloc, handle)?.as_str()) {
-        Ok(metadata) => Ok(Identity::of(&metadata) == identity),
-        Err(_) => Ok(false),
+/// Whether the system shows this folder at this path.
+fn is_shown(rt: &impl Files, path: &str, identity: Identity) -> bool {
+    match fs::metadata(rt, path) {
+        Ok(metadata) => Identity::of(&metadata) == identity,
+        Err(_) => false,
     }
 }
 

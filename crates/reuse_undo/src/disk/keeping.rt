@@ -15,6 +15,7 @@ use crate::disk::kept_out::is_in_journal;
 use crate::disk::new_file::Wanted;
 use crate::disk::owner::{Owner, Process};
 use crate::disk::place::FileStatus;
+use crate::disk::process::ProcessIds;
 
 /// Whether a file may be written anew that can't keep its owner.
 #[derive(Clone, Copy, Debug, PartialEq, Eq)]
@@ -75,9 +76,9 @@ impl Keeping {
         self.process.user
     }
 
-    /// Whether the process is root's.
-    pub fn is_of_root(&self) -> bool {
-        self.process.user == 0
+    /// Which process it is, and whose.
+    pub fn process(&self) -> ProcessIds {
+        self.process.ids()
     }
 
     /// What was done so far.

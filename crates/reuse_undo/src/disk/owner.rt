@@ -35,6 +35,8 @@ impl Rights {
 /// Whom the process acts for.
 #[derive(Drop)]
 pub struct Process {
+    /// The number of the process itself, if the system shows it.
+    pub number: Option<u32>,
     /// The effective user.
     pub user: u32,
     /// The effective group.

@@ -6,6 +6,7 @@ use crate::disk::fault::{FolderFault, Obstacle};
 use crate::disk::handle::{Below, OpenFolder};
 use crate::disk::made_folder::open_made_by_root;
 use crate::disk::place::{Found, Place, folder_and_name};
+use crate::disk::process::ProcessIds;
 use crate::disk::syncs::Unsynced;
 use std::alloc::{AllocError, Global};
 use std::fs::{self, File};
@@ -26,19 +27,19 @@ struct Step {
 pub struct Trail {
     /// The path of the root.
     root: String,
-    /// Whether the process is root's: what it makes is given to the owner of the folder above.
-    is_of_root: bool,
+    /// The process. What root makes is given to the owner of the folder above.
+    process: ProcessIds,
     /// The first one is the root. There is none until the root is asked for.
     steps: Vec<Step>,
 }
 
 impl Trail {
-    /// The trail that begins at the root of this path, of a process that is root's or not. Nothing is
-    /// asked of the system yet.
-    pub fn new(alloc: Global, root: String, is_of_root: bool) -> Trail {
+    /// The trail of this process that begins at the root of this path. Nothing is asked of the system
+    /// yet.
+    pub fn new(alloc: Global, root: String, process: ProcessIds) -> Trail {
         Trail {
             root,
-            is_of_root,
+            process,
             steps: Vec::new(alloc),
         }
     }
@@ -67,7 +68,7 @@ impl Trail {
         folder: &str,
     ) -> Result<(), FolderFault> {
         if self.steps.is_empty() {
-            let root = OpenFolder::root(rt, alloc, self.root.as_str())?;
+            let root = OpenFolder::root(rt, alloc, self.root.as_str(), self.process)?;
             self.push(String::new(alloc), root)?;
         }
         for _ in 0..self.steps.len() {
@@ -196,7 +197,7 @@ impl Trail {
             Below::Other(Found::Nothing) => {
                 unsynced.note(alloc, self.path())?;
                 fs::create_dir(rt, above.path_of(alloc, name)?.as_str())?;
-                if self.is_of_root {
+                if self.process.is_of_root() {
                     return open_made_by_root(rt, alloc, above, name);
                 }
                 above.open_below(rt, alloc, name)
