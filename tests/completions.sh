@@ -101,9 +101,11 @@ for subcommand in $(help_subcommands); do
   [[ $subcommand == help ]] || completes "$subcommand" -- gives $(longs "$subcommand" | sort -u)
 done
 completes annotate --style '' gives $(help_values style)
+completes amend -s '' gives $(help_values style)
 completes annotate --copyright-prefix '' gives $(help_values copyright-prefix)
 
 completes an gives annotate
+completes am gives amend
 completes --ro gives --root
 completes --root ../there und gives undo
 completes help re gives recover redo revert
@@ -111,6 +113,11 @@ completes help log -- gives
 completes annotate --co gives --contributor --copyright --copyright-prefix --copyright-style
 completes annotate --s gives --single-line --skip-existing --skip-unrecognised --style
 completes fo gives forget
+completes amend --r gives --recursive --remove-contributor --remove-holder --remove-license \
+  --replace-contributor --replace-holder --replace-license --root
+completes amend --copyright-prefix spdx-c gives spdx-c
+completes amend --replace-license MIT ISC s gives setup.py source
+completes amend --until 2026 source/ gives source/a.py source/deep
 completes annotate --f gives --fallback-dot-license --files-from --force-dot-license
 completes annotate --files-from s gives setup.py source
 completes annotate -s h gives html haskell

@@ -219,6 +219,33 @@ habits() {
   has "$ours" a.py 'x\n'
 }
 
+changes() {
+  row 'another licence' a.py "$tag\n\nx\n"
+  tool 0 '' annotate -l ISC a.py
+  has "$theirs" a.py "# SPDX-License-Identifier: ISC\n$tag\n\nx\n"
+  program 0 'changed a.py' amend --replace-license MIT ISC a.py
+  has "$ours" a.py '# SPDX-License-Identifier: ISC\n\nx\n'
+
+  row 'another name of a holder' a.py "$jane\n\nx\n"
+  tool 0 '' annotate -c 'Jane Roe' -y 2024 a.py
+  has "$theirs" a.py "$jane\n# SPDX-FileCopyrightText: 2024 Jane Roe\n\nx\n"
+  program 0 'changed a.py' amend --replace-holder 'Jane Doe' 'Jane Roe' a.py
+  has "$ours" a.py '# SPDX-FileCopyrightText: 2024 Jane Roe\n\nx\n'
+
+  row 'years up to date' a.py "$jane\n\nx\n" b.py "$tag\n\nx\n"
+  tool 0 '' annotate -c 'Jane Doe' -y 2026 --merge-copyrights a.py b.py
+  has "$theirs" a.py '# SPDX-FileCopyrightText: 2024 - 2026 Jane Doe\n\nx\n'
+  grep -q 'Jane Doe' "$theirs/b.py" || fail "$what: the tool leaves a file without her"
+  program 0 'changed a.py' amend --until 2026 --holder 'Jane Doe' a.py b.py
+  has "$ours" a.py '# SPDX-FileCopyrightText: 2024 - 2026 Jane Doe\n\nx\n'
+  has "$ours" b.py "$tag\n\nx\n"
+
+  row 'a contributor, holder or licence goes' a.py "$jane\n# SPDX-FileContributor: Joe Bloggs\n#\n$tag\n\nx\n"
+  tool 2 'unrecognized arguments' annotate -l MIT --remove-contributor=Joe a.py
+  program 0 'changed a.py' amend --remove-contributor 'Joe Bloggs' a.py
+  has "$ours" a.py "$jane\n#\n$tag\n\nx\n"
+}
+
 other_words() {
   # No network is asked: the proxy isn't there.
   row '`download ID`'
@@ -247,10 +274,11 @@ other_words() {
 }
 
 # The first cells of a document's tables, but for their heads
-cells() { sed -nE '/^\|/{s/^\| ([^|]*) \|.*/\1/p}' "$1" | grep -vxE -- '-+|the reuse tool|habit|.*---.*'; }
+cells() { sed -nE '/^\|/{s/^\| ([^|]*) \|.*/\1/p}' "$1" | grep -vxE -- '-+|the reuse tool|habit|task|.*---.*'; }
 
 options
 habits
+changes
 other_words
 diff <(sort "$room/rows") <(cells "$document" | sort) ||
   fail 'the rows that were tried are not those of the document'

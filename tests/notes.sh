@@ -73,6 +73,8 @@ words() {
   files a.py 'x\n'
   notes annotate -c A -y 24 a.py : 'a year has four digits; .*--year 2019 --year 2024'
   notes annotate a.py :
+  notes amend a.py : 'say what is to be changed, as by --replace-license .*'
+  notes amend --until 26 a.py : 'a year has four digits; .*'
   # Before the subcommand, behind it, and long
   for place in "-v --root $tree undo" "--root $tree undo -v" "undo --root $tree --verbose"; do
     # shellcheck disable=SC2086

@@ -198,10 +198,15 @@ mounted() {
     cmp -s - "$room/out" || fail "below a mount: $(cat "$room/out")"
 }
 
-# Where the system doesn't show open folders, they are sought by their paths, and a note tells.
+# Where the system doesn't show open folders, they are sought by their paths, and a note tells. Nor
+# does it show the process' user: each file and each journal counts as another user's.
 without_proc() {
-  local script='mount -t tmpfs none /proc && "$2" -v --root "$1" annotate -l MIT -r . &&
-    "$2" undo --root "$1"'
+  local script='mount -t tmpfs none /proc || exit
+    "$2" --root "$1" annotate -l MIT -r .
+    "$2" -v --root "$1" annotate --allow-owner-change -l MIT -r .
+    "$2" undo --root "$1"
+    "$2" undo --root "$1" --trust-journal
+    "$2" undo --root "$1" --trust-journal --allow-owner-change'
   anew
   mkdir "$tree/in"
   echo x > "$tree/in/a.py"
@@ -211,9 +216,11 @@ without_proc() {
   fi
   unshare -m bash -c "$script" bash "$tree" "$program" > "$room/out" 2>&1 ||
     fail "without /proc: $(cat "$room/out")"
-  printf '%s\n' 'changed in/a.py' \
+  printf '%s\n' 'reuse-undo: in/a.py: cannot keep its owner' 'changed in/a.py' \
     'reuse-undo: note: 1 file changed; reuse-undo undo takes that back' \
-    'reuse-undo: note: there is no /proc: no other program may move folders or make links here meanwhile' 'undone in/a.py' |
+    'reuse-undo: note: there is no /proc: no other program may move folders or make links here meanwhile' \
+    'reuse-undo: journal of another user' 'reuse-undo: in/a.py: cannot keep its owner' \
+    'undone in/a.py' |
     cmp -s - "$room/out" || fail "without /proc: $(cat "$room/out")"
 }
 

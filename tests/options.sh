@@ -1,5 +1,5 @@
 #!/usr/bin/env bash
-# Runs words with each option of annotate, words that ask for help, words that are refused, and words for places, and compares as worked_lines.sh
+# Runs words with each option of annotate, words of amend that are refused, words that ask for help, words that are refused, and words for places, and compares as worked_lines.sh
 # does, whose functions it takes. Ends with status 1 at the first fault.
 # usage: tests/options.sh PROGRAM
 # The tags below are data: REUSE-IgnoreStart
@@ -122,6 +122,46 @@ words() {
   tells log 0 ''
 }
 
+# Words of amend that are refused: without something to be changed, with a value that can't be written
+# or sought, or with an option that wants another one
+amend_words() {
+  local line option before
+  files a.py "$tagged"
+  before=$(files_of "$tree")
+  run 'amend|--help'
+  [[ $status == 0 && $out == 'Change the copyright and licensing information'* && ! $error ]] || differs 'amend --help'
+  for option in '--replace-license <OLD> <NEW>' '--remove-license <EXPR>' '--replace-holder <OLD> <NEW>' '--remove-holder <HOLDER>' \
+    '--replace-contributor <OLD> <NEW>' '--remove-contributor <TEXT>' '--until <YEAR>' '--copyright-prefix <NAME>' '--holder <HOLDER>' \
+    '-s, --style <NAME>' '-r, --recursive' '--files-from <FILE>' '--exclude <GLOB>' '-n, --dry-run' --check --diff --json; do
+    [[ $out == *" $option "* || $out == *" $option"$'\n'* ]] || differs "help of amend without $option"
+  done
+  for line in 'a.py' '-r|.' 'a.py|--dry-run' '-s|python|a.py'; do tells "amend|$line" 2 'nothing to amend'; done
+  for line in '--holder|A|a.py' '--holder|A|--remove-holder|B|a.py'; do refuses "amend|$line" '--until <YEAR>'; done
+  for line in '--replace-license|MIT' '--replace-holder|A' '--replace-contributor|A'; do refuses "amend|$line" 'values required'; done
+  refuses 'amend|--until|2026' PATH
+  refuses 'amend|--until|2026|--until|2027|a.py' 'cannot be used multiple times'
+  refuses 'amend|--copyright-prefix|none|a.py' 'invalid value'
+  refuses 'amend|--until|2026|--style|none|a.py' 'invalid value'
+  refuses 'amend|--until|2026|--exclude|x|a.py' --recursive
+  refuses 'amend|--until|2026|--diff|a.py' --dry-run
+  refuses 'amend|--until|2026|--force-dot-license|a.py' 'unexpected argument'
+  tells 'amend|--replace-license|MIT|ISC AND|a.py' 2 'bad licence expression at 7: ISC AND'
+  tells 'amend|--replace-license|MIT||a.py' 2 'bad licence expression at 0: '
+  for option in license holder contributor; do
+    tells "amend|--replace-$option| |ISC|a.py" 2 'bad text: '
+    tells "amend|--remove-$option||a.py" 2 'bad text: '
+  done
+  tells $'amend|--replace-holder|A|\t|a.py' 2 'bad text: \t'
+  tells 'amend|--replace-contributor|A|REUSE-IgnoreStart|a.py' 2 'bad text: REUSE-IgnoreStart'
+  tells 'amend|--until|2026|--holder| |a.py' 2 'bad text: '
+  tells 'amend|--until|26|a.py' 2 'bad year: 26'
+  tells 'amend|--until|26|--remove-holder||a.py' 2 'bad text: '
+  tells 'amend|--until|26|../a' 2 'bad path: ../a'
+  tells 'amend|--until|26|-r|--exclude|a\b|.' 2 'bad year: 26'
+  tells 'amend|--until|2026|-r|--exclude|a\b|.' 2 'bad glob: a\\b'
+  has_just 'words of amend that are refused' "$before"
+}
+
 # The place that a word names
 place_words() {
   local word place before=(a.py 'x\n' a/b 'x\n' a/..b 'x\n')
@@ -136,5 +176,5 @@ place_words() {
     '|none' '/|none' './/|none' 'a//|none' 'a//b|none' 'a/..|none' '../a|none' "$tree/a.py|none")
 }
 
-for group in settings texts words place_words; do $group; done
+for group in settings texts words amend_words place_words; do $group; done
 tell_counts

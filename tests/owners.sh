@@ -173,6 +173,16 @@ in_team() {
   does '' $two annotate -n "${jane[@]}" a.py
 }
 
+# A program whose name the system cuts within a letter: whose process it is is known all the same.
+cut_name() {
+  local program=$room/reuse-undo--prüf
+  cp "$room/program" "$program"
+  stand $one:$one "a.py $one:$one 644"
+  does '' $one annotate "${jane[@]}" a.py
+  does '' $one undo
+  rm "$program"
+}
+
 # A group that the owner isn't in
 other_group() {
   stand $one:$one "a.py $one:0 644" "b.py $one:0 640" "c.py $one:0 664" "d.py $one:0 604"
@@ -268,5 +278,5 @@ lists() {
     fail 'SECURITY.md says that a list is lost'
 }
 
-for group in as_root setgid in_team other_group rollback journals links lists; do $group; done
+for group in as_root setgid in_team cut_name other_group rollback journals links lists; do $group; done
 echo "$checks looks at owners, groups and bits, of root and of two users"

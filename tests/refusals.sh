@@ -76,6 +76,7 @@ places() {
   refused 1 'src: is a folder' annotate -l MIT src
   refused 1 '.: is a folder' annotate -l MIT .
   refused 1 'src/LICENSE: not covered' annotate -l MIT src/LICENSE
+  refused 1 'src/LICENSE: not covered' amend --until 2026 src/LICENSE
   refused 1 'b.xyz: unrecognised' annotate -l MIT a.py b.xyz
   refused 1 'a.py: no such form' annotate -l MIT --multi-line a.py
   files a.py 'x\n' .reuse/styles.toml '['
@@ -91,6 +92,22 @@ places() {
   refused 1 'a.py: too long' annotate -l MIT a.py
   truncate -s 16777216 "$tree/a.py"
   refused 1 'a.py: too long' annotate -l MIT a.py
+}
+
+amendments() {
+  files a.py '# SPDX-License-Identifier: MIT\n' b.py '# SPDX-License-Identifier: MIT WITH x\n' \
+    c.css '/*\n * SPDX-FileContributor: A\n */\n' p.png '\0211' p.png.license '\0'
+  refused 1 'a.py: nothing left' amend --remove-license MIT a.py
+  refused 1 'b.py: bad licence expression' amend --replace-license MIT 'MIT OR ISC' a.py b.py
+  refused 1 'c.css: holds the closer' amend --replace-contributor A '*/' c.css
+  refused 1 'p.png: neighbour is not text' amend --until 2026 p.png
+  refused 1 'zz: no such path' amend --until 2026 a.py zz
+  refused 2 'bad licence expression at 4: MIT ISC' amend --replace-license MIT 'MIT ISC' a.py
+  refused 2 'bad text: ' amend --remove-holder ' ' a.py
+  refused 2 'bad year: 26' amend --until 26 a.py
+  refused 2 'nothing to amend' amend --style python a.py
+  refused_words --root "$tree" amend --until 2026
+  refused_words --root "$tree" amend --holder A a.py
 }
 
 # A dep5 with this text behind the field Format
@@ -213,5 +230,5 @@ faults() {
     fail 'annotate to a full device: the file is not changed'
 }
 
-for group in words places conversions downloads histories bad_journals faults; do $group; done
+for group in words places amendments conversions downloads histories bad_journals faults; do $group; done
 echo "$refusals refusals are as stated"

@@ -41,9 +41,9 @@ named() {
     }
     / (openat|fcntl)\(/ { next }
     {
-      while (match($0, "/proc/self/fd/[0-9]+")) {
-        handle = substr($0, RSTART + 14, RLENGTH - 14)
-        $0 = substr($0, 1, RSTART - 1) folder[handle] substr($0, RSTART + RLENGTH)
+      while (match($0, "/proc/[0-9]+/fd/[0-9]+")) {
+        split(substr($0, RSTART, RLENGTH), parts, "/")
+        $0 = substr($0, 1, RSTART - 1) folder[parts[5]] substr($0, RSTART + RLENGTH)
       }
       print
     }' "$room/trace"

@@ -1,0 +1,200 @@
+#!/usr/bin/env bash
+# Amends trees: worked examples (amend/examples.txt); random trees and options against the rules
+# told once more (amend/retelling.py), each taken back and made again byte for byte; folders, lists,
+# globs, refusals, diffs, JSON and statuses; and four tasks on 600 files, which Debian's reuse
+# judges if it is installed: another licence, another name of a holder, years of one holder, a
+# contributor removed.
+# TREES: how many random trees (300). SEED: the number of the first (1).
+# usage: tests/amend.sh PROGRAM
+# The tags below are data: REUSE-IgnoreStart
+set -euo pipefail
+. "$(dirname "$0")/common.sh"
+wants python3 python3
+here=$(realpath "$(dirname "$0")")/amend
+export PYTHONDONTWRITEBYTECODE=1
+tree=$room/tree
+mit='# SPDX-License-Identifier: MIT\n' isc='# SPDX-License-Identifier: ISC\n'
+
+# What a call of amend prints, and its status
+told() {
+  local status=0
+  "$program" --root "$tree" amend "$@" > "$room/told" 2>&1 || status=$?
+  cat "$room/told"
+  echo "status $status"
+}
+
+is() { [[ $1 == "$2" ]] || fail "$3: $1"; }
+
+has_line() { grep -qxF -- "$2" "$1" || fail "no line $2: $(< "$1")"; }
+
+holds() { [[ $(printf %b "$2") == "$(< "$tree/$1")" ]] || fail "$1 holds $(< "$tree/$1")"; }
+
+# Which files are taken, and what is refused
+calls() {
+  local change=(--replace-license MIT ISC)
+  files a.py "$mit" src/b.py "$mit" src/deep/c.py "$mit" build/d.py "$mit" e.xyz "$mit"
+  is "$(told "${change[@]}" a.py e.xyz)" $'changed a.py\nstatus 0' 'given files'
+  holds a.py "$isc"
+  is "$(told "${change[@]}" a.py)" $'nothing changed\nstatus 0' 'the same call again'
+  is "$("$program" --root "$tree" log | sed -E 's/ [0-9-]{10} / DATE /')" \
+    '1 DATE amend 1 done' 'the log'
+  is "$("$program" --root "$tree" show 1 | tail -n 1)" 'changed a.py' 'the step'
+  is "$(told "${change[@]}" src)" \
+    $'reuse-undo: src: is a folder\nstatus 1' 'a folder without --recursive'
+  is "$(told "${change[@]}" src/b.py none.py)" \
+    $'reuse-undo: none.py: no such path\nstatus 1' 'a path that is not there'
+  is "$(told "${change[@]}" -r src --exclude deep --exclude '**/deep')" \
+    $'changed src/b.py\nstatus 0' 'a glob'
+  is "$(printf 'src/deep/c.py\nbuild/none.py\n' | told "${change[@]}" -r --files-from - .)" \
+    $'changed src/deep/c.py\nstatus 0' 'a list'
+  is "$(told "${change[@]}" -r . --style python --dry-run)" \
+    "$(printf '%s\n' 'unchanged a.py' 'would change build/d.py' 'would change e.xyz' \
+      'unchanged src/b.py' 'unchanged src/deep/c.py' 'status 0')" 'a dry run'
+  is "$(told "${change[@]}" --check build/d.py)" $'would change build/d.py\nstatus 1' 'a check'
+  is "$(told "${change[@]}" --check a.py)" $'unchanged a.py\nstatus 0' 'a check without a change'
+  is "$(told "${change[@]}" --dry-run --json build/d.py)" \
+    $'{"outcome":"would change","path":"build/d.py"}\nstatus 0' 'JSON'
+  is "$(told --remove-license MIT --dry-run --json build/d.py)" \
+    "$(printf '%s\n' '{"outcome":"refused","path":"build/d.py","reason":"build/d.py: nothing left"}' \
+      'reuse-undo: build/d.py: nothing left' 'status 1')" 'JSON of a refusal'
+  told "${change[@]}" --dry-run --diff build/d.py > "$room/diff"
+  has_line "$room/diff" '-# SPDX-License-Identifier: MIT'
+  has_line "$room/diff" '+# SPDX-License-Identifier: ISC'
+  is "$(told "${change[@]}" --exit-non-zero-on-change build/d.py)" \
+    $'changed build/d.py\nstatus 1' 'a status for a change'
+  is "$(told "${change[@]}" --exit-non-zero-on-change build/d.py)" \
+    $'nothing changed\nstatus 0' 'a status without a change'
+  # One refused file leaves the others.
+  files a.py "$mit" b.py "$mit${isc}" c.py '# SPDX-License-Identifier: MIT WITH x\n'
+  is "$(told --remove-license MIT -r .)" $'reuse-undo: a.py: nothing left\nstatus 1' 'nothing left'
+  is "$(told --replace-license MIT 'ISC OR 0BSD' -r .)" \
+    $'reuse-undo: c.py: bad licence expression\nstatus 1' 'a bad expression'
+  holds b.py "$mit$isc"
+  # A revert takes the amendment out of a file that was edited below it.
+  files a.py "$mit\nx = 1\n"
+  is "$(told "${change[@]}" a.py)" $'changed a.py\nstatus 0' 'before an edit'
+  echo 'y = 2' >> "$tree/a.py"
+  "$program" --root "$tree" revert 1 > "$room/told" || fail 'revert of an amendment'
+  holds a.py "$mit\nx = 1\ny = 2\n"
+}
+
+# Metadata, and the notes of refusals
+metadata() {
+  local line
+  files a.py "$mit"
+  make_dep5 "$tree"
+  is "$(told --until 2026 .reuse/dep5)" $'reuse-undo: .reuse/dep5: not covered\nstatus 1' 'a dep5'
+  "$program" --root "$tree" -v amend --until 2026 .reuse/dep5 > "$room/told" 2>&1 || true
+  grep -q '^reuse-undo: note: .*convert-dep5' "$room/told" ||
+    fail "the note of a dep5: $(< "$room/told")"
+  "$program" --root "$tree" -v amend --remove-license MIT a.py > "$room/told" 2>&1 || true
+  grep -q '^reuse-undo: note: neither a licence' "$room/told" ||
+    fail "the note of nothing left: $(< "$room/told")"
+  is "$(told --until 2026 -r .)" $'nothing changed\nstatus 0' 'a dep5 beneath a folder'
+  files a.proto '// SPDX-License-Identifier: MIT\n' \
+    .reuse/styles.toml 'version = 1\n[styles]\n".proto" = "c"\n'
+  is "$(told --replace-license MIT ISC -r .)" $'changed a.proto\nstatus 0' "the tree's own styles"
+  files a.py "$mit" .reuse/styles.toml 'version = 2\n'
+  is "$(told --replace-license MIT ISC a.py)" \
+    $'reuse-undo: .reuse/styles.toml: bad styles\nstatus 1' 'bad styles'
+}
+
+# A tree of 600 files with headers and neighbours, which reuse calls compliant
+make_tree() {
+  python3 - "$1" << 'PYTHON'
+import os
+import sys
+
+root = sys.argv[1]
+names = ["a.py", "b.c", "c.css", "d.html", "e.lua", "f.el", "g.ml", "h.png"]
+marks = [("# ", None), ("// ", None), (" * ", ("/*", " */")), ("", ("<!--", "-->")), ("-- ", None),
+         (";; ", None), (" * ", ("(*", " *)")), ("", None)]
+for number in range(600):
+    kind = number % len(names)
+    lead, block = marks[kind]
+    licence = ["GPL-2.0", "MIT", "GPL-2.0 OR MIT", "MIT AND (GPL-2.0 OR MIT)"][number // 8 % 4]
+    tags = [f"SPDX-FileCopyrightText: {2000 + number % 20} Jane Doe",
+            f"SPDX-FileCopyrightText: {2010 + number % 10} Other Corp"]
+    if number % 3:
+        tags.append("SPDX-FileContributor: Joe Bloggs")
+    lines = [lead + text for text in tags + [f"SPDX-License-Identifier: {licence}"]]
+    lines = [block[0]] + lines + [block[1]] if block else lines
+    text = "".join(line + "\n" for line in lines)
+    folder = os.path.join(root, f"part{number % 25}")
+    os.makedirs(folder, exist_ok=True)
+    name = os.path.join(folder, f"{number}{names[kind]}")
+    if names[kind].endswith(".png"):
+        with open(name + ".license", "w") as out:
+            out.write(text)
+        text = "\x89PNG"
+    with open(name, "w") as out:
+        out.write(text + ("\nbody\n" if text.strip() else ""))
+os.makedirs(os.path.join(root, "LICENSES"))
+for licence in "GPL-2.0", "MIT":
+    with open(os.path.join(root, "LICENSES", licence + ".txt"), "w") as out:
+        out.write("The text.\n")
+PYTHON
+}
+
+# How many files of the tree, without licence texts, have a line with this pattern
+count() {
+  { grep -rlE --exclude-dir=LICENSES --exclude-dir=.reuse -- "$1" "$tree" || true; } | wc -l
+}
+
+sums() {
+  (cd "$tree" && find . -path ./.reuse -prune -o -type f -print0 | sort -z | xargs -0 sha256sum)
+}
+
+lints=0
+# Debian's reuse calls the tree compliant, where it is installed
+lint() {
+  command -v reuse > /dev/null || return 0
+  (cd "$tree" && LC_ALL=C.UTF-8 reuse lint) > "$room/lint" 2>&1 ||
+    fail "$1: $(tail -n 30 "$room/lint")"
+  lints=$((lints + 1))
+}
+
+# A task on the tree: its name, how many files change, the pattern that has to be gone, the one that
+# has to be in as many files, and the options
+task() {
+  local name=$1 changed=$2 gone=$3 found=$4
+  shift 4
+  sums > "$room/before"
+  told "$@" -r . > "$room/changed"
+  is "$(tail -n 1 "$room/changed")" 'status 0' "$name"
+  is "$(grep -c '^changed ' "$room/changed")" "$changed" "$name, files changed"
+  is "$(count "$gone")" 0 "$name, files with $gone"
+  (($(count "$found") >= changed)) || fail "$name: $found is in $(count "$found") files"
+  sums > "$room/after"
+  "$program" --root "$tree" undo > "$room/out"
+  sums | cmp - "$room/before" || fail "$name isn't taken back"
+  "$program" --root "$tree" redo > "$room/out"
+  sums | cmp - "$room/after" || fail "$name isn't made again"
+}
+
+tasks() {
+  rm -rf "$tree"
+  make_tree "$tree"
+  task 'another licence' 448 'GPL-2\.0([ )]|$)' 'GPL-2\.0-or-later' \
+    --replace-license GPL-2.0 GPL-2.0-or-later
+  mv "$tree/LICENSES/GPL-2.0.txt" "$tree/LICENSES/GPL-2.0-or-later.txt"
+  lint 'another licence'
+  task 'another name of a holder' 600 'Other Corp' 'New Corp' \
+    --replace-holder 'Other Corp' 'New Corp'
+  lint 'another name of a holder'
+  task 'years of one holder' 600 '[^-] 20[0-9]{2} Jane Doe' '20[0-9]{2} - 2026 Jane Doe' \
+    --until 2026 --holder 'Jane Doe'
+  is "$(count '2026 New Corp')" 0 'years of another holder'
+  lint 'years of one holder'
+  task 'a contributor' 400 'Joe Bloggs|FileContributor' '2026 Jane Doe' \
+    --remove-contributor 'Joe Bloggs'
+  lint 'a contributor'
+}
+
+examples=$(python3 "$here/examples.py" "$program" "$room" "$here/examples.txt") || fail "$examples"
+calls
+metadata
+tasks
+random=$(python3 "$here/random_trees.py" "$program" "$room" "${TREES:-300}" "${SEED:-1}") ||
+  fail "$random"
+echo "$examples; four tasks on 600 files, of which reuse judged $lints times; random trees: $random"

@@ -1,0 +1,125 @@
+"""Calls of amend on trees, and what amend is to make of them. The tags below are data:
+REUSE-IgnoreStart"""
+import os
+import shutil
+import subprocess
+
+import retelling
+
+ENVIRONMENT = dict(os.environ, LC_ALL="C.UTF-8")
+OPTIONS = {
+    "--replace-license": ("replaced", "licence"),
+    "--remove-license": ("removed", "licence"),
+    "--replace-holder": ("replaced", "holder"),
+    "--remove-holder": ("removed", "holder"),
+    "--replace-contributor": ("replaced", "contributor"),
+    "--remove-contributor": ("removed", "contributor"),
+    "--until": "until",
+    "--copyright-prefix": "prefix",
+    "--holder": "holder",
+    "--style": "style",
+}
+
+
+def amendments_of(options):
+    """What the options of a call say, and its style."""
+    asked, style, options = retelling.Amendments(), None, list(options)
+    while options:
+        option = OPTIONS[options.pop(0)]
+        first = options.pop(0).strip(" ")
+        if isinstance(option, tuple):
+            kind, part = option
+            text = first.encode()
+            if kind == "replaced":
+                text = text, options.pop(0).strip(" ").encode()
+            getattr(asked, kind)[part].append(text)
+        elif option == "style":
+            style = first
+        else:
+            setattr(asked, option, first if option == "prefix" else first.encode())
+    return asked, style
+
+
+def write_tree(root, tree):
+    shutil.rmtree(root, ignore_errors=True)
+    os.mkdir(root)
+    for path, file in tree.items():
+        place = os.path.join(root, path)
+        os.makedirs(os.path.dirname(place), exist_ok=True)
+        with open(place, "wb") as out:
+            out.write(file)
+
+
+def read_tree(root):
+    tree = {}
+    for folder, folders, names in os.walk(root):
+        if os.path.relpath(folder, root) == ".reuse" and "undo" in folders:
+            folders.remove("undo")
+        for name in names:
+            place = os.path.join(folder, name)
+            with open(place, "rb") as file:
+                tree[os.path.relpath(place, root)] = file.read()
+    return tree
+
+
+def call(program, root, *words):
+    """Status, standard output and standard error."""
+    done = subprocess.run(
+        [program, "--root", root, "--no-sync", *words],
+        stdin=subprocess.DEVNULL,
+        capture_output=True,
+        env=ENVIRONMENT,
+        timeout=60,
+        check=False,
+    )
+    return done.returncode, done.stdout.decode(), done.stderr.decode()
+
+
+def expected(tree, options, own):
+    """What a call is to print, what a dry run, and the tree afterwards."""
+    asked, style = amendments_of(options)
+    after, refusals, lines, changed = dict(tree), [], [], []
+    for path, outcome in retelling.outcomes(tree, asked, style, own):
+        if isinstance(outcome, str):
+            refusals.append(f"reuse-undo: {outcome}\n")
+        elif outcome:
+            place, after[outcome[0]] = outcome
+            changed.append(place)
+            lines.append(f"would change {place}\n")
+        else:
+            lines.append(f"unchanged {path}\n")
+    dry_run = int(bool(refusals)), "".join(lines), "".join(refusals)
+    if refusals:
+        return (1, "", refusals[0]), dry_run, tree
+    changed.sort(key=str.encode)
+    printed = "".join(f"changed {place}\n" for place in changed) or "nothing changed\n"
+    return (0, printed, ""), dry_run, after
+
+
+def fault_of(program, root, tree, options, own={}):
+    """Makes a dry run, the call and its undo on the tree. Names the first difference from what is
+    expected, if there is one, and whether the call was refused, changed files or changed none."""
+    answer, dry_run, after = expected(tree, options, own)
+    write_tree(root, tree)
+    words = ["amend", *options, "--recursive", "."]
+    found = call(program, root, *words, "--dry-run")
+    if found != dry_run:
+        return f"the dry run answers {found}\nand not {dry_run}", None
+    if read_tree(root) != tree:
+        return "the dry run changes the tree", None
+    found = call(program, root, *words)
+    if found != answer:
+        return f"the call answers {found}\nand not {answer}", None
+    left = read_tree(root)
+    for path in sorted(set(left) | set(after)):
+        if left.get(path) != after.get(path):
+            return f"{path} is {left.get(path)}\nand not {after.get(path)}", None
+    if answer[0]:
+        return None, "refused"
+    if after == tree:
+        return None, "unchanged"
+    if call(program, root, "undo")[0] or read_tree(root) != tree:
+        return "undo doesn't give back the tree", None
+    if call(program, root, "redo")[0] or read_tree(root) != after:
+        return "redo doesn't make the step again", None
+    return None, "changed"
