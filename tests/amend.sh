@@ -78,6 +78,53 @@ calls() {
   holds a.py "$mit\nx = 1\ny = 2\n"
 }
 
+# The REUSE.toml at the root: given, beneath the root, listed and left out
+tables() {
+  local change=(--replace-license MIT ISC)
+  local table='version = 1 # MIT\n[[annotations]]\npath = "**" # "MIT"\nSPDX-License-Identifier = "MIT" # one\n'
+  local new='version = 1 # MIT\n[[annotations]]\npath = "**" # "MIT"\nSPDX-License-Identifier = "ISC" # one\n'
+  files REUSE.toml "$table" a.py "$mit" src/REUSE.toml "$table" src/b.py "$mit"
+  cp "$tree/REUSE.toml" "$room/table"
+  is "$(told "${change[@]}" -r . --dry-run)" "$(printf '%s\n' 'would change REUSE.toml' \
+    'would change a.py' 'would change src/b.py' 'status 0')" 'a dry run with a table'
+  told "${change[@]}" --dry-run --diff REUSE.toml > "$room/diff"
+  has_line "$room/diff" '-SPDX-License-Identifier = "MIT" # one'
+  has_line "$room/diff" '+SPDX-License-Identifier = "ISC" # one'
+  cmp "$tree/REUSE.toml" "$room/table" || fail 'a dry run changes the table'
+  is "$(told "${change[@]}" REUSE.toml)" $'changed REUSE.toml\nstatus 0' 'a table that is given'
+  holds REUSE.toml "$new"
+  is "$(told "${change[@]}" REUSE.toml)" $'nothing changed\nstatus 0' 'a table, once more'
+  "$program" --root "$tree" undo > "$room/out"
+  cmp "$tree/REUSE.toml" "$room/table" || fail 'the table is not taken back'
+  "$program" --root "$tree" redo > "$room/out"
+  holds REUSE.toml "$new"
+  "$program" --root "$tree" undo > "$room/out"
+  is "$(told "${change[@]}" -r src)" $'changed src/b.py\nstatus 0' 'a folder beside the table'
+  is "$(told "${change[@]}" -r . --exclude REUSE.toml --exclude '*.py')" \
+    $'nothing changed\nstatus 0' 'a table that a glob leaves out'
+  is "$(echo a.py | told "${change[@]}" -r --files-from - .)" \
+    $'changed a.py\nstatus 0' 'a list without the table'
+  is "$(printf 'REUSE.toml\nsrc/REUSE.toml\n' | told "${change[@]}" -r --files-from - .)" \
+    $'changed REUSE.toml\nstatus 0' 'a list with the table'
+  holds src/REUSE.toml "$table"
+  is "$(told "${change[@]}" src/REUSE.toml)" \
+    $'reuse-undo: src/REUSE.toml: not covered\nstatus 1' 'a table in a folder'
+  is "$("$program" --root "$tree" annotate -l MIT REUSE.toml 2>&1)" \
+    'reuse-undo: REUSE.toml: not covered' 'annotate of a table'
+  is "$(told "${change[@]}" -r REUSE.toml)" $'nothing changed\nstatus 0' 'a table with --recursive'
+  # What can't be amended leaves all as it is.
+  files REUSE.toml '[[annotations]]\nSPDX-License-Identifier = """\nMIT"""\n' a.py "$mit"
+  is "$(told "${change[@]}" -r .)" \
+    $'reuse-undo: REUSE.toml: cannot be amended\nstatus 1' 'a string over lines'
+  holds a.py "$mit"
+  is "$(told "${change[@]}" a.py)" $'changed a.py\nstatus 0' 'a file beside such a table'
+  files REUSE.toml 'x\n' a.py "$mit"
+  is "$(told "${change[@]}" REUSE.toml)" \
+    $'reuse-undo: REUSE.toml: cannot be amended\nstatus 1' 'a table that is no TOML'
+  files REUSE.toml/a.py "$mit"
+  is "$(told "${change[@]}" -r .)" $'changed REUSE.toml/a.py\nstatus 0' 'a folder of that name'
+}
+
 # Metadata, and the notes of refusals
 metadata() {
   local line
@@ -193,6 +240,7 @@ tasks() {
 
 examples=$(python3 "$here/examples.py" "$program" "$room" "$here/examples.txt") || fail "$examples"
 calls
+tables
 metadata
 tasks
 random=$(python3 "$here/random_trees.py" "$program" "$room" "${TREES:-300}" "${SEED:-1}") ||

@@ -2,8 +2,11 @@
 # Compares dry runs with the calls themselves: a dry run writes nothing, ends with the status of the
 # call, tells the call's first refusal first, and names the paths that the call changes. The diff of
 # one, applied to a copy by `git apply` and by `patch -p1`, gives byte for byte the tree of the
-# call: for the examples of docs/REFERENCE.md, and for random trees, with real files of /usr among
-# them. Prints what was compared; ends with status 1 at the first fault.
+# call: for the examples of docs/REFERENCE.md, for lists of files and globs of each kind, and for
+# random trees, with real files of /usr among them. With --json each line and each refusal is an
+# object. With --check the status is 0 exactly if the call is accepted and changes nothing, and so
+# it is with --exit-non-zero-on-change. Prints what was compared; ends with status 1 at the first
+# fault.
 # usage: tests/dry_run.sh PROGRAM [ROUNDS]      (300 rounds by default)
 # The tags below are data: REUSE-IgnoreStart
 set -euo pipefail
@@ -30,24 +33,56 @@ alike() {
   done < "$room/differ"
 }
 
+# A call on `$tree` as JSON, and with the statuses for a check, which are 1 where the call would be
+# refused or change something
+mkdir "$room/json"
+look_again() {
+  local status=0 wanted=$1 json=$room/json/$compared
+  grep -q '^would change ' "$room/looked" && wanted=1
+  "$program" --root "$tree" "${call[@]}" --check < "$input" > "$json.lines" \
+    2> "$json.refusals" || status=$?
+  [[ $status == "$wanted" ]] || fail "${call[*]} --check: status $status"
+  cmp -s "$json.lines" "$room/looked" || fail "${call[*]} --check: other lines than --dry-run"
+  status=0
+  "$program" --root "$tree" "${call[@]}" --check --json < "$input" > "$json" \
+    2> "$room/error" || status=$?
+  [[ $status == "$wanted" ]] || fail "${call[*]} --check --json: status $status"
+  cmp -s "$json.refusals" "$room/error" || fail "${call[*]} --json changes what is refused"
+  case ${call[0]} in
+    annotate | convert-dep5)
+      rm -rf "$room/made"
+      cp -a "$tree" "$room/made"
+      status=0
+      "$program" --root "$room/made" "${call[@]}" --exit-non-zero-on-change < "$input" \
+        > "$room/out" 2>&1 || status=$?
+      [[ $status == "$wanted" ]] || fail "${call[*]} --exit-non-zero-on-change: status $status"
+      ;;
+  esac
+}
+
 compared=0 applied=0 refused=0
+# What a call reads on standard input
+input=/dev/null
 # A call on `$tree`: looked at, made on a copy, and, where it is accepted, made from its diff on two
 # more. The call stands in `call`.
 compare() {
   local before status=0 looked=0
   before=$(whole)
-  "$program" --root "$tree" "${call[@]}" -n --diff > "$room/diff" 2> "$room/looked_error" ||
-    looked=$?
-  "$program" --root "$tree" "${call[@]}" -n > "$room/looked" 2> "$room/error" ||
+  "$program" --root "$tree" "${call[@]}" -n --diff < "$input" > "$room/diff" \
+    2> "$room/looked_error" || looked=$?
+  "$program" --root "$tree" "${call[@]}" -n < "$input" > "$room/looked" 2> "$room/error" ||
     [[ $looked == "$?" ]] || fail "${call[*]}: --diff changes the status"
   [[ $(whole) == "$before" ]] || fail "${call[*]}: a dry run writes"
   cmp -s "$room/error" "$room/looked_error" || fail "${call[*]}: --diff changes what is refused"
+  compared=$((compared + 1))
+  look_again $looked
+  [[ $(whole) == "$before" ]] || fail "${call[*]}: a check writes"
   rm -rf "$room/made"
   cp -a "$tree" "$room/made"
-  "$program" --root "$room/made" "${call[@]}" > "$room/out" 2> "$room/error" || status=$?
+  "$program" --root "$room/made" "${call[@]}" < "$input" > "$room/out" 2> "$room/error" ||
+    status=$?
   [[ $looked == "$status" ]] || fail "${call[*]}: status $status, and of a dry run $looked"
   ((status < 2)) || fail "${call[*]}: $(< "$room/error")"
-  compared=$((compared + 1))
   if ((status)); then
     [[ $(head -n 1 "$room/looked_error") == "$(< "$room/error")" ]] ||
       fail "${call[*]}: refused otherwise: $(< "$room/error")"
@@ -85,7 +120,7 @@ compare() {
 # The examples of docs/REFERENCE.md, on a tree that has what they name
 example_tree() {
   files a.py 'print(1)\n' script '#!/bin/sh\necho\n' main.c 'int main;' src/b.py 'x = 1\r\n' \
-    src/c.h 'int y;\n' src/odd 'x\n' data.csv '1,2\n'
+    src/c.h 'int y;\n' src/odd 'x\n' data.csv '1,2\n' node_modules/m.js 'x;\n' lib.min.js 'x;\n'
   make_dep5 "$tree"
   mkdir -p "$room/texts"
   echo 'text of MIT' > "$room/texts/MIT.txt"
@@ -94,7 +129,7 @@ example_tree() {
 }
 mapfile -t examples < <(sed -nE "s/^    reuse-undo ((annotate|convert-dep5|download).*)/\1/p" \
   "$here/../docs/REFERENCE.md" | sed -E 's/ +#.*//; s/ +(--dry-run|-n)( --diff)?$//' |
-  grep -vE -e '--files-from|--exclude ' | sort -u)
+  grep -vE -e '--files-from' | sort -u)
 ((${#examples[@]} >= 12)) || fail "docs/REFERENCE.md has ${#examples[@]} examples"
 for example in "${examples[@]}"; do
   example_tree
@@ -111,6 +146,39 @@ for example in "${examples[@]}"; do
   compare
 done
 in_examples=$applied
+
+# Lists of files and globs. The call must change just the files that a dry run names, and some do.
+picked_files() {
+  files a.py 'x = 1\n' b.py 'x = 2\n' script '#!/bin/sh\necho\n' main.c 'int main;' \
+    src/b.py 'x = 1\r\n' src/c.h 'int y;\n' src/deep/d.py '# SPDX-License-Identifier: MIT\n\nx\n' \
+    src/p.png '\0211' node_modules/m.js 'x;\n' lib.min.js 'x;\n' LICENSES/MIT.txt 'text\n'
+  printf 'x\n' > "$tree/"$'line\nend.py'
+}
+picks=0
+# A call with these options that pick files
+picks() {
+  local from
+  picks=$((picks + 1))
+  for from in '' "$room/list" -; do
+    picked_files
+    call=(annotate -c 'Jane Doe' -y 2024 -l MIT -r --fallback-dot-license "$@")
+    [[ -z $from ]] || call+=(--files-from "$from")
+    [[ $from != - ]] || input=$room/list
+    call+=(.)
+    compare
+    input=/dev/null
+  done
+}
+for list in '' 'a.py\nsrc/b.py\n' './a.py\r\nsrc/./c.h\r\nmain.c' 'src/b.py\0line\nend.py\0' \
+  'none.py\nsrc\n../a.py\n/a.py\nLICENSES/MIT.txt\nsrc/p.png\n' 'src/deep/d.py\nscript\n'; do
+  # shellcheck disable=SC2059
+  printf "$list" > "$room/list"
+  picks
+  for glob in src src/ ./src 'src/**' '**/deep' '**.py' '*.py' '**' 'src/b\*' none; do
+    picks --exclude "$glob"
+  done
+  picks --exclude node_modules --exclude '**.min.js'
+done
 
 # What is told, line by line
 tells() {
@@ -218,6 +286,7 @@ options=('-c|Jane Doe|-y|2024' '-l|MIT' '-c|Jane Doe|-l|ISC' '--contributor|B'
   '-c|A --> B|--exclude-year' '-l|GPL-2.0+|--multi-line' '-c|C|-y|2001|--merge-copyrights'
   '-l|MIT|--no-replace' '-c|D|--single-line' '-l|MIT|--force-dot-license' \
   '-c|E|--copyright-prefix|symbol' '-l|0BSD' '-c|F|-s|c')
+globs=('*.py' '**.c' deep d/ '**/f' 'b*' '?' '*' '**' '**/*.*')
 fallbacks=(--fallback-dot-license --fallback-dot-license --skip-unrecognised --skip-existing)
 for ((round = 0; round < rounds; round++)); do
   tree=$room/rounds/$round
@@ -232,6 +301,14 @@ for ((round = 0; round < rounds; round++)); do
       *)
         IFS='|' read -ra words <<< "${options[RANDOM % ${#options[@]}]}"
         call=(annotate "${words[@]}" -r "${fallbacks[RANDOM % ${#fallbacks[@]}]}" .)
+        for ((glob = RANDOM % 6; glob < 2; glob++)); do
+          call+=(--exclude "${globs[RANDOM % ${#globs[@]}]}")
+        done
+        if ((RANDOM % 3 == 0)); then
+          find "$tree" -type f -not -path '*/.reuse/*' -printf '%P\0' |
+            shuf -z -n $((RANDOM % 6)) > "$room/list"
+          call+=(--files-from "$room/list")
+        fi
         ;;
     esac
     compare
@@ -243,6 +320,26 @@ for ((round = 0; round < rounds; round++)); do
   done
   rm -rf "$tree"
 done
-echo "$compared dry runs on ${#examples[@]} examples and $rounds random trees: $refused refused" \
+python3 - "$room/json" "$compared" << 'PYTHON' || fail 'the objects of a dry run'
+import json, sys
+folder, count = sys.argv[1], int(sys.argv[2])
+for number in range(1, count + 1):
+    name = f'{folder}/{number}'
+    read = lambda end: open(name + end, encoding='utf-8', newline='').read()
+    rows = [json.loads(line) for line in read('').split('\n')[:-1]]
+    taken = [row for row in rows if row['outcome'] != 'refused']
+    lines = ''.join(f"{row['outcome']} {row['path']}\n" for row in taken)
+    assert lines == read('.lines'), (number, lines, read('.lines'))
+    refused = [row for row in rows if row['outcome'] == 'refused']
+    reasons = ''.join(f"reuse-undo: {row['reason']}\n" for row in refused)
+    refusals = read('.refusals')
+    # What refuses the call as a whole stands on standard error alone.
+    is_whole = not rows and refusals.count('\n') == 1
+    assert reasons == refusals or is_whole, (number, reasons, refusals)
+    for row in refused:
+        assert row['path'] is None or row['path'] in row['reason'], row
+PYTHON
+echo "$compared dry runs on ${#examples[@]} examples, $picks picks of files and $rounds random" \
+  "trees: $refused refused" \
   "as the calls were; $applied diffs gave the tree of the call," \
   "$in_examples of them of examples"

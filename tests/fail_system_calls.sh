@@ -166,10 +166,14 @@ try_all older forget --all
 for name in killed_annotate killed_undo killed_redo killed_older killed_revert; do
   try_all $name log
 done
+try_all killed_annotate recover
+try_all killed_undo recover --skip-moved
 
 for name in killed_annotate killed_undo killed_redo killed_older killed_revert; do
   fail_syncs $name log
 done
+fail_syncs killed_annotate recover
+fail_syncs killed_undo recover --skip-moved
 runs=('plain "${annotate[@]}"' 'plain convert-dep5' 'plain download --texts "$room/texts" MIT'
   'done undo' 'undone redo' 'mixed undo' 'older redo'
   'edited revert 1' 'stuck revert --skip-moved 1' 'killed_undo undo' 'older forget --all')

@@ -1,7 +1,7 @@
 #!/usr/bin/env bash
 # Kills the program at random times. The next call must open the journal, and find tree and log as
-# they were before the call that was killed or as they are after it. In some rounds the opening is
-# killed too. Prints what was seen; ends with status 1 at the first fault.
+# they were before the call that was killed or as they are after it. In some rounds the opening, a
+# log or a recovery, is killed too. Prints what was seen; ends with status 1 at the first fault.
 # usage: tests/kill_at_random.sh PROGRAM [ROUNDS]      (300 rounds by default)
 set -euo pipefail
 . "$(dirname "$0")/common.sh"
@@ -38,7 +38,7 @@ killed=0 openings=0 pending=0 was_before=0 was_after=0
 before=$(state_of "$room/tree")
 round=0
 while ((round < rounds)); do
-  case $((RANDOM % 10)) in
+  case $((RANDOM % 11)) in
     0 | 1) call=(annotate -c "Holder $round" -l MIT -y 2024 -r .) ;;
     2 | 3 | 4) call=(undo) ;;
     5) call=(redo) ;;
@@ -46,6 +46,7 @@ while ((round < rounds)); do
     7) call=(revert $((RANDOM % (round + 1) + 1))) ;;
     8) call=(revert --skip-moved $((RANDOM % (round + 1) + 1))) ;;
     9) call=(forget $((RANDOM % (round + 1) + 1))) ;;
+    10) call=(amend --until $((2030 + round)) -r .) ;;
   esac
   # The same call on a copy, to its end; one that is refused makes no round.
   rm -rf "$room/copy"
@@ -61,7 +62,11 @@ while ((round < rounds)); do
     pending=$((pending + 1))
     ((RANDOM % 2)) || break
     openings=$((openings - killed))
-    kill_call $time --root "$room/tree" log
+    case $((RANDOM % 3)) in
+      0) kill_call $time --root "$room/tree" log ;;
+      1) kill_call $time --root "$room/tree" recover ;;
+      2) kill_call $time --root "$room/tree" recover --skip-moved ;;
+    esac
     openings=$((openings + killed))
   done
   found=$(state_of "$room/tree") || fail "round $round, ${call[*]} killed: the log is refused"

@@ -7,14 +7,16 @@
 set -euo pipefail
 . "$(dirname "$0")/common.sh"
 wants script bsdutils
+wants strace strace
 tree=$room/tree
 jane=(-c "Jane Doe" -y 2024)
 notes=0
 # The one note that is told without -v and a terminal, too
 always='^reuse-undo: note: step [0-9]+, which a stopped run had begun, was set back \([0-9]+ files?\)$'
 
-# The call with this root, as a text for a shell
-spelt() { printf '%q ' "$program" --root "$tree" "$@"; }
+# Words, and the call with this root, as a text for a shell
+spelt() { printf '%q ' "$@"; }
+spelt_call() { spelt "$program" --root "$tree" "$@"; }
 
 # What a terminal was told, without lines of progress, which a slow machine may add
 told() { sed -E $'s/\r[^\r]*\033\\[K//g' | tr -d '\r'; }
@@ -30,7 +32,7 @@ try() {
       quiet) "$program" --root "$tree" "$@" > "$room/out" 2> "$room/quiet" || true ;;
       verbose) "$program" --root "$tree" -v "$@" > "$room/out.verbose" 2> "$room/verbose" || true ;;
       terminal)
-        script -qec "$(spelt "$@") > $room/out.terminal" /dev/null < /dev/null |
+        script -qec "$(spelt_call "$@") > $room/out.terminal" /dev/null < /dev/null |
           told > "$room/terminal" || true
         ;;
     esac
@@ -103,13 +105,16 @@ refusals() {
   notes download --texts "$room/texts" Foo : "the text was sought in $room/texts/Foo\.txt"
   "$program" --root "$tree" annotate -l MIT a.py > /dev/null
   echo y >> "$tree/a.py"
-  notes undo : 'this file was changed since: .*reuse-undo revert .*'
+  notes undo : 'this file was changed since: .*reuse-undo revert .*reuse-undo forget .*'
   notes undo -n : 'this file was changed since: .*'
   notes revert 7 : 'reuse-undo log tells the numbers of the steps'
   notes show 7 : 'reuse-undo log tells the numbers of the steps'
   notes revert 1 : '1 file changed; reuse-undo undo takes that back'
   "$program" --root "$tree" revert 1 > /dev/null
-  notes revert 1 : "what the step wrote doesn't stand in this file as it did: .*--skip-moved"
+  notes revert 1 \
+    : "what the step wrote doesn't stand in this file as it did: .*--skip-moved; .*reuse-undo forget .*"
+  notes revert --skip-moved 1 \
+    : "the step couldn't be taken out of any file, and stays done; reuse-undo forget takes it out of the history"
   notes annotate -n -l MIT b.xyz c.xyz a.py : 'no comment style is known .*' \
     "2 files have names that aren't recognised; --dry-run names them"
   notes annotate -l MIT b.xyz c.xyz : 'no comment style is known .*' \
@@ -130,10 +135,10 @@ refusals() {
   "$program" --root "$tree" annotate -l MIT -r . > /dev/null
   rm "$tree/a.py"
   notes undo \
-    : 'this file is gone: put it back and call again; or reuse-undo revert --skip-moved takes the step out of the other files'
+    : 'this file is gone: put it back and call again; or reuse-undo revert --skip-moved takes the step out of the other files, and reuse-undo forget out of the history alone'
   notes undo -n : 'this file is gone: .*'
   notes revert 1 : \
-    'this file is gone: put it back and call again, or leave it out with --skip-moved'
+    'this file is gone: put it back and call again, or leave it out with --skip-moved; or reuse-undo forget takes the step out of the history, and leaves all files'
   notes revert -n 1 : 'this file is gone: .*'
   mkdir "$tree/a.py"
   notes undo : 'this file was changed since: .*'
@@ -206,9 +211,16 @@ at_terminal() {
   local stream=$1
   shift
   case $stream in
-    output) script -qc "$(spelt "$@") 2> $room/other" /dev/null < /dev/null | told ;;
-    error) script -qc "$(spelt "$@") > $room/other" /dev/null < /dev/null | told ;;
+    output) script -qc "$(spelt_call "$@") 2> $room/other" /dev/null < /dev/null | told ;;
+    error) script -qc "$(spelt_call "$@") > $room/other" /dev/null < /dev/null | told ;;
   esac
+}
+
+# What is told of these words has no control byte at a terminal, but for line ends.
+words_at_terminal() {
+  at_terminal error "$@" > "$room/shown"
+  grep -qF 'a\x1B[31m\x7F' "$room/shown" || fail "$1 at a terminal: $(cat -v "$room/shown")"
+  ! grep -q '[[:cntrl:]]' "$room/shown" || fail "$1 at a terminal: $(cat -v "$room/shown")"
 }
 
 # A name with control bytes is shown without them on a terminal, and as it is elsewhere.
@@ -235,6 +247,14 @@ names() {
     fail "a refusal in a file: $(cat "$room/other")"
   at_terminal error revert 1 > /dev/null
   [[ $(< "$room/other") == "changed $name" ]] || fail "a line in a file: $(cat "$room/other")"
+  # Also where a name is taken for an option, as one of `*` may be, and in all that is told of one
+  words_at_terminal annotate -l MIT "--$name"
+  words_at_terminal annotate -l MIT --style "$name" a.py
+  words_at_terminal annotate -l MIT "/$name"
+  words_at_terminal annotate -l MIT -r --exclude "/$name" .
+  words_at_terminal annotate -l MIT -r --files-from "$name" .
+  words_at_terminal annotate -l MIT "no$name"
+  words_at_terminal download --texts "$name" MIT
 }
 
 # A link, a name, a root and a limit that keep the store from its work
@@ -293,24 +313,37 @@ above() {
   notes log :
 }
 
-# A run that is held for over a second tells its progress at a terminal, and clears it.
+# A call is held for over a second at a terminal, in the middle of its files, and its lines of
+# progress are looked at: what they say is this pattern, they never count more than there is, and
+# they are cleared.
+held() {
+  local pattern=$1 renames=rename,renameat,renameat2 call run read listed written
+  shift
+  call=$(spelt strace -f -qq -o "$room/trace" -e "trace=$renames" \
+    -e "inject=$renames:delay_enter=1200000:when=100" "$program" --root "$tree" "$@")
+  script -qec "$call > $room/out" "$room/typed" < /dev/null > /dev/null
+  run=$(tr '\r' '\n' < "$room/typed" | grep -E '^[0-9]+ (files )?read') || fail "$1: no progress"
+  ! grep -vE "^$pattern" <<< "$run" || fail "$1: the progress is $run"
+  grep -qE $'^\033\\[K' < <(tr '\r' '\n' < "$room/typed") || fail "$1: the progress is not cleared"
+  while read -r read _ _ _ listed _ written _; do
+    ((read <= listed && written <= listed && listed == 4000)) ||
+      fail "$1: more files than there are: $run"
+  done < <(grep -oE '^[0-9]+ files read of [0-9]+ listed, [0-9]+ written' <<< "$run")
+}
+
 progress() {
-  local call run
+  local listed='[0-9]+ files read of [0-9]+ listed, [0-9]+ written' calls='[0-9]+ reads, [0-9]+ writes'
   files
-  for ((i = 0; i < 4000; i++)); do echo x > "$tree/$i.py"; done
-  call=$(spelt annotate -l MIT -r .)
-  script \
-    -qec "$call > $room/out & sleep 0.05; kill -STOP \$!; sleep 1.2; kill -CONT \$!; wait \$!" \
-    "$room/typed" < /dev/null > /dev/null
-  run=$(tr '\r' '\n' < "$room/typed")
+  for ((i = 0; i < 2000; i++)); do
+    echo x > "$tree/$i.py"
+    printf '\0211' > "$tree/$i.png"
+  done
+  held "$listed" annotate -l MIT -r .
   [[ $(wc -l < "$room/out") == 4000 ]] || fail 'not all files are changed'
-  grep -qE '^[0-9]+ files read of [0-9]+ in the tree, [0-9]+ written' <<< "$run" ||
-    fail "no progress: $run"
-  grep -qE $'^\033\\[K' <<< "$run" || fail 'the progress is not cleared'
-  while read -r read _ _ _ listed; do
-    ((read <= listed)) || fail "more files are read than there are: $read of $listed"
-  done < <(grep -oE '^[0-9]+ files read of [0-9]+' <<< "$run")
-  ! "$program" --root "$tree" -v undo 2>&1 > /dev/null | grep -q 'files read' ||
+  held "$calls" undo
+  held "$calls" redo
+  (cd "$tree" && held "$calls" annotate -l ISC *.png)
+  ! "$program" --root "$tree" -v undo 2>&1 > /dev/null | grep -qE 'files read|reads' ||
     fail 'progress without a terminal'
 }
 

@@ -108,6 +108,8 @@ amendments() {
   refused 2 'nothing to amend' amend --style python a.py
   refused_words --root "$tree" amend --until 2026
   refused_words --root "$tree" amend --holder A a.py
+  files REUSE.toml 'x\n'
+  refused 1 'REUSE.toml: cannot be amended' amend --until 2026 REUSE.toml
 }
 
 # A dep5 with this text behind the field Format

@@ -115,9 +115,9 @@ for section in 'Options of all subcommands' 'Dry runs' $(grep -vx help "$room/su
   compared=$((compared + $(wc -l < "$room/in_help")))
 done
 
-# Texts of refusals; three are of calls that the program doesn't make, or not alone, one stands in no call yet, a dry run tells the refusals in place of one, and why styles are bad
+# Texts of refusals; three are of calls that the program doesn't make, or not alone, a dry run tells the refusals in place of one, and why styles are bad
 # isn't told, nor is what a folder's fault was, but in notes
-sed -nE 's/.*#\[error\("(.*)"(, .*)?\)\]$/\1/p' $(find "$top"/crates/*/src -name '*.rt' | grep -vE 'test|style_refusal|disk/fault') | grep -vxE 'device fault|not a good journal text|would be refused|cannot be amended' \
+sed -nE 's/.*#\[error\("(.*)"(, .*)?\)\]$/\1/p' $(find "$top"/crates/*/src -name '*.rt' | grep -vE 'test|style_refusal|disk/fault') | grep -vxE 'device fault|not a good journal text|would be refused' \
   | sed -E 's/\{[^}]*\}/\n/g' | sed -E 's/^[: ]+//; s/[: ]+$//' | grep . | sort -u > "$room/refusals"
 while IFS= read -r text; do grep -qF -- "$text" "$room/manual" || fail "the manual page: the refusal $text is not told"; done < "$room/refusals"
 

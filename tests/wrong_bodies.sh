@@ -12,7 +12,7 @@ room=$(mktemp -d)
 trap 'rm -rf "$room"' EXIT
 tar -C "$top" --exclude=./.git -cf - . | tar -C "$room" -xf -
 crates=("$@")
-[ $# -gt 0 ] || crates=(reuse_text reuse_notice reuse_tree reuse_session reuse_undo)
+[ $# -gt 0 ] || crates=(reuse_text reuse_notice reuse_header reuse_tree reuse_session reuse_undo)
 for crate in "${crates[@]}"; do
     rm -rf "$room/crates/$crate/must-fail"
     cp -r "$top/tests/wrong_bodies/$crate" "$room/crates/$crate/must-fail"

@@ -19,7 +19,7 @@ HOLDERS = """Jane Doe|Jane Doe <jane@example.com>|Jane|Joe Bloggs|(C) Corp|- 201
 CONTRIBUTORS = ["Joe Bloggs", "Mary Major", "Jane Doe", "Joe  Bloggs", "joe bloggs", "Élan"]
 YEARS = """2019|2019-2021|2019 - 2021|2024|1999 - 1999|2021-2019|24|2020,|2020 -2021|2019 - 2030
 20201""".replace("\n", "|").split("|")
-NEW_HOLDERS = HOLDERS + ["Jane */ Doe", "A --> B", "Jane Roe", "Jane Roe"]
+NEW_HOLDERS = HOLDERS + ["Jane */ Doe", "A --> B", "Jane Roe", "Jane Roe", "O'Day", 'J "J" \\ Day']
 FREE = ["A tool.", "", "  indented", "* starred", "Licensed as is", "SPDX-License-Identifier:"]
 BODIES = ["x = 1", "", "# not a header", "// a comment", "/* block */", "text", "\tindented", "é"]
 FILES = """a.py b.c c.css d.html e.lua f.tex g.el h.ini i.ml j.vim k.json Makefile x.proto y.unknown
@@ -101,6 +101,67 @@ def file_at(chance, path, own):
     return file_of(chance, contents(chance))
 
 
+def quoted(chance, value):
+    """A string of TOML that writes a value, mostly on one line."""
+    kind = chance.random()
+    if kind < 0.05:
+        return f'"""{value}"""'
+    if kind < 0.3 and "'" not in value:
+        return f"'{value}'"
+    value = value.replace("\\", "\\\\").replace('"', '\\"')
+    if kind < 0.4:
+        value = value.replace("J", "\\u004A")
+    return f'"{value}"'
+
+
+def table_value(chance, key):
+    """A licence, or a notice without the lead of a comment."""
+    if key == "SPDX-License-Identifier":
+        return chance.choice(LICENCES)
+    if key != "SPDX-FileCopyrightText":
+        return chance.choice(["MIT", "2019 Jane Doe", "x"])
+    prefix = chance.choice(["", "", "", "Copyright ", "(C) ", "\u00a9 "])
+    years = chance.choice(YEARS) + " " if chance.random() < 0.7 else ""
+    return prefix + years + chance.choice(HOLDERS)
+
+
+def key_line(chance, key):
+    """A line of a key, or several, with comments."""
+    gap = chance.choice([" ", " ", "  "])
+    name = chance.choice([key, key, key, f'"{key}"', f"'{key}'"])
+    values = [quoted(chance, table_value(chance, key)) for _ in range(chance.randint(1, 3))]
+    note = chance.choice(["", "", " # MIT", ' # "GPL-2.0" ['])
+    if chance.random() < 0.5:
+        return f"{name}{gap}={gap}{values[0]}{note}"
+    if chance.random() < 0.5:
+        return f"{name} = [{chance.choice([', ', ',']).join(values)}]{note}"
+    end = chance.choice([",", ""])
+    lines = [f"  {value}," for value in values[:-1]] + [f"  {values[-1]}{end}"]
+    return "\n".join([f"{name} = [{note}"] + lines + ["]"])
+
+
+KEYS = "SPDX-License-Identifier SPDX-FileCopyrightText SPDX-FileComment precedence path".split()
+ODD = ["x = 1.5", "x = [[1, 2], {a = 'MIT'}]", "not TOML", "x = 2026-01-01", "é = 'MIT'",
+       "annotations = [{SPDX-License-Identifier = 'GPL-2.0'}]"]
+
+
+def table_of(chance):
+    """A REUSE.toml, mostly of the usual shape."""
+    lines = ["version = 1"] if chance.random() < 0.9 else []
+    if chance.random() < 0.15:
+        lines.append(key_line(chance, "SPDX-License-Identifier"))
+    if chance.random() < 0.1:
+        lines.append(chance.choice(ODD))
+    for _ in range(chance.randint(1, 3)):
+        lines += chance.choice([[], [""], ["# GPL-2.0"]])
+        heads = ["[[annotations]]", "[[annotations]]", "[[ 'annotations' ]] # one", "[[other]]"]
+        lines.append(chance.choice(heads))
+        keys = chance.sample(KEYS, chance.randint(1, 5))
+        lines += [key_line(chance, key) for key in keys]
+    end = chance.choice(["\n", "\n", "\r\n"])
+    return "\n".join(lines + [""]).replace("\n", end).encode()
+
+
 def tree_of(chance):
     own = {".proto": chance.choice(["c", "python"])} if chance.random() < 0.3 else {}
     tree = {}
@@ -113,6 +174,11 @@ def tree_of(chance):
             tree[path + ".license"] = file_of(chance, contents(chance))
             if chance.random() < 0.05:
                 tree[path + ".license"] = b"SPDX-License-Identifier: MIT\xff\n"
+    if chance.random() < 0.4:
+        tree["REUSE.toml"] = table_of(chance)
+        if chance.random() < 0.1:
+            tree["src/REUSE.toml"] = tree["REUSE.toml"]
+            tree["REUSE.toml.license"] = file_of(chance, contents(chance))
     return tree, own
 
 

@@ -362,12 +362,14 @@ def replace_licence(value, old, new):
 # ---- amendments
 
 class Amendments:
-    """`replaced` and `removed` have lists for licence, holder and contributor."""
+    """`replaced` and `removed` have lists for licence, holder and contributor. `reads_back`: whether
+    each notice that was written so far is read with what it was to say."""
 
     def __init__(self):
         self.replaced = {"licence": [], "holder": [], "contributor": []}
         self.removed = {"licence": [], "holder": [], "contributor": []}
         self.until = self.prefix = self.holder = None
+        self.reads_back = True
 
     def text(self, part, text):
         for old, new in self.replaced[part]:
@@ -384,7 +386,11 @@ class Amendments:
             if self.until and years and years[1] < self.until:
                 years = years[0], self.until
             prefix = self.prefix or prefix
-        return text if (prefix, years, holder) == said else write_notice(prefix, years, holder)
+        if (prefix, years, holder) == said:
+            return text
+        written = write_notice(prefix, years, holder)
+        self.reads_back = self.reads_back and read_notice(written) == (prefix, years, holder)
+        return written
 
     def licence(self, value):
         for old, new in self.replaced["licence"]:
@@ -454,22 +460,3 @@ def style_of(path, own):
         if key in own or key in TABLE:
             return own.get(key) or TABLE[key]
     return None
-
-
-def outcomes(tree, amendments, style=None, own={}):
-    """For each covered file in byte order: its path, and the path that changes and its bytes, or
-    None, or a refusal."""
-    for path in sorted(filter(is_covered, tree), key=str.encode):
-        place = path + ".license" if path + ".license" in tree else path
-        try:
-            name = style or style_of(path, own)
-            if place != path:
-                made = amend_neighbour(tree[place], amendments)
-            elif name in STYLES and is_text(tree[path]):
-                made = amend_file(tree[path], name, amendments)
-            else:
-                made = tree[path]
-        except Refused as refused:
-            yield path, f"{path}: {refused}"
-            continue
-        yield path, (place, made) if made != tree[place] else None

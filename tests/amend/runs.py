@@ -4,6 +4,7 @@ import os
 import shutil
 import subprocess
 
+import outcomes
 import retelling
 
 ENVIRONMENT = dict(os.environ, LC_ALL="C.UTF-8")
@@ -76,10 +77,10 @@ def call(program, root, *words):
 
 
 def expected(tree, options, own):
-    """What a call is to print, what a dry run, and the tree afterwards."""
+    """What a call is to print, what a dry run, the tree afterwards, and what was asked for."""
     asked, style = amendments_of(options)
     after, refusals, lines, changed = dict(tree), [], [], []
-    for path, outcome in retelling.outcomes(tree, asked, style, own):
+    for path, outcome in outcomes.outcomes(tree, asked, style, own):
         if isinstance(outcome, str):
             refusals.append(f"reuse-undo: {outcome}\n")
         elif outcome:
@@ -90,16 +91,29 @@ def expected(tree, options, own):
             lines.append(f"unchanged {path}\n")
     dry_run = int(bool(refusals)), "".join(lines), "".join(refusals)
     if refusals:
-        return (1, "", refusals[0]), dry_run, tree
+        return (1, "", refusals[0]), dry_run, tree, asked
     changed.sort(key=str.encode)
     printed = "".join(f"changed {place}\n" for place in changed) or "nothing changed\n"
-    return (0, printed, ""), dry_run, after
+    return (0, printed, ""), dry_run, after, asked
+
+
+def is_settled(asked):
+    """Whether a second call changes nothing: no new text brings an old one, and each notice that
+    was written is read with what it was to say."""
+    for part in "holder", "contributor":
+        old = {pair[0] for pair in asked.replaced[part]}
+        if any(pair[1] in old for pair in asked.replaced[part]):
+            return False
+    old = {pair[0] for pair in asked.replaced["licence"]}
+    new = [piece for pair in asked.replaced["licence"] for piece in retelling.pieces_of(pair[1])]
+    return asked.reads_back and all(map(retelling.is_name, old)) and not old.intersection(new)
 
 
 def fault_of(program, root, tree, options, own={}):
-    """Makes a dry run, the call and its undo on the tree. Names the first difference from what is
-    expected, if there is one, and whether the call was refused, changed files or changed none."""
-    answer, dry_run, after = expected(tree, options, own)
+    """Makes a dry run, the call, its undo, a redo and the call again on the tree. Names the first
+    difference from what is expected, if there is one, and whether the call was refused, changed
+    files or changed none."""
+    answer, dry_run, after, asked = expected(tree, options, own)
     write_tree(root, tree)
     words = ["amend", *options, "--recursive", "."]
     found = call(program, root, *words, "--dry-run")
@@ -122,4 +136,8 @@ def fault_of(program, root, tree, options, own={}):
         return "undo doesn't give back the tree", None
     if call(program, root, "redo")[0] or read_tree(root) != after:
         return "redo doesn't make the step again", None
+    if is_settled(asked):
+        found = call(program, root, *words)
+        if found != (0, "nothing changed\n", "") or read_tree(root) != after:
+            return f"the same call again answers {found}", None
     return None, "changed"

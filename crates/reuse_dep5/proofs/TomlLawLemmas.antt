@@ -1,9 +1,10 @@
 -- What an amended `REUSE.toml` is.
-use Rattle.std.proofs.Common.{◌≡◌, ◌+◌, ◌≤◌, ℕ, Bool, true, false, List, length, Option, Some, None, refl, sym, ap, ap₂, ◌∙◌, subst, cond}
+use Rattle.std.proofs.Common.{◌≡◌, ◌≢◌, ◌⊎◌, inl, inr, ◌+◌, ◌≤◌, ℕ, Bool, true, false, List, length, Option, Some, None, refl, sym, ap, ap₂, ◌∙◌, subst, cond}
 use Rattle.std.specs.Prelude.{Result, Ok, Err, is_ok, nat_lt, not, ◌&&◌}
 use Rattle.std.specs.Str.{bytes_eq}
 use Rattle.std.proofs.lemmas.Bool.{and_parts, false≢true, ltb-false}
 use Rattle.std.proofs.lemmas.Bool.Decides.{Decides-int_eq}
+use Rattle.std.proofs.lemmas.Option.{same_Some}
 use Rattle.std.proofs.lemmas.Slice.Eq.{bytes_eq-Decides}
 use Rattle.toml.specs.Data.{Data, string, integer, float, boolean, datetime, array, table, Items, no_items, item, Members, no_members, member}
 use Rattle.reuse_text.specs.Text.{spliced}
@@ -11,10 +12,11 @@ use Rattle.reuse_text.specs.declared.TheConstants.{LONGEST_FILE}
 use Rattle.reuse_notice.specs.declared.amendments.Amendments.{Amendments}
 use Rattle.reuse_dep5.specs.declared.toml_values.AmendTomlRefusal.{AmendTomlRefusal}
 use Rattle.reuse_dep5.specs.declared.toml_values.AmendTomlRefusal.TheVariants.{CannotBeAmended, TooLong}
+use Rattle.reuse_dep5.specs.declared.toml_judge.TomlLevel.{TomlLevel}
 use Rattle.reuse_dep5.specs.declared.toml_judge.TomlLevel.TheVariants.{Document, Plain}
 use Rattle.reuse_dep5.specs.declared.toml_change.TomlSplice.{TomlSplice}
 use Rattle.reuse_dep5.specs.ReadBack.{read_toml}
-use Rattle.reuse_dep5.specs.TomlAmending.{if_ok, text_amended, is_removed, is_amended, are_amended, members_amended, is_same, same_truth, change_between, change_judged, text_judged, table_amended, toml_amendment_of}
+use Rattle.reuse_dep5.specs.TomlAmending.{if_ok, level_of_item, level_of_member, text_amended, is_emptied, is_removed, is_amended, are_amended, members_amended, is_same, same_truth, change_between, change_judged, text_judged, table_amended, toml_amendment_of}
 use Rattle.reuse_dep5.specs.TomlLaws.{IsAmendedText, IsChangedText, DiffersInStrings}
 use Rattle.reuse_dep5.proofs.ChangeLemmas.{change-makes, change-within}
 use Rattle.reuse_dep5.proofs.KeptLemmas.{differs}
@@ -67,6 +69,61 @@ module _ (a : Amendments) where
         let first = and_parts (bytes_eq k l) (is_amended a Plain d e) parts.0 in
         ap (λ x. member x d ms) ((bytes_eq-Decides k l).0 first.0) ∙ ap (λ x. member l x ms) (data-is d e first.1) ∙ ap (member l e) (members-are ms ns parts.1)
     members-are ms ns h = absurd (false≢true h)
+
+  -- an item gives way, or it becomes the first of the others
+  one-or-more : (level : TomlLevel) (d e : Data) (ds es : Items) (b : Bool) → is_removed a level d ≡ b → cond b (are_amended a level ds (item e es)) (is_amended a level d e && are_amended a level ds es) ≡ true
+      → ((is_removed a level d ≡ true) × (are_amended a level ds (item e es) ≡ true)) ⊎ ((is_amended a level d e ≡ true) × (are_amended a level ds es ≡ true))
+  one-or-more level d e ds es true is h = inl (is, h)
+  one-or-more level d e ds es false is h = inr (and_parts (is_amended a level d e) (are_amended a level ds es) h)
+
+-- ---- what is compared is itself
+
+not-emptied : (ds : Items) → not (is_emptied ds ds) ≡ true
+not-emptied no_items = refl
+not-emptied (item d ds) = refl
+
+and-both : (b c : Bool) → b ≡ true → c ≡ true → (b && c) ≡ true
+and-both b c e f = ap₂ (λ x y. x && y) e f
+
+module _ (a : Amendments) where
+  removed-itself : (level : TomlLevel) (d : Data) → is_removed a level d ≡ true → is_amended a Plain d d ≡ true
+  removed-itself level (string s) h = (bytes_eq-Decides s s).1 refl
+  removed-itself level d h = absurd (false≢true h)
+
+  item-itself : (d : Data) (ds : Items) → is_amended a Plain d d ≡ true → are_amended a Plain ds ds ≡ true → are_amended a Plain (item d ds) (item d ds) ≡ true
+  item-itself d ds h k =
+      ap (λ b. cond b (are_amended a Plain ds (item d ds)) (is_amended a Plain d d && are_amended a Plain ds ds)) (none-removed a d) ∙ and-both (is_amended a Plain d d) (are_amended a Plain ds ds) h k
+
+  -- a value that something becomes of is the same as itself
+  mutual
+    data-itself : (level : TomlLevel) (d e : Data) → is_amended a level d e ≡ true → is_amended a Plain d d ≡ true
+    data-itself level (string s) (string t) h = (bytes_eq-Decides s s).1 refl
+    data-itself level (integer m) (integer n) h = (Decides-int_eq m m).1 refl
+    data-itself level (boolean true) (boolean c) h = refl
+    data-itself level (boolean false) (boolean c) h = refl
+    data-itself level (array ds) (array es) h =
+        and-both (not (is_emptied ds ds)) (are_amended a Plain ds ds) (not-emptied ds) (items-themselves (level_of_item level) ds es (and_parts (not (is_emptied ds es)) (are_amended a (level_of_item level) ds es) h).1)
+    data-itself level (table ms) (table ns) h = members-themselves level ms ns h
+    data-itself level d e h = absurd (false≢true h)
+
+    items-themselves : (level : TomlLevel) (ds es : Items) → are_amended a level ds es ≡ true → are_amended a Plain ds ds ≡ true
+    items-themselves level no_items es h = refl
+    items-themselves level (item d ds) no_items h =
+        let parts = and_parts (is_removed a level d) (are_amended a level ds no_items) h in
+        item-itself d ds (removed-itself level d parts.0) (items-themselves level ds no_items parts.1)
+    items-themselves level (item d ds) (item e es) h = elim (one-or-more a level d e ds es (is_removed a level d) refl h) [
+      | inl gone ↦ item-itself d ds (removed-itself level d gone.0) (items-themselves level ds (item e es) gone.1)
+      | inr stays ↦ item-itself d ds (data-itself level d e stays.0) (items-themselves level ds es stays.1)
+    ]
+
+    members-themselves : (level : TomlLevel) (ms ns : Members) → members_amended a level ms ns ≡ true → members_amended a Plain ms ms ≡ true
+    members-themselves level no_members ns h = refl
+    members-themselves level (member k d ms) (member l e ns) h =
+        let parts = and_parts (bytes_eq k l && is_amended a (level_of_member level k) d e) (members_amended a level ms ns) h in
+        let first = and_parts (bytes_eq k l) (is_amended a (level_of_member level k) d e) parts.0 in
+        and-both (bytes_eq k k && is_amended a Plain d d) (members_amended a Plain ms ms)
+        (and-both (bytes_eq k k) (is_amended a Plain d d) ((bytes_eq-Decides k k).1 refl) (data-itself (level_of_member level k) d e first.1)) (members-themselves level ms ns parts.1)
+    members-themselves level (member k d ms) no_members h = absurd (false≢true h)
 
 -- ---- an answer, and what it comes from
 
@@ -144,6 +201,13 @@ module _ (a : Amendments) (file : List ℕ) where
       let (text, old, new, j, is) = judged-to (Some change) h in
       let makes : spliced file change.at change.old change.new ≡ text = ap (λ c. spliced file c.at c.old c.new) is.0 ∙ change-makes file text in
       subst (DiffersInStrings file) (sym makes) (differs a file text j.made)
+
+  -- it is another text
+  pub another : (change : TomlSplice) → toml_amendment_of a file ≡ Ok (Some change) → spliced file change.at change.old change.new ≢ file
+  another change h = λ same.
+      let is = changed change h in
+      let one : is.old ≡ is.new = same_Some is.old is.new (sym is.read ∙ ap read_toml (sym same) ∙ is.read_new) in
+      false≢true (sym is.differs ∙ ap (is_same a is.old) (sym one) ∙ members-themselves a Document is.old is.new is.amended)
 
   pub within : (change : TomlSplice) → toml_amendment_of a file ≡ Ok (Some change) → change.at + change.old ≤ length file
   within change h =

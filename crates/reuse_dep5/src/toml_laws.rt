@@ -1,5 +1,5 @@
 //! Laws of an amended `REUSE.toml`.
-ghost use Rattle.std.specs.Prelude.{◌≡◌, ◌≤◌, ◌+◌, length, ℕ, List, Some, None, Ok, flat_map};
+ghost use Rattle.std.specs.Prelude.{◌≡◌, ◌≢◌, ◌≤◌, ◌+◌, length, ℕ, List, Some, None, Ok, flat_map};
 ghost use Rattle.reuse_text.specs.Text.{spliced};
 ghost use Rattle.reuse_text.specs.declared.TheConstants.{LONGEST_FILE};
 ghost use Rattle.reuse_notice.specs.declared.amendments.Amendments.{Amendments};
@@ -15,8 +15,8 @@ pub fn toml_texts_are_their_pieces()
 
 /// A changed file is read as the old table with the values of the two keys amended, which is another
 /// table, and all of it but strings and commas stays byte for byte, its comments too. The change
-/// stands in the file, and the result has at most 16 MiB. A file that stays is read as a table in
-/// which no value changes.
+/// stands in the file, and the result is another file of at most 16 MiB. A file that stays is read as
+/// a table in which no value changes.
 pub fn amended_files_are_read_as_amended_tables()
     ensures judged { (a : Amendments) (file : List ℕ) (change : TomlSplice) → toml_amendment_of a file ≡ Ok (Some change)
         → IsChangedText a file (spliced file change.at change.old change.new) }
@@ -26,6 +26,8 @@ pub fn amended_files_are_read_as_amended_tables()
         → change.at + change.old ≤ length file }
     ensures fits { (a : Amendments) (file : List ℕ) (change : TomlSplice) → toml_amendment_of a file ≡ Ok (Some change)
         → length (spliced file change.at change.old change.new) ≤ LONGEST_FILE }
+    ensures another { (a : Amendments) (file : List ℕ) (change : TomlSplice) → toml_amendment_of a file ≡ Ok (Some change)
+        → spliced file change.at change.old change.new ≢ file }
     ensures unchanged { (a : Amendments) (file : List ℕ) → toml_amendment_of a file ≡ Ok None
         → IsAmendedText a file file }
 {}

@@ -149,6 +149,12 @@ pub same_stays : (style : Style) (a : Amendments) (file : List ℕ) (span : Head
 same_stays style a file span new is made same =
     ap (λ (o : Option HeaderSpan). option_map_or (block_amendment style a file) o (Ok None)) is ∙ block_stays style a file span new made same
 
+-- what is not to be written is not
+pub quiet_information : (a : Amendments) (old new : Info) (write : Info → Result Edit HeaderRefusal) → amended a old ≡ Some new → says_the_same old new ≡ true → written_if write (amended_information a old) ≡ Ok None
+quiet_information a old new write made same =
+    ap (λ (o : Option Info). written_if write (option_map_or (information_to_write old) o (Err BadExpression))) made
+    ∙ ap (λ (b : Bool). written_if write (if b then Ok None else if says_nothing new then Err NothingLeft else Ok (Some new))) same
+
 -- ---- neighbour files
 
 pub record NeighbourAmended (a : Amendments) (file : List ℕ) (edit : Edit) : Type 0 where
@@ -156,14 +162,19 @@ pub record NeighbourAmended (a : Amendments) (file : List ℕ) (edit : Edit) : T
   pub is : IsAmended a (info_of [] (neighbour_contents file)) info
   pub same : edit ≡ neighbour_edit true file (block_text neighbour_marks (kind_of_file file) info)
   pub few : nat_lt LONGEST_FILE (length (edited file edit)) ≡ false
+  pub stands : neighbour_stands true (edited file edit) (text_start edit) (text_end edit) ≡ true
 
 neighbour_edit_ok : (file : List ℕ) (info : Info) (edit : Edit) → neighbour_written true file info ≡ Ok edit
     → (edit ≡ neighbour_edit true file (block_text neighbour_marks (kind_of_file file) info)) × (nat_lt LONGEST_FILE (length (edited file edit)) ≡ false)
+    × (neighbour_stands true (edited file edit) (text_start edit) (text_end edit) ≡ true)
 unfolding neighbour_written
 neighbour_edit_ok file info edit e =
     let first = neighbour_edit true file (block_text neighbour_marks (kind_of_file file) info) in
-    let s = settled_ok (edited file first) first edit (neighbour_stands true (edited file first) (text_start first) (text_end first)) e in
-    (s.same, ap (λ (x : Edit). nat_lt LONGEST_FILE (length (edited file x))) s.same ∙ s.few)
+    let s = settled_ok (edited file first) first edit (neighbour_stands true (edited file first) (text_start first) (text_end first)) e in (
+      s.same,
+      ap (λ (x : Edit). nat_lt LONGEST_FILE (length (edited file x))) s.same ∙ s.few,
+      ap (λ (x : Edit). neighbour_stands true (edited file x) (text_start x) (text_end x)) s.same ∙ s.found,
+    )
 
 pub neighbour_amendment_ok : (a : Amendments) (file : List ℕ) (edit : Edit) → neighbour_amendment_of a file ≡ Ok (Some edit) → NeighbourAmended a file edit
 unfolding neighbour_amendment_of
@@ -174,7 +185,7 @@ neighbour_amendment_ok a file edit e = by (is_text file) e
     by true e' =
         let w = write_ok (neighbour_written true file) (amended_information a (info_of [] (neighbour_contents file))) edit e' in
         let is = neighbour_edit_ok file w.0 edit w.2 in
-        record { info = w.0; is = amended_ok a (info_of [] (neighbour_contents file)) w.0 w.1; same = is.0; few = is.1 }
+        record { info = w.0; is = amended_ok a (info_of [] (neighbour_contents file)) w.0 w.1; same = is.0; few = is.1; stands = is.2 }
 
 pub amends_neighbour : (a : Amendments) (file : List ℕ) (edit : Edit) → neighbour_amendment_of a file ≡ Ok (Some edit) → AmendsNeighbour a file edit
 amends_neighbour a file edit e =
@@ -187,3 +198,10 @@ amending_replaces_neighbour a file edit joined e =
     let w = neighbour_amendment_ok a file edit e in
     subst (λ (x : Edit). Replaces file (mark_len_of file) (neighbour_end file) x) (sym w.same)
     (block_replaces true file (block_text neighbour_marks (kind_of_file file) w.info) refl (neighbour_end-within joined file).0)
+
+pub neighbour_stays : (a : Amendments) (file : List ℕ) (new : Info) → is_text file ≡ true → amended a (info_of [] (neighbour_contents file)) ≡ Some new
+    → says_the_same (info_of [] (neighbour_contents file)) new ≡ true → neighbour_amendment_of a file ≡ Ok None
+unfolding neighbour_amendment_of
+neighbour_stays a file new text made same =
+    ap (λ (b : Bool). if b then written_if (neighbour_written true file) (amended_information a (info_of [] (neighbour_contents file))) else Err (Header NotText)) text
+    ∙ quiet_information a (info_of [] (neighbour_contents file)) new (neighbour_written true file) made same

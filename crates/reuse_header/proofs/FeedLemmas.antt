@@ -15,6 +15,7 @@ use Rattle.reuse_notice.specs.Tags.{NoticeText, is_blank, all_blank, is_filler, 
 use Rattle.reuse_notice.specs.Adding.{is_control, four_digits, years_text, notice_written}
 use Rattle.reuse_notice.specs.Plain.{IsPlain, ArePlain}
 use Rattle.reuse_notice.proofs.NoneLemmas.{or_none, none_append, none_drop, none_take, none_front, none_end, none_trimmed, none_weaker}
+use Rattle.reuse_notice.specs.Infos.{info_of}
 use Rattle.reuse_header.specs.declared.style.Style.{Style}
 use Rattle.reuse_header.specs.Search.{is_return}
 use Rattle.reuse_header.specs.Body.{body_lines, open_contents}
@@ -25,7 +26,7 @@ use Rattle.reuse_header.proofs.SplitLemmas.{split_found}
 use Rattle.reuse_header.proofs.SayableLemmas.{Each, each_of_all}
 use Rattle.reuse_header.specs.LowerLaws.{Merges}
 use Rattle.reuse_header.proofs.PartLemmas.{IsOfParts, each_open, each_in_body, each_dropped, each_content}
-use Rattle.reuse_header.proofs.InfoLemmas.{EachText, EachAdded, Spreads, each_new}
+use Rattle.reuse_header.proofs.InfoLemmas.{EachText, EachAdded, Spreads, each_read, each_new}
 
 -- ---- no LF
 
@@ -103,7 +104,7 @@ value_feedless lead text v h e = by (starts_with nat_eq text lead && not (all_bl
     by true f = subst Feedless (let same : trimmed is_blank (drop (length lead) text) ≡ v = cc f in same) (none_trimmed is_feed is_blank (drop (length lead) text) (none_drop is_feed (length lead) text h))
     by false f = absurd (let none : ⊥ = cc f in none)
 
-plain_feedless : (text : List ℕ) → IsPlain text → Feedless text
+pub plain_feedless : (text : List ℕ) → IsPlain text → Feedless text
 plain_feedless text plain = none_weaker is_control is_feed (λ b e. ap is_control (eqb-true b 10 e)) text plain.printable
 
 each_plain : (texts : List (List ℕ)) → Each IsPlain texts → Each Feedless texts
@@ -145,12 +146,12 @@ prefix_feedless StringC = refl
 prefix_feedless StringSymbol = refl
 prefix_feedless Symbol = refl
 
-written_feedless : (prefix : Prefix) (years : Option Years) (holder : List ℕ) → Feedless holder → Feedless (notice_written prefix years holder)
+pub written_feedless : (prefix : Prefix) (years : Option Years) (holder : List ℕ) → Feedless holder → Feedless (notice_written prefix years holder)
 written_feedless prefix None holder h = none_append is_feed (prefix_text prefix) (32 ∷ holder) (prefix_feedless prefix) h
 written_feedless prefix (Some years) holder h =
     none_append is_feed (prefix_text prefix ++ 32 ∷ years_text years) (32 ∷ holder) (none_append is_feed (prefix_text prefix) (32 ∷ years_text years) (prefix_feedless prefix) (years_feedless years)) h
 
-holder_feedless : (text : List ℕ) (n : NoticeText) → notice_of text ≡ Some n → Feedless text → Feedless n.holder
+pub holder_feedless : (text : List ℕ) (n : NoticeText) → notice_of text ≡ Some n → Feedless text → Feedless n.holder
 holder_feedless text n e h = by (prefix_of text) e
   where
     by : (o : Option Prefix) → option_map (notice_behind text) o ≡ Some n → Feedless n.holder
@@ -162,12 +163,17 @@ holder_feedless text n e h = by (prefix_of text) e
         (none_trimmed is_feed is_blank (drop (years_front value).1 value)
         (none_drop is_feed (years_front value).1 value (none_front is_feed is_blank (drop (length (prefix_text p)) text) (none_drop is_feed (length (prefix_text p)) text h))))
 
+-- what is known of the parts of contents
+feedless_spreads : (punct : List ℕ) → Spreads Feedless punct
+feedless_spreads punct = record {
+  inner = stripped_feedless punct;
+  contributor = value_feedless contributor_lead;
+  licence = value_feedless licence_lead;
+  written = λ old text f w. subst Feedless (sym w.written) (written_feedless w.prefix w.years w.notice.holder (holder_feedless old w.notice w.read f));
+}
+
+pub info_feedless : (punct : List ℕ) (contents : List (List ℕ)) → Each Feedless contents → HasNoFeed (info_of punct contents)
+info_feedless punct contents h = each_read Feedless punct (feedless_spreads punct) contents h
+
 pub new_feedless : Merges → (punct : List ℕ) (contents : List (List ℕ)) (merge : Bool) (additions : Additions) → Each Feedless contents → AreFeedless additions → HasNoFeed (new_info punct contents merge additions)
-new_feedless merges punct contents merge additions h a =
-    let spreads : Spreads Feedless punct = record {
-      inner = stripped_feedless punct;
-      contributor = value_feedless contributor_lead;
-      licence = value_feedless licence_lead;
-      written = λ old text f w. subst Feedless (sym w.written) (written_feedless w.prefix w.years w.notice.holder (holder_feedless old w.notice w.read f));
-    } in
-    each_new Feedless punct spreads merges contents merge additions h a
+new_feedless merges punct contents merge additions h a = each_new Feedless punct (feedless_spreads punct) merges contents merge additions h a

@@ -42,7 +42,7 @@ use Rattle.reuse_header.proofs.MadeTextLemmas.{AreSoundMarks, block_sound, ended
 
 -- ---- the marks and the punctuation of a style
 
-marks_sound : (style : Style) (form : Form) (marks : LineMarks) → marks_of style form ≡ Some marks → AreSoundMarks marks
+pub marks_sound : (style : Style) (form : Form) (marks : LineMarks) → marks_of style form ≡ Some marks → AreSoundMarks marks
 unfolding Each
 marks_sound style Single marks e = by (line_comment_of style) (line_marks style) e
   where
@@ -75,14 +75,14 @@ low_among (p ∷ punct) low b e = by (nat_eq p b) refl e (λ f. low_among punct 
     by true is f later = ap is_low (sym (same is)) ∙ parts.0
     by false is f later = later f
 
-low_filler : (punct : List ℕ) → list_all is_low punct ≡ true → AreLow punct
+pub low_filler : (punct : List ℕ) → list_all is_low punct ≡ true → AreLow punct
 low_filler punct low b e = by (is_blank b) refl e
   where
     by : (t : Bool) → is_blank b ≡ t → (t || list_any (λ p. nat_eq p b) punct) ≡ true → is_low b ≡ true
     by true is f = blank_low b is
     by false is f = low_among punct low b f
 
-low_punctuation : (style : Style) → list_all is_low (punctuation_of style) ≡ true
+pub low_punctuation : (style : Style) → list_all is_low (punctuation_of style) ≡ true
 low_punctuation Python = refl
 low_punctuation C = refl
 low_punctuation Css = refl
@@ -111,10 +111,10 @@ no_header file None e = refl
 no_header file (Some h) e = absurd (let no : ⊥ = cc e in no)
 
 -- what a block says, and the bytes in front of it and behind it
-record IsFoundSound (file : List ℕ) (span : HeaderSpan) : Type 0 where
-  contents : Each IsSound span.contents
-  before : IsSound (take span.start file)
-  behind : IsSound (drop span.end file)
+pub record IsFoundSound (file : List ℕ) (span : HeaderSpan) : Type 0 where
+  pub contents : Each IsSound span.contents
+  pub before : IsSound (take span.start file)
+  pub behind : IsSound (drop span.end file)
 
 module _ (joined : (text : List ℕ) → text_of (lines_of text) ≡ text) (well : (text : List ℕ) → AreLines (lines_of text)) (style : Style) (file : List ℕ) (sound : IsSound file) where
   lines_are : Each SoundLine (file_lines file)
@@ -153,7 +153,7 @@ module _ (joined : (text : List ℕ) → text_of (lines_of text) ≡ text) (well
   found : Option HeaderSpan
   found = option_map (span_in file) (header_of style file)
 
-  span_sound : (span : HeaderSpan) → option_map (span_in file) (header_of style file) ≡ Some span → IsFoundSound file span
+  pub span_sound : (span : HeaderSpan) → option_map (span_in file) (header_of style file) ≡ Some span → IsFoundSound file span
   span_sound span is = found_sound span (span_cuts style file span (joined (after_mark file)) is)
 
   old_sound : (replace : Bool) (o : Option HeaderSpan) → option_map (span_in file) (header_of style file) ≡ o → Each IsSound (old_contents (replaced_block replace o))

@@ -34,7 +34,7 @@ pub record Spreads (P : List ℕ → Type 0) (punct : List ℕ) : Type 0 where
 
 module _ (P : List ℕ → Type 0) where
   -- what texts of some kind say
-  each_said_of : (f : List ℕ → Option (List ℕ)) (xs : List (List ℕ)) → ((x v : List ℕ) → P x → f x ≡ Some v → P v) → Each P xs → Each P (filter_map f xs)
+  pub each_said_of : (f : List ℕ → Option (List ℕ)) (xs : List (List ℕ)) → ((x v : List ℕ) → P x → f x ≡ Some v → P v) → Each P xs → Each P (filter_map f xs)
   unfolding Each
   each_said_of f [] w h = tt
   each_said_of f (x ∷ xs) w h = by_value (f x) refl (each_said_of f xs w h.1)
@@ -43,7 +43,7 @@ module _ (P : List ℕ → Type 0) where
       by_value None e deep = deep
       by_value (Some v) e deep = (w x v h.0 e, deep)
 
-  each_filtered : (p : List ℕ → Bool) (xs : List (List ℕ)) → Each P xs → Each P (filter p xs)
+  pub each_filtered : (p : List ℕ → Bool) (xs : List (List ℕ)) → Each P xs → Each P (filter p xs)
   unfolding Each
   each_filtered p [] h = tt
   each_filtered p (x ∷ xs) h = by (p x) (each_filtered p xs h.1)
@@ -53,8 +53,8 @@ module _ (P : List ℕ → Type 0) where
       by false deep = deep
 
   module _ (punct : List ℕ) (s : Spreads P punct) where
-    read : (contents : List (List ℕ)) → Each P contents → EachText P (info_of punct contents)
-    read contents h = record {
+    pub each_read : (contents : List (List ℕ)) → Each P contents → EachText P (info_of punct contents)
+    each_read contents h = record {
       notices = each_set P _ (each_said_of (λ c. notice_text (tag_of punct c)) contents (λ c t f e. subst P (sym (notice_whole (stripped punct c) t e)) (s.inner c f)) h);
       contributors = each_set P _ (each_said_of (λ c. contributor_value (tag_of punct c)) contents
           (λ c v f e. s.contributor (stripped punct c) v (s.inner c f) (contributor_is (stripped punct c) v e)) h);
@@ -81,5 +81,5 @@ module _ (P : List ℕ → Type 0) where
 
     pub each_new : Merges → (contents : List (List ℕ)) (merge : Bool) (additions : Additions) → Each P contents → EachAdded P additions → EachText P (new_info punct contents merge additions)
     unfolding new_info
-    each_new merges contents false additions h a = united (info_of punct contents) additions (read contents h) a
-    each_new merges contents true additions h a = merged merges (union_of (info_of punct contents) additions) additions (united (info_of punct contents) additions (read contents h) a)
+    each_new merges contents false additions h a = united (info_of punct contents) additions (each_read contents h) a
+    each_new merges contents true additions h a = merged merges (union_of (info_of punct contents) additions) additions (united (info_of punct contents) additions (each_read contents h) a)

@@ -13,17 +13,18 @@ use Rattle.reuse_notice.specs.declared.infos.Info.{Info}
 use Rattle.reuse_notice.specs.declared.adding.Additions.{Additions}
 use Rattle.reuse_notice.specs.Prefixes.{prefix_text, longest_first}
 use Rattle.reuse_notice.specs.Tags.{NoticeText, is_blank, all_blank, is_filler, drop_front, trimmed, stripped, value_after, licence_lead, contributor_lead, needs_no_space, leaves_value, years_written, years_in, years_or, years_front, prefix_of, notice_behind, notice_of}
-use Rattle.reuse_notice.specs.Adding.{is_control}
 use Rattle.reuse_notice.specs.Plain.{IsPlain, ArePlain, AreUtf8}
-use Rattle.reuse_notice.proofs.NoneLemmas.{none_drop, none_weaker}
+use Rattle.reuse_notice.proofs.NoneLemmas.{none_drop}
 use Rattle.reuse_notice.proofs.NoticeSoundLemmas.{prefix_sound, written_sound}
 use Rattle.reuse_notice.proofs.PrefixLemmas.{found_passes}
+use Rattle.reuse_notice.proofs.ShapeLemmas.{plain_sound}
 use Rattle.reuse_notice.proofs.SoundLemmas.{is_nul, IsSound, is_low, low_is, low_utf8, sound_after, sound_front, sound_end, sound_trimmed}
+use Rattle.reuse_notice.specs.Infos.{info_of}
 use Rattle.reuse_header.specs.Writing.{new_info}
 use Rattle.reuse_header.proofs.SayableLemmas.{Each, each_of_all}
 use Rattle.reuse_header.specs.LowerLaws.{Merges}
 use Rattle.reuse_header.proofs.LineSoundLemmas.{blank_low}
-use Rattle.reuse_header.proofs.InfoLemmas.{EachText, EachAdded, Spreads, each_new}
+use Rattle.reuse_header.proofs.InfoLemmas.{EachText, EachAdded, Spreads, each_read, each_new}
 
 -- ---- information
 
@@ -80,7 +81,7 @@ front_behind value s =
     or_behind 11 value (years_or (years_in 9 value) 9 (years_or (years_in 4 value) 4 (None, 0))) s
     (or_behind 9 value (years_or (years_in 4 value) 4 (None, 0)) s (or_behind 4 value (None, 0) s s))
 
-holder_sound : (text : List ℕ) (n : NoticeText) → notice_of text ≡ Some n → IsSound text → IsSound n.holder
+pub holder_sound : (text : List ℕ) (n : NoticeText) → notice_of text ≡ Some n → IsSound text → IsSound n.holder
 holder_sound text n e s = by (prefix_of text) refl e
   where
     by : (o : Option Prefix) → prefix_of text ≡ o → option_map (notice_behind text) o ≡ Some n → IsSound n.holder
@@ -95,20 +96,22 @@ holder_sound text n e s = by (prefix_of text) refl e
         let sound = sound_front is_blank blank_low rest (sound_after text (prefix_text p) begins (prefix_sound p).utf8 s) in
         subst (λ (m : NoticeText). IsSound m.holder) same (sound_trimmed is_blank blank_low (drop (years_front value).1 value) (front_behind value sound))
 
+-- what is known of the parts of contents
+sound_spreads : (punct : List ℕ) → AreLow punct → Spreads IsSound punct
+sound_spreads punct low = record {
+  inner = stripped_sound punct low;
+  contributor = λ text v. value_sound contributor_lead text v (low_utf8 contributor_lead refl);
+  licence = λ text v. value_sound licence_lead text v (low_utf8 licence_lead refl);
+  written = λ old text f w. subst IsSound (sym w.written) (written_sound w.prefix w.years w.notice.holder w.digits (holder_sound old w.notice w.read f));
+}
+
+pub info_sound : (punct : List ℕ) → AreLow punct → (contents : List (List ℕ)) → Each IsSound contents → IsSoundInfo (info_of punct contents)
+info_sound punct low contents h = each_read IsSound punct (sound_spreads punct low) contents h
+
 pub new_sound : Merges → (punct : List ℕ) → AreLow punct → (contents : List (List ℕ)) (merge : Bool) (additions : Additions) → Each IsSound contents → AreSound additions → IsSoundInfo (new_info punct contents merge additions)
-new_sound merges punct low contents merge additions h a =
-    let spreads : Spreads IsSound punct = record {
-      inner = stripped_sound punct low;
-      contributor = λ text v. value_sound contributor_lead text v (low_utf8 contributor_lead refl);
-      licence = λ text v. value_sound licence_lead text v (low_utf8 licence_lead refl);
-      written = λ old text f w. subst IsSound (sym w.written) (written_sound w.prefix w.years w.notice.holder w.digits (holder_sound old w.notice w.read f));
-    } in
-    each_new IsSound punct spreads merges contents merge additions h a
+new_sound merges punct low contents merge additions h a = each_new IsSound punct (sound_spreads punct low) merges contents merge additions h a
 
 -- the texts of additions that are plain and UTF-8
-plain_sound : (text : List ℕ) → IsPlain text → IsUtf8 text → IsSound text
-plain_sound text plain utf8 = record { utf8 = utf8; clean = none_weaker is_control is_nul (λ b e. ap is_control (eqb-true b 0 e)) text plain.printable }
-
 each_plain : (texts : List (List ℕ)) → Each IsPlain texts → Each IsUtf8 texts → Each IsSound texts
 unfolding Each
 each_plain [] h k = tt

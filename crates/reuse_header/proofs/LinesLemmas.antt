@@ -172,6 +172,14 @@ fit_contents kind lines h = all_of_each (λ line. IsLine (record { content = lin
     each [] h = tt
     each (line ∷ lines) h = (record { no_feed = feedless_holds line h.0.0; bare_feed = λ e. h.0.1; unended = λ e. absurd (let none : ⊥ = cc e in none) }, each lines h.1)
 
+-- the lines of a block that says what reads back
+pub sayable_contents : (style : Style) (form : Form) (marks : LineMarks) (kind : LineKind) (info : Info) → marks_of style form ≡ Some marks → IsSayable (punctuation_of style) info → HasNoFeed info
+    → AreContents kind (block_lines marks info)
+sayable_contents style form marks kind info is s h = fit_contents kind (block_lines marks info) (lines_fit (punctuation_of style) marks info (marks_fit style form marks is) s h)
+
+pub sayable_neighbour : (kind : LineKind) (info : Info) → IsSayable [] info → HasNoFeed info → AreContents kind (block_lines neighbour_marks info)
+sayable_neighbour kind info s h = fit_contents kind (block_lines neighbour_marks info) (lines_fit [] neighbour_marks info neighbour_fit s h)
+
 -- ---- the information that is written
 
 new_sayable : Known → (punct : List ℕ) → NoFillers punct → (contents : List (List ℕ)) (merge : Bool) (arguments : Arguments) → All (λ c. without_returns c ≡ c) contents → ArePlain (additions_of arguments)

@@ -74,7 +74,7 @@ ended_sound kind (line ∷ lines) h =
 -- ---- texts
 
 -- without punctuation, blank bytes alone stand in front of a tag
-no_punctuation : AreLow []
+pub no_punctuation : AreLow []
 no_punctuation b e = by (is_blank b) refl e
   where
     by : (x : Bool) → is_blank b ≡ x → (x || false) ≡ true → is_low b ≡ true
@@ -92,7 +92,7 @@ pub text_made : (bytes : List ℕ) → IsSound bytes → is_text bytes ≡ true
 text_made bytes s = ap (λ (b : Bool). b && not (list_any is_nul bytes)) (is_utf8-from_IsUtf8 bytes s.utf8) ∙ ap not s.clean
 
 -- no marks
-no_marks : AreSoundMarks neighbour_marks
+pub no_marks : AreSoundMarks neighbour_marks
 unfolding Each
 no_marks = record { lead = sound_nil; mark = sound_nil; first = tt; last = tt }
 
@@ -119,7 +119,7 @@ module _ (joined : (text : List ℕ) → text_of (lines_of text) ≡ text) (well
   lines_are : Each SoundLine (file_lines file)
   lines_are = lines_sound (lines_of (after_mark file)) (mark_len_of file) (well (after_mark file)) (subst IsSound (sym (joined (after_mark file))) (mark_sound file sound).1)
 
-  contents_are : Each IsSound (neighbour_contents file)
+  pub contents_are : Each IsSound (neighbour_contents file)
   contents_are = contents_sound (open_contents (file_lines file)) (open_sound (file_lines file) lines_are)
 
   old_contents : (replace : Bool) → Each IsSound (replaced_contents replace file)
@@ -127,7 +127,7 @@ module _ (joined : (text : List ℕ) → text_of (lines_of text) ≡ text) (well
   old_contents true = contents_are
   old_contents false = tt
 
-  behind_end : IsSound (drop (neighbour_end file) file)
+  pub behind_end : IsSound (drop (neighbour_end file) file)
   behind_end =
       let cut = cut_at_line file (open_lines (file_lines file)) (closed_lines (file_lines file)) (neighbour_end file) (joined (after_mark file)) (lines_cut (file_lines file)) (end_behind file (joined (after_mark file))) in
       subst IsSound (sym cut.1) (bytes_sound (closed_lines (file_lines file)) (closed_sound (file_lines file) lines_are))

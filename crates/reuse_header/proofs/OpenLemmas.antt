@@ -111,7 +111,7 @@ lines_made laws made rest kind contents is good =
     sym (laws.only (after_mark made) lines (written_are kind contents (lines_of rest) good (laws.well rest)) text)
 
 -- the contents of the neighbour that was made
-open_made : Laws → (made rest : List ℕ) (kind : LineKind) (contents : List (List ℕ)) → after_mark made ≡ ended_by kind contents ++ rest → AreContents kind contents
+pub open_made : Laws → (made rest : List ℕ) (kind : LineKind) (contents : List (List ℕ)) → after_mark made ≡ ended_by kind contents ++ rest → AreContents kind contents
     → neighbour_end made ≡ mark_len_of made + length (ended_by kind contents) → open_contents (file_lines made) ≡ contents
 open_made laws made rest kind contents is good place =
     let same = lines_made laws made rest kind contents is good in
@@ -146,12 +146,12 @@ open_begun laws made rest kind contents is good place =
 
 -- ---- a second call
 
-is_replacement : (replace : Bool) (file text : List ℕ) → replace ≡ true → neighbour_edit replace file text ≡ replacement (mark_len_of file) (neighbour_end file) text
+pub is_replacement : (replace : Bool) (file text : List ℕ) → replace ≡ true → neighbour_edit replace file text ≡ replacement (mark_len_of file) (neighbour_end file) text
 unfolding neighbour_edit
 is_replacement replace file text e =
     ap (λ (r : Bool). if r then replacement (mark_len_of file) (neighbour_end file) text else insertion [] (file_lines file) (mark_len_of file) (kind_of_file file) text) e
 
-standing : (replace : Bool) (made : List ℕ) (start end : ℕ) → replace ≡ true → neighbour_stands replace made start end ≡ true → (mark_len_of made ≡ start) × (neighbour_end made ≡ end)
+pub standing : (replace : Bool) (made : List ℕ) (start end : ℕ) → replace ≡ true → neighbour_stands replace made start end ≡ true → (mark_len_of made ≡ start) × (neighbour_end made ≡ end)
 standing replace made start end e stands =
     let both = and_parts (mark_len_of made == start) (neighbour_end made == end) (ap (λ (r : Bool). neighbour_stands r made start end) (sym e) ∙ stands) in
     (eqb-true (mark_len_of made) start both.0, eqb-true (neighbour_end made) end both.1)
@@ -168,7 +168,7 @@ standing_first replace made start end e stands =
     (eqb-true (mark_len_of made) start both.0, leb-true end (neighbour_end made) both.1)
 
 -- behind the mark of what is made stands the text
-text_behind : (file made : List ℕ) (edit : Edit) → made ≡ edited file edit → edit.start ≡ mark_len_of file → edit.front ≡ [] → mark_len_of made ≡ text_start edit
+pub text_behind : (file made : List ℕ) (edit : Edit) → made ≡ edited file edit → edit.start ≡ mark_len_of file → edit.front ≡ [] → mark_len_of made ≡ text_start edit
     → after_mark made ≡ edit.text ++ (edit.back ++ drop (edit.start + edit.old_len) file)
 text_behind file made edit is start front there =
     let fits = mark_within file in
@@ -200,7 +200,7 @@ called_again how additions made info due replace text says e =
     ap (λ (b : Bool). if b then neighbour_written how.replace made (new_info [] (replaced_contents how.replace made) how.merge additions) else Err NotText) text
     ∙ ap (neighbour_written how.replace made) says ∙ ap (λ (r : Bool). neighbour_written r made info) replace ∙ e
 
-read_back : Laws → (info : Info) → IsSayable [] info → info_of [] (map without_returns (block_lines neighbour_marks info)) ≡ info
+pub read_back : Laws → (info : Info) → IsSayable [] info → info_of [] (map without_returns (block_lines neighbour_marks info)) ≡ info
 unfolding block_lines
 read_back laws info s =
     ap (λ (lines : List (List ℕ)). info_of [] (map without_returns lines)) (append-nil (inner_lines neighbour_marks info))

@@ -1,9 +1,10 @@
 -- What an amendment writes, as its laws say it (this project's own).
-use Rattle.std.specs.Prelude.{◌≡◌, ℕ, false, List, [], Some}
+use Rattle.std.specs.Prelude.{◌≡◌, ℕ, false, List, [], Some, Contains}
 use Rattle.reuse_notice.specs.declared.infos.Info.{Info}
 use Rattle.reuse_notice.specs.declared.amendments.Amendments.{Amendments}
 use Rattle.reuse_notice.specs.Infos.{info_of, says_the_same, says_nothing}
 use Rattle.reuse_notice.specs.Amending.{amended}
+use Rattle.reuse_notice.specs.Settled.{ReadsAsAmended}
 use Rattle.reuse_header.specs.declared.style.Style.{Style}
 use Rattle.reuse_header.specs.Styles.{punctuation_of}
 use Rattle.reuse_header.specs.Marks.{LineMarks}
@@ -31,3 +32,7 @@ pub record AmendsNeighbour (a : Amendments) (file : List ℕ) (edit : Edit) : Ty
   pub info : Info
   pub is : IsAmended a (info_of [] (neighbour_contents file)) info
   pub text : edit.text ≡ block_text neighbour_marks (kind_of_file file) info
+
+-- each notice of some information, amended, is read with what it was to say
+abbrev pub NoticesReadAsAmended : Amendments → Info → Type 0
+NoticesReadAsAmended a info = (text : List ℕ) → Contains info.notices text → ReadsAsAmended a text

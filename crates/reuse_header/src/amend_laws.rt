@@ -1,26 +1,29 @@
 //! Laws of amending.
-ghost use Rattle.std.specs.Prelude.{◌≡◌, ◌++◌, ◌+◌, ◌≤◌, ℕ, List, Option, None, Some, Ok, true, length, take, drop};
+ghost use Rattle.std.specs.Prelude.{◌≡◌, ◌++◌, ◌+◌, ◌≤◌, ℕ, List, [], Option, None, Some, Ok, true, length, take, drop};
 ghost use Rattle.std.specs.Option.{option_map};
 ghost use Rattle.reuse_notice.specs.declared.infos.Info.{Info};
 ghost use Rattle.reuse_notice.specs.declared.amendments.Amendments.{Amendments};
 ghost use Rattle.reuse_notice.specs.Infos.{info_of, says_the_same};
 ghost use Rattle.reuse_notice.specs.Amending.{amended};
+ghost use Rattle.reuse_notice.specs.Settled.{BringNothingBack, WritePlainTexts, WriteUtf8Texts, HasFourDigits};
 ghost use Rattle.reuse_text.specs.Text.{mark_len_of};
 ghost use Rattle.reuse_text.specs.declared.TheConstants.{LONGEST_FILE};
+ghost use Rattle.reuse_text.specs.declared.LineKind.{LineKind};
 ghost use Rattle.reuse_header.specs.declared.style.Style.{Style};
 ghost use Rattle.reuse_header.specs.declared.style.Form.{Form};
 ghost use Rattle.reuse_header.specs.Styles.{punctuation_of};
-ghost use Rattle.reuse_header.specs.Marks.{LineMarks};
-ghost use Rattle.reuse_header.specs.Header.{HeaderSpan, span_in, header_of};
-ghost use Rattle.reuse_header.specs.Writing.{block_lines};
+ghost use Rattle.reuse_header.specs.Marks.{LineMarks, marks_of};
+ghost use Rattle.reuse_header.specs.Header.{HeaderSpan, span_in, header_of, neighbour_contents};
+ghost use Rattle.reuse_header.specs.Writing.{block_lines, neighbour_marks};
 ghost use Rattle.reuse_header.specs.Reading.{IsSayable};
 ghost use Rattle.reuse_header.specs.Annotation.{Edit, edited, kind_of_file, text_start, text_end};
-ghost use Rattle.reuse_header.specs.Neighbour.{neighbour_end};
-ghost use Rattle.reuse_header.specs.Laws.{IsBlockText, ReadsAs, AreContents};
-ghost use Rattle.reuse_header.specs.Amendment.{amendment_of, neighbour_amendment_of};
-ghost use Rattle.reuse_header.specs.AmendmentLaws.{AmendsBlock, AmendsNeighbour};
+ghost use Rattle.reuse_header.specs.Neighbour.{is_text, neighbour_end};
+ghost use Rattle.reuse_header.specs.Laws.{IsBlockText, ReadsAs, AreContents, information_in};
+ghost use Rattle.reuse_header.specs.Amendment.{amendment_of, neighbour_amendment_of, amended_file};
+ghost use Rattle.reuse_header.specs.AmendmentLaws.{AmendsBlock, AmendsNeighbour, NoticesReadAsAmended};
 
-use reuse_notice::sets_are_one;
+use crate::laws::lower_laws;
+use reuse_notice::{second_amendments_change_nothing, sets_are_one};
 use reuse_text::lines_are_one;
 
 /// Amending makes nothing: a file without a header block stays, and so does one whose block the
@@ -71,4 +74,41 @@ pub fn amended_blocks_read_back()
 {
     lines_are_one();
     sets_are_one();
+}
+
+/// What amending writes reads back, and its lines are the contents of lines, where each new text is
+/// plain.
+pub fn amended_information_is_sayable()
+    ensures files { (style : Style) (a : Amendments) (file : List ℕ) (span : HeaderSpan) (new : Info) (kind : LineKind) (form : Form) (marks : LineMarks) → WritePlainTexts a
+        → option_map (span_in file) (header_of style file) ≡ Some span → amended a (info_of (punctuation_of style) span.contents) ≡ Some new → marks_of style form ≡ Some marks
+        → (IsSayable (punctuation_of style) new) × (AreContents kind (block_lines marks new)) }
+    ensures neighbours { (a : Amendments) (file : List ℕ) (new : Info) (kind : LineKind) → WritePlainTexts a → amended a (info_of [] (neighbour_contents file)) ≡ Some new
+        → (IsSayable [] new) × (AreContents kind (block_lines neighbour_marks new)) }
+{
+    lower_laws();
+}
+
+/// What amending makes of text is text, UTF-8 without a NUL byte, where each new text is plain and
+/// UTF-8, and the year has four digits. A neighbour that isn't text is refused.
+pub fn amended_texts_are_texts()
+    ensures files { (style : Style) (a : Amendments) (file made : List ℕ) → WritePlainTexts a → WriteUtf8Texts a → HasFourDigits a.until → is_text file ≡ true
+        → amended_file file (amendment_of style a file) ≡ Ok made → is_text made ≡ true }
+    ensures neighbours { (a : Amendments) (file made : List ℕ) → WritePlainTexts a → WriteUtf8Texts a → HasFourDigits a.until
+        → amended_file file (neighbour_amendment_of a file) ≡ Ok made → (is_text file ≡ true) × (is_text made ≡ true) }
+{
+    lower_laws();
+}
+
+/// The same amendments leave a file that they made as it is, where they bring nothing back, write
+/// plain texts, and each notice that they write is read with what it was to say. A neighbour must
+/// still be text: if not, it is refused.
+pub fn second_amendments_leave_files()
+    ensures files { (style : Style) (a : Amendments) (file made : List ℕ) → BringNothingBack a → WritePlainTexts a
+        → ((info : Info) → information_in style file ≡ Some info → NoticesReadAsAmended a info)
+        → amended_file file (amendment_of style a file) ≡ Ok made → amendment_of style a made ≡ Ok None }
+    ensures neighbours { (a : Amendments) (file made : List ℕ) → BringNothingBack a → WritePlainTexts a → NoticesReadAsAmended a (info_of [] (neighbour_contents file))
+        → is_text made ≡ true → amended_file file (neighbour_amendment_of a file) ≡ Ok made → neighbour_amendment_of a made ≡ Ok None }
+{
+    lower_laws();
+    second_amendments_change_nothing();
 }

@@ -41,7 +41,7 @@ use reuse_notice::{
 use reuse_text::{LONGEST_FILE, lines_are_one};
 
 // What the laws of the crates below say, as the proofs of this crate's laws take it.
-fn lower_laws()
+pub(crate) fn lower_laws()
     ensures known { Known }
     ensures laws { Laws }
 {

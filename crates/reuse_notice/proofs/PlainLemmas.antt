@@ -187,6 +187,10 @@ short-year (a ∷ b ∷ c ∷ d ∷ []) = short-sum a b c d (list_all is_ascii_d
     (small-digit a p.0, small-digit b q.0, small-digit c r.0, small-digit d (and-parts (is_ascii_digit d) true r.1).0))
 short-year (a ∷ b ∷ c ∷ d ∷ e ∷ text) = tt
 
+pub year-short : (text : List ℕ) (year : ℕ) → year_of text ≡ Some year → year ≤ 9999
+unfolding IsShortYear
+year-short text year e = subst IsShortYear e (short-year text)
+
 lowest : (low : ℕ) (xs : List ℕ) → low ≤ 9999 → fold min low xs ≤ 9999
 lowest low [] h = h
 lowest low (x ∷ xs) h = lowest (min low x) xs (omega arith)
@@ -241,7 +245,7 @@ front-digits : (value : List ℕ) → HaveFourDigits (years_front value).0
 front-digits value =
     or-digits (years_in 11 value) 11 _ (in-digits 11 value) (or-digits (years_in 9 value) 9 _ (in-digits 9 value) (or-digits (years_in 4 value) 4 (None, 0) (in-digits 4 value) tt))
 
-read-digits : (text : List ℕ) (notice : NoticeText) → notice_of text ≡ Some notice → HaveFourDigits notice.years
+pub read-digits : (text : List ℕ) (notice : NoticeText) → notice_of text ≡ Some notice → HaveFourDigits notice.years
 read-digits text notice e = by (prefix_of text) e
   where
     by : (o : Option Prefix) → option_map (notice_behind text) o ≡ Some notice → HaveFourDigits notice.years

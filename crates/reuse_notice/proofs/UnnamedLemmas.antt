@@ -30,18 +30,18 @@ use Rattle.reuse_notice.proofs.ClassLemmas.{text_kept}
 use Rattle.reuse_notice.proofs.PieceLemmas.{token-some}
 use Rattle.reuse_notice.proofs.SetLemmas.{In, In-from_contains, Contains-from_in, set_of-has}
 
-other_text : (x y : List ℕ) → x ≢ y → bytes_eq x y ≡ false
+pub other_text : (x y : List ℕ) → x ≢ y → bytes_eq x y ≡ false
 other_text x y h = false_from_ne_true (bytes_eq x y) (λ e. h ((bytes_eq-Decides x y).0 e))
 
-own_text : (x : List ℕ) → bytes_eq x x ≡ true
+pub own_text : (x : List ℕ) → bytes_eq x x ≡ true
 own_text x = (bytes_eq-Decides x x).1 refl
 
 -- ---- pieces
 
-abbrev together : List (List ℕ × Token) → List ℕ
+abbrev pub together : List (List ℕ × Token) → List ℕ
 together pieces = flat_map (λ (p : List ℕ × Token). p.0) pieces
 
-pieces_from-join : (skip : ℕ) (bytes : List ℕ) → together (pieces_from skip bytes) ≡ drop skip bytes
+pub pieces_from-join : (skip : ℕ) (bytes : List ℕ) → together (pieces_from skip bytes) ≡ drop skip bytes
 unfolding pieces_from
 pieces_from-join zero [] = refl
 pieces_from-join (suc skip) [] = refl
@@ -170,7 +170,7 @@ other_licence-stays a info new value e other h =
     (licence-amended-stays a.replaced_licences value other.whole other.tokens) in
     subst (λ xs. Contains xs value) (sym parts.new_licences) (in_set (without a.removed_licences parts.licences) value (without-has a.removed_licences parts.licences value other.stays stands))
 
-text-stays : (rs : List Replacement) (text : List ℕ) → IsNoOld rs text → Amending.text_amended rs text ≡ text
+pub text-stays : (rs : List Replacement) (text : List ℕ) → IsNoOld rs text → Amending.text_amended rs text ≡ text
 text-stays [] text h = refl
 text-stays (r ∷ rs) text h = ap (λ b. fold Amending.text_replaced (cond b r.new text) rs) (other_text text r.old h.0) ∙ text-stays rs text h.1
 
@@ -181,7 +181,7 @@ other_contributor-stays a info new text e other h =
     let stands : In text (map f info.contributors) = subst (λ t. In t (map f info.contributors)) (text-stays a.replaced_contributors text other.whole) (map-has f info.contributors text (In-from_contains info.contributors text h)) in
     subst (λ xs. Contains xs text) (sym parts.new_contributors) (in_set (without a.removed_contributors (map f info.contributors)) text (without-has a.removed_contributors (map f info.contributors) text other.stays stands))
 
-own_years : (o : Option Years) → same_years o o ≡ true
+pub own_years : (o : Option Years) → same_years o o ≡ true
 own_years None = refl
 own_years (Some y) = ap (λ b. b && nat_eq y.high y.high) (eq-eqb y.low y.low refl) ∙ eq-eqb y.high y.high refl
 

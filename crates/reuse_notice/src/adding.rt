@@ -5,6 +5,7 @@ ghost use Rattle.std.specs.List.{list_any};
 ghost use Rattle.reuse_notice.specs.Tags.{year_of};
 ghost use Rattle.reuse_notice.specs.Adding.{without_spaces, holds, is_bad_text, is_bad_year, is_control, bad_expression, bad_licence, four_digits, chosen_years, notice_written};
 ghost use Rattle.reuse_notice.specs.Keeping.{HaveFourDigits};
+ghost use Rattle.reuse_notice.specs.RefusalTexts.{refusal_text};
 ghost use Rattle.reuse_notice.specs.Texts.{texts_of};
 
 use crate::expressions::find_fault;
@@ -14,7 +15,8 @@ use crate::text_lists::Texts;
 use crate::trims::{trim_end_with, trim_start_with};
 use reuse_text::Bytes;
 use std::alloc::{AllocError, Global};
-use thiserror::Error;
+use std::error::Error;
+use std::fmt;
 
 /// Texts of notices, contributors and licences to be added to a file, in the order of the
 /// arguments.
@@ -26,27 +28,40 @@ pub struct Additions {
 }
 
 /// Why arguments add nothing.
-#[derive(Debug, Drop, Error)]
+#[derive(Debug, Drop)]
 pub enum NoticeRefusal {
     /// There is no copyright, licence or contributor.
-    #[error("nothing to add")]
     NothingToAdd,
     /// Years were given and excluded.
-    #[error("--year and --exclude-year")]
     YearAndExclude,
     /// A year is not four ASCII digits.
-    #[error("bad year: {0}")]
     BadYear(Bytes),
     /// A holder or a contributor is empty, has a control character or holds a barrier text.
-    #[error("bad text: {0}")]
     BadText(Bytes),
     /// A licence is outside the grammar, at this place.
-    #[error("bad licence expression at {1}: {0}")]
     BadExpression(Bytes, usize),
     /// There was no memory.
-    #[error("out of memory")]
     Memory(AllocError),
 }
+
+impl fmt::Display for NoticeRefusal {
+    ghost output = { λ refusal. Some (refusal_text refusal) };
+
+    fn fmt<W: fmt::Write>(&self, f: &mut fmt::Formatter<W>) -> fmt::Result {
+        match self {
+            NoticeRefusal::NothingToAdd => f.write_str("nothing to add"),
+            NoticeRefusal::YearAndExclude => f.write_str("--year and --exclude-year"),
+            NoticeRefusal::BadYear(text) => write!(f, "bad year: {text}"),
+            NoticeRefusal::BadText(text) => write!(f, "bad text: {text}"),
+            NoticeRefusal::BadExpression(text, place) => {
+                write!(f, "bad licence expression at {place}: {text}")
+            }
+            NoticeRefusal::Memory(_) => f.write_str("out of memory"),
+        }
+    }
+}
+
+impl Error for NoticeRefusal {}
 
 impl From<AllocError> for NoticeRefusal {
     ghost use Rattle.reuse_notice.specs.declared.adding.NoticeRefusal.TheVariants.{Memory};

@@ -21,8 +21,10 @@ mod trims;
 
 pub use adding::{Additions, NoticeRefusal};
 pub use amend_laws::{
-    amended_years_include_the_old, licences_are_their_pieces, the_same_is_said_by_the_same,
-    unnamed_information_stays,
+    amended_years_include_the_old, expressions_have_one_meaning, licences_are_their_pieces,
+    replaced_licences_keep_their_meaning, replacing_texts_are_plain,
+    second_amendments_change_nothing, the_same_is_said_by_the_same, unnamed_information_stays,
+    written_notices_are_read,
 };
 pub use amending::{amend_one_licence, amend_one_notice};
 pub use amendments::{AmendRefusal, Amendments};

@@ -5,11 +5,11 @@ use Rattle.reuse_notice.specs.declared.adding.Additions.{Additions}
 use Rattle.reuse_notice.proofs.SetLemmas.{In, In-from_contains, Contains-from_in}
 use Rattle.reuse_header.specs.declared.annotation.How.{How}
 use Rattle.reuse_tree.specs.Files.{Files}
-use Rattle.reuse_session.specs.Accepted.{CanAnnotate}
+use Rattle.reuse_session.specs.Accepted.{CanAnnotate, FitsEntry}
 use Rattle.reuse_session.specs.Annotate.{annotated_at}
 use Rattle.reuse_session.specs.Command.{has_root}
 use Rattle.reuse_session.specs.Edit.{Edit}
-use Rattle.reuse_session.specs.Outcome.{or_first, edits_at, edits_by_names, annotation_edits, outcome_of}
+use Rattle.reuse_session.specs.Outcome.{outcome_of, edits_of}
 use Rattle.reuse_session.specs.TreeStyles.{OwnNames, styles_in}
 use Rattle.reuse_session.specs.Worked.{worked_paths}
 use Rattle.reuse_session.specs.declared.command.Command.TheVariants.{Annotate}
@@ -21,8 +21,10 @@ use Rattle.reuse_session.specs.declared.reply.Refusal.TheVariants as refusals
 use Rattle.reuse_session.proofs.AcceptedFiles.{IsDone, accepted_is_done, done_is_accepted}
 use Rattle.reuse_session.proofs.AnnotatedFiles.{ReplacesBlock, InsertsBlock, ReplacesNeighbour, InsertsNeighbour}
 use Rattle.reuse_session.proofs.AnnotatedTrees.{each_done}
-use Rattle.reuse_session.proofs.Outcomes.{Holds, edits_of_tree, held, tree_comes}
+use Rattle.reuse_session.proofs.Outcomes.{edits_of_tree, held, tree_comes}
 use Rattle.reuse_session.proofs.Results.{err_or}
+use Rattle.reuse_session.specs.PathEdits.{or_first}
+use Rattle.reuse_session.proofs.CommandEdits.{edits_at, edits_by_names, annotation_edits, of_annotation}
 
 -- where each is done they are done together
 pub all_at : (at : List ℕ → Result (Option Edit) Refusal) (paths : List (List ℕ)) → ((path : List ℕ) → In path paths → IsDone (at path)) → (edits : List Edit) × (edits_at at paths ≡ Ok edits)
@@ -51,7 +53,7 @@ module _ (places : List Place) (additions : Additions) (how : How) (scope : Scop
   abbrev by_names : Result OwnNames Refusal → Result (List Edit) Refusal
   by_names styles = edits_by_names places additions how scope tree styles
 
-  accepts : ReplacesBlock → InsertsBlock → ReplacesNeighbour → InsertsNeighbour → (edits : List Edit) (styles : Result OwnNames Refusal) → styles_in tree ≡ styles → by_names styles ≡ Ok edits → Holds (annotation_edits places additions how scope tree)
+  accepts : ReplacesBlock → InsertsBlock → ReplacesNeighbour → InsertsNeighbour → (edits : List Edit) (styles : Result OwnNames Refusal) → styles_in tree ≡ styles → by_names styles ≡ Ok edits → FitsEntry (Annotate places additions how scope) tree
       → CanAnnotate places additions how scope tree
   accepts replaces inserts replaces_beside inserts_beside edits (Err refusal) is h fits = absurd (cc)
   accepts replaces inserts replaces_beside inserts_beside edits (Ok own) is h fits =
@@ -78,7 +80,7 @@ module _ (places : List Place) (additions : Additions) (how : How) (scope : Scop
   unfolding outcome_of
   annotation_accepted replaces inserts replaces_beside inserts_beside = (
     λ given.
-        let of_tree = edits_of_tree tree given.0 (annotation_edits places additions how scope tree) given.1 in
-        accepts replaces inserts replaces_beside inserts_beside of_tree.0 (styles_in tree) refl of_tree.1 (held tree given.0 (annotation_edits places additions how scope tree) given.1),
-    λ can. let edits = comes can in tree_comes tree (annotation_edits places additions how scope tree) edits.0 edits.1 can.fits,
+        let of_tree = edits_of_tree tree given.0 (edits_of (Annotate places additions how scope) tree) given.1 in
+        accepts replaces inserts replaces_beside inserts_beside of_tree.0 (styles_in tree) refl (sym (of_annotation places additions how scope tree) ∙ of_tree.1) (held tree given.0 (edits_of (Annotate places additions how scope) tree) given.1),
+    λ can. let edits = comes can in tree_comes tree (edits_of (Annotate places additions how scope) tree) edits.0 (of_annotation places additions how scope tree ∙ edits.1) can.fits,
   )

@@ -12,10 +12,10 @@ use Rattle.reuse_tree.specs.Files.{Files, Clashes}
 use Rattle.reuse_session.specs.Accepted.{CanBeDownloaded, CanDownload, CanConvert}
 use Rattle.reuse_tree.specs.Clash.{is_clash}
 use Rattle.reuse_session.specs.Conversion.{dep5_path, toml_path, replaced_by, conversion_where, conversion_edits}
-use Rattle.reuse_session.specs.Downloads.{text_for, refusal_of_found, id_refusal, ids_refusal, licence_edit, unless_refused, download_edits}
+use Rattle.reuse_session.specs.Downloads.{text_for, refusal_of_found, id_refusal, ids_refusal, licence_edit, unless_refused}
 use Rattle.reuse_session.specs.Edit.{Edit}
 use Rattle.reuse_session.specs.Licence.{is_id, licence_path, licence_id}
-use Rattle.reuse_session.specs.Outcome.{outcome_of}
+use Rattle.reuse_session.specs.Outcome.{outcome_of, edits_of}
 use Rattle.reuse_session.specs.declared.command.Command.TheVariants.{ConvertDep5, Download}
 use Rattle.reuse_session.specs.declared.licence.LicenceText.{LicenceText}
 use Rattle.reuse_session.specs.declared.reply.Refusal.TheVariants as refusals
@@ -25,6 +25,7 @@ use Rattle.reuse_session.proofs.Outcomes.{ok_edits, edits_of_tree, edits_unless,
 use Rattle.reuse_session.proofs.TablePut.{both, by_file}
 use Rattle.reuse_tree.proofs.Testing.{clashes_keys}
 use Rattle.reuse_session.proofs.TextsPut.{made_at_id}
+use Rattle.reuse_session.proofs.CommandEdits.{of_download, of_conversion}
 
 -- ---- paths
 
@@ -70,12 +71,12 @@ pub download_accepted : (ids : List (List ℕ)) (texts : List LicenceText) (tree
 unfolding outcome_of
 download_accepted ids texts tree = (
   λ given.
-      let of_tree = edits_of_tree tree given.0 (download_edits ids texts tree) given.1 in
-      let none = (edits_unless (ids_refusal tree texts (set_of ids)) whole of_tree.0 of_tree.1).0 in
-      record { each = λ id there. downloaded texts tree id (made_at_id ids texts tree none id there); fits = held tree given.0 (download_edits ids texts tree) given.1 },
+      let of_tree = edits_of_tree tree given.0 (edits_of (Download ids texts) tree) given.1 in
+      let none = (edits_unless (ids_refusal tree texts (set_of ids)) whole of_tree.0 (sym (of_download ids texts tree) ∙ of_tree.1)).0 in
+      record { each = λ id there. downloaded texts tree id (made_at_id ids texts tree none id there); fits = held tree given.0 (edits_of (Download ids texts) tree) given.1 },
   λ can.
       let none = none_refused texts tree (set_of ids) (λ id there. can.each id (Contains-from_in ids id (In-set_of ids id there))) in
-      tree_comes tree (download_edits ids texts tree) whole (ap (λ r. unless_refused r whole) none) can.fits,
+      tree_comes tree (edits_of (Download ids texts) tree) whole (of_download ids texts tree ∙ ap (λ r. unless_refused r whole) none) can.fits,
 )
   where
     whole : List Edit
@@ -99,8 +100,8 @@ pub conversion_accepted : (tree : Files) → ((after : Files) × (outcome_of Con
 unfolding outcome_of
 conversion_accepted tree = (
   λ given.
-      let of_tree = edits_of_tree tree given.0 (conversion_edits tree) given.1 in
-      let is = by_file tree of_tree.0 (get tree dep5_path) refl of_tree.1 in
+      let of_tree = edits_of_tree tree given.0 (edits_of ConvertDep5 tree) given.1 in
+      let is = by_file tree of_tree.0 (get tree dep5_path) refl (sym (of_conversion tree) ∙ of_tree.1) in
       record {
         dep5 = is.dep5;
         there = is.was;
@@ -108,7 +109,7 @@ conversion_accepted tree = (
         good = ap is_ok is.by_rules;
         absent = is.absent;
         free = not_clashing tree toml_path is.free;
-        fits = held tree given.0 (conversion_edits tree) given.1;
+        fits = held tree given.0 (edits_of ConvertDep5 tree) given.1;
       },
-  λ can. tree_comes tree (conversion_edits tree) (both can.dep5 (text tree can).0) (replaces tree can) can.fits,
+  λ can. tree_comes tree (edits_of ConvertDep5 tree) (both can.dep5 (text tree can).0) (of_conversion tree ∙ replaces tree can) can.fits,
 )

@@ -1,12 +1,19 @@
 -- Where amend isn't refused at a path, its file and the neighbour become what the rules say of them.
-use Rattle.std.proofs.Common.{◌≡◌, ◌≢◌, ◌⊎◌, inl, inr, ℕ, Bool, true, false, cond, not, nat_lt, List, ◌++◌, length, take, drop, Option, Some, None, Result, Ok, Err, refl, sym, ap, ap₂, subst, ◌∙◌}
+use Rattle.std.proofs.Common.{◌≡◌, ◌⊎◌, inl, inr, ℕ, Bool, true, false, cond, not, nat_lt, List, ◌++◌, length, take, drop, Option, Some, None, Ok, Err, refl, sym, ap, ap₂, subst, ◌∙◌, Result}
 use Rattle.std.specs.Option.{option_map, option_map_or}
+use Rattle.std.specs.Str.{bytes_eq}
 use Rattle.std.specs.FinMap.{get}
 use Rattle.std.proofs.lemmas.Bool.{not-false}
 use Rattle.std.proofs.lemmas.Option.{same_Some}
-use Rattle.reuse_text.specs.Text.{mark_len_of}
+use Rattle.std.proofs.lemmas.Slice.Eq.{bytes_eq-Decides}
+use Rattle.reuse_text.specs.Text.{mark_len_of, spliced}
 use Rattle.reuse_text.specs.declared.TheConstants.{LONGEST_FILE}
 use Rattle.reuse_notice.specs.declared.amendments.Amendments.{Amendments}
+use Rattle.reuse_dep5.specs.declared.toml_change.TomlSplice.{TomlSplice}
+use Rattle.reuse_dep5.specs.declared.toml_values.AmendTomlRefusal.{AmendTomlRefusal}
+use Rattle.reuse_dep5.specs.TomlAmending.{toml_amendment_of}
+use Rattle.reuse_dep5.specs.TomlLaws.{IsAmendedText, DiffersInStrings}
+use Rattle.reuse_dep5.proofs.TomlLawLemmas as toml
 use Rattle.reuse_header.specs.declared.style.Style.{Style}
 use Rattle.reuse_header.specs.declared.style.Kind.{Kind}
 use Rattle.reuse_header.specs.declared.style.Kind.TheVariants as kind
@@ -17,21 +24,24 @@ use Rattle.reuse_header.specs.Names.{kind_in}
 use Rattle.reuse_header.specs.Neighbour.{is_text, neighbour_end}
 use Rattle.reuse_tree.specs.Files.{Files}
 use Rattle.reuse_tree.specs.Listing.{is_folder}
-use Rattle.reuse_session.specs.Amend.{style_or_named, style_for, amendment_edit, amend_neighbour, amend_inside, amend_covered, amended_where, amended_at}
-use Rattle.reuse_session.specs.Amended.{KeepsOutsideBlock, IsNeighbourAmended, IsFileAmended, HasNoPlace, IsAmended}
+use Rattle.reuse_session.specs.Amend.{style_or_named, style_for, amendment_edit, amend_neighbour, amend_inside, amend_covered, table_edit, table_amendment, amended_table, amend_table, amended_where, amended_at}
+use Rattle.reuse_session.specs.Amended.{KeepsOutsideBlock, IsNeighbourAmended, IsFileAmended, HasNoPlace, IsTableAmended, IsAmended}
 use Rattle.reuse_session.specs.AmendmentPlan.{Due}
 use Rattle.reuse_session.specs.Annotate.{neighbour_of}
-use Rattle.reuse_session.specs.Annotated.{IsSameAround, IsStyleOf, HasKind, Pair, pair_at}
+use Rattle.reuse_session.specs.Annotated.{IsSameAround, IsStyleOf, HasKind, pair_at, Pair}
+use Rattle.reuse_session.specs.Conversion.{toml_path}
 use Rattle.reuse_session.specs.Covered.{is_covered}
 use Rattle.reuse_session.specs.Edit.{Edit}
 use Rattle.reuse_session.specs.TreeStyles.{OwnNames}
 use Rattle.reuse_session.specs.declared.command.Place.TheVariants as place
 use Rattle.reuse_session.specs.declared.command.Scope.{Scope}
+use Rattle.reuse_session.specs.declared.reply.Refusal.{Refusal}
 use Rattle.reuse_session.specs.declared.reply.Refusal.TheVariants as refusals
 use Rattle.reuse_session.proofs.AnnotatedFiles.{pair_then, pair, IsEditTo, makes_by, then_here, then_other, apart}
 use Rattle.reuse_session.proofs.Annotating.{both_err}
 use Rattle.reuse_session.proofs.Outcomes.{done}
 use Rattle.reuse_session.proofs.Results.{err_or, same_Ok}
+use Rattle.reuse_session.proofs.TableLemmas.{table_differs}
 
 -- ---- what is known of each amendment
 
@@ -67,6 +77,38 @@ amendment_makes path at bytes (Ok (Some edit)) given h =
       kept = inr (m.0, ap (λ (e : header.Edit). Ok (Some e)) same, refl);
     }
 amendment_makes path at bytes (Err refusal) given h = absurd (cc)
+
+-- ---- the `REUSE.toml`
+
+-- what is made of its bytes: those that were there, or those that a change makes
+record MakesTable (amendments : Amendments) (at bytes : List ℕ) (given : Option Edit) : Type 0 where
+  made : List ℕ
+  by_rules : amended_table bytes (toml_amendment_of amendments bytes) ≡ Ok made
+  makes : IsEditTo at bytes made given
+  reads : IsAmendedText amendments bytes made
+  keeps : (made ≡ bytes) ⊎ DiffersInStrings bytes made
+
+table_makes : (amendments : Amendments) (path bytes : List ℕ) (given : Option Edit) → table_amendment path bytes (toml_amendment_of amendments bytes) ≡ Ok given → MakesTable amendments path bytes given
+table_makes amendments path bytes given h = by_due (toml_amendment_of amendments bytes) refl h
+  where
+    by_due : (due : Result (Option TomlSplice) AmendTomlRefusal) → toml_amendment_of amendments bytes ≡ due → table_amendment path bytes due ≡ Ok given → MakesTable amendments path bytes given
+    by_due (Ok None) is e = record {
+      made = bytes;
+      by_rules = ap (amended_table bytes) is;
+      makes = subst (IsEditTo path bytes bytes) (same_Ok None given e) refl;
+      reads = toml.unchanged amendments bytes is;
+      keeps = inl refl;
+    }
+    by_due (Ok (Some change)) is e =
+        let text = toml.changed amendments bytes change is in
+        record {
+          made = spliced bytes change.at change.old change.new;
+          by_rules = ap (amended_table bytes) is;
+          makes = subst (IsEditTo path bytes (spliced bytes change.at change.old change.new)) (same_Ok (Some (table_edit path bytes change)) given e) (refl, refl, table_differs amendments bytes change is);
+          reads = record { old = text.old; new = text.new; read = text.read; read_new = text.read_new; amended = text.amended };
+          keeps = inr (toml.differing amendments bytes change is);
+        }
+    by_due (Err refusal) is e = absurd (cc)
 
 -- ---- styles
 
@@ -158,11 +200,29 @@ module _ (keeps_block : KeepsBlock) (keeps_neighbour : KeepsNeighbour) where
     by_neighbour bytes (Some there) here is h = beside bytes there is h
     by_neighbour bytes None here is h = inside bytes (style_for scope own path) here is refl h
 
+    table : (bytes : List ℕ) → get tree path ≡ Some bytes → amend_table amendments path bytes ≡ Ok given → IsTableAmended amendments (pair_at tree path) (pair_then tree given path)
+    table bytes here h =
+        let short = err_or (nat_lt LONGEST_FILE (length bytes)) (refusals.TooLong path) (table_amendment path bytes (toml_amendment_of amendments bytes)) given h in
+        let m = table_makes amendments path bytes given short.1 in
+        record {
+          bytes = bytes;
+          there = here;
+          made = m.made;
+          by_rules = m.by_rules;
+          holds = ap₂ pair (then_here tree path bytes m.made given m.makes here) (then_other tree path bytes m.made given (neighbour_of path) m.makes (λ same. apart path (sym same)));
+          reads = m.reads;
+          keeps = m.keeps;
+        }
+
     of_file : (file : Option (List ℕ)) → get tree path ≡ file → amended_where amendments scope own tree path file ≡ Ok given → IsAmended amendments scope own path (pair_at tree path) (pair_then tree given path)
     of_file None is h = absurd (both_err (is_folder tree path) (refusals.IsFolder (place.Path path)) (refusals.NoSuchPath path) given h)
-    of_file (Some bytes) is h =
-        let covered = err_or (not (is_covered path)) (refusals.NotCovered path) _ given h in
-        record { bytes = bytes; there = is; covered = not-false (is_covered path) covered.0; becomes = by_neighbour bytes (get tree (neighbour_of path)) is refl covered.1 }
+    of_file (Some bytes) is h = by_path (bytes_eq path toml_path) refl h
+      where
+        by_path : (b : Bool) → bytes_eq path toml_path ≡ b → cond b (amend_table amendments path bytes) (cond (not (is_covered path)) (Err (refusals.NotCovered path)) (amend_covered amendments scope own path bytes (get tree (neighbour_of path)))) ≡ Ok given → IsAmended amendments scope own path (pair_at tree path) (pair_then tree given path)
+        by_path true t e = inl ((bytes_eq-Decides path toml_path).0 t, table bytes is e)
+        by_path false t e =
+            let covered = err_or (not (is_covered path)) (refusals.NotCovered path) (amend_covered amendments scope own path bytes (get tree (neighbour_of path))) given e in
+            inr (record { bytes = bytes; there = is; covered = not-false (is_covered path) covered.0; becomes = by_neighbour bytes (get tree (neighbour_of path)) is refl covered.1 })
 
     -- what is done at a path
     pub amended_there : amended_at amendments scope own tree path ≡ Ok given → IsAmended amendments scope own path (pair_at tree path) (pair_then tree given path)

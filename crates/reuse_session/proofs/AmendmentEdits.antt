@@ -1,8 +1,9 @@
 -- The change of a place, by what an amendment makes of its bytes.
-use Rattle.std.proofs.Common.{◌≡◌, ℕ, ◌+◌, ◌≤◌, Bool, true, false, cond, not, List, length, nat_lt, take, drop, Option, Some, None, IsSome, Result, Ok, Err, refl, sym, ap, subst, ◌∙◌}
+use Rattle.std.proofs.Common.{◌≡◌, ℕ, ◌+◌, ◌≤◌, Bool, true, false, cond, not, List, length, nat_lt, take, drop, Option, Some, None, IsSome, Result, Ok, Err, refl, ap, ◌∙◌}
 use Rattle.std.specs.Str.{bytes_eq}
 use Rattle.std.specs.FinMap.{get}
 use Rattle.std.proofs.lemmas.Bool.{false≢true}
+use Rattle.reuse_dep5.specs.TomlAmending.{toml_amendment_of}
 use Rattle.reuse_header.specs.declared.amendment.AmendHeaderRefusal.{AmendHeaderRefusal}
 use Rattle.reuse_header.specs.declared.amendment.AmendHeaderRefusal.TheVariants.{BadExpression, NothingLeft, Header}
 use Rattle.reuse_header.specs.declared.annotation.HeaderRefusal.TheVariants.{NotText, NoSuchForm, HoldsCloser, TooLong, Unsettled, Memory}
@@ -13,9 +14,10 @@ use Rattle.reuse_header.specs.Annotation as header
 use Rattle.reuse_header.specs.Neighbour.{is_text}
 use Rattle.reuse_text.specs.declared.TheConstants.{LONGEST_FILE}
 use Rattle.reuse_tree.specs.Files.{Files}
-use Rattle.reuse_session.specs.Amend.{style_for, amend_refused_by, amendment_edit, amend_covered, amended_where, amended_at}
-use Rattle.reuse_session.specs.AmendmentPlan.{Due, Fits, names_of, amended_by, style_by, beside_by, inside_by}
+use Rattle.reuse_session.specs.Amend.{amend_refused_by, amendment_edit, amend_covered, amended_where, style_for, amend_table, table_amendment, amended_at}
+use Rattle.reuse_session.specs.AmendmentPlan.{Due, Fits, names_of, amended_by, style_by, beside_by, inside_by, table_by}
 use Rattle.reuse_session.specs.Annotate.{neighbour_of, edit_by}
+use Rattle.reuse_session.specs.Conversion.{toml_path}
 use Rattle.reuse_session.specs.Covered.{is_covered}
 use Rattle.reuse_session.specs.Edit.{Edit}
 use Rattle.reuse_session.specs.Plan.{IsRefusalOf}
@@ -24,6 +26,7 @@ use Rattle.reuse_session.specs.declared.annotation.Amendment.{Amendment}
 use Rattle.reuse_session.specs.declared.reply.Refusal.{Refusal}
 use Rattle.reuse_session.specs.declared.reply.Refusal.TheVariants as refusals
 use Rattle.reuse_session.proofs.EditLemmas.{edited_to, refused, long_is}
+use Rattle.reuse_session.proofs.TableLemmas.{not_table}
 
 -- what is known of each edit is known of an amendment
 pub fits_amendment : (bytes : List ℕ) (due : Due) → ((edit : header.Edit) → due ≡ Ok (Some edit) → (edit.start + edit.old_len ≤ length bytes) × (length (header.edited bytes edit) ≤ LONGEST_FILE)) → Fits bytes due
@@ -89,6 +92,15 @@ module _ (asked : Amendment) (path bytes : List ℕ) where
   pub beside_far : nat_lt 4096 (length (neighbour_of path)) ≡ true → beside_by asked path bytes ≡ refused (refusals.TooLong path)
   beside_far far = ap (λ b. cond b (refused (refusals.TooLong path)) (cond (nat_lt LONGEST_FILE (length bytes)) (refused (refusals.TooLong path)) by_neighbour)) far
 
+  abbrev by_table : Result (Option Edit) Refusal
+  by_table = table_amendment path bytes (toml_amendment_of asked.amendments.now bytes)
+
+  pub table_long : (refusal : Refusal) → short_file path bytes ≡ Err refusal → table_by asked path bytes ≡ refused refusal
+  table_long refusal e = long_is path bytes by_table refusal e
+
+  pub table_is : nat_lt LONGEST_FILE (length bytes) ≡ false → table_by asked path bytes ≡ table_amendment path bytes (toml_amendment_of asked.amendments.now bytes)
+  table_is short = ap (λ b. cond b (refused (refusals.TooLong path)) by_table) short
+
   module _ (style : Style) where
     abbrev by_block : Result (Option Edit) Refusal
     by_block = amendment_edit path path bytes (amendment_of style asked.amendments.now bytes)
@@ -105,13 +117,22 @@ module _ (asked : Amendment) (tree : Files) (path : List ℕ) where
   abbrev covered_by : List ℕ → Option (List ℕ) → Result (Option Edit) Refusal
   covered_by bytes beside = amend_covered asked.amendments.now asked.scope.now (names_of asked) path bytes beside
 
-  pub uncovered_is : (file : Option (List ℕ)) → IsSome file → is_covered path ≡ false → amended_where asked.amendments.now asked.scope.now (names_of asked) tree path file ≡ refused (refusals.NotCovered path)
-  uncovered_is None some e = absurd (false≢true some)
-  uncovered_is (Some bytes) some e = ap (λ b. cond (not b) (refused (refusals.NotCovered path)) (covered_by bytes (get tree (neighbour_of path)))) e
+  -- it is the `REUSE.toml`, or another file
+  abbrev by_file : List ℕ → Bool → Result (Option Edit) Refusal
+  by_file bytes table = cond table (amend_table asked.amendments.now path bytes) (cond (not (is_covered path)) (refused (refusals.NotCovered path)) (covered_by bytes (get tree (neighbour_of path))))
+
+  pub goes_to_table : (bytes : List ℕ) → get tree path ≡ Some bytes → bytes_eq path toml_path ≡ true → amended_by asked tree path ≡ table_by asked path bytes
+  goes_to_table bytes here table = ap (amended_where asked.amendments.now asked.scope.now (names_of asked) tree path) here ∙ ap (by_file bytes) table
+
+  pub uncovered_is : (file : Option (List ℕ)) → IsSome file → bytes_eq path toml_path ≡ false → is_covered path ≡ false
+      → amended_where asked.amendments.now asked.scope.now (names_of asked) tree path file ≡ refused (refusals.NotCovered path)
+  uncovered_is None some other e = absurd (false≢true some)
+  uncovered_is (Some bytes) some other e = ap (by_file bytes) other ∙ ap (λ b. cond (not b) (refused (refusals.NotCovered path)) (covered_by bytes (get tree (neighbour_of path)))) e
 
   covered_is : (bytes : List ℕ) (beside : Option (List ℕ)) → get tree path ≡ Some bytes → is_covered path ≡ true → get tree (neighbour_of path) ≡ beside → amended_by asked tree path ≡ covered_by bytes beside
   covered_is bytes beside here covered is =
       ap (amended_where asked.amendments.now asked.scope.now (names_of asked) tree path) here
+      ∙ ap (by_file bytes) (not_table path covered)
       ∙ ap (λ t. cond (not t) (refused (refusals.NotCovered path)) (covered_by bytes (get tree (neighbour_of path)))) covered ∙ ap (covered_by bytes) is
 
   -- the neighbour is there

@@ -1,5 +1,5 @@
 -- What annotate does at the paths of its list, one after the other.
-use Rattle.std.proofs.Common.{◌≡◌, ◌⊎◌, inl, inr, ℕ, zero, suc, ◌+◌, ◌<◌, Bool, true, false, cond, not, ◌||◌, ◌&&◌, nat_lt, List, [], ◌∷◌, ◌++◌, codes, length, Less, Option, Some, None, IsSome, Result, Ok, Err, take, get_or, refl, sym, ap, subst, ◌∙◌, arith, append_assoc}
+use Rattle.std.proofs.Common.{◌≡◌, ◌⊎◌, inl, inr, ℕ, zero, suc, ◌+◌, ◌<◌, Bool, true, false, cond, not, ◌||◌, ◌&&◌, nat_lt, List, [], ◌∷◌, ◌++◌, codes, length, Less, Option, Some, None, IsSome, Result, Ok, Err, take, get_or, refl, sym, ap, subst, ◌∙◌, arith}
 use Rattle.std.specs.Ordering.{nat_cmp}
 use Rattle.std.specs.Cmp.Lexicographic.{slice_cmp}
 use Rattle.std.specs.List.{AllByRecursion, cons_option}
@@ -7,7 +7,7 @@ use Rattle.std.specs.List.Sorted.{IsStrictlySortedBy}
 use Rattle.std.specs.Str.{bytes_eq}
 use Rattle.std.specs.Prelude.{filter_map}
 use Rattle.std.specs.Option.{option_to_list}
-use Rattle.std.proofs.lemmas.List.{append-nil, take_more}
+use Rattle.std.proofs.lemmas.List.{take_more}
 use Rattle.std.proofs.lemmas.List.Elements.{filter_map-append}
 use Rattle.std.specs.FinMap.{get, keys}
 use Rattle.std.proofs.lemmas.Bool.{false≢true, false_from_ne_true, or_right}
@@ -22,7 +22,7 @@ use Rattle.reuse_session.specs.declared.command.Place.TheVariants as place
 use Rattle.reuse_tree.specs.Tree.{is_of_tree}
 use Rattle.reuse_session.specs.Covered.{is_in, is_covered}
 use Rattle.reuse_tree.specs.Listing.{ArePaths, is_among, is_folder_of}
-use Rattle.reuse_session.specs.Outcome.{Edit, with_edit, or_first, edits_at, edited, tree_after}
+use Rattle.reuse_session.specs.Outcome.{Edit, edited, tree_after}
 use Rattle.reuse_session.specs.Amend.{amended_where, amended_at}
 use Rattle.reuse_session.specs.Annotate.{annotated_where, annotated_at}
 use Rattle.reuse_header.specs.declared.annotation.How.{How}
@@ -31,13 +31,15 @@ use Rattle.reuse_notice.specs.declared.adding.Additions.{Additions}
 use Rattle.reuse_notice.specs.declared.amendments.Amendments.{Amendments}
 use Rattle.reuse_session.specs.declared.command.Scope.{Scope}
 use Rattle.reuse_session.specs.Shown.{ShowsPair}
-use Rattle.reuse_session.specs.Plan.{IsPlan, IsRefusalOf, CarriesOutEdit, MakesEdit, MakesEach, MakesEdits}
+use Rattle.reuse_session.specs.Plan.{IsPlan, IsRefusalOf, MakesEdits}
 use Rattle.reuse_tree.proofs.ListingLemmas.{under_from_test}
 use Rattle.reuse_session.proofs.Outcomes.{ok_edits, no_edit, some_edit}
 use Rattle.reuse_tree.proofs.TreeLemmas.{among_keys}
-use Rattle.reuse_session.proofs.Planning.{paths_at, each_push, AreEdits, same_many, plan_of_edits}
+use Rattle.reuse_session.proofs.Planning.{paths_at, AreEdits, same_many, plan_of_edits}
 use Rattle.reuse_tree.specs.Entry.{entry_size}
 use Rattle.reuse_session.proofs.Results.{none_from_test}
+use Rattle.reuse_session.specs.PathEdits.{or_first}
+use Rattle.reuse_session.proofs.CommandEdits.{edits_at}
 
 -- ---- refusals
 
@@ -138,58 +140,6 @@ module _ (at : List ℕ → Result (Option Edit) Refusal) where
           subst (λ es. ArePaths (paths_at es)) (sym some.4)
           (sorted_cons some.0.path (paths_at some.1) (subst (λ x. AllByRecursion (λ y. slice_cmp nat_cmp x y ≡ Less) (paths_at some.1)) (sym here) above) rest)
     ]
-
--- ---- one path after the other
-
-abbrev pub prepended : List Edit → Result (List Edit) Refusal → Result (List Edit) Refusal
-prepended edits (Ok more) = Ok (edits ++ more)
-prepended edits (Err refusal) = Err refusal
-
-prepended_none : (r : Result (List Edit) Refusal) → r ≡ prepended [] r
-prepended_none (Ok more) = refl
-prepended_none (Err refusal) = refl
-
-prepended_some : (edits : List Edit) (e : Edit) (r : Result (List Edit) Refusal) → prepended edits (with_edit (Some e) r) ≡ prepended (edits ++ e ∷ []) r
-prepended_some edits e (Ok more) = ap (λ es. Ok es) (sym (append_assoc edits (e ∷ []) more))
-prepended_some edits e (Err refusal) = refl
-
-without_edit : (r : Result (List Edit) Refusal) → with_edit None r ≡ r
-without_edit (Ok more) = refl
-without_edit (Err refusal) = refl
-
--- the changes so far do what the edits so far say; these paths are left
-pub record SoFar (at : List ℕ → Result (Option Edit) Refusal) (tree : Files) (all left : List (List ℕ)) (changes : List Change) : Type 0 where
-  pub edits : List Edit
-  pub made : MakesEach tree changes edits
-  pub same : edits_at at all ≡ prepended edits (edits_at at left)
-
-module _ (at : List ℕ → Result (Option Edit) Refusal) (tree : Files) (all : List (List ℕ)) where
-  pub at_start : SoFar at tree all all []
-  at_start = record { edits = []; made = tt; same = prepended_none (edits_at at all) }
-
-  pub after_none : (p : List ℕ) (left : List (List ℕ)) (changes : List Change) → SoFar at tree all (p ∷ left) changes → at p ≡ Ok None → SoFar at tree all left changes
-  after_none p left changes so e = record {
-    edits = so.edits;
-    made = so.made;
-    same = so.same ∙ ap (λ r. prepended so.edits (or_first r (edits_at at left))) e ∙ ap (prepended so.edits) (without_edit (edits_at at left));
-  }
-
-  pub after_some : (p : List ℕ) (left : List (List ℕ)) (changes : List Change) (c : Change) (e : Edit) → SoFar at tree all (p ∷ left) changes → at p ≡ Ok (Some e) → CarriesOutEdit tree c e → SoFar at tree all left (changes ++ c ∷ [])
-  after_some p left changes c e so h makes = record {
-    edits = so.edits ++ e ∷ [];
-    made = each_push tree changes so.edits c e so.made makes;
-    same = so.same ∙ ap (λ r. prepended so.edits (or_first r (edits_at at left))) h ∙ prepended_some so.edits e (edits_at at left);
-  }
-
-  pub after_path : (p : List ℕ) (left : List (List ℕ)) (changes : List Change) (change : Option Change) → SoFar at tree all (p ∷ left) changes → MakesEdit tree (at p) change → SoFar at tree all left (changes ++ option_to_list change)
-  after_path p left changes None so makes = subst (SoFar at tree all left) (sym (append-nil changes)) (after_none p left changes so makes)
-  after_path p left changes (Some c) so makes = after_some p left changes c makes.0 so makes.1 makes.2
-
-  pub at_refusal : (p : List ℕ) (left : List (List ℕ)) (changes : List Change) (r : Refusal) → SoFar at tree all (p ∷ left) changes → IsRefusalOf (at p) r → IsRefusalOf (edits_at at all) r
-  at_refusal p left changes r so h = refusal_passes (at p) (edits_at at all) (λ s e. so.same ∙ ap (λ x. prepended so.edits (or_first x (edits_at at left))) e) r h
-
-  pub at_end : (changes : List Change) → SoFar at tree all [] changes → MakesEdits tree (edits_at at all) changes
-  at_end changes so = (so.edits, so.same ∙ ap (λ es. Ok es) (append-nil so.edits), so.made)
 
 -- ---- a path without a file
 

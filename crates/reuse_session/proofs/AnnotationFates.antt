@@ -17,9 +17,10 @@ use Rattle.reuse_session.specs.Annotated.{pair_at, IsSkipped, IsSkippedAt}
 use Rattle.reuse_session.specs.Command.{has_root}
 use Rattle.reuse_session.specs.Covered.{is_covered}
 use Rattle.reuse_session.specs.Edit.{Edit}
-use Rattle.reuse_session.specs.Fates.{has_tagged, is_skipped_at, is_skipped_where, is_skipped, fate_by, fate_at, annotation_fates, limit_fates, fates_of}
+use Rattle.reuse_session.specs.Fates.{fate_by, fate_of, limit_fates, fates_of}
+use Rattle.reuse_session.specs.PathEdits.{refused_alone}
 use Rattle.reuse_tree.specs.Listing.{is_folder}
-use Rattle.reuse_session.specs.Outcome.{edited, is_too_many, edits_at, edits_by_names, annotation_edits, outcome_of}
+use Rattle.reuse_session.specs.Outcome.{edited, is_too_many, annotation_at, annotations_by, edits_of, outcome_of}
 use Rattle.reuse_session.specs.TreeStyles.{OwnNames, styles_in}
 use Rattle.reuse_session.specs.Worked.{worked_paths}
 use Rattle.reuse_session.specs.declared.command.Command.TheVariants.{Annotate}
@@ -40,6 +41,8 @@ use Rattle.reuse_session.proofs.AnnotationPlaces.{comment_not_skipped, beside_no
 use Rattle.reuse_session.proofs.TargetReasons.{Takes, takes}
 use Rattle.reuse_session.proofs.Outcomes.{done, edits_of_tree}
 use Rattle.reuse_session.proofs.Choosing.{worked_ascend}
+use Rattle.reuse_session.specs.Skipped.{has_tagged, is_skipped_at, is_skipped_where, is_skipped}
+use Rattle.reuse_session.proofs.CommandEdits.{edits_at, edits_by_names, of_annotation}
 
 -- ---- one path
 
@@ -100,7 +103,7 @@ module _ (how : How) (scope : Scope) (additions : Additions) (own : OwnNames) (t
       (told.0, told.1, (subst (Tells None (IsSkipped scope own path told.0 (pair_at tree path))) e told.2).0)
 
   -- a file that is skipped is told so
-  is_told : (given : Option Edit) → annotated_at how scope additions own tree path ≡ Ok given → IsSkippedAt scope own tree path → fate_at how scope additions own tree path ≡ fate.Skipped path
+  is_told : (given : Option Edit) → annotated_at how scope additions own tree path ≡ Ok given → IsSkippedAt scope own tree path → fate_of (annotation_at how scope additions own tree path) ≡ fate.Skipped path
   is_told given h skipped =
       let told = told_of given h in
       let is : IsSkipped scope own path told.0 (pair_at tree path) = subst (λ bs. IsSkipped scope own path bs (pair_at tree path)) (same_Some skipped.0 told.0 (sym skipped.1 ∙ told.1)) skipped.2 in
@@ -158,18 +161,30 @@ no_limit (Ok edits) told none c = by_size (is_too_many edits) c
 
 module _ (places : List Place) (additions : Additions) (how : How) (scope : Scope) (own : OwnNames) (tree : Files) (styles : styles_in tree ≡ Ok own) where
   abbrev tell : List ℕ → Fate
-  tell = fate_at how scope additions own tree
+  tell path = fate_of (annotation_at how scope additions own tree path)
 
-  fates_are : annotation_fates places additions how scope tree (styles_in tree)
+  fates_of_map : (paths : List (List ℕ)) → map fate_of (map (annotation_at how scope additions own tree) paths) ≡ map tell paths
+  fates_of_map [] = refl
+  fates_of_map (path ∷ paths) = ap (λ fs. tell path ∷ fs) (fates_of_map paths)
+
+  fates_are : map fate_of (annotations_by places additions how scope tree (styles_in tree))
       ≡ cond (not scope.recursive && has_root places) (fate.Refused (refusals.IsFolder place.Root) ∷ []) (map tell (worked_paths scope places tree))
-  fates_are = ap (annotation_fates places additions how scope tree) styles
+  fates_are = ap (λ given. map fate_of (annotations_by places additions how scope tree given)) styles ∙ by_root (not scope.recursive && has_root places)
+    where
+      by_root : (b : Bool) → map fate_of (cond b (refused_alone (refusals.IsFolder place.Root)) (map (annotation_at how scope additions own tree) (worked_paths scope places tree)))
+          ≡ cond b (fate.Refused (refusals.IsFolder place.Root) ∷ []) (map tell (worked_paths scope places tree))
+      by_root true = refl
+      by_root false = fates_of_map (worked_paths scope places tree)
+
+  abbrev limit : List Fate
+  limit = limit_fates (edits_of (Annotate places additions how scope) tree)
 
   told_at : (told : Fate) → TellsNone told → Contains (fates_of (Annotate places additions how scope) tree) told → (p : List ℕ) × In p (worked_paths scope places tree) × (tell p ≡ told)
   unfolding fates_of
   told_at told none c =
-      elim (Contains-append_cases (annotation_fates places additions how scope tree (styles_in tree)) (limit_fates (annotation_edits places additions how scope tree)) told c) [
+      elim (Contains-append_cases (map fate_of (annotations_by places additions how scope tree (styles_in tree))) limit told c) [
         | inl here ↦ by_root (not scope.recursive && has_root places) (subst (λ fs. Contains fs told) fates_are here)
-        | inr limit ↦ absurd (no_limit (annotation_edits places additions how scope tree) told none limit)
+        | inr over ↦ absurd (no_limit (edits_of (Annotate places additions how scope) tree) told none over)
       ]
     where
       by_root : (b : Bool) → Contains (cond b (fate.Refused (refusals.IsFolder place.Root) ∷ []) (map tell (worked_paths scope places tree))) told
@@ -200,8 +215,8 @@ module _ (places : List Place) (additions : Additions) (how : How) (scope : Scop
       → (edits : List Edit) × (edits_at (annotated_at how scope additions own tree) (worked_paths scope places tree) ≡ Ok edits) × (edited tree edits ≡ after) × ((not scope.recursive && has_root places) ≡ false)
   unfolding outcome_of
   edits_are after h =
-      let given = edits_of_tree tree after (annotation_edits places additions how scope tree) h in
-      let named = ap (edits_by_names places additions how scope tree) (sym styles) ∙ given.1 in
+      let given = edits_of_tree tree after (edits_of (Annotate places additions how scope) tree) h in
+      let named = ap (edits_by_names places additions how scope tree) (sym styles) ∙ sym (of_annotation places additions how scope tree) ∙ given.1 in
       let parts = err_or (not scope.recursive && has_root places) (refusals.IsFolder place.Root) (edits_at (annotated_at how scope additions own tree) (worked_paths scope places tree)) given.0 named in
       (given.0, parts.1, given.2, parts.0)
 
@@ -215,7 +230,7 @@ module _ (places : List Place) (additions : Additions) (how : How) (scope : Scop
         let given = each_done replaces inserts replaces_beside inserts_beside additions how scope own tree (worked_paths scope places tree) edits.0 edits.1 path there in
         let told = to_map tell (worked_paths scope places tree) path there in
         let fates = ap (λ b. cond b (fate.Refused (refusals.IsFolder place.Root) ∷ []) (map tell (worked_paths scope places tree))) edits.3 in
-        Contains-append_left (annotation_fates places additions how scope tree (styles_in tree)) (limit_fates (annotation_edits places additions how scope tree)) (fate.Skipped path)
+        Contains-append_left (map fate_of (annotations_by places additions how scope tree (styles_in tree))) limit (fate.Skipped path)
         (subst (λ fs. Contains fs (fate.Skipped path)) (sym (fates_are ∙ fates))
         (subst (Contains (map tell (worked_paths scope places tree))) (is_told how scope additions own tree path given.0 given.1 skipped) told))
 

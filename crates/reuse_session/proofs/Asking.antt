@@ -67,7 +67,7 @@ refused_later {S} {A} {B} store MayBe old mid new refusal before asks = record {
 
 -- ---- of a plan
 
-of_plan : (refusal : Refusal) → IsNoFault refusal → IsOfPlan refusal
+pub of_plan : (refusal : Refusal) → IsNoFault refusal → IsOfPlan refusal
 of_plan (Moved path) is = absurd is
 of_plan (Fault fault) is = absurd is
 of_plan refusal is = is

@@ -1,6 +1,6 @@
 -- A command changes the paths at which its fates say so.
-use Rattle.std.proofs.Common.{◌≡◌, ◌≢◌, ◌↔◌, inl, inr, ℕ, Bool, true, false, cond, not, ◌||◌, ◌&&◌, List, [], ◌∷◌, ◌++◌, length, map, Option, Some, None, is_some, Result, Ok, Err, refl, sym, ap, subst, ◌∙◌}
-use Rattle.std.specs.List.{AllByRecursion, Contains, cons_option, list_any}
+use Rattle.std.proofs.Common.{◌≡◌, ◌≢◌, ◌↔◌, inl, inr, ℕ, Bool, true, false, cond, ◌||◌, ◌&&◌, List, [], ◌∷◌, ◌++◌, length, map, Option, Some, None, Ok, Err, refl, sym, ap, subst, ◌∙◌}
+use Rattle.std.specs.List.{AllByRecursion, Contains, list_any}
 use Rattle.std.specs.Str.{bytes_eq}
 use Rattle.std.specs.FinMap.{get, empty}
 use Rattle.std.proofs.lemmas.Bool.{false≢true}
@@ -8,29 +8,26 @@ use Rattle.std.proofs.lemmas.List.{append-nil}
 use Rattle.std.proofs.lemmas.List.Elements.{All-contains, Contains-get_or, recursion_from_All}
 use Rattle.std.proofs.lemmas.List.Folds.{list_any_at, Any-from_list_any}
 use Rattle.std.proofs.lemmas.Slice.Eq.{bytes_eq-Decides}
-use Rattle.reuse_notice.specs.Sets.{set_of}
 use Rattle.reuse_header.specs.Annotation as header
 use Rattle.reuse_tree.specs.Files.{Files}
-use Rattle.reuse_session.specs.Amend.{amended_at}
-use Rattle.reuse_session.specs.Annotate.{edit_by, annotated_at}
+use Rattle.reuse_session.specs.Annotate.{edit_by}
 use Rattle.reuse_session.specs.Annotations.{Due}
-use Rattle.reuse_session.specs.Command.{has_root, HoldsEntry}
-use Rattle.reuse_session.specs.Downloads.{ids_refusal, licence_edit, unless_refused, download_edits}
+use Rattle.reuse_session.specs.Command.{HoldsEntry}
 use Rattle.reuse_session.specs.Edit.{Edit, made, dropped}
-use Rattle.reuse_session.specs.Fates.{is_skipped, fate_by, fate_at, annotation_fates, amendment_fate, amendment_fates, edit_fates, or_else, revert_fate, path_fates, limit_fates, fates_of}
-use Rattle.reuse_session.specs.Licence.{licence_path}
+use Rattle.reuse_session.specs.Fates.{fate_by, fate_of, limit_fates, fates_of}
+use Rattle.reuse_session.specs.PathEdits.{PathEdit, edits_in}
 use Rattle.reuse_tree.specs.Listing.{is_among}
-use Rattle.reuse_session.specs.Outcome.{with_file, edited, edits_at, edits_by_names, amendments_by_names, edits_of, outcome_of}
-use Rattle.reuse_session.specs.TreeStyles.{OwnNames, styles_in}
-use Rattle.reuse_session.specs.Worked.{worked_paths}
+use Rattle.reuse_session.specs.declared.command.Place.TheVariants as place
+use Rattle.reuse_session.specs.Outcome.{with_file, edited, path_edits_of, edits_of, outcome_of}
 use Rattle.reuse_session.specs.declared.command.Command.{Command}
 use Rattle.reuse_session.specs.declared.command.Command.TheVariants.{Annotate, Amend, ConvertDep5, Download, Revert}
-use Rattle.reuse_session.specs.declared.command.Place.TheVariants as place
+use Rattle.reuse_session.specs.TreeStyles.{OwnNames, styles_in}
+use Rattle.reuse_session.specs.Worked.{with_table, worked_paths}
+use Rattle.reuse_session.specs.declared.command.Place.{Place}
 use Rattle.reuse_session.specs.declared.fate.Fate.{Fate}
 use Rattle.reuse_session.specs.declared.fate.Fate.TheVariants as fate
-use Rattle.reuse_session.specs.declared.reply.Refusal.{Refusal}
 use Rattle.reuse_session.specs.declared.reply.Refusal.TheVariants as refusals
-use Rattle.reuse_session.specs.Reverting.{stands_as_written, is_short, put_back, taken_back, taken_back_on, taken_back_unless, stuck_on}
+use Rattle.reuse_session.specs.Reverting.{stands_as_written, is_short, put_back, taken_back, taken_back_on}
 use Rattle.reuse_text.specs.Text.{spliced}
 use Rattle.reuse_tree.specs.Change.{path_of, IsProper}
 use Rattle.reuse_tree.specs.declared.change.Change.{Change}
@@ -38,12 +35,10 @@ use Rattle.reuse_tree.specs.declared.change.Change.TheVariants.{Make, Drop, Spli
 use Rattle.std.proofs.lemmas.Option.{none-some, same_Some, cond_some}
 use Rattle.reuse_session.proofs.Annotating.{first_is, no_edits}
 use Rattle.reuse_session.proofs.EachEdit.{EachTakenBack, each_edit}
-use Rattle.reuse_session.proofs.FatePlans.{none_refused}
 use Rattle.reuse_session.proofs.Outcomes.{edits_of_tree, some_edit, same_edit, unskipped}
 use Rattle.reuse_session.proofs.Planning.{paths_at, with_same, with_other, edited_other}
-use Rattle.reuse_session.proofs.RevertFitting.{backs, back_on, path_back, path_unless, edits_are}
+use Rattle.reuse_session.proofs.RevertFitting.{back_on, path_back}
 use Rattle.reuse_session.proofs.RevertPlanning.{and_first, splice_differs}
-use Rattle.reuse_session.proofs.Results.{err_or}
 
 -- ---- the paths that change
 
@@ -71,79 +66,23 @@ changes_where fates path = (
       subst (Contains fates) (found.3 ∙ is_that path found.1 found.4) (Contains-get_or fates found.0 found.1 found.2),
 )
 
-of_edits : (path : List ℕ) (edits : List Edit) → list_any (is_change path) (map (λ (edit : Edit). fate.Changes edit.path) edits) ≡ is_among (paths_at edits) path
-unfolding is_change
-of_edits path [] = refl
-of_edits path (e ∷ edits) = ap (λ b. bytes_eq path e.path || b) (of_edits path edits)
-
 no_change : (path other : List ℕ) (skipped : Bool) (fates : List Fate) → list_any (is_change path) (fate_by other skipped (Ok None) ∷ fates) ≡ list_any (is_change path) fates
 unfolding is_change
 no_change path other true fates = refl
 no_change path other false fates = refl
 
-module _ (at : List ℕ → Result (Option Edit) Refusal) (skip : List ℕ → Bool) where
-  of_paths : (path : List ℕ) (paths : List (List ℕ)) (edits : List Edit) → edits_at at paths ≡ Ok edits → list_any (is_change path) (map (λ p. fate_by p (skip p) (at p)) paths) ≡ is_among (paths_at edits) path
-  unfolding is_change
-  of_paths path [] edits h = ap (λ es. is_among (paths_at es) path) (sym (no_edits edits h))
-  of_paths path (p ∷ paths) edits h = elim (first_is (at p) (edits_at at paths) edits h) [
-    | inl none ↦
-        ap (λ r. list_any (is_change path) (fate_by p (skip p) r ∷ map (λ q. fate_by q (skip q) (at q)) paths)) none.0
-        ∙ no_change path p (skip p) (map (λ q. fate_by q (skip q) (at q)) paths) ∙ of_paths path paths edits none.1
-    | inr some ↦
-        ap (λ r. list_any (is_change path) (fate_by p (skip p) r ∷ map (λ q. fate_by q (skip q) (at q)) paths)) some.2
-        ∙ ap (λ b. bytes_eq path some.0.path || b) (of_paths path paths some.1 some.3) ∙ ap (λ es. is_among (paths_at es) path) (sym some.4)
-  ]
-
-none_or : (o : Option Refusal) (others edits : List Edit) → unless_refused o others ≡ Ok edits → o ≡ None
-none_or None others edits e = refl
-none_or (Some refusal) others edits e = absurd (cc)
-
--- a change that isn't taken back changes no path
-no_way_back : (skip : Bool) (path other : List ℕ) (fates : List Fate)
-    → list_any (is_change path) (cond skip (fate.Skipped other) (fate.Refused (refusals.Moved other)) ∷ fates) ≡ list_any (is_change path) fates
+-- where nothing is refused, the paths that change are those of the edits
+of_paths : (path : List ℕ) (all : List PathEdit) (edits : List Edit) → edits_in all ≡ Ok edits → list_any (is_change path) (map fate_of all) ≡ is_among (paths_at edits) path
 unfolding is_change
-no_way_back true path other fates = refl
-no_way_back false path other fates = refl
-
-of_revert : (touched : List (List ℕ)) (tree : Files) (skip : Bool) (path : List ℕ) (changes : List Change) → list_any (is_change path) (map (revert_fate touched skip tree) changes) ≡ is_among (paths_at (backs touched tree changes)) path
-unfolding is_change
-of_revert touched tree skip path [] = refl
-of_revert touched tree skip path (c ∷ cs) = by_back (taken_back_unless touched tree c) refl (of_revert touched tree skip path cs)
-  where
-    by_back : (o : Option Edit) → taken_back_unless touched tree c ≡ o → list_any (is_change path) (map (revert_fate touched skip tree) cs) ≡ is_among (paths_at (backs touched tree cs)) path
-        → list_any (is_change path) (cond (is_some o) (fate.Changes (path_of c)) (cond skip (fate.Skipped (path_of c)) (fate.Refused (refusals.Moved (path_of c)))) ∷ map (revert_fate touched skip tree) cs)
-        ≡ is_among (paths_at (cons_option o (backs touched tree cs))) path
-    by_back None is rest = no_way_back skip path (path_of c) (map (revert_fate touched skip tree) cs) ∙ rest
-    by_back (Some edit) is rest =
-        ap (λ b. bytes_eq path (path_of c) || b) rest ∙ ap (λ p. bytes_eq path p || is_among (paths_at (backs touched tree cs)) path) (sym (path_unless touched tree c edit is))
-
-of_command : (command : Command) (tree : Files) (path : List ℕ) (edits : List Edit) → edits_of command tree ≡ Ok edits → list_any (is_change path) (path_fates command tree) ≡ is_among (paths_at edits) path
-of_command (Annotate places additions how scope) tree path edits h = by_styles (styles_in tree) h
-  where
-    by_styles : (styles : Result OwnNames Refusal) → edits_by_names places additions how scope tree styles ≡ Ok edits
-        → list_any (is_change path) (annotation_fates places additions how scope tree styles) ≡ is_among (paths_at edits) path
-    by_styles (Err refusal) e = absurd (cc)
-    by_styles (Ok own) e =
-        let parts = err_or (not scope.recursive && has_root places) (refusals.IsFolder place.Root) (edits_at (annotated_at how scope additions own tree) (worked_paths scope places tree)) edits e in
-        ap (λ b. list_any (is_change path) (cond b (fate.Refused (refusals.IsFolder place.Root) ∷ []) (map (fate_at how scope additions own tree) (worked_paths scope places tree)))) parts.0
-        ∙ of_paths (annotated_at how scope additions own tree) (is_skipped scope own tree) path (worked_paths scope places tree) edits parts.1
-of_command (Amend places amendments scope) tree path edits h = by_styles (styles_in tree) h
-  where
-    by_styles : (styles : Result OwnNames Refusal) → amendments_by_names places amendments scope tree styles ≡ Ok edits
-        → list_any (is_change path) (amendment_fates places amendments scope tree styles) ≡ is_among (paths_at edits) path
-    by_styles (Err refusal) e = absurd (cc)
-    by_styles (Ok own) e =
-        let parts = err_or (not scope.recursive && has_root places) (refusals.IsFolder place.Root) (edits_at (amended_at amendments scope own tree) (worked_paths scope places tree)) edits e in
-        ap (λ b. list_any (is_change path) (cond b (fate.Refused (refusals.IsFolder place.Root) ∷ []) (map (amendment_fate amendments scope own tree) (worked_paths scope places tree)))) parts.0
-        ∙ of_paths (amended_at amendments scope own tree) (λ p. false) path (worked_paths scope places tree) edits parts.1
-of_command ConvertDep5 tree path edits h = ap (λ r. list_any (is_change path) (edit_fates r)) h ∙ of_edits path edits
-of_command (Download ids texts) tree path edits h =
-    let none = none_or (ids_refusal tree texts (set_of ids)) (map (licence_edit texts) (set_of (map licence_path (set_of ids)))) edits h in
-    ap (λ fs. list_any (is_change path) (or_else fs (edit_fates (download_edits ids texts tree)))) (none_refused tree texts (set_of ids) none)
-    ∙ ap (λ r. list_any (is_change path) (edit_fates r)) h ∙ of_edits path edits
-of_command (Revert changes touched skip_moved) tree path edits h =
-    of_revert touched tree skip_moved path changes
-    ∙ ap (λ es. is_among (paths_at es) path) (edits_are touched tree (cond skip_moved [] (stuck_on touched tree changes)) (backs touched tree changes) edits h)
+of_paths path [] edits h = ap (λ es. is_among (paths_at es) path) (sym (no_edits edits h))
+of_paths path (here ∷ all) edits h = elim (first_is here.edit (edits_in all) edits h) [
+  | inl none ↦
+      ap (λ r. list_any (is_change path) (fate_by here.path here.skipped r ∷ map fate_of all)) none.0
+      ∙ no_change path here.path here.skipped (map fate_of all) ∙ of_paths path all edits none.1
+  | inr some ↦
+      ap (λ r. list_any (is_change path) (fate_by here.path here.skipped r ∷ map fate_of all)) some.2
+      ∙ ap (λ b. bytes_eq path some.0.path || b) (of_paths path all some.1 some.3) ∙ ap (λ es. is_among (paths_at es) path) (sym some.4)
+]
 
 -- ---- each edit changes its file
 
@@ -231,8 +170,9 @@ unfolding fates_of outcome_of
 of_all command tree after path holds h =
     let few = edits_of_tree tree after (edits_of command tree) h in
     let limit : limit_fates (edits_of command tree) ≡ [] = ap limit_fates few.1 ∙ ap (λ b. cond b (fate.Refused refusals.TooMany ∷ []) []) few.3 in
-    let same : list_any (is_change path) (path_fates command tree ++ limit_fates (edits_of command tree)) ≡ is_among (paths_at few.0) path =
-    ap (λ fs. list_any (is_change path) (path_fates command tree ++ fs)) limit ∙ ap (list_any (is_change path)) (append-nil (path_fates command tree)) ∙ of_command command tree path few.0 few.1 in
+    let told = map fate_of (path_edits_of command tree) in
+    let same : list_any (is_change path) (told ++ limit_fates (edits_of command tree)) ≡ is_among (paths_at few.0) path =
+    ap (λ fs. list_any (is_change path) (told ++ fs)) limit ∙ ap (list_any (is_change path)) (append-nil told) ∙ of_paths path (path_edits_of command tree) few.0 few.1 in
     let where_differs = differs_where tree few.0 (each_differs command tree few.0 holds few.1) path in (
       λ e. subst (λ t. get tree path ≢ get t path) few.2 (where_differs.0 (sym same ∙ e)),
       λ other. same ∙ where_differs.1 (subst (λ t. get tree path ≢ get t path) (sym few.2) other),

@@ -111,11 +111,11 @@ module _ (scope : Scope) (tree : Files) (t : List ℕ) where
 
 -- ---- which files are asked for
 
-listed_from_test : (listed : Option (List (List ℕ))) (path : List ℕ) → is_listed listed path ≡ true → IsListed listed path
+pub listed_from_test : (listed : Option (List (List ℕ))) (path : List ℕ) → is_listed listed path ≡ true → IsListed listed path
 listed_from_test None path e = tt
 listed_from_test (Some paths) path e = Contains-from_any (λ x y k. (bytes_eq-Decides x y).0 k) path paths e
 
-test_from_listed : (listed : Option (List (List ℕ))) (path : List ℕ) → IsListed listed path → is_listed listed path ≡ true
+pub test_from_listed : (listed : Option (List (List ℕ))) (path : List ℕ) → IsListed listed path → is_listed listed path ≡ true
 test_from_listed None path h = refl
 test_from_listed (Some paths) path h = list_any-from_Contains nat_list_eq_equiv path paths h
 
@@ -141,7 +141,7 @@ module _ (glob : List GlobPiece) (path : List ℕ) where
       at_one t (inl is) m = h.0 (subst (λ p. GlobMatches glob (chars p)) is m)
       at_one t (inr k) m = h.1 t (above_under path t k) m
 
-none_from_test : (globs : List (List GlobPiece)) (path : List ℕ) → not (matches_one globs path) ≡ true → MatchesNone globs path
+pub none_from_test : (globs : List (List GlobPiece)) (path : List ℕ) → not (matches_one globs path) ≡ true → MatchesNone globs path
 none_from_test [] path e = All-nil (λ glob. LeavesIn glob path)
 none_from_test (glob ∷ globs) path e = of_test (leaves_out glob path) refl e (none_from_test globs path)
   where
@@ -149,7 +149,7 @@ none_from_test (glob ∷ globs) path e = of_test (leaves_out glob path) refl e (
     of_test true is h rest = absurd (false≢true h)
     of_test false is h rest = All-cons (λ g. LeavesIn g path) glob globs (in_from_test glob path is) (rest h)
 
-test_from_none : (globs : List (List GlobPiece)) (path : List ℕ) → MatchesNone globs path → not (matches_one globs path) ≡ true
+pub test_from_none : (globs : List (List GlobPiece)) (path : List ℕ) → MatchesNone globs path → not (matches_one globs path) ≡ true
 test_from_none [] path h = refl
 test_from_none (glob ∷ globs) path h =
     let rest : not (matches_one globs path) ≡ true = test_from_none globs path (λ k d low. h (suc k) d (omega (arith, low))) in

@@ -1,5 +1,5 @@
 -- What holds of each kind of edit holds of all edits of a command.
-use Rattle.std.proofs.Common.{◌≡◌, ℕ, cond, not, ◌&&◌, nat_lt, List, [], ◌∷◌, length, map, Option, Some, None, is_some, unwrap_or, Result, Ok, Err, refl, subst}
+use Rattle.std.proofs.Common.{◌≡◌, ℕ, cond, not, ◌&&◌, nat_lt, List, [], ◌∷◌, length, map, Option, Some, None, is_some, unwrap_or, Result, Ok, Err, refl, subst, sym, ◌∙◌}
 use Rattle.std.specs.List.{AllByRecursion, cons_option}
 use Rattle.std.specs.FinMap.{get}
 use Rattle.reuse_notice.specs.Sets.{set_of}
@@ -24,12 +24,13 @@ use Rattle.reuse_session.specs.Downloads.{text_for, ids_refusal, licence_edit, d
 use Rattle.reuse_session.specs.Edit.{Edit, made, dropped}
 use Rattle.reuse_session.specs.Licence.{licence_path, licence_id}
 use Rattle.reuse_tree.specs.Listing.{is_folder}
-use Rattle.reuse_session.specs.Outcome.{edits_at, edits_by_names, amendments_by_names, edits_of}
-use Rattle.reuse_session.specs.Reverting.{taken_back_on, taken_back_unless, stuck_on}
+use Rattle.reuse_session.specs.Outcome.{edits_of}
+use Rattle.reuse_session.specs.Reverting.{taken_back_on, taken_back_unless}
 use Rattle.reuse_session.specs.TreeStyles.{OwnNames, styles_in}
-use Rattle.reuse_session.specs.Worked.{worked_paths}
+use Rattle.reuse_session.specs.Worked.{with_table, worked_paths}
 use Rattle.reuse_session.specs.declared.command.Command.{Command}
 use Rattle.reuse_session.specs.declared.command.Command.TheVariants.{Annotate, Amend, ConvertDep5, Download, Revert}
+use Rattle.reuse_session.specs.declared.command.Place.{Place}
 use Rattle.reuse_session.specs.declared.command.Place.TheVariants as place
 use Rattle.reuse_session.specs.declared.command.Scope.{Scope}
 use Rattle.reuse_session.specs.declared.licence.LicenceText.{LicenceText}
@@ -44,6 +45,7 @@ use Rattle.reuse_session.proofs.Outcomes.{edits_unless, some_edit, unskipped}
 use Rattle.reuse_session.proofs.RevertFitting.{backs, edits_are}
 use Rattle.reuse_session.proofs.RevertPlanning.{untouched_back}
 use Rattle.reuse_session.proofs.Results.{err_or, same_Ok, none_from_test}
+use Rattle.reuse_session.proofs.CommandEdits.{edits_at, edits_by_names, amendments_by_names, stuck_on, of_annotation, of_amendment, of_conversion, of_download, of_revert}
 
 -- what is wanted of the changes that a revert takes back
 abbrev pub EachTakenBack : (Change → Type 0) → Command → Type 0
@@ -74,15 +76,15 @@ module _
       of_target bytes (Ok (Inside style)) here e =
           there path path bytes (header.annotation_of style how additions bytes) edit here (unskipped (scope.skip_existing && is_some (header_of style bytes)) _ edit e).1
 
-      of_annotation : (own : OwnNames) → annotated_at how scope additions own tree path ≡ some_edit edit → P edit
-      of_annotation own e = of_file (get tree path) refl e
+      of_annotated : (own : OwnNames) → annotated_at how scope additions own tree path ≡ some_edit edit → P edit
+      of_annotated own e = of_file (get tree path) refl e
         where
           of_file : (file : Option (List ℕ)) → get tree path ≡ file → annotated_where how scope additions own tree path file ≡ some_edit edit → P edit
           of_file None here h = absurd (both_err (is_folder tree path) (refusals.IsFolder (place.Path path)) (refusals.NoSuchPath path) (Some edit) h)
           of_file (Some bytes) here h = of_target bytes (target_of scope own tree path bytes) here (if_not (not (is_covered path)) (refusals.NotCovered path) _ (Some edit) h)
 
-    of_conversion : (edits : List Edit) → conversion_edits tree ≡ Ok edits → AllByRecursion P edits
-    of_conversion edits h = of_file (get tree dep5_path) refl h
+    of_converted : (edits : List Edit) → conversion_edits tree ≡ Ok edits → AllByRecursion P edits
+    of_converted edits h = of_file (get tree dep5_path) refl h
       where
         of_text : (bytes : List ℕ) (given : Result (List ℕ) Dep5Refusal) → get tree dep5_path ≡ Some bytes → get tree toml_path ≡ None → replaced_by tree bytes given ≡ Ok edits → AllByRecursion P edits
         of_text bytes (Err refusal) here free e = absurd (cc)
@@ -98,8 +100,8 @@ module _
             let free = err_or (is_some (get tree toml_path)) (refusals.Exists toml_path) (replaced_by tree bytes (converted bytes)) edits rest in
             of_text bytes (converted bytes) here (none_from_test (get tree toml_path) free.0) free.1
 
-    of_download : (ids : List (List ℕ)) (texts : List LicenceText) (edits : List Edit) → download_edits ids texts tree ≡ Ok edits → AllByRecursion P edits
-    of_download ids texts edits h =
+    of_downloaded : (ids : List (List ℕ)) (texts : List LicenceText) (edits : List Edit) → download_edits ids texts tree ≡ Ok edits → AllByRecursion P edits
+    of_downloaded ids texts edits h =
         let paths = set_of (map licence_path (set_of ids)) in
         let parts = edits_unless (ids_refusal tree texts (set_of ids)) (map (licence_edit texts) paths) edits h in
         subst (AllByRecursion P) parts.1 (each paths (are_made tree texts (set_of ids) parts.0))
@@ -108,33 +110,33 @@ module _
         each [] all = tt
         each (p ∷ paths) all = (comes p (unwrap_or (text_for texts (licence_id p)) []) all.0.absent, each paths all.1)
 
-    of_revert : (touched : List (List ℕ)) (changes : List Change) → AllByRecursion Q changes → AllByRecursion P (backs touched tree changes)
-    of_revert touched [] all = tt
-    of_revert touched (c ∷ cs) all = by_back (taken_back_unless touched tree c) refl (of_revert touched cs all.1)
+    of_reverted : (touched : List (List ℕ)) (changes : List Change) → AllByRecursion Q changes → AllByRecursion P (backs touched tree changes)
+    of_reverted touched [] all = tt
+    of_reverted touched (c ∷ cs) all = by_back (taken_back_unless touched tree c) refl (of_reverted touched cs all.1)
       where
         by_back : (o : Option Edit) → taken_back_unless touched tree c ≡ o → AllByRecursion P (backs touched tree cs) → AllByRecursion P (cons_option o (backs touched tree cs))
         by_back None is rest = rest
         by_back (Some edit) is rest = (back c edit all.0 (untouched_back touched tree c edit is).1, rest)
 
     pub each_edit : (command : Command) (edits : List Edit) → EachTakenBack Q command → edits_of command tree ≡ Ok edits → AllByRecursion P edits
-    each_edit (Annotate places additions how scope) edits wanted h = by_styles (styles_in tree) h
+    each_edit (Annotate places additions how scope) edits wanted h = by_styles (styles_in tree) (sym (of_annotation places additions how scope tree) ∙ h)
       where
         by_styles : (styles : Result OwnNames Refusal) → edits_by_names places additions how scope tree styles ≡ Ok edits → AllByRecursion P edits
         by_styles (Err refusal) e = absurd (cc)
         by_styles (Ok own) e =
-            all_edits (annotated_at how scope additions own tree) P (λ p edit k. of_annotation how scope additions p edit own k) (worked_paths scope places tree) edits
+            all_edits (annotated_at how scope additions own tree) P (λ p edit k. of_annotated how scope additions p edit own k) (worked_paths scope places tree) edits
             (if_not (not scope.recursive && has_root places) (refusals.IsFolder place.Root) (edits_at (annotated_at how scope additions own tree) (worked_paths scope places tree)) edits e)
-    each_edit (Amend places amendments scope) edits wanted h = by_styles (styles_in tree) h
+    each_edit (Amend places amendments scope) edits wanted h = by_styles (with_table scope places tree) (styles_in tree) (sym (of_amendment places amendments scope tree) ∙ h)
       where
-        of_amendment : (own : OwnNames) (path : List ℕ) (edit : Edit) → amended_at amendments scope own tree path ≡ some_edit edit → P edit
-        of_amendment own path edit e = let h = amends_there amendments scope own tree path edit e in there path h.at h.bytes (Ok h.one) edit h.here h.by
+        of_amended : (own : OwnNames) (path : List ℕ) (edit : Edit) → amended_at amendments scope own tree path ≡ some_edit edit → P edit
+        of_amended own path edit e = let h = amends_there amendments scope own tree path edit e in there path h.at h.bytes (Ok h.one) edit h.here h.by
 
-        by_styles : (styles : Result OwnNames Refusal) → amendments_by_names places amendments scope tree styles ≡ Ok edits → AllByRecursion P edits
-        by_styles (Err refusal) e = absurd (cc)
-        by_styles (Ok own) e =
-            all_edits (amended_at amendments scope own tree) P (of_amendment own) (worked_paths scope places tree) edits
+        by_styles : (places : List Place) (styles : Result OwnNames Refusal) → amendments_by_names places amendments scope tree styles ≡ Ok edits → AllByRecursion P edits
+        by_styles places (Err refusal) e = absurd (cc)
+        by_styles places (Ok own) e =
+            all_edits (amended_at amendments scope own tree) P (of_amended own) (worked_paths scope places tree) edits
             (if_not (not scope.recursive && has_root places) (refusals.IsFolder place.Root) (edits_at (amended_at amendments scope own tree) (worked_paths scope places tree)) edits e)
-    each_edit ConvertDep5 edits wanted h = of_conversion edits h
-    each_edit (Download ids texts) edits wanted h = of_download ids texts edits h
+    each_edit ConvertDep5 edits wanted h = of_converted edits (sym (of_conversion tree) ∙ h)
+    each_edit (Download ids texts) edits wanted h = of_downloaded ids texts edits (sym (of_download ids texts tree) ∙ h)
     each_edit (Revert changes touched skip_moved) edits wanted h =
-        subst (AllByRecursion P) (edits_are touched tree (cond skip_moved [] (stuck_on touched tree changes)) (backs touched tree changes) edits h) (of_revert touched changes wanted)
+        subst (AllByRecursion P) (edits_are touched tree (cond skip_moved [] (stuck_on touched tree changes)) (backs touched tree changes) edits (sym (of_revert changes touched skip_moved tree) ∙ h)) (of_reverted touched changes wanted)

@@ -31,19 +31,20 @@ use Rattle.reuse_tree.specs.Clash.{is_clash}
 use Rattle.reuse_session.specs.Command.{has_root, paths_among, HoldsEntry}
 use Rattle.reuse_session.specs.Covered.{last_part, is_in, is_outside, has_stem, is_covered}
 use Rattle.reuse_tree.specs.Listing.{ArePaths, is_among, is_folder}
-use Rattle.reuse_session.specs.Outcome.{edits_at, edits_by_names, amendments_by_names, edits_of}
+use Rattle.reuse_session.specs.Outcome.{edits_of}
 use Rattle.reuse_tree.specs.Tree.{is_of_tree}
 use Rattle.reuse_session.specs.TreeStyles.{OwnNames, styles_in}
-use Rattle.reuse_session.specs.Worked.{expanded, worked_paths}
+use Rattle.reuse_session.specs.Worked.{expanded, with_table, worked_paths}
 use Rattle.reuse_session.specs.declared.command.Command.{Command}
 use Rattle.reuse_session.specs.declared.command.Command.TheVariants.{Annotate, Amend, ConvertDep5, Download, Revert}
+use Rattle.reuse_session.specs.declared.command.Place.{Place}
 use Rattle.reuse_session.specs.declared.command.Place.TheVariants as place
 use Rattle.reuse_session.specs.declared.command.Scope.{Scope}
 use Rattle.reuse_session.specs.declared.target.Target.{Target}
 use Rattle.reuse_session.specs.declared.target.Target.TheVariants.{Inside, Beside, Nowhere}
 use Rattle.reuse_session.specs.declared.reply.Refusal.{Refusal}
 use Rattle.reuse_session.specs.declared.reply.Refusal.TheVariants as refusals
-use Rattle.reuse_session.proofs.Amending.{IsInside, IsBeside, AmendsThere, amends_there}
+use Rattle.reuse_session.proofs.Amending.{IsInside, IsBeside, IsTable, AmendsThere, amends_there}
 use Rattle.reuse_session.proofs.Annotating.{starts_reuse, and_all, covered_of_tree, first_is, no_edits, all_edits, both_err, if_not}
 use Rattle.reuse_session.proofs.Converting.{conversion_fits}
 use Rattle.reuse_session.proofs.Downloading.{download_fits}
@@ -56,13 +57,15 @@ use Rattle.reuse_tree.proofs.Testing.{clashes_keys}
 use Rattle.reuse_session.proofs.Outcomes.{no_edit, some_edit, same_edit, unskipped}
 use Rattle.std.proofs.Math.Seq.{take-append_seam}
 use Rattle.reuse_session.proofs.Results.{err_or}
+use Rattle.reuse_session.proofs.CommandEdits.{edits_at, edits_by_names, amendments_by_names, of_annotation, of_amendment, of_conversion, of_download, of_revert}
+use Rattle.reuse_session.proofs.TableLemmas.{IsWorkable}
 
 -- ---- names of neighbours
 
 abbrev ending : List ℕ
 ending = codes ".license"
 
-abbrev is_slash : ℕ → Bool
+abbrev pub is_slash : ℕ → Bool
 is_slash byte = byte == 47
 
 -- the last bytes of a neighbour's name
@@ -96,7 +99,7 @@ heads x y xs ys e = cc
 tails : (x y : ℕ) (xs ys : List ℕ) → x ∷ xs ≡ y ∷ ys → xs ≡ ys
 tails x y xs ys e = cc
 
-has_slash : (xs rest : List ℕ) → list_any is_slash (xs ++ 47 ∷ rest) ≡ true
+pub has_slash : (xs rest : List ℕ) → list_any is_slash (xs ++ 47 ∷ rest) ≡ true
 has_slash [] rest = refl
 has_slash (x ∷ xs) rest = ap (λ b. is_slash x || b) (has_slash xs rest) ∙ or_right (is_slash x) true refl
 
@@ -130,12 +133,28 @@ neighbour_of_tree path covered =
     (false_from_ne_true _ (λ e. in_reuse path (codes "undo") covered ((bytes_eq-Decides (path ++ ending) journal_folder).0 e)))
     (false_from_ne_true _ (λ e. let u = under_from_test (path ++ ending) journal_folder e in in_reuse path (codes "undo" ++ 47 ∷ u.0) covered u.1))
 
+-- ---- the paths that are worked
+
+-- they are of the tree, with their neighbours
+workable_of_tree : (path : List ℕ) → IsWorkable path → is_of_tree path ≡ true
+workable_of_tree path (inl covered) = covered_of_tree path covered
+workable_of_tree path (inr table) = ap is_of_tree table
+
+beside_of_tree : (path : List ℕ) → IsWorkable path → is_of_tree (path ++ ending) ≡ true
+beside_of_tree path (inl covered) = neighbour_of_tree path covered
+beside_of_tree path (inr table) = ap (λ p. is_of_tree (p ++ ending)) table
+
+-- and none is a neighbour
+pub no_neighbour : (path other : List ℕ) → IsWorkable path → path ≡ other ++ ending → ⊥
+no_neighbour path other (inl covered) e = false≢true (sym (uncovered_neighbour other) ∙ ap is_covered (sym e) ∙ covered)
+no_neighbour path other (inr table) e = false≢true (ap (λ p. ends_with nat_eq (last_part p) ending) (sym table ∙ e) ∙ name_ends other)
+
 -- ---- where an edit is
 
--- it is of a covered file of the tree, or of that one's neighbour, which clashes with no file if it is made
+-- it is of a file of the tree that is worked, or of that one's neighbour, which clashes with no file if it is made
 pub record IsPlaced (tree : Files) (path : List ℕ) (edit : Edit) : Type 0 where
   pub there : IsSome (get tree path)
-  pub covered : is_covered path ≡ true
+  pub workable : IsWorkable path
   pub placed : (edit.path ≡ path) ⊎ ((edit.path ≡ path ++ ending) × (length edit.path ≤ 4096) × (get tree edit.path ≡ None → is_clash tree edit.path ≡ false))
 
 none_is_some : (edit : Edit) → no_edit ≡ some_edit edit → ⊥
@@ -194,22 +213,23 @@ module _ (how : How) (scope : Scope) (additions : Additions) (tree : Files) (pat
       of_file None is h = absurd (both_err (is_folder tree path) (refusals.IsFolder (place.Path path)) (refusals.NoSuchPath path) (Some edit) h)
       of_file (Some bytes) is h =
           let k = err_or (not (is_covered path)) (refusals.NotCovered path) _ (Some edit) h in
-          record { there = ap is_some is; covered = not_false (is_covered path) k.0; placed = target_at bytes (target_of scope own tree path bytes) k.1 }
+          record { there = ap is_some is; workable = inl (not_false (is_covered path) k.0); placed = target_at bytes (target_of scope own tree path bytes) k.1 }
 
 -- an amendment is of a file that is there
 pub amendment_placed : (amendments : Amendments) (scope : Scope) (own : OwnNames) (tree : Files) (path : List ℕ) (edit : Edit) → amended_at amendments scope own tree path ≡ some_edit edit → IsPlaced tree path edit
 amendment_placed amendments scope own tree path edit e =
     let h = amends_there amendments scope own tree path edit e in
     let same = edit_at path h.at h.bytes (Ok h.one) edit h.by in
-    record { there = h.is_file; covered = h.covered; placed = of_place h same h.placed }
+    record { there = h.is_file; workable = h.workable; placed = of_place h same h.placed }
   where
     there : (h : AmendsThere amendments scope own tree path edit) → edit.path ≡ h.at → get tree edit.path ≡ None → is_clash tree edit.path ≡ false
     there h same none = absurd (some_is_none h.bytes (sym h.here ∙ ap (get tree) (sym same) ∙ none))
 
-    of_place : (h : AmendsThere amendments scope own tree path edit) → edit.path ≡ h.at → IsInside amendments scope own tree path h.at h.bytes h.one ⊎ IsBeside amendments path h.at h.bytes h.one
+    of_place : (h : AmendsThere amendments scope own tree path edit) → edit.path ≡ h.at → IsInside amendments scope own tree path h.at h.bytes h.one ⊎ IsBeside amendments path h.at h.bytes h.one ⊎ IsTable path h.at
         → (edit.path ≡ path) ⊎ ((edit.path ≡ path ++ ending) × (length edit.path ≤ 4096) × (get tree edit.path ≡ None → is_clash tree edit.path ≡ false))
     of_place h same (inl inside) = inl (same ∙ inside.same)
-    of_place h same (inr beside) = inr (same ∙ beside.same, subst (λ p. length p ≤ 4096) (sym (same ∙ beside.same)) beside.few, there h same)
+    of_place h same (inr (inr table)) = inl (same ∙ table.same)
+    of_place h same (inr (inl beside)) = inr (same ∙ beside.same, subst (λ p. length p ≤ 4096) (sym (same ∙ beside.same)) beside.few, there h same)
 
 -- ---- one edit is fit
 
@@ -219,12 +239,12 @@ module _ (tree : Files) (are : AreFiles tree) (path : List ℕ) (edit : Edit) (h
     where
       of_place : (edit.path ≡ path) ⊎ ((edit.path ≡ path ++ ending) × (length edit.path ≤ 4096) × (get tree edit.path ≡ None → is_clash tree edit.path ≡ false)) → IsFit tree edit
       of_place (inl e) = record {
-        of_tree = ap is_of_tree e ∙ covered_of_tree path h.covered;
+        of_tree = ap is_of_tree e ∙ workable_of_tree path h.workable;
         good_path = ap is_path e ∙ are.are_paths path h.there;
         free = λ none some clash. false≢true (sym (ap is_some (ap (get tree) (sym e) ∙ none)) ∙ h.there);
       }
       of_place (inr n) = record {
-        of_tree = ap is_of_tree n.0 ∙ neighbour_of_tree path h.covered;
+        of_tree = ap is_of_tree n.0 ∙ beside_of_tree path h.workable;
         good_path = ap is_path n.0 ∙ good_neighbour path (are.are_paths path h.there) (subst (λ p. length p ≤ 4096) n.0 n.1);
         free = λ none some clash. false≢true (sym (n.2 none) ∙ (clashes_keys tree edit.path).1 clash);
       }
@@ -274,8 +294,8 @@ module _ (tree : Files) where
           → (one.path ≡ path) ⊎ ((one.path ≡ path ++ ending) × (length one.path ≤ 4096) × (get tree one.path ≡ None → is_clash tree one.path ≡ false))
           → (two.path ≡ other) ⊎ ((two.path ≡ other ++ ending) × (length two.path ≤ 4096) × (get tree two.path ≡ None → is_clash tree two.path ≡ false)) → ⊥
       by_place same (inl a) (inl b) = two_paths (sym a ∙ same ∙ b)
-      by_place same (inl a) (inr b) = false≢true (sym (uncovered_neighbour other) ∙ ap is_covered (sym b.0 ∙ sym same ∙ a) ∙ h.covered)
-      by_place same (inr a) (inl b) = false≢true (sym (uncovered_neighbour path) ∙ ap is_covered (sym a.0 ∙ same ∙ b) ∙ k.covered)
+      by_place same (inl a) (inr b) = no_neighbour path other h.workable (sym a ∙ same ∙ b.0)
+      by_place same (inr a) (inl b) = no_neighbour other path k.workable (sym b ∙ sym same ∙ a.0)
       by_place same (inr a) (inr b) = two_paths (same_file path other (sym a.0 ∙ same ∙ b.0))
 
 distinct_nil : IsDistinct bytes_eq []
@@ -335,7 +355,7 @@ fit_of tree edits are = record { distinct = distinct_of (paths_at edits) are.asc
 
 -- the edits of a command
 pub command_fits : (command : Command) (tree : Files) → HoldsEntry command → AreFiles tree → (edits : List Edit) → edits_of command tree ≡ Ok edits → AreFit tree edits
-command_fits (Annotate places additions how scope) tree holds are edits h = by_names (styles_in tree) h
+command_fits (Annotate places additions how scope) tree holds are edits h = by_names (styles_in tree) (sym (of_annotation places additions how scope tree) ∙ h)
   where
     by_names : (styles : Result OwnNames Refusal) → edits_by_names places additions how scope tree styles ≡ Ok edits → AreFit tree edits
     by_names (Err refusal) e = absurd (cc)
@@ -343,14 +363,14 @@ command_fits (Annotate places additions how scope) tree holds are edits h = by_n
         edits_fit (annotated_at how scope additions own tree) tree (λ p e k. is_placed how scope additions tree p e own k) are (worked_paths scope places tree) edits
         (if_not (not scope.recursive && has_root places) (refusals.IsFolder place.Root) (edits_at (annotated_at how scope additions own tree) (worked_paths scope places tree)) edits e)
         (sorted-set_of (cond scope.recursive (flat_map (expanded scope tree) places) (paths_among places)))
-command_fits (Amend places amendments scope) tree holds are edits h = by_names (styles_in tree) h
+command_fits (Amend places amendments scope) tree holds are edits h = by_names (with_table scope places tree) (styles_in tree) (sym (of_amendment places amendments scope tree) ∙ h)
   where
-    by_names : (styles : Result OwnNames Refusal) → amendments_by_names places amendments scope tree styles ≡ Ok edits → AreFit tree edits
-    by_names (Err refusal) e = absurd (cc)
-    by_names (Ok own) e =
+    by_names : (places : List Place) (styles : Result OwnNames Refusal) → amendments_by_names places amendments scope tree styles ≡ Ok edits → AreFit tree edits
+    by_names places (Err refusal) e = absurd (cc)
+    by_names places (Ok own) e =
         edits_fit (amended_at amendments scope own tree) tree (amendment_placed amendments scope own tree) are (worked_paths scope places tree) edits
         (if_not (not scope.recursive && has_root places) (refusals.IsFolder place.Root) (edits_at (amended_at amendments scope own tree) (worked_paths scope places tree)) edits e)
         (sorted-set_of (cond scope.recursive (flat_map (expanded scope tree) places) (paths_among places)))
-command_fits ConvertDep5 tree holds are edits h = fit_of tree edits (conversion_fits tree edits h)
-command_fits (Download ids texts) tree holds are edits h = fit_of tree edits (download_fits ids texts tree edits h)
-command_fits (Revert changes touched skip) tree holds are edits h = fit_of tree edits (revert_fits touched tree changes skip edits holds.0 holds.1 h)
+command_fits ConvertDep5 tree holds are edits h = fit_of tree edits (conversion_fits tree edits (sym (of_conversion tree) ∙ h))
+command_fits (Download ids texts) tree holds are edits h = fit_of tree edits (download_fits ids texts tree edits (sym (of_download ids texts tree) ∙ h))
+command_fits (Revert changes touched skip) tree holds are edits h = fit_of tree edits (revert_fits touched tree changes skip edits holds.0 holds.1 (sym (of_revert changes touched skip tree) ∙ h))

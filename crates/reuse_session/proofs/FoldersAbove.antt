@@ -1,9 +1,6 @@
 -- The folders above a path are those that it lies under.
-use Rattle.std.proofs.Common.{◌≡◌, ◌==◌, ◌<◌, ◌||◌, inl, inr, ℕ, Bool, true, false, cond, List, [], ◌∷◌, ◌++◌, length, take, get_or, map, refl, sym, ap, subst, ◌∙◌}
-use Rattle.std.specs.List.{list_any}
-use Rattle.std.specs.Str.{bytes_eq}
-use Rattle.std.proofs.lemmas.Bool.{eqb-true, false≢true, false_from_ne_true}
-use Rattle.std.proofs.lemmas.Slice.Eq.{bytes_eq-Decides}
+use Rattle.std.proofs.Common.{◌≡◌, ◌==◌, inl, inr, ℕ, Bool, true, false, cond, List, [], ◌∷◌, ◌++◌, map, refl, sym, ap, subst, ◌∙◌}
+use Rattle.std.proofs.lemmas.Bool.{eqb-true}
 use Rattle.reuse_notice.proofs.ClassLemmas.{In-append, In-right, In-from_map}
 use Rattle.reuse_notice.proofs.SetLemmas.{In}
 use Rattle.reuse_tree.specs.Path.{lies_under, folders_above}

@@ -1,22 +1,26 @@
 -- What amend makes of a tree, said in other words, is one tree.
-use Rattle.std.proofs.Common.{◌≡◌, ◌≢◌, ◌⊎◌, inl, inr, ℕ, true, List, Option, Some, None, sym, ap, subst, ◌∙◌}
+use Rattle.std.proofs.Common.{◌≡◌, ◌≢◌, ◌⊎◌, inl, inr, ℕ, List, Some, None, sym, ap, subst, ◌∙◌, true}
 use Rattle.std.specs.List.{Contains}
 use Rattle.std.specs.FinMap.{get}
 use Rattle.std.proofs.lemmas.Bool.{false≢true}
 use Rattle.std.proofs.lemmas.Option.{same_Some, none-some}
 use Rattle.reuse_notice.specs.declared.amendments.Amendments.{Amendments}
 use Rattle.reuse_notice.proofs.SetLemmas.{In, In-from_contains, Contains-from_in}
+use Rattle.reuse_dep5.specs.TomlAmending.{toml_amendment_of}
 use Rattle.reuse_header.specs.declared.style.Kind.{Kind}
 use Rattle.reuse_header.specs.declared.style.Kind.TheVariants as kind
 use Rattle.reuse_header.specs.declared.style.Style.{Style}
 use Rattle.reuse_header.specs.Amendment.{amended_file, amendment_of, neighbour_amendment_of}
 use Rattle.reuse_tree.specs.Files.{Files}
 use Rattle.reuse_tree.proofs.FileMaps.{same_files}
-use Rattle.reuse_session.specs.Amended.{IsNeighbourAmended, IsFileAmended, HasNoPlace, IsAmended, Amends}
+use Rattle.reuse_session.specs.Amended.{IsNeighbourAmended, IsFileAmended, HasNoPlace, IsTableAmended, IsCoveredAmended, IsAmended, Amends}
+use Rattle.reuse_session.specs.Amend.{amended_table}
 use Rattle.reuse_session.specs.Annotate.{neighbour_of}
 use Rattle.reuse_session.specs.Annotated.{IsStyleOf, HasKind, Pair}
+use Rattle.reuse_session.specs.Conversion.{toml_path}
+use Rattle.reuse_session.specs.Covered.{is_covered}
 use Rattle.reuse_session.specs.TreeStyles.{OwnNames}
-use Rattle.reuse_session.specs.Worked.{worked_paths}
+use Rattle.reuse_session.specs.Worked.{amended_paths}
 use Rattle.reuse_session.specs.declared.command.Place.{Place}
 use Rattle.reuse_session.specs.declared.command.Scope.{Scope}
 use Rattle.reuse_session.proofs.AnnotationPlaces.{one_style}
@@ -76,16 +80,33 @@ module _ (amendments : Amendments) (scope : Scope) (own : OwnNames) (path bytes 
   becomes_one new other (inr (inr one)) (inr (inl two)) = absurd (no_neighbour_there new two.alone one)
   becomes_one new other (inr (inr one)) (inr (inr two)) = both_neighbours new other one two
 
-amended_one : (amendments : Amendments) (scope : Scope) (own : OwnNames) (path : List ℕ) (old new other : Pair) → IsAmended amendments scope own path old new → IsAmended amendments scope own path old other → new ≡ other
-amended_one amendments scope own path old new other one two =
+covered_one : (amendments : Amendments) (scope : Scope) (own : OwnNames) (path : List ℕ) (old new other : Pair) → IsCoveredAmended amendments scope own path old new → IsCoveredAmended amendments scope own path old other → new ≡ other
+covered_one amendments scope own path old new other one two =
     let same = same_Some two.bytes one.bytes (sym two.there ∙ one.there) in
     becomes_one amendments scope own path one.bytes old new other one.becomes (subst (λ bytes. Becomes amendments scope own path bytes old other) same two.becomes)
+
+-- the `REUSE.toml`
+both_tables : (amendments : Amendments) (old new other : Pair) → IsTableAmended amendments old new → IsTableAmended amendments old other → new ≡ other
+both_tables amendments old new other one two =
+    let bytes = same_Some one.bytes two.bytes (sym one.there ∙ two.there) in
+    let made = same_Ok one.made two.made (sym one.by_rules ∙ ap (λ b. amended_table b (toml_amendment_of amendments b)) bytes ∙ two.by_rules) in
+    one.holds ∙ ap (λ (m : List ℕ). record { file = Some m; neighbour = old.neighbour }) made ∙ sym two.holds
+
+-- it isn't covered
+not_both : (path : List ℕ) → path ≡ toml_path → is_covered path ≡ true → ⊥
+not_both path table covered = false≢true (ap is_covered (sym table) ∙ covered)
+
+amended_one : (amendments : Amendments) (scope : Scope) (own : OwnNames) (path : List ℕ) (old new other : Pair) → IsAmended amendments scope own path old new → IsAmended amendments scope own path old other → new ≡ other
+amended_one amendments scope own path old new other (inl one) (inl two) = both_tables amendments old new other one.1 two.1
+amended_one amendments scope own path old new other (inl one) (inr two) = absurd (not_both path one.0 two.covered)
+amended_one amendments scope own path old new other (inr one) (inl two) = absurd (not_both path two.0 one.covered)
+amended_one amendments scope own path old new other (inr one) (inr two) = covered_one amendments scope own path old new other one two
 
 -- ---- the tree
 
 module _ (places : List Place) (amendments : Amendments) (scope : Scope) (before after other : Files) (one : Amends places amendments scope before after) (two : Amends places amendments scope before other) where
   abbrev paths : List (List ℕ)
-  paths = worked_paths scope places before
+  paths = amended_paths scope places before
 
   same_pair : (path : List ℕ) → In path paths → (get after path ≡ get other path) × (get after (neighbour_of path) ≡ get other (neighbour_of path))
   same_pair path there =

@@ -1,4 +1,4 @@
--- Edits that are each of a covered file or its neighbour: what the paths then hold.
+-- Edits that are each of a file that is worked or its neighbour: what the paths then hold.
 use Rattle.std.proofs.Common.{◌≡◌, ◌≢◌, ◌⊎◌, inl, inr, ℕ, Bool, true, false, cond, List, [], ◌∷◌, Less, Option, Some, None, Result, Ok, refl, sym, ap, subst, ◌∙◌}
 use Rattle.std.specs.Ordering.{nat_cmp}
 use Rattle.std.specs.Cmp.Lexicographic.{slice_cmp}
@@ -12,25 +12,26 @@ use Rattle.reuse_notice.proofs.SetLemmas.{In}
 use Rattle.reuse_tree.specs.Files.{Files}
 use Rattle.reuse_tree.specs.Listing.{ArePaths}
 use Rattle.reuse_session.specs.Annotate.{neighbour_of}
-use Rattle.reuse_session.specs.Covered.{is_covered}
 use Rattle.reuse_session.specs.Edit.{Edit}
-use Rattle.reuse_session.specs.Outcome.{with_file, edited, edits_at}
+use Rattle.reuse_session.specs.Outcome.{with_file, edited}
 use Rattle.reuse_session.specs.declared.reply.Refusal.{Refusal}
 use Rattle.reuse_session.proofs.AnnotatedFiles.{file_then}
 use Rattle.reuse_session.proofs.Annotating.{first_is, no_edits}
-use Rattle.reuse_session.proofs.Fitting.{uncovered_neighbour, same_file}
+use Rattle.reuse_session.proofs.Fitting.{no_neighbour, same_file}
 use Rattle.reuse_session.proofs.Planning.{with_same, with_other, not_itself}
+use Rattle.reuse_session.proofs.TableLemmas.{IsWorkable}
 use Rattle.reuse_session.proofs.TextsPut.{pick}
+use Rattle.reuse_session.proofs.CommandEdits.{edits_at}
 
 abbrev pub IsPlaceOf : List ℕ → List ℕ → Type 0
 IsPlaceOf path place = (place ≡ path) ⊎ (place ≡ neighbour_of path)
 
--- a place of one covered file is none of another
-one_file : (path other q : List ℕ) → is_covered path ≡ true → is_covered other ≡ true → IsPlaceOf path q → IsPlaceOf other q → path ≡ other
-one_file path other q covered too (inl a) (inl b) = sym a ∙ b
-one_file path other q covered too (inl a) (inr b) = absurd (false≢true (sym (uncovered_neighbour other) ∙ ap is_covered (sym b ∙ a) ∙ covered))
-one_file path other q covered too (inr a) (inl b) = absurd (false≢true (sym (uncovered_neighbour path) ∙ ap is_covered (sym a ∙ b) ∙ too))
-one_file path other q covered too (inr a) (inr b) = same_file path other (sym a ∙ b)
+-- a place of one file is none of another
+one_file : (path other q : List ℕ) → IsWorkable path → IsWorkable other → IsPlaceOf path q → IsPlaceOf other q → path ≡ other
+one_file path other q workable too (inl a) (inl b) = sym a ∙ b
+one_file path other q workable too (inl a) (inr b) = absurd (no_neighbour path other workable (sym a ∙ b))
+one_file path other q workable too (inr a) (inl b) = absurd (no_neighbour other path too (sym b ∙ a))
+one_file path other q workable too (inr a) (inr b) = same_file path other (sym a ∙ b)
 
 not_above : (path other : List ℕ) (paths : List (List ℕ)) → AllByRecursion (λ p. slice_cmp nat_cmp path p ≡ Less) paths → In other paths → path ≢ other
 not_above path other paths above there = not_itself path other (pick (λ p. slice_cmp nat_cmp path p ≡ Less) paths other there above)
@@ -44,10 +45,10 @@ module _ (files tree : Files) (edit : Edit) (q : List ℕ) (same : get files q �
       of_test true e = let at = (bytes_eq-Decides q edit.path).0 e in ap (get (with_file files edit.path edit.file)) at ∙ with_same files edit.path edit.file
       of_test false e = with_other files edit.path edit.file q (λ at. false≢true (sym e ∙ (bytes_eq-Decides q edit.path).1 at)) ∙ same
 
--- what is done at a path is done at one of its places, and only where it is covered
+-- what is done at a path is done at one of its places, and only where it is worked
 module _ (at : List ℕ → Result (Option Edit) Refusal) (tree : Files)
-    (placed : (path : List ℕ) (edit : Edit) → at path ≡ Ok (Some edit) → IsPlaceOf path edit.path × (is_covered path ≡ true))
-    (covered_of : (path : List ℕ) (given : Option Edit) → at path ≡ Ok given → is_covered path ≡ true)
+    (placed : (path : List ℕ) (edit : Edit) → at path ≡ Ok (Some edit) → IsPlaceOf path edit.path × IsWorkable path)
+    (workable_of : (path : List ℕ) (given : Option Edit) → at path ≡ Ok given → IsWorkable path)
   where
     pub outside : (paths : List (List ℕ)) (edits : List Edit) → edits_at at paths ≡ Ok edits → (q : List ℕ) → ((path : List ℕ) → In path paths → IsPlaceOf path q → ⊥) → get (edited tree edits) q ≡ get tree q
     outside [] edits h q none = ap (λ es. get (edited tree es) q) (no_edits edits h)
@@ -75,7 +76,7 @@ module _ (at : List ℕ → Result (Option Edit) Refusal) (tree : Files)
         → (q : List ℕ) → IsPlaceOf path q → (other : List ℕ) → In other paths → IsPlaceOf other q → ⊥
     none_later path given h paths edits k sorted q here other there too =
         let later = each_done paths edits k other there in
-        not_above path other paths (sorted_head (slice_cmp nat_cmp) path paths sorted) there (one_file path other q (covered_of path given h) (covered_of other later.0 later.1) here too)
+        not_above path other paths (sorted_head (slice_cmp nat_cmp) path paths sorted) there (one_file path other q (workable_of path given h) (workable_of other later.0 later.1) here too)
 
     -- what a path holds that is gone through, and its neighbour
     abbrev pub HoldsDone : List Edit → List ℕ → Type 0

@@ -21,12 +21,13 @@ use Rattle.reuse_session.specs.Edit.{Edit, made, dropped}
 use Rattle.reuse_tree.specs.Entry.{makes, paths_of, touches, IsEntry}
 use Rattle.reuse_tree.specs.EntryText.{HavePaths}
 use Rattle.reuse_tree.specs.Listing.{ArePaths, is_among}
-use Rattle.reuse_session.specs.Reverting.{stands_as_written, is_short, put_back, taken_back, taken_back_on, taken_back_unless, stuck_on, unless_stuck, revert_edits}
+use Rattle.reuse_session.specs.Reverting.{stands_as_written, is_short, put_back, taken_back, taken_back_on, taken_back_unless}
 use Rattle.reuse_tree.specs.Tree.{is_of_tree}
 use Rattle.reuse_tree.specs.declared.way.Way.TheVariants.{Undo}
 use Rattle.reuse_session.proofs.Planning.{paths_at, IsFit, AreEdits}
 use Rattle.reuse_session.proofs.RevertPlanning.{untouched_back}
 use Rattle.reuse_tree.proofs.Testing.{clashes_keys}
+use Rattle.reuse_session.proofs.CommandEdits.{stuck_on, unless_stuck, revert_edits}
 
 -- ---- one change
 

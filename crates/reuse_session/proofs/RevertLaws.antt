@@ -27,7 +27,7 @@ use Rattle.reuse_session.specs.Edit.{Edit, made, dropped}
 use Rattle.reuse_tree.specs.Entry.{makes, removed_by, written_by, touches, fixed_size, change_size, AreAllSealed, IsEntry, IsSmall, LeadsAll}
 use Rattle.reuse_tree.specs.Listing.{is_among}
 use Rattle.reuse_session.specs.Outcome.{edited, edit_size, is_too_many, tree_after, outcome_of}
-use Rattle.reuse_session.specs.Reverting.{stands_at, has_digest, is_as_left, stands_as_written, is_short, put_back, taken_back, taken_back_on, stuck_on, unless_stuck, revert_edits}
+use Rattle.reuse_session.specs.Reverting.{stands_at, has_digest, is_as_left, stands_as_written, is_short, put_back, taken_back, taken_back_on}
 use Rattle.reuse_session.specs.declared.command.Command.TheVariants.{Revert}
 use Rattle.reuse_tree.specs.declared.way.Way.TheVariants.{Undo}
 use Rattle.reuse_session.specs.declared.reply.Refusal.TheVariants.{TooMany}
@@ -37,6 +37,7 @@ use Rattle.reuse_session.proofs.RevertPlanning.{and_first, and_second, within, s
 use Rattle.reuse_tree.proofs.Testing.{clashes_keys}
 use Rattle.reuse_tree.proofs.Walk.{can_lead, leads_back}
 use Rattle.reuse_session.proofs.Outcomes.{few_held}
+use Rattle.reuse_session.proofs.CommandEdits.{stuck_on, unless_stuck, revert_edits, of_revert}
 
 -- ---- the old bytes come back, whatever follows them
 
@@ -270,6 +271,6 @@ module _ (before after : Files) where
   unfolding outcome_of
   reverts_as_undo changes skip entry sealed are leads =
       let all = is_back changes entry are leads in
-      ap (tree_after after) (edits_are changes skip all)
+      ap (tree_after after) (of_revert changes [] skip after ∙ edits_are changes skip all)
       ∙ ap (λ b. cond b (Err TooMany) (Ok (edited after (backs [] after changes)))) (few changes entry sealed all)
       ∙ ap (λ t. Ok t) (edited_is changes entry leads all)

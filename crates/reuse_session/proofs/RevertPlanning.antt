@@ -1,8 +1,7 @@
 -- The planner of a revert: what takes a change back does what its edit says.
-use Rattle.std.proofs.Common.{◌≡◌, ◌≢◌, ◌⊎◌, inl, inr, ℕ, ◌+◌, ◌-◌, ◌≤◌, Bool, true, false, cond, not, ◌&&◌, ◌||◌, nat_eq, nat_le, List, [], ◌∷◌, ◌++◌, length, take, drop, Option, Some, None, IsSome, is_some, Result, Ok, Err, refl, sym, ap, ap₂, subst, ◌∙◌, arith, length-append, append_assoc, append-nil, le-leb, leb-true}
-use Rattle.std.specs.Option.{option_map, option_to_list}
-use Rattle.std.specs.Prelude.{filter_map}
-use Rattle.std.specs.List.{starts_with, cons_option}
+use Rattle.std.proofs.Common.{◌≡◌, ◌≢◌, ℕ, ◌+◌, ◌-◌, ◌≤◌, Bool, true, false, cond, not, ◌&&◌, ◌||◌, nat_eq, nat_le, List, ◌++◌, length, take, drop, Option, Some, None, Result, Ok, refl, sym, ap, ap₂, subst, ◌∙◌, arith, length-append, append_assoc, le-leb, leb-true}
+use Rattle.std.specs.Option.{option_map}
+use Rattle.std.specs.List.{starts_with}
 use Rattle.std.specs.Str.{bytes_eq}
 use Rattle.std.specs.FinMap.{get}
 use Rattle.std.proofs.lemmas.Bool.{false≢true}
@@ -18,17 +17,14 @@ use Rattle.reuse_tree.specs.declared.change.Change.{Change}
 use Rattle.reuse_tree.specs.declared.change.Change.TheVariants.{Make, Drop, Splice}
 use Rattle.reuse_tree.specs.declared.digest.Seal.{Seal}
 use Rattle.reuse_text.specs.declared.TheConstants.{LONGEST_FILE}
-use Rattle.reuse_session.specs.Answer.{IsTestRefusal}
 use Rattle.reuse_tree.specs.Clash.{is_clash}
 use Rattle.reuse_session.specs.Edit.{Edit, made, dropped}
 use Rattle.reuse_tree.specs.Entry.{makes}
 use Rattle.reuse_tree.specs.Listing.{is_among}
-use Rattle.reuse_session.specs.Plan.{IsRefusalOf, CarriesOutEdit, MakesEach, MakesEdit, MakesEdits}
-use Rattle.reuse_session.specs.Reverting.{stands_at, is_as_left, stands_as_written, is_short, put_back, taken_back, taken_back_on, taken_back_unless, stuck_on, unless_stuck, revert_edits}
+use Rattle.reuse_session.specs.Plan.{CarriesOutEdit, MakesEdit}
+use Rattle.reuse_session.specs.Reverting.{stands_at, is_as_left, stands_as_written, is_short, put_back, taken_back, taken_back_on, taken_back_unless}
 use Rattle.reuse_tree.specs.declared.way.Way.TheVariants.{Undo}
 use Rattle.reuse_session.specs.declared.reply.Refusal.{Refusal}
-use Rattle.reuse_session.specs.declared.reply.Refusal.TheVariants.{Fault, Memory, Moved}
-use Rattle.reuse_session.proofs.Planning.{each_push}
 
 abbrev pub found : Option Edit → Result (Option Edit) Refusal
 found edit = Ok edit
@@ -198,80 +194,5 @@ untouched_back touched tree change edit e = of_test (is_among touched (path_of c
     of_test true is h = absurd (none-some edit h)
     of_test false is h = (is, h)
 
--- ---- the changes, one after the other
-
--- the changes so far do what the edits of the steps so far say, of which none is stuck unless such are skipped
-pub record SoFar (touched : List (List ℕ)) (tree : Files) (skip : Bool) (all left : List Change) (taken : List Change) : Type 0 where
-  pub edits : List Edit
-  pub each : MakesEach tree taken edits
-  pub same : filter_map (taken_back_unless touched tree) all ≡ edits ++ filter_map (taken_back_unless touched tree) left
-  pub stuck : (skip ≡ true) ⊎ (stuck_on touched tree all ≡ stuck_on touched tree left)
-
-same_found : (a b : Option Edit) → found a ≡ found b → a ≡ b
+pub same_found : (a b : Option Edit) → found a ≡ found b → a ≡ b
 same_found a b e = cc
-
-module _ (touched : List (List ℕ)) (tree : Files) (skip : Bool) (all : List Change) where
-  pub at_start : SoFar touched tree skip all all []
-  at_start = record { edits = []; each = tt; same = refl; stuck = inr refl }
-
-  pub after_taken : (c : Change) (left taken : List Change) (back : Change) → SoFar touched tree skip all (c ∷ left) taken → MakesEdit tree (found (taken_back_unless touched tree c)) (Some back) → SoFar touched tree skip all left (taken ++ back ∷ [])
-  after_taken c left taken back so makes = record {
-    edits = so.edits ++ makes.0 ∷ [];
-    each = each_push tree taken so.edits back makes.0 so.each makes.2;
-    same = so.same ∙ ap (λ o. so.edits ++ cons_option o (filter_map (taken_back_unless touched tree) left)) is ∙ sym (append_assoc so.edits (makes.0 ∷ []) (filter_map (taken_back_unless touched tree) left));
-    stuck = still so.stuck;
-  }
-    where
-      is : taken_back_unless touched tree c ≡ Some makes.0
-      is = same_found (taken_back_unless touched tree c) (Some makes.0) makes.1
-
-      still : (skip ≡ true) ⊎ (stuck_on touched tree all ≡ stuck_on touched tree (c ∷ left)) → (skip ≡ true) ⊎ (stuck_on touched tree all ≡ stuck_on touched tree left)
-      still (inl e) = inl e
-      still (inr e) = inr (e ∙ ap (λ o. cond (not (is_some o)) (c ∷ stuck_on touched tree left) (stuck_on touched tree left)) is)
-
-  pub after_skipped : (c : Change) (left taken : List Change) → skip ≡ true → SoFar touched tree skip all (c ∷ left) taken → MakesEdit tree (found (taken_back_unless touched tree c)) None → SoFar touched tree skip all left taken
-  after_skipped c left taken skips so none = record {
-    edits = so.edits;
-    each = so.each;
-    same = so.same ∙ ap (λ o. so.edits ++ cons_option o (filter_map (taken_back_unless touched tree) left)) (same_found (taken_back_unless touched tree c) None none);
-    stuck = inl skips;
-  }
-
-  pub at_refusal : (c : Change) (left taken : List Change) → skip ≡ false → SoFar touched tree skip all (c ∷ left) taken → MakesEdit tree (found (taken_back_unless touched tree c)) None → revert_edits all touched skip tree ≡ Err (Moved (path_of c))
-  at_refusal c left taken refuses so none =
-      ap (λ b. unless_stuck (cond b [] (stuck_on touched tree all)) (filter_map (taken_back_unless touched tree) all)) refuses
-      ∙ ap (λ cs. unless_stuck cs (filter_map (taken_back_unless touched tree) all)) (first so.stuck ∙ ap (λ o. cond (not (is_some o)) (c ∷ stuck_on touched tree left) (stuck_on touched tree left)) (same_found (taken_back_unless touched tree c) None none))
-    where
-      first : (skip ≡ true) ⊎ (stuck_on touched tree all ≡ stuck_on touched tree (c ∷ left)) → stuck_on touched tree all ≡ stuck_on touched tree (c ∷ left)
-      first (inl e) = absurd (false≢true (sym refuses ∙ e))
-      first (inr e) = e
-
-  pub at_end : (taken : List Change) → SoFar touched tree skip all [] taken → MakesEdits tree (revert_edits all touched skip tree) taken
-  at_end taken so = (so.edits, ap₂ (λ cs es. unless_stuck cs es) (none so.stuck) (so.same ∙ append-nil so.edits), so.each)
-    where
-      skips_none : (b : Bool) → cond b [] (stuck_on touched tree []) ≡ []
-      skips_none true = refl
-      skips_none false = refl
-
-      none : (skip ≡ true) ⊎ (stuck_on touched tree all ≡ stuck_on touched tree []) → cond skip [] (stuck_on touched tree all) ≡ []
-      none (inl e) = ap (λ b. cond b [] (stuck_on touched tree all)) e
-      none (inr e) = ap (λ cs. cond skip [] cs) e ∙ skips_none skip
-
-  -- what takes the next change back is added, or it is skipped
-  pub after_back : (c : Change) (left taken : List Change) (back : Option Change) → SoFar touched tree skip all (c ∷ left) taken → MakesEdit tree (found (taken_back_unless touched tree c)) back → (skip ≡ false → IsSome back) → SoFar touched tree skip all left (taken ++ option_to_list back)
-  after_back c left taken (Some back) so makes some = after_taken c left taken back so makes
-  after_back c left taken None so makes some = subst (SoFar touched tree skip all left) (sym (append-nil taken)) (after_skipped c left taken (skips skip refl) so makes)
-    where
-      skips : (b : Bool) → skip ≡ b → skip ≡ true
-      skips true e = e
-      skips false e = absurd (false≢true (some e))
-
-  -- a refusal of the next change is that of the revert
-  pub back_refused : (c : Change) (left taken : List Change) (back : Option Change) (refusal : Refusal) → SoFar touched tree skip all (c ∷ left) taken → MakesEdit tree (found (taken_back_unless touched tree c)) back → IsTestRefusal refusal
-      → ((path : List ℕ) → refusal ≡ Moved path → (path ≡ path_of c) × (back ≡ None) × (skip ≡ false)) → IsRefusalOf (revert_edits all touched skip tree) refusal
-  back_refused c left taken given Memory so makes is moved = tt
-  back_refused c left taken given (Fault fault) so makes is moved = tt
-  back_refused c left taken given (Moved path) so makes is moved =
-      let m = moved path refl in
-      at_refusal c left taken m.2 so (subst (MakesEdit tree (found (taken_back_unless touched tree c))) m.1 makes) ∙ ap (λ p. Err (Moved p)) (sym m.0)
-  back_refused c left taken given refusal so makes is moved = absurd is

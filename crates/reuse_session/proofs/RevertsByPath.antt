@@ -13,8 +13,8 @@ use Rattle.reuse_tree.specs.Clash.{is_clash}
 use Rattle.reuse_session.specs.Edit.{Edit}
 use Rattle.reuse_tree.specs.Entry.{makes, touches, IsEntry, IsSmall, LeadsAll}
 use Rattle.reuse_tree.specs.Listing.{is_among}
-use Rattle.reuse_session.specs.Outcome.{edited, outcome_of}
-use Rattle.reuse_session.specs.Reverting.{taken_back, taken_back_on, taken_back_unless, stuck_on, unless_stuck, revert_edits}
+use Rattle.reuse_session.specs.Outcome.{edited, outcome_of, edits_of, tree_after}
+use Rattle.reuse_session.specs.Reverting.{taken_back, taken_back_on, taken_back_unless}
 use Rattle.reuse_session.specs.declared.command.Command.TheVariants.{Revert}
 use Rattle.reuse_tree.specs.declared.way.Way.TheVariants.{Undo}
 use Rattle.reuse_session.proofs.Planning.{paths_at, EachHas, edited_other, edited_has}
@@ -23,6 +23,14 @@ use Rattle.reuse_session.proofs.RevertLaws.{takes_to, not_both}
 use Rattle.reuse_session.proofs.RevertPlanning.{where_free, where_untouched, untouched_back}
 use Rattle.reuse_tree.proofs.Testing.{clashes_keys}
 use Rattle.reuse_session.proofs.Outcomes.{edits_of_tree}
+use Rattle.reuse_session.proofs.CommandEdits.{stuck_on, unless_stuck, revert_edits, of_revert}
+
+-- the edits of a revert that isn't refused
+reverted_edits : (changes : List Change) (touched : List (List ℕ)) (skip : Bool) (now reverted : Files) → tree_after now (edits_of (Revert changes touched skip) now) ≡ Ok reverted
+    → (edits : List Edit) × (revert_edits changes touched skip now ≡ Ok edits) × (edited now edits ≡ reverted)
+reverted_edits changes touched skip now reverted h =
+    let given = edits_of_tree now reverted (edits_of (Revert changes touched skip) now) h in
+    (given.0, sym (of_revert changes touched skip now) ∙ given.1, given.2)
 
 -- ---- what can be taken back
 
@@ -109,7 +117,7 @@ module _ (touched : List (List ℕ)) (before after now : Files) (path : List ℕ
       → get now path ≡ get after path → get reverted path ≡ get before path
   unfolding outcome_of
   returned changes skip reverted entry leads h free same =
-      let given = edits_of_tree now reverted (revert_edits changes touched skip now) h in
+      let given = reverted_edits changes touched skip now reverted h in
       let backs_are = edits_are touched now (cond skip [] (stuck_on touched now changes)) (backs touched now changes) given.0 given.1 in
       ap (λ t. get t path) (sym (ap (edited now) backs_are ∙ given.2)) ∙ of_test (touches changes path) refl given.0 given.1
     where
@@ -139,7 +147,7 @@ module _ (touched : List (List ℕ)) (now : Files) (path : List ℕ) (later : is
   pub still_there : (changes : List Change) (skip : Bool) (reverted : Files) → outcome_of (Revert changes touched skip) now ≡ Ok reverted → get reverted path ≡ get now path
   unfolding outcome_of
   still_there changes skip reverted h =
-      let given = edits_of_tree now reverted (revert_edits changes touched skip now) h in
+      let given = reverted_edits changes touched skip now reverted h in
       let backs_are = edits_are touched now (cond skip [] (stuck_on touched now changes)) (backs touched now changes) given.0 given.1 in
       ap (λ t. get t path) (sym (ap (edited now) backs_are ∙ given.2)) ∙ edited_other now (backs touched now changes) path (none_of_them changes)
 
@@ -156,5 +164,5 @@ module _ (touched : List (List ℕ)) (now : Files) (path : List ℕ) (later : is
   pub is_refused : (changes : List Change) (reverted : Files) → touches changes path ≡ true → outcome_of (Revert changes touched false) now ≡ Ok reverted → ⊥
   unfolding outcome_of
   is_refused changes reverted touch h =
-      let given = edits_of_tree now reverted (revert_edits changes touched false now) h in
+      let given = reverted_edits changes touched false now reverted h in
       untaken changes (all_back touched now changes (none_stuck (stuck_on touched now changes) (backs touched now changes) given.0 given.1)) touch

@@ -1,5 +1,5 @@
 -- What a listing shows that passes over the folders beneath which nothing is selected.
-use Rattle.std.proofs.Common.{◌≡◌, ◌⊎◌, inl, inr, ℕ, Bool, true, false, cond, not, ◌&&◌, ◌||◌, List, [], ◌∷◌, ◌++◌, length, filter, flat_map, nat_lt, codes, Option, Some, None, refl, sym, ap, subst, ◌∙◌, append_assoc}
+use Rattle.std.proofs.Common.{◌≡◌, inl, inr, ℕ, Bool, true, false, cond, not, ◌&&◌, ◌||◌, List, [], ◌∷◌, ◌++◌, filter, flat_map, codes, Option, Some, None, refl, sym, ap, subst, ◌∙◌, append_assoc}
 use Rattle.std.specs.FinMap.{keys}
 use Rattle.std.specs.List.{All, list_any}
 use Rattle.std.specs.Ordering.{nat_cmp}
@@ -15,7 +15,7 @@ use Rattle.reuse_notice.specs.Sets.{set_of}
 use Rattle.reuse_notice.proofs.SetLemmas.{In, In-set_of, set_of-has}
 use Rattle.reuse_tree.specs.Files.{Files, AreFiles}
 use Rattle.reuse_tree.specs.Listing.{ArePaths, is_among, is_asked, is_folder, is_folder_of, is_pruned, is_wanted, listed_paths}
-use Rattle.reuse_tree.specs.Path.{lies_under, folders_above}
+use Rattle.reuse_tree.specs.Path.{lies_under}
 use Rattle.reuse_tree.proofs.ListingLemmas.{under_from_test, test_from_under}
 use Rattle.reuse_tree.proofs.NeedLemmas.{above_from, above_some}
 use Rattle.reuse_tree.proofs.TreeLemmas.{keys_ascend}
@@ -23,7 +23,7 @@ use Rattle.reuse_session.specs.Annotate.{neighbour_of}
 use Rattle.reuse_session.specs.Choice.{is_chosen, is_listed, is_passed_over, leaves_out, lists_none, matches_folder, matches_one}
 use Rattle.reuse_session.specs.Command.{has_root, paths_among}
 use Rattle.reuse_session.specs.Covered.{is_covered}
-use Rattle.reuse_session.specs.Shown.{ShowsBeneath, ShowsEach, ShowsPair, ShowsPlace, folders_for, with_neighbours}
+use Rattle.reuse_session.specs.Shown.{ShowsEach, ShowsPair, ShowsPlace, folders_for, with_neighbours}
 use Rattle.reuse_session.specs.Worked.{expanded}
 use Rattle.reuse_session.specs.declared.command.Place.{Place}
 use Rattle.reuse_session.specs.declared.command.Place.TheVariants.{Root, Path}

@@ -1,5 +1,4 @@
 -- What a listing of some folders shows of the paths at them and beneath them.
-use Rattle.std.specs.Prelude.{flat_map}
 use Rattle.std.proofs.lemmas.List.{append-nil, take_more}
 use Rattle.std.proofs.lemmas.List.Concat.{flat_map-append}
 use Rattle.std.proofs.Common.{◌≡◌, ◌⊎◌, inl, inr, ℕ, ◌+◌, take, ◌<◌, Bool, true, false, cond, not, ◌&&◌, ◌||◌, ◌==◌, List, [], ◌∷◌, ◌++◌, length, get_or, map, filter, nat_eq, nat_lt, nat_le, codes, refl, sym, ap, subst, ◌∙◌, append_assoc, arith}

@@ -1,5 +1,5 @@
 -- Where a conversion isn't refused, the text stands in the place of the dep5.
-use Rattle.std.proofs.Common.{◌≡◌, ◌≢◌, ℕ, ◌≤◌, false, cond, List, [], ◌∷◌, length, nat_lt, Option, Some, None, is_some, Result, Ok, Err, refl, ap, subst, ◌∙◌}
+use Rattle.std.proofs.Common.{◌≡◌, ◌≢◌, ℕ, ◌≤◌, false, cond, List, [], ◌∷◌, length, nat_lt, Option, Some, None, is_some, Result, Ok, Err, refl, ap, subst, ◌∙◌, sym}
 use Rattle.std.specs.FinMap.{get}
 use Rattle.std.proofs.lemmas.Bool.{false≢true, ltb-false}
 use Rattle.std.proofs.lemmas.Slice.Eq.{bytes_eq-Decides}
@@ -8,15 +8,16 @@ use Rattle.reuse_dep5.specs.Conversion.{converted}
 use Rattle.reuse_tree.specs.Files.{Files}
 use Rattle.reuse_text.specs.declared.TheConstants.{LONGEST_FILE}
 use Rattle.reuse_tree.specs.Clash.{is_clash}
-use Rattle.reuse_session.specs.Conversion.{dep5_path, toml_path, replaced_by, conversion_where, conversion_edits}
+use Rattle.reuse_session.specs.Conversion.{dep5_path, toml_path, replaced_by, conversion_where}
 use Rattle.reuse_session.specs.Edit.{Edit, made, dropped}
-use Rattle.reuse_session.specs.Outcome.{edited, outcome_of}
+use Rattle.reuse_session.specs.Outcome.{edited, outcome_of, edits_of}
 use Rattle.reuse_session.specs.TablePut.{PutsTable}
 use Rattle.reuse_session.specs.declared.command.Command.TheVariants.{ConvertDep5}
 use Rattle.reuse_session.specs.declared.reply.Refusal.TheVariants as refusals
 use Rattle.reuse_session.proofs.Results.{err_or, none_from_test, same_Ok}
 use Rattle.reuse_session.proofs.Planning.{with_same, with_other}
 use Rattle.reuse_session.proofs.Outcomes.{ok_edits, edits_of_tree}
+use Rattle.reuse_session.proofs.CommandEdits.{of_conversion}
 
 toml_is_not_dep5 : toml_path ≢ dep5_path
 toml_is_not_dep5 same = false≢true ((bytes_eq-Decides toml_path dep5_path).1 same)
@@ -68,6 +69,6 @@ module _ (tree : Files) (edits : List Edit) where
 pub conversion_puts : (tree after : Files) → outcome_of ConvertDep5 tree ≡ Ok after → PutsTable tree after
 unfolding outcome_of
 conversion_puts tree after h =
-    let given = edits_of_tree tree after (conversion_edits tree) h in
-    let is = by_file tree given.0 (get tree dep5_path) refl given.1 in
+    let given = edits_of_tree tree after (edits_of ConvertDep5 tree) h in
+    let is = by_file tree given.0 (get tree dep5_path) refl (sym (of_conversion tree) ∙ given.1) in
     subst (PutsTable tree) (ap (edited tree) is.edits_are ∙ given.2) (table_put tree given.0 is)

@@ -8,11 +8,11 @@ use Rattle.std.proofs.lemmas.Slice.Eq.{bytes_eq-Decides}
 use Rattle.reuse_notice.specs.Sets.{set_of}
 use Rattle.reuse_notice.proofs.SetLemmas.{In, In-from_contains, Contains-from_in, In-set_of, set_of-has}
 use Rattle.reuse_tree.specs.Files.{Files}
-use Rattle.reuse_session.specs.Downloads.{text_for, ids_refusal, licence_edit, unless_refused, download_edits}
+use Rattle.reuse_session.specs.Downloads.{text_for, ids_refusal, licence_edit, unless_refused}
 use Rattle.reuse_session.specs.Edit.{Edit}
 use Rattle.reuse_session.specs.Licence.{licence_path, licence_id}
 use Rattle.reuse_tree.specs.Listing.{is_among}
-use Rattle.reuse_session.specs.Outcome.{edited, outcome_of}
+use Rattle.reuse_session.specs.Outcome.{edited, outcome_of, edits_of}
 use Rattle.reuse_session.specs.TextsPut.{PutsTexts}
 use Rattle.reuse_session.specs.declared.command.Command.TheVariants.{Download}
 use Rattle.reuse_session.specs.declared.licence.LicenceText.{LicenceText}
@@ -20,6 +20,7 @@ use Rattle.reuse_session.proofs.Downloading.{IsMade, are_made, download_fits}
 use Rattle.reuse_session.proofs.LicenceLemmas.{id_of_path}
 use Rattle.reuse_session.proofs.Outcomes.{edits_of_tree, edits_unless}
 use Rattle.reuse_session.proofs.Planning.{paths_at, EachHas, edited_has, edited_other}
+use Rattle.reuse_session.proofs.CommandEdits.{of_download}
 
 -- ---- the paths of ids
 
@@ -113,6 +114,6 @@ module _ (ids : List (List ℕ)) (texts : List LicenceText) (tree : Files) (none
 pub download_puts : (ids : List (List ℕ)) (texts : List LicenceText) (tree after : Files) → outcome_of (Download ids texts) tree ≡ Ok after → PutsTexts ids texts tree after
 unfolding outcome_of
 download_puts ids texts tree after h =
-    let given = edits_of_tree tree after (download_edits ids texts tree) h in
-    let parts = edits_unless (ids_refusal tree texts (set_of ids)) (map (licence_edit texts) (paths_for ids)) given.0 given.1 in
+    let given = edits_of_tree tree after (edits_of (Download ids texts) tree) h in
+    let parts = edits_unless (ids_refusal tree texts (set_of ids)) (map (licence_edit texts) (paths_for ids)) given.0 (sym (of_download ids texts tree) ∙ given.1) in
     subst (PutsTexts ids texts tree) (ap (edited tree) parts.1 ∙ given.2) (texts_put ids texts tree parts.0)

@@ -12,7 +12,9 @@ use Rattle.reuse_header.specs.declared.annotation.How.{How}
 use Rattle.reuse_header.specs.declared.style.Style.{Style}
 use Rattle.reuse_header.specs.declared.style.Kind.TheVariants as kind
 use Rattle.reuse_dep5.specs.Conversion.{converted}
+use Rattle.reuse_dep5.specs.TomlAmending.{toml_amendment_of}
 use Rattle.reuse_tree.specs.Files.{Files, Clashes}
+use Rattle.reuse_session.specs.Amend.{amended_table}
 use Rattle.reuse_session.specs.Annotate.{neighbour_of}
 use Rattle.reuse_session.specs.Annotated.{Pair, pair_at, HasKind, IsSkipped, IsStyleOf, TakesComment, TakesNeighbour}
 use Rattle.reuse_session.specs.Command.{has_root}
@@ -22,7 +24,7 @@ use Rattle.reuse_session.specs.Downloads.{text_for}
 use Rattle.reuse_session.specs.Licence.{is_id, licence_path}
 use Rattle.reuse_session.specs.Outcome.{edit_count, edits_of, recorded_size}
 use Rattle.reuse_session.specs.TreeStyles.{OwnNames, styles_in}
-use Rattle.reuse_session.specs.Worked.{worked_paths}
+use Rattle.reuse_session.specs.Worked.{amended_paths, worked_paths}
 use Rattle.reuse_session.specs.declared.command.Command.{Command}
 use Rattle.reuse_session.specs.declared.command.Command.TheVariants.{Amend, Annotate, ConvertDep5, Download}
 use Rattle.reuse_session.specs.declared.command.Place.{Place}
@@ -113,12 +115,23 @@ pub record CanFileBeAmended (amendments : Amendments) (style : Style) (bytes : L
   pub accepted : is_text bytes ≡ true → IsOk (amended_file bytes (amendment_of style amendments bytes))
 
 -- the path has a covered file; its neighbour can be amended where that is there, else the file itself where it has a style
-pub record CanBeAmended (amendments : Amendments) (scope : Scope) (own : OwnNames) (tree : Files) (path : List ℕ) : Type 0 where
+pub record CanCoveredBeAmended (amendments : Amendments) (scope : Scope) (own : OwnNames) (tree : Files) (path : List ℕ) : Type 0 where
   pub bytes : List ℕ
   pub there : get tree path ≡ Some bytes
   pub covered : is_covered path ≡ true
   pub by_neighbour : (beside : List ℕ) → get tree (neighbour_of path) ≡ Some beside → CanNeighbourBeAmended amendments path beside
   pub by_file : get tree (neighbour_of path) ≡ None → (style : Style) → IsStyleOf scope own path style → CanFileBeAmended amendments style bytes
+
+-- the `REUSE.toml` is there and isn't too long, and the rules accept its bytes
+pub record CanTableBeAmended (amendments : Amendments) (tree : Files) : Type 0 where
+  pub bytes : List ℕ
+  pub there : get tree toml_path ≡ Some bytes
+  pub short : length bytes ≤ LONGEST_FILE
+  pub accepted : IsOk (amended_table bytes (toml_amendment_of amendments bytes))
+
+-- the path is that of the `REUSE.toml` at the root, which can be amended; or it has a covered file that can be
+abbrev pub CanBeAmended : Amendments → Scope → OwnNames → Files → List ℕ → Type 0
+CanBeAmended amendments scope own tree path = ((path ≡ toml_path) × CanTableBeAmended amendments tree) ⊎ CanCoveredBeAmended amendments scope own tree path
 
 -- the tree's own styles are good, the root is given only where folders are gone through, each path that is gone through can be amended,
 -- and one entry holds them all
@@ -126,5 +139,5 @@ pub record CanAmend (places : List Place) (amendments : Amendments) (scope : Sco
   pub own : OwnNames
   pub styles : styles_in tree ≡ Ok own
   pub root : has_root places ≡ true → scope.recursive ≡ true
-  pub each : (path : List ℕ) → Contains (worked_paths scope places tree) path → CanBeAmended amendments scope own tree path
+  pub each : (path : List ℕ) → Contains (amended_paths scope places tree) path → CanBeAmended amendments scope own tree path
   pub fits : FitsEntry (Amend places amendments scope) tree

@@ -1,12 +1,14 @@
 -- What an amendment that is asked for does, by the styles of its tree, for private clauses.
-use Rattle.std.specs.Prelude.{◌≡◌, ℕ, ◌+◌, ◌≤◌, List, length, Option, Some, None, Result, Ok, Err}
+use Rattle.std.specs.Prelude.{ℕ, ◌+◌, ◌≤◌, List, length, Option, Some, None, Result, Ok, Err, ◌≡◌}
+use Rattle.reuse_dep5.specs.declared.toml_change.TomlSplice.{TomlSplice}
+use Rattle.reuse_dep5.specs.declared.toml_values.AmendTomlRefusal.{AmendTomlRefusal}
 use Rattle.reuse_header.specs.Annotation as header
 use Rattle.reuse_header.specs.Names.{lookup}
 use Rattle.reuse_header.specs.declared.amendment.AmendHeaderRefusal.{AmendHeaderRefusal}
 use Rattle.reuse_header.specs.declared.style.Style.{Style}
 use Rattle.reuse_text.specs.declared.TheConstants.{LONGEST_FILE}
 use Rattle.reuse_tree.specs.Files.{Files}
-use Rattle.reuse_session.specs.Amend.{amended_at, amend_inside, amend_neighbour, style_for}
+use Rattle.reuse_session.specs.Amend.{amended_at, amend_inside, amend_neighbour, amend_table, style_for}
 use Rattle.reuse_session.specs.Edit.{Edit}
 use Rattle.reuse_session.specs.TreeStyles.{OwnNames}
 use Rattle.reuse_session.specs.declared.annotation.Amendment.{Amendment}
@@ -40,3 +42,13 @@ beside_by asked path beside = amend_neighbour asked.amendments.now path beside
 -- where it isn't, and the file has these bytes
 abbrev pub inside_by : Amendment → List ℕ → List ℕ → Option Style → Result (Option Edit) Refusal
 inside_by asked path bytes style = amend_inside asked.amendments.now path bytes style
+
+-- the `REUSE.toml`, of these bytes
+abbrev pub table_by : Amendment → List ℕ → List ℕ → Result (Option Edit) Refusal
+table_by asked path bytes = amend_table asked.amendments.now path bytes
+
+-- the change that is made of it stands in the file
+abbrev pub IsWithin : List ℕ → Result (Option TomlSplice) AmendTomlRefusal → Type 0
+IsWithin bytes (Ok (Some change)) = change.at + change.old ≤ length bytes
+IsWithin bytes (Ok None) = Unit {0}
+IsWithin bytes (Err refusal) = Unit {0}

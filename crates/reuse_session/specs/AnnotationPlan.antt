@@ -1,11 +1,15 @@
 -- What an annotation that is asked for does, by the styles of its tree, for private clauses.
-use Rattle.std.specs.Prelude.{ℕ, Bool, List, Option, Result}
+use Rattle.std.specs.Prelude.{ℕ, ◌&&◌, List, Option, is_some, Result}
+use Rattle.std.specs.FinMap.{get}
+use Rattle.reuse_header.specs.Header.{header_of}
 use Rattle.reuse_header.specs.Names.{lookup}
 use Rattle.reuse_header.specs.declared.style.Style.{Style}
 use Rattle.reuse_tree.specs.Files.{Files}
-use Rattle.reuse_session.specs.Annotate.{annotated_at, edit_beside, edit_inside, edit_neighbour, edit_target, target_by_bytes}
+use Rattle.reuse_session.specs.Annotate.{neighbour_of, annotated_at, edit_beside, edit_inside, edit_neighbour, edit_target, target_by_bytes}
 use Rattle.reuse_session.specs.Edit.{Edit}
-use Rattle.reuse_session.specs.Fates.{is_skipped}
+use Rattle.reuse_session.specs.Outcome.{annotation_at}
+use Rattle.reuse_session.specs.PathEdits.{PathEdit}
+use Rattle.reuse_session.specs.Skipped.{has_tagged, is_skipped_at}
 use Rattle.reuse_session.specs.TreeStyles.{OwnNames}
 use Rattle.reuse_session.specs.declared.annotation.Annotation.{Annotation}
 use Rattle.reuse_session.specs.declared.reply.Refusal.{Refusal}
@@ -38,5 +42,27 @@ place_by asked path bytes = target_by_bytes asked.scope.now (own_of asked) path 
 abbrev pub edit_by_place : Annotation → Files → List ℕ → List ℕ → Result Target Refusal → Result (Option Edit) Refusal
 edit_by_place asked tree path bytes place = edit_target asked.how.now asked.scope.now asked.additions.now tree path bytes place
 
-abbrev pub skipped_by : Annotation → Files → List ℕ → Bool
-skipped_by asked tree path = is_skipped asked.scope.now (own_of asked) tree path
+-- ---- path by path
+
+abbrev pub path_by : Annotation → Files → List ℕ → PathEdit
+path_by asked tree path = annotation_at asked.how.now asked.scope.now asked.additions.now (own_of asked) tree path
+
+-- where this is the place of a file of these bytes
+abbrev pub path_by_place : Annotation → Files → List ℕ → List ℕ → Result Target Refusal → PathEdit
+path_by_place asked tree path bytes place =
+    record { path = path; skipped = is_skipped_at asked.scope.now tree path bytes place; edit = edit_by_place asked tree path bytes place }
+
+-- where the neighbour is the place
+abbrev pub path_beside_by : Annotation → Files → List ℕ → PathEdit
+path_beside_by asked tree path =
+    record { path = path; skipped = asked.scope.now.skip_existing && has_tagged (get tree (neighbour_of path)); edit = beside_by asked tree path }
+
+-- where it is, and holds this
+abbrev pub path_neighbour_by : Annotation → Files → List ℕ → Option (List ℕ) → PathEdit
+path_neighbour_by asked tree path file =
+    record { path = path; skipped = asked.scope.now.skip_existing && has_tagged file; edit = neighbour_by asked tree path file }
+
+-- where the comment of the file is the place, which has these bytes
+abbrev pub path_inside_by : Annotation → List ℕ → List ℕ → Style → PathEdit
+path_inside_by asked path bytes style =
+    record { path = path; skipped = asked.scope.now.skip_existing && is_some (header_of style bytes); edit = inside_by asked path bytes style }

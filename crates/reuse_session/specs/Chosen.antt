@@ -8,6 +8,7 @@ use Rattle.reuse_dep5.specs.GlobMatch.{GlobMatches}
 use Rattle.reuse_tree.specs.Path.{lies_under}
 use Rattle.reuse_tree.specs.Files.{Files}
 use Rattle.reuse_session.specs.Command.{has_root, paths_among}
+use Rattle.reuse_session.specs.Conversion.{toml_path}
 use Rattle.reuse_session.specs.Covered.{is_covered}
 use Rattle.reuse_tree.specs.Listing.{is_folder}
 use Rattle.reuse_session.specs.declared.command.Place.{Place}
@@ -38,3 +39,7 @@ MatchesNone globs path = All (λ glob. LeavesIn glob path) globs
 -- covered, listed and not excluded
 abbrev pub IsAskedFor : Scope → List ℕ → Type 0
 IsAskedFor scope path = (is_covered path ≡ true) × IsListed scope.listed path × MatchesNone scope.excluded path
+
+-- covered, or the `REUSE.toml` at the root, listed and not excluded
+abbrev pub IsAskedToAmend : Scope → List ℕ → Type 0
+IsAskedToAmend scope path = ((is_covered path ≡ true) ⊎ (path ≡ toml_path)) × IsListed scope.listed path × MatchesNone scope.excluded path

@@ -1,7 +1,7 @@
 -- What download does on a tree: it makes a file of each licence's text (the reuse tool's manual page of `download`;
 -- that texts are given, and the refusals: docs/RULES.md).
-use Rattle.std.specs.Prelude.{ℕ, List, [], ◌∷◌, length, map, Option, Some, None, Result, Ok, Err, nat_lt, if◌then◌else◌, is_some, unwrap_or}
-use Rattle.std.specs.Option.{option_or}
+use Rattle.std.specs.Prelude.{ℕ, List, [], ◌∷◌, length, map, filter_map, Option, Some, None, Result, Ok, Err, nat_lt, if◌then◌else◌, is_some, unwrap_or}
+use Rattle.std.specs.Option.{option_map, option_or}
 use Rattle.std.specs.Str.{bytes_eq}
 use Rattle.std.specs.FinMap.{get}
 use Rattle.reuse_notice.specs.Sets.{set_of}
@@ -10,6 +10,7 @@ use Rattle.reuse_text.specs.declared.TheConstants.{LONGEST_FILE}
 use Rattle.reuse_session.specs.Edit.{Edit, made}
 use Rattle.reuse_tree.specs.Clash.{is_clash}
 use Rattle.reuse_session.specs.Licence.{is_id, licence_path, licence_id}
+use Rattle.reuse_session.specs.PathEdits.{PathEdit, refused_with, all_or_none}
 use Rattle.reuse_session.specs.declared.licence.LicenceText.{LicenceText}
 use Rattle.reuse_session.specs.declared.reply.Refusal.{Refusal}
 use Rattle.reuse_session.specs.declared.reply.Refusal.TheVariants.{BadId, NoText, TooLong, Exists, Clash}
@@ -52,3 +53,18 @@ download_of ids texts tree = unless_refused (ids_refusal tree texts ids) (map (l
 -- the ids are gone through in byte order, without repeats
 abbrev pub download_edits : List (List ℕ) → List LicenceText → Files → Result (List Edit) Refusal
 download_edits ids texts tree = download_of (set_of ids) texts tree
+
+-- ---- path by path
+
+-- the refusal of each id that is refused
+abbrev pub id_refusals : Files → List LicenceText → List (List ℕ) → List PathEdit
+id_refusals tree texts ids = filter_map (λ id. option_map refused_with (id_refusal tree texts id)) ids
+
+-- these, or the others where there are none
+abbrev pub or_else : List PathEdit → List PathEdit → List PathEdit
+or_else [] others = others
+or_else (first ∷ rest) others = first ∷ rest
+
+-- all refusals, one for each id, or what is done at each path
+abbrev pub downloads_at : List (List ℕ) → List LicenceText → Files → List PathEdit
+downloads_at ids texts tree = or_else (id_refusals tree texts (set_of ids)) (all_or_none (download_edits ids texts tree))

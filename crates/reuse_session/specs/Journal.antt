@@ -1,5 +1,5 @@
 -- The journal: what was done and what was undone, as changes.
-use Rattle.std.specs.Prelude.{◌≡◌, ℕ, true, false, List, [], ◌∷◌, ◌++◌, length, map, reverse, Result, Ok, Err}
+use Rattle.std.specs.Prelude.{◌≡◌, ℕ, true, false, List, [], ◌∷◌, ◌++◌, length, map, reverse, Option, Some, None, Result, Ok, Err}
 use Rattle.std.specs.List.{All}
 use Rattle.reuse_tree.specs.Files.{Files}
 use Rattle.reuse_tree.specs.declared.change.Change.{Change}
@@ -46,6 +46,11 @@ ahead way.Do journal = journal.undone
 abbrev pub next_count : List Recorded → ℕ
 next_count [] = 0
 next_count (step ∷ steps) = length step.changes
+
+-- the changes of the first of them
+abbrev pub changes_ahead : List Recorded → Option (List Change)
+changes_ahead [] = None
+changes_ahead (step ∷ steps) = Some step.changes
 
 -- the journal after the first of them, which is the first behind then
 abbrev pub moved_on : Way → Recorded → List Recorded → Journal → Journal

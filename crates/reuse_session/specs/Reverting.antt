@@ -1,5 +1,5 @@
 -- Reverting: the changes of a step are taken back on whatever the tree is now.
-use Rattle.std.specs.Prelude.{ℕ, ◌-◌, nat_le, nat_eq, Bool, true, not, ◌&&◌, ◌||◌, List, [], ◌∷◌, length, drop, filter, filter_map, Option, Some, None, is_some, Result, Ok, Err, if◌then◌else◌}
+use Rattle.std.specs.Prelude.{ℕ, ◌-◌, nat_le, nat_eq, Bool, true, not, ◌&&◌, ◌||◌, List, length, drop, Option, Some, None, Result, Ok, Err, if◌then◌else◌}
 use Rattle.std.specs.List.{starts_with}
 use Rattle.std.specs.Str.{bytes_eq}
 use Rattle.std.specs.FinMap.{get}
@@ -13,6 +13,7 @@ use Rattle.reuse_tree.specs.declared.digest.Seal.{Seal}
 use Rattle.reuse_text.specs.declared.TheConstants.{LONGEST_FILE}
 use Rattle.reuse_tree.specs.Clash.{is_clash}
 use Rattle.reuse_session.specs.Edit.{Edit, made, dropped}
+use Rattle.reuse_session.specs.PathEdits.{PathEdit}
 use Rattle.reuse_tree.specs.Entry.{makes}
 use Rattle.reuse_tree.specs.Listing.{is_among}
 use Rattle.reuse_tree.specs.declared.way.Way.TheVariants.{Undo}
@@ -64,16 +65,15 @@ taken_back_on tree change = if makes Undo change && is_clash tree (path_of chang
 abbrev pub taken_back_unless : List (List ℕ) → Files → Change → Option Edit
 taken_back_unless touched tree change = if is_among touched (path_of change) then None else taken_back_on tree change
 
--- the changes that can't be taken back
-abbrev pub stuck_on : List (List ℕ) → Files → List Change → List Change
-stuck_on touched tree changes = filter (λ change. not (is_some (taken_back_unless touched tree change))) changes
+-- where nothing takes the change of a path back, that is refused, unless such changes are skipped
+abbrev pub back_or_refused : Bool → List ℕ → Option Edit → Result (Option Edit) Refusal
+back_or_refused skip_moved path (Some edit) = Ok (Some edit)
+back_or_refused skip_moved path None = if skip_moved then Ok None else Err (Moved path)
 
--- the first of some changes is refused
-abbrev pub unless_stuck : List Change → List Edit → Result (List Edit) Refusal
-unless_stuck [] edits = Ok edits
-unless_stuck (change ∷ changes) edits = Err (Moved (path_of change))
-
--- all changes that can be taken back are, in their order; the first that can't be is refused, unless such are skipped
-abbrev pub revert_edits : List Change → List (List ℕ) → Bool → Files → Result (List Edit) Refusal
-revert_edits changes touched skip_moved tree =
-    unless_stuck (if skip_moved then [] else stuck_on touched tree changes) (filter_map (taken_back_unless touched tree) changes)
+-- what is done at the path of a change
+abbrev pub reverted_at : List (List ℕ) → Bool → Files → Change → PathEdit
+reverted_at touched skip_moved tree change = record {
+  path = path_of change;
+  skipped = skip_moved;
+  edit = back_or_refused skip_moved (path_of change) (taken_back_unless touched tree change);
+}

@@ -17,7 +17,7 @@ ghost use Rattle.reuse_session.specs.Accepted.{CanAmend, CanAnnotate, CanConvert
 ghost use Rattle.reuse_session.specs.Amended.{Amends, HaveSamePaths};
 ghost use Rattle.reuse_session.specs.Annotated.{Annotates, IsSkippedAt, StaysOrIsText, pair_at};
 ghost use Rattle.reuse_session.specs.Choice.{is_chosen};
-ghost use Rattle.reuse_session.specs.Chosen.{IsNamed, StandsBeneath, IsAskedFor};
+ghost use Rattle.reuse_session.specs.Chosen.{IsNamed, StandsBeneath, IsAskedFor, IsAskedToAmend};
 ghost use Rattle.reuse_session.specs.Command.{HoldsEntry, paths_among};
 ghost use Rattle.reuse_session.specs.Covered.{is_covered};
 ghost use Rattle.reuse_session.specs.Edit.{Edit};
@@ -41,7 +41,7 @@ ghost use Rattle.reuse_session.specs.TablePut.{PutsTable};
 ghost use Rattle.reuse_session.specs.TextsPut.{PutsTexts};
 ghost use Rattle.reuse_tree.specs.Tree.{changed_paths, undo_folder_of};
 ghost use Rattle.reuse_session.specs.TreeStyles.{OwnNames, styles_in};
-ghost use Rattle.reuse_session.specs.Worked.{worked_paths};
+ghost use Rattle.reuse_session.specs.Worked.{amended_paths, worked_paths};
 ghost use Rattle.reuse_session.specs.declared.command.Command.{Command};
 ghost use Rattle.reuse_tree.specs.Listing.{is_among};
 ghost use Rattle.reuse_session.specs.declared.command.Command.TheVariants.{Amend, Annotate, ConvertDep5, Download, Revert};
@@ -117,7 +117,9 @@ pub fn annotations_change_chosen_places_alone()
 /// What amend does on a tree, in other words. Where it isn't refused, each file that is gone through
 /// has a neighbour, which holds what the rules make of its own bytes; or, where it has none, it is
 /// text of some style and holds what the rules make of its own bytes in that style; or it is neither,
-/// and stays. Every byte outside the header block stays, and so does every other path. These words
+/// and stays. Every byte outside the header block stays. The `REUSE.toml` at the root, where it is
+/// gone through, is read as the table that was there with the values of the two keys amended, and
+/// differs in strings and commas alone. Every other path stays as it is. These words
 /// leave one tree. No file is made and none is removed. A run that isn't refused leaves that tree. It
 /// isn't refused exactly where the tree's own styles are good, the root is given only where folders
 /// are gone through, each path that is gone through can be amended by itself, and one entry holds
@@ -180,7 +182,8 @@ pub fn seals_tell_of_whole_files()
 /// a file beneath a folder that is given, and is covered, listed, where there is a list, and
 /// matched by no glob that is excluded. Without a list and globs all covered files are chosen.
 /// Where folders aren't gone through, a path is worked exactly where it is given. The paths are
-/// worked in byte order, and none twice.
+/// worked in byte order, and none twice. Amend, and no other command, works the `REUSE.toml` at the
+/// root like a covered file.
 pub fn worked_paths_are_asked_for()
     ensures asked { (scope : Scope) (places : List Place) (tree : Files) (path : List ℕ) → scope.recursive ≡ true
         → Contains (worked_paths scope places tree) path ↔ (IsNamed places tree path ⊎ (StandsBeneath places tree path × IsAskedFor scope path)) }
@@ -188,6 +191,11 @@ pub fn worked_paths_are_asked_for()
         → Contains (worked_paths scope places tree) path ↔ Contains (paths_among places) path }
     ensures ascend { (scope : Scope) (places : List Place) (tree : Files) → IsStrictlySortedBy (slice_cmp nat_cmp) (worked_paths scope places tree) }
     ensures all { (scope : Scope) (path : List ℕ) → scope.listed ≡ None → scope.excluded ≡ [] → is_chosen scope path ≡ is_covered path }
+    ensures amended { (scope : Scope) (places : List Place) (tree : Files) (path : List ℕ) → AreFiles tree → scope.recursive ≡ true
+        → Contains (amended_paths scope places tree) path ↔ (IsNamed places tree path ⊎ (StandsBeneath places tree path × IsAskedToAmend scope path)) }
+    ensures amended_given { (scope : Scope) (places : List Place) (tree : Files) (path : List ℕ) → scope.recursive ≡ false
+        → Contains (amended_paths scope places tree) path ↔ Contains (paths_among places) path }
+    ensures amended_ascend { (scope : Scope) (places : List Place) (tree : Files) → IsStrictlySortedBy (slice_cmp nat_cmp) (amended_paths scope places tree) }
 {}
 
 /// A revert of a sealed step that is the last leads back to the tree before it, as its undo does,

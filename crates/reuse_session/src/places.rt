@@ -29,7 +29,7 @@ pub(crate) fn gives_root(places: &[Place], scope: &Scope) -> bool
     !scope.recursive && has_root(places)
 }
 
-fn has_root(places: &[Place]) -> bool
+pub(crate) fn has_root(places: &[Place]) -> bool
     ensures { result ≡ has_root places.now }
 {
     places.iter().any(|place| is_root(place))
@@ -284,7 +284,7 @@ fn is_chosen(scope: &Scope, path: &PathText) -> bool
 }
 
 // Whether the path is listed, where there is a list.
-fn is_listed(scope: &Scope, path: &PathText) -> bool
+pub(crate) fn is_listed(scope: &Scope, path: &PathText) -> bool
     ensures { result ≡ is_listed scope.now.listed path.now }
 {
     match &scope.listed {

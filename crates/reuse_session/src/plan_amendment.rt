@@ -1,20 +1,23 @@
-//! What amend does at a path. What it works on is the neighbour of a file where that is there, else
-//! the header block of the file itself. It makes nothing.
+//! What amend does at a path. What it works on is the `REUSE.toml` at the root, or the neighbour of
+//! a file where that is there, else the header block of the file itself. It makes nothing.
 ghost use Rattle.std.specs.Prelude.{◌≡◌, ℕ, List, IfErr, Some, length, nat_lt, false};
+ghost use Rattle.std.specs.Str.{bytes_eq};
 ghost use Rattle.reuse_session.specs.Reading.{get, reading_of, tree_of, Files, IsOfPlan, ReadsAlone};
 ghost use Rattle.reuse_session.specs.Amend.{style_of_kind};
-ghost use Rattle.reuse_session.specs.AmendmentPlan.{amended_by, beside_by, inside_by, style_by};
+ghost use Rattle.reuse_session.specs.AmendmentPlan.{amended_by, beside_by, inside_by, style_by, table_by};
 ghost use Rattle.reuse_session.specs.Annotate.{neighbour_of};
+ghost use Rattle.reuse_session.specs.Conversion.{toml_path};
 ghost use Rattle.reuse_session.specs.Plan.{AnswersEdit};
 ghost use Rattle.reuse_session.specs.Refused.{IsNoFault};
 ghost use Rattle.reuse_session.specs.Shown.{ShowsPair};
 
 use crate::annotation::Amendment;
 use crate::covered::is_covered;
-use crate::plan_edit::amendment_by;
-use crate::plan_place::{neighbour_path, plan_absent, short_bytes};
+use crate::plan_edit::{amendment_by, table_change_by};
+use crate::plan_place::{absent_refusal, neighbour_path, short_bytes};
 use crate::plan_target::neighbour_of;
 use crate::reply::Refusal;
+use reuse_dep5::amend_toml;
 use reuse_header::{Kind, Style, amend_file, amend_neighbour, amendments_fit};
 use reuse_text::{LONGEST_FILE, is_text};
 use reuse_tree::{Change, PathText, Reading, Store, is_among};
@@ -32,7 +35,10 @@ pub(crate) fn plan_amended<S: Store>(
     ensures asks { ReadsAlone S.Store IsOfPlan store.old store.new result }
 {
     if !is_among(paths, path.as_bytes()) {
-        return plan_absent(alloc, paths, path);
+        return Err(absent_refusal(alloc, paths, path)?);
+    }
+    if is_table(path) {
+        return plan_table(alloc, store, path, asked);
     }
     if !is_covered(path.as_bytes()) {
         return Err(Refusal::NotCovered(path.try_clone(alloc)?));
@@ -45,6 +51,42 @@ pub(crate) fn plan_amended<S: Store>(
         Some(style) => plan_inside(alloc, store, path, style, asked),
         None => Ok(None),
     }
+}
+
+// Whether the path is that of the `REUSE.toml` at the root.
+fn is_table(path: &PathText) -> bool
+    ensures { result ≡ bytes_eq path.now toml_path }
+{
+    path.as_bytes() == b"REUSE.toml".as_slice()
+}
+
+// The change of the `REUSE.toml`, which is there.
+fn plan_table<S: Store>(
+    alloc: Global,
+    store: &mut S,
+    path: &PathText,
+    asked: &Amendment<'_>,
+) -> Result<Option<Change>, Refusal>
+    ensures edit { S.honest store.new → (bytes : List ℕ) → get (tree_of (S.files store.old)) path.now ≡ Some bytes → AnswersEdit (tree_of (S.files store.old)) (table_by asked.now path.now bytes) result }
+    ensures asks { ReadsAlone S.Store IsOfPlan store.old store.new result }
+{
+    let reading = store.read(alloc, path, LONGEST_FILE)?;
+    plan_table_text(alloc, path, asked, reading)
+}
+
+// The change of the `REUSE.toml`, by what was read of it.
+fn plan_table_text(
+    alloc: Global,
+    path: &PathText,
+    asked: &Amendment<'_>,
+    reading: Reading,
+) -> Result<Option<Change>, Refusal>
+    ensures edit { (tree : Files) (bytes : List ℕ) → get tree path.now ≡ Some bytes → reading ≡ reading_of (Some bytes) LONGEST_FILE → AnswersEdit tree (table_by asked.now path.now bytes) result }
+    ensures no_fault { IfErr result IsNoFault }
+{
+    let bytes = short_bytes(alloc, path, reading)?;
+    let made = amend_toml(alloc, bytes.as_slice(), asked.amendments);
+    table_change_by(alloc, path, bytes.as_slice(), made)
 }
 
 // The style of a file: the one that is asked for, else that of its name.

@@ -34,7 +34,10 @@ pub(crate) fn plan_conversion<S: Store>(
 }
 
 // The paths of the tree at `REUSE.toml` and beneath it: no other is looked at.
-fn toml_paths<S: Store>(alloc: Global, store: &mut S) -> Result<Vec<PathText>, StoreFault>
+pub(crate) fn toml_paths<S: Store>(
+    alloc: Global,
+    store: &mut S,
+) -> Result<Vec<PathText>, StoreFault>
     ensures paths { S.honest store.new → IfOk result (λ paths. Shows paths.items (tree_of (S.files store.old)) toml_path) }
     ensures fails { FailsAsRead S.Store store.old store.new result }
     ensures reads { OnlyReads S.Store store.old store.new }

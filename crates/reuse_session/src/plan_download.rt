@@ -3,10 +3,12 @@ ghost use Rattle.std.specs.Prelude.{◌≡◌, ◌<◌, IfOk, IfErr, map, None, 
 ghost use Rattle.std.specs.Option.{option_copied};
 ghost use Rattle.reuse_notice.specs.Sets.{set_of};
 ghost use Rattle.reuse_session.specs.DownloadPlan.{made_at};
-ghost use Rattle.reuse_session.specs.Downloads.{text_for, refusal_of_found, id_refusal, ids_refusal, download_edits};
+ghost use Rattle.reuse_session.specs.Downloads.{text_for, refusal_of_found, id_refusal, id_refusals, downloads_at};
 ghost use Rattle.reuse_session.specs.Licence.{licence_path};
-ghost use Rattle.reuse_session.specs.Plan.{AnswersEdits};
-ghost use Rattle.reuse_session.specs.Reading.{tree_of, Files, IsOfPlan, OnlyReads, ReadsAlone};
+ghost use Rattle.reuse_session.specs.PathEdits.{edits_in};
+ghost use Rattle.reuse_session.specs.PathPlans.{AnswersPlans, ArePlansOf, EndsWalk};
+ghost use Rattle.reuse_session.specs.Plan.{IsRefusalOf};
+ghost use Rattle.reuse_session.specs.Reading.{tree_of, Files, OnlyReads, ReadsAlone};
 ghost use Rattle.reuse_session.specs.Shown.{ShowsLicences};
 ghost use Rattle.reuse_tree.specs.Asked.{FailsAsRead};
 ghost use Rattle.reuse_session.specs.Refused.{IsNoFault, IsRefused};
@@ -15,6 +17,7 @@ use crate::known_path::known_path;
 use crate::licence::LicenceText;
 use crate::licence_file::{licence_id, licence_path, text_for};
 use crate::licence_id::as_id;
+use crate::path_plan::{PathPlan, Policy, all_changes};
 use crate::places::sorted;
 use crate::reply::Refusal;
 use crate::tree_paths::tree_paths;
@@ -23,26 +26,24 @@ use reuse_tree::{Change, NoPruning, PathText, Store, StoreFault, is_among, is_cl
 use std::alloc::{AllocError, Global};
 use std::slice;
 
-/// The changes of a download, or its first refusal.
+/// What a download does: all refusals of its ids, or a file for each.
 pub(crate) fn plan_download<S: Store>(
     alloc: Global,
     store: &mut S,
     ids: &[Bytes],
     texts: &[LicenceText],
-) -> Result<Vec<Change>, Refusal>
-    ensures edits { S.honest store.new → AnswersEdits (tree_of (S.files store.old)) (download_edits ids.now texts.now (tree_of (S.files store.old))) result }
-    ensures asks { ReadsAlone S.Store IsOfPlan store.old store.new result }
+    policy: Policy,
+) -> Result<Vec<PathPlan>, Refusal>
+    ensures plans { S.honest store.new → AnswersPlans policy (tree_of (S.files store.old)) (downloads_at ids.now texts.now (tree_of (S.files store.old))) result }
+    ensures asks { ReadsAlone S.Store (EndsWalk policy) store.old store.new result }
 {
     let paths = licence_paths(alloc, store)?;
-    download_changes(alloc, &paths, ids, texts)
+    download_on(alloc, &paths, ids, texts, policy)
 }
 
-/// The paths of the tree at which licences stand, and what else is there: no other folder is looked
-/// at.
-pub(crate) fn licence_paths<S: Store>(
-    alloc: Global,
-    store: &mut S,
-) -> Result<Vec<PathText>, StoreFault>
+// The paths of the tree at which licences stand, and what else is there: no other folder is looked
+// at.
+fn licence_paths<S: Store>(alloc: Global, store: &mut S) -> Result<Vec<PathText>, StoreFault>
     ensures paths { S.honest store.new → IfOk result (λ paths. ShowsLicences paths.items (tree_of (S.files store.old))) }
     ensures fails { FailsAsRead S.Store store.old store.new result }
     ensures reads { OnlyReads S.Store store.old store.new }
@@ -51,26 +52,64 @@ pub(crate) fn licence_paths<S: Store>(
     tree_paths(alloc, store, slice::from_ref(&licences), &NoPruning)
 }
 
-/// The changes of a download, or its first refusal. `paths` show what stands at the path of each
-/// licence.
-pub(crate) fn download_changes(
+// What a download does. `paths` show what stands at the path of each licence.
+fn download_on(
     alloc: Global,
     paths: &[PathText],
     ids: &[Bytes],
     texts: &[LicenceText],
-) -> Result<Vec<Change>, Refusal>
-    ensures edits { (tree : Files) → ShowsLicences paths.now tree → AnswersEdits tree (download_edits ids.now texts.now tree) result }
+    policy: Policy,
+) -> Result<Vec<PathPlan>, Refusal>
+    ensures plans { (tree : Files) → ShowsLicences paths.now tree → AnswersPlans policy tree (downloads_at ids.now texts.now tree) result }
+    ensures ends { IfErr result (EndsWalk policy) }
     ensures no_fault { IfErr result IsNoFault }
 {
     let ids = sorted_ids(alloc, ids)?;
-    match made_paths(alloc, paths, &ids, texts) {
-        Ok(made) => Ok(made_files(alloc, texts, sorted(made))?),
-        Err(refusal) => Err(refusal),
+    let found = match find_ids(alloc, paths, &ids, texts, policy) {
+        Ok(found) => found,
+        Err(refusal) => return Err(refusal),
+    };
+    if !found.refused.is_empty() {
+        return Ok(found.refused);
     }
+    let made = made_files(alloc, texts, sorted(found.made))?;
+    Ok(all_changes(alloc, made)?)
 }
 
-/// The ids in byte order, without repeats.
-pub(crate) fn sorted_ids(alloc: Global, ids: &[Bytes]) -> Result<Vec<Bytes>, AllocError>
+// What is found for ids: the paths of the files that are made, and which ids are refused.
+#[derive(Drop)]
+struct FoundIds {
+    made: Vec<PathText>,
+    refused: Vec<PathPlan>,
+}
+
+// What is found for each id. `paths` show what stands at the path of each licence.
+fn find_ids(
+    alloc: Global,
+    paths: &[PathText],
+    ids: &[Bytes],
+    texts: &[LicenceText],
+    policy: Policy,
+) -> Result<FoundIds, Refusal>
+    ensures refused { (tree : Files) → ShowsLicences paths.now tree → IfOk result (λ found. ArePlansOf policy tree (id_refusals tree texts.now ids.now) found.refused.items) }
+    ensures made { (tree : Files) → ShowsLicences paths.now tree → id_refusals tree texts.now ids.now ≡ [] → IfOk result (λ found. found.made.items ≡ map licence_path ids.now) }
+    ensures ended { (tree : Files) → ShowsLicences paths.now tree → IfErr result (IsRefusalOf (edits_in (id_refusals tree texts.now ids.now))) }
+    ensures ends { IfErr result (EndsWalk policy) }
+    ensures no_fault { IfErr result IsNoFault }
+{
+    let mut made = Vec::new(alloc);
+    let mut refused = Vec::new(alloc);
+    for id in ids {
+        match made_path(alloc, paths, id, texts) {
+            Ok(path) => made.push(path)?,
+            Err(refusal) => refused.push(policy.refused(refusal)?)?,
+        }
+    }
+    Ok(FoundIds { made, refused })
+}
+
+// The ids in byte order, without repeats.
+fn sorted_ids(alloc: Global, ids: &[Bytes]) -> Result<Vec<Bytes>, AllocError>
     ensures { IfOk result (λ sorted. sorted.items ≡ set_of ids.now) }
 {
     let mut sorted = copied_ids(alloc, ids)?;
@@ -89,30 +128,8 @@ fn copied_ids(alloc: Global, ids: &[Bytes]) -> Result<Vec<Bytes>, AllocError>
     Ok(copied)
 }
 
-// The paths of the files that are made of the ids' texts, or the first refusal. `paths` show what
-// stands at the path of each licence.
-fn made_paths(
-    alloc: Global,
-    paths: &[PathText],
-    ids: &[Bytes],
-    texts: &[LicenceText],
-) -> Result<Vec<PathText>, Refusal>
-    ensures made { (tree : Files) → ShowsLicences paths.now tree → IfOk result (λ made. (made.items ≡ map licence_path ids.now) × (ids_refusal tree texts.now ids.now ≡ None)) }
-    ensures refused { (tree : Files) → ShowsLicences paths.now tree → IfErr result (IsRefused (ids_refusal tree texts.now ids.now)) }
-    ensures no_fault { IfErr result IsNoFault }
-{
-    let mut made = Vec::new(alloc);
-    for id in ids {
-        match made_path(alloc, paths, id, texts) {
-            Ok(path) => made.push(path)?,
-            Err(refusal) => return Err(refusal),
-        }
-    }
-    Ok(made)
-}
-
-/// The path of the file that is made of an id's text, or why none is.
-pub(crate) fn made_path(
+// The path of the file that is made of an id's text, or why none is.
+fn made_path(
     alloc: Global,
     paths: &[PathText],
     id: &Bytes,

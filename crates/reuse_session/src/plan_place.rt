@@ -10,15 +10,18 @@ ghost use Rattle.reuse_notice.specs.declared.adding.Additions.{Additions};
 ghost use Rattle.reuse_notice.specs.declared.amendments.Amendments.{Amendments};
 ghost use Rattle.reuse_session.specs.Amend.{amended_at};
 ghost use Rattle.reuse_session.specs.Annotate.{neighbour_of, annotated_at};
-ghost use Rattle.reuse_session.specs.AnnotationPlan.{inside_by, neighbour_by};
+ghost use Rattle.reuse_session.specs.AnnotationPlan.{neighbour_by, path_inside_by, path_neighbour_by};
+ghost use Rattle.reuse_session.specs.PathPlans.{AnswersPlan};
 ghost use Rattle.reuse_tree.specs.Listing.{is_among};
 ghost use Rattle.reuse_session.specs.Plan.{AnswersEdit, AnswersOf};
 ghost use Rattle.reuse_session.specs.Refused.{IsNoFault};
 ghost use Rattle.reuse_session.specs.Steps.{short_file, StepsTo, StepsBy};
 ghost use Rattle.reuse_session.specs.declared.command.Scope.{Scope};
+ghost use Rattle.reuse_session.specs.declared.path_plan.Policy.TheVariants.{Stop};
 
 use crate::annotation::Annotation;
 use crate::command::Place;
+use crate::path_plan::PathPlan;
 use crate::plan_edit::{change_by, making_by};
 use crate::plan_target::{neighbour_of, target_by_bytes};
 use crate::reply::Refusal;
@@ -28,32 +31,34 @@ use reuse_header::{
 };
 use reuse_text::{Bytes, LONGEST_FILE};
 use reuse_tree::{Change, PathError, PathText, Reading, Store, is_clash_at, is_folder};
-use std::alloc::Global;
+use std::alloc::{AllocError, Global};
 
-/// What is known of a file's change once the file was read.
+/// What is known of a path once its file was read.
 #[derive(Drop)]
 pub(crate) enum Step {
-    /// The change, if there is one.
-    Done(Option<Change>),
-    /// It is that of its neighbour.
+    /// What is done there.
+    Done(PathPlan),
+    /// That is what is done in its neighbour.
     Beside,
 }
 
 /// The refusal of a path without a file. `paths` show what stands there.
-pub(crate) fn plan_absent(
+pub(crate) fn absent_refusal(
     alloc: Global,
     paths: &[PathText],
     path: &PathText,
-) -> Result<Option<Change>, Refusal>
-    ensures edit { (how : How) (scope : Scope) (additions : Additions) (own : OwnNames) (tree : Files) → ShowsPair paths.now tree path.now → is_among paths.now path.now ≡ false → AnswersEdit tree (annotated_at how scope additions own tree path.now) result }
-    ensures amended { (amendments : Amendments) (scope : Scope) (own : OwnNames) (tree : Files) → ShowsPair paths.now tree path.now → is_among paths.now path.now ≡ false → AnswersEdit tree (amended_at amendments scope own tree path.now) result }
-    ensures no_fault { IfErr result IsNoFault }
+) -> Result<Refusal, AllocError>
+    ensures annotated { (how : How) (scope : Scope) (additions : Additions) (own : OwnNames) (tree : Files) → ShowsPair paths.now tree path.now → is_among paths.now path.now ≡ false
+        → IfOk result (λ refusal. annotated_at how scope additions own tree path.now ≡ Err refusal) }
+    ensures amended { (amendments : Amendments) (scope : Scope) (own : OwnNames) (tree : Files) → ShowsPair paths.now tree path.now → is_among paths.now path.now ≡ false
+        → IfOk result (λ refusal. amended_at amendments scope own tree path.now ≡ Err refusal) }
+    ensures no_fault { IfOk result IsNoFault }
 {
     let refused = path.try_clone(alloc)?;
     if is_folder(alloc, paths, path)? {
-        Err(Refusal::IsFolder(Place::Path(refused)))
+        Ok(Refusal::IsFolder(Place::Path(refused)))
     } else {
-        Err(Refusal::NoSuchPath(refused))
+        Ok(Refusal::NoSuchPath(refused))
     }
 }
 
@@ -87,7 +92,7 @@ pub(crate) fn plan_reading(
     match target_by_bytes(alloc, path, bytes.as_slice(), asked) {
         Ok(Target::Inside(style)) => plan_inside(alloc, path, bytes.as_slice(), style, asked),
         Ok(Target::Beside) => Ok(Step::Beside),
-        Ok(Target::Nowhere) => Ok(Step::Done(None)),
+        Ok(Target::Nowhere) => Ok(Step::Done(PathPlan::Skipped(path.try_clone(alloc)?))),
         Err(refusal) => Err(refusal),
     }
 }
@@ -113,7 +118,7 @@ pub(crate) fn short_bytes(
     Ok(bytes)
 }
 
-// The change of a file's own comment, unless it has a header block and such files are skipped.
+// What is done in a file's own comment. A file that has a header block is skipped where such are.
 fn plan_inside(
     alloc: Global,
     path: &PathText,
@@ -122,42 +127,45 @@ fn plan_inside(
     asked: &Annotation<'_>,
 ) -> Result<Step, Refusal>
     requires { length bytes.now ≤ LONGEST_FILE }
-    ensures step { (tree : Files) → get tree path.now ≡ Some bytes.now → StepsBy tree (inside_by asked.now path.now bytes.now style) result }
+    ensures step { (tree : Files) → get tree path.now ≡ Some bytes.now → StepsBy tree (path_inside_by asked.now path.now bytes.now style) result }
     ensures no_fault { IfErr result IsNoFault }
 {
     if asked.scope.skip_existing && find(bytes, style).block.is_some() {
-        return Ok(Step::Done(None));
+        return Ok(Step::Done(PathPlan::Skipped(path.try_clone(alloc)?)));
     }
     // That the edit lies within the file, and makes none that is too long.
     annotations_fit();
     let made = annotate_file(alloc, bytes, style, asked.additions, asked.how);
     match change_by(alloc, path, path, bytes, made) {
-        Ok(change) => Ok(Step::Done(change)),
+        Ok(change) => Ok(Step::Done(PathPlan::of_change(alloc, path, change)?)),
         Err(refusal) => Err(refusal),
     }
 }
 
-/// The change of a neighbour that is there, by what was read of it, unless it has licensing
-/// information and such files are skipped.
+/// What is done in a neighbour that is there, by what was read of it. If it has licensing
+/// information, the file is skipped where such are.
 pub(crate) fn plan_neighbour(
     alloc: Global,
     path: &PathText,
     neighbour: &PathText,
     asked: &Annotation<'_>,
     reading: Reading,
-) -> Result<Option<Change>, Refusal>
-    ensures edit { (tree : Files) (bytes : List ℕ) → neighbour.now ≡ neighbour_of path.now → get tree neighbour.now ≡ Some bytes → reading ≡ reading_of (Some bytes) LONGEST_FILE
-        → AnswersEdit tree (neighbour_by asked.now tree path.now (Some bytes)) result }
+) -> Result<PathPlan, Refusal>
+    ensures plan { (tree : Files) (bytes : List ℕ) → neighbour.now ≡ neighbour_of path.now → get tree neighbour.now ≡ Some bytes → reading ≡ reading_of (Some bytes) LONGEST_FILE
+        → AnswersPlan Stop tree (path_neighbour_by asked.now tree path.now (Some bytes)) result }
     ensures no_fault { IfErr result IsNoFault }
 {
     let bytes = short_bytes(alloc, path, reading)?;
     if asked.scope.skip_existing && neighbour_has_tag(bytes.as_slice()) {
-        return Ok(None);
+        return Ok(PathPlan::Skipped(path.try_clone(alloc)?));
     }
     // That the edit lies within the file, and makes none that is too long.
     annotations_fit();
     let made = annotate_neighbour(alloc, bytes.as_slice(), asked.additions, asked.how);
-    change_by(alloc, path, neighbour, bytes.as_slice(), made)
+    match change_by(alloc, path, neighbour, bytes.as_slice(), made) {
+        Ok(change) => Ok(PathPlan::of_change(alloc, path, change)?),
+        Err(refusal) => Err(refusal),
+    }
 }
 
 /// The change that makes a neighbour, which is looked at by itself.

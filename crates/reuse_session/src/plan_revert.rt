@@ -1,6 +1,5 @@
 //! Plans a revert: takes the changes of a step back on whatever the tree is now.
-ghost use Rattle.std.specs.Prelude.{◌≡◌, ◌≢◌, ◌↔◌, ◌&&◌, ◌+◌, ◌++◌, ◌≤◌, ℕ, IfOk, IfErr, OnOk, IsSome, IsTrue, List, Ok, Option, Some, None, false, true, length};
-ghost use Rattle.std.specs.Option.{option_to_list};
+ghost use Rattle.std.specs.Prelude.{◌≡◌, ◌≢◌, ◌↔◌, ◌&&◌, ◌+◌, ◌≤◌, ℕ, IfOk, IfErr, IsTrue, List, Ok, Err, Option, Some, None, false, true, length, map};
 ghost use Rattle.std.specs.Str.{bytes_eq};
 ghost use Rattle.reuse_tree.specs.Asked.{FailsAsRead};
 ghost use Rattle.reuse_tree.specs.Change.{path_of, IsProper};
@@ -12,12 +11,14 @@ ghost use Rattle.reuse_tree.specs.declared.change.Change.TheVariants.{Make, Spli
 ghost use Rattle.reuse_tree.specs.declared.fault.StoreFault.{StoreFault};
 ghost use Rattle.reuse_tree.specs.declared.way.Way.TheVariants.{Undo};
 ghost use Rattle.reuse_session.specs.Answer.{IsTestRefusal};
-ghost use Rattle.reuse_session.specs.Plan.{AnswersEdits, MakesEdit};
+ghost use Rattle.reuse_session.specs.PathPlans.{AnswersPlan, AnswersPlans, EndsWalk};
+ghost use Rattle.reuse_session.specs.Plan.{MakesEdit};
 ghost use Rattle.reuse_session.specs.Previews.{IsLookRefusal};
-ghost use Rattle.reuse_session.specs.Reading.{get, reading_of, tree_of, Files, IsOfPlan, OnlyReads, ReadsAlone};
-ghost use Rattle.reuse_session.specs.Reverting.{has_digest, is_as_left, revert_edits, stands_as_written, stands_at, taken_back, taken_back_on, taken_back_unless};
+ghost use Rattle.reuse_session.specs.Reading.{get, reading_of, tree_of, Files, OnlyReads, ReadsAlone};
+ghost use Rattle.reuse_session.specs.Reverting.{has_digest, is_as_left, reverted_at, stands_as_written, stands_at, taken_back, taken_back_on, taken_back_unless};
 
 use crate::choice::PathList;
+use crate::path_plan::{PathPlan, Policy};
 use crate::reply::Refusal;
 use reuse_text::{Bytes, LONGEST_FILE};
 use reuse_tree::turn::makes;
@@ -26,71 +27,79 @@ use reuse_tree::{
 };
 use std::alloc::{AllocError, Global};
 
-/// The changes of a revert, or its first refusal.
+/// What a revert of these changes does, where later steps touched these paths.
 pub(crate) fn plan_revert<S: Store>(
     alloc: Global,
     store: &mut S,
     changes: &EntryChanges,
     touched: &PathList,
     skip_moved: bool,
-) -> Result<Vec<Change>, Refusal>
-    ensures edits { S.honest store.new → AnswersEdits (tree_of (S.files store.old)) (revert_edits changes.now touched.now skip_moved (tree_of (S.files store.old))) result }
+    policy: Policy,
+) -> Result<Vec<PathPlan>, Refusal>
+    ensures plans { S.honest store.new → AnswersPlans policy (tree_of (S.files store.old)) (map (reverted_at touched.now skip_moved (tree_of (S.files store.old))) changes.now) result }
     ensures entry { IsEntry changes.now × HavePaths changes.now }
-    ensures asks { ReadsAlone S.Store IsOfPlan store.old store.new result }
+    ensures asks { ReadsAlone S.Store (EndsWalk policy) store.old store.new result }
 {
-    take_all_back(alloc, store, changes.as_slice(), touched, skip_moved)
+    plan_each(
+        alloc,
+        store,
+        changes.as_slice(),
+        touched,
+        skip_moved,
+        policy,
+    )
 }
 
-// The changes that take these of an entry back, or the first refusal.
-fn take_all_back<S: Store>(
+// What is done at the path of each of these changes of an entry.
+fn plan_each<S: Store>(
     alloc: Global,
     store: &mut S,
     changes: &[Change],
     touched: &PathList,
     skip_moved: bool,
-) -> Result<Vec<Change>, Refusal>
-    ensures edits { S.honest store.new → IsEntry changes.now
-        → AnswersEdits (tree_of (S.files store.old)) (revert_edits changes.now touched.now skip_moved (tree_of (S.files store.old))) result }
-    ensures asks { ReadsAlone S.Store IsOfPlan store.old store.new result }
+    policy: Policy,
+) -> Result<Vec<PathPlan>, Refusal>
+    ensures plans { S.honest store.new → IsEntry changes.now → AnswersPlans policy (tree_of (S.files store.old)) (map (reverted_at touched.now skip_moved (tree_of (S.files store.old))) changes.now) result }
+    ensures asks { ReadsAlone S.Store (EndsWalk policy) store.old store.new result }
 {
-    let mut taken = Vec::new(alloc);
+    let mut plans = Vec::with_capacity(alloc, changes.len())?;
     for change in changes {
         let back = match take_back_unless(alloc, store, touched, change) {
             Ok(back) => back,
             Err(refusal) => return Err(refusal),
         };
-        match add_back(alloc, &mut taken, change, back, skip_moved) {
-            Ok(()) => {}
+        let plan = match plan_back(alloc, change, back, skip_moved, policy) {
+            Ok(plan) => plan,
             Err(refusal) => return Err(refusal),
-        }
+        };
+        plans.push(plan)?;
     }
-    Ok(taken)
+    Ok(plans)
 }
 
-// Adds what takes a change back. Where nothing does, the change is refused, unless such are
-// skipped.
-fn add_back(
+// What is done at the path of a change, by what takes it back, if anything does.
+fn plan_back(
     alloc: Global,
-    taken: &mut Vec<Change>,
     change: &Change,
     back: Option<Change>,
     skip_moved: bool,
-) -> Result<(), Refusal>
-    ensures added { OnOk result (taken.new.items ≡ taken.old.items ++ option_to_list back) }
-    ensures some { skip_moved ≡ false → OnOk result (IsSome back) }
-    ensures moved { (path : List ℕ) → result ≡ Err (Refusal.Moved path) → (path ≡ path_of change.now) × (back ≡ None) × (skip_moved ≡ false) }
-    ensures kinds { IfErr result IsTestRefusal }
+    policy: Policy,
+) -> Result<PathPlan, Refusal>
+    ensures plan { (touched : List (List ℕ)) (tree : Files) → MakesEdit tree (Ok (taken_back_unless touched tree change.now)) back
+        → AnswersPlan policy tree (reverted_at touched skip_moved tree change.now) result }
+    ensures ends { IfErr result (EndsWalk policy) }
+    ensures other { IfErr result IsTestRefusal }
     ensures fault { (fault : StoreFault) → result ≡ Err (Refusal.Fault fault) → ⊥ }
 {
     match back {
-        Some(back) => Ok(taken.push(back)?),
-        None if skip_moved => Ok(()),
-        None => Err(Refusal::Moved(change.path().try_clone(alloc)?)),
+        Some(back) => Ok(PathPlan::Change(back)),
+        None if skip_moved => Ok(PathPlan::Skipped(change.path().try_clone(alloc)?)),
+        None => policy.refused(Refusal::Moved(change.path().try_clone(alloc)?)),
     }
 }
 
 // The change that takes a change back, if it can be taken back and no later step touched its path.
-pub(crate) fn take_back_unless<S: Store>(
+fn take_back_unless<S: Store>(
     alloc: Global,
     store: &mut S,
     touched: &PathList,

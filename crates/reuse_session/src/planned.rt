@@ -1,127 +1,85 @@
-//! What is found of a command, path by path: the fates, and the changes beside them.
-ghost use Rattle.std.specs.Prelude.{◌≡◌, ◌∷◌, ◌⊎◌, [], Result, Ok, Err, Option, Some, None, List, IfOk, IfErr, OnOk};
-ghost use Rattle.reuse_tree.specs.Change.{path_of};
-ghost use Rattle.reuse_tree.specs.Files.{Files};
-ghost use Rattle.reuse_session.specs.Edit.{Edit};
-ghost use Rattle.reuse_session.specs.FatePlan.{AreNone, Plans, Adds, IsPassedOn};
-ghost use Rattle.reuse_session.specs.Fates.{fate_by, edit_fates};
-ghost use Rattle.reuse_session.specs.Plan.{AnswersEdits, MakesEdit, IsRefusalOf};
-ghost use Rattle.reuse_session.specs.Previews.{IsLookRefusal, IsTold};
-ghost use Rattle.reuse_session.specs.declared.fate.Fate.{Fate};
-ghost use Rattle.reuse_session.specs.declared.fate.Fate.TheVariants as fate;
-ghost use Rattle.reuse_session.specs.declared.reply.Refusal.{Refusal};
+//! What is made of the plans of a command: the changes of a run, and what a preview tells.
+ghost use Rattle.std.specs.Prelude.{◌≡◌, ◌++◌, ◌∷◌, [], ◌||◌, map, IfOk, OnOk};
+ghost use Rattle.std.specs.Option.{option_to_list};
+ghost use Rattle.std.specs.List.{list_any};
+ghost use Rattle.reuse_session.specs.PathPlans.{change_planned, changes_planned, fate_planned, is_refusal};
 
-use crate::fate::{Fate, told};
-use crate::reply::Refusal;
-use reuse_tree::{Change, PathText};
+use crate::fate::Fate;
+use crate::path_plan::PathPlan;
+use reuse_tree::Change;
 use std::alloc::{AllocError, Global};
 
-/// What is found on the way through the paths: their fates, and the changes of all, until one is
-/// refused.
+/// What a preview tells of each path, and the changes beside that.
 #[derive(Drop)]
 pub(crate) struct Planned {
     pub(crate) fates: Vec<Fate>,
-    pub(crate) changes: Option<Vec<Change>>,
+    pub(crate) changes: Vec<Change>,
+    /// Whether one of the fates is a refusal.
+    pub(crate) is_refused: bool,
 }
 
 impl Planned {
-    // Nothing yet.
-    pub(crate) fn new(alloc: Global) -> Planned
-        ensures fates { result.fates.items ≡ [] }
-        ensures changes { AreNone result.changes }
+    /// What the plans tell.
+    pub(crate) fn of(alloc: Global, plans: Vec<PathPlan>) -> Result<Planned, AllocError>
+        ensures fates { IfOk result (λ planned. planned.fates.items ≡ map fate_planned plans.items) }
+        ensures changes { IfOk result (λ planned. planned.changes.items ≡ changes_planned plans.items) }
+        ensures refused { IfOk result (λ planned. planned.is_refused ≡ list_any is_refusal plans.items) }
     {
-        Planned {
-            fates: Vec::new(alloc),
-            changes: Some(Vec::new(alloc)),
+        let mut planned = Planned {
+            fates: Vec::with_capacity(alloc, plans.len())?,
+            changes: Vec::new(alloc),
+            is_refused: false,
+        };
+        for plan in plans {
+            planned.push(alloc, plan)?;
         }
+        Ok(planned)
     }
 
-    // Adds that a path changes so.
-    pub(crate) fn push_change(&mut self, alloc: Global, change: Change) -> Result<(), AllocError>
-        ensures { (tree : Files) (given : Result (Option Edit) Refusal) (told : Fate) → MakesEdit tree given (Some change) → told ≡ fate.Changes (path_of change) → OnOk result (Adds tree given told self.old self.new) }
+    // Adds what a plan tells.
+    fn push(&mut self, alloc: Global, plan: PathPlan) -> Result<(), AllocError>
+        ensures fates { OnOk result (self.new.fates.items ≡ self.old.fates.items ++ fate_planned plan ∷ []) }
+        ensures changes { OnOk result (self.new.changes.items ≡ self.old.changes.items ++ option_to_list (change_planned plan)) }
+        ensures refused { OnOk result (self.new.is_refused ≡ (self.old.is_refused || is_refusal plan)) }
     {
-        self.fates
-            .push(Fate::Changes(change.path().try_clone(alloc)?))?;
-        if let Some(changes) = &mut self.changes {
-            changes.push(change)?;
-        }
-        Ok(())
-    }
-
-    // Adds that the file of a path stays as it is.
-    pub(crate) fn push_idle(
-        &mut self,
-        alloc: Global,
-        path: &PathText,
-        skipped: bool,
-    ) -> Result<(), AllocError>
-        ensures { (tree : Files) → OnOk result (Adds tree (Ok None) (fate_by path.now skipped (Ok None)) self.old self.new) }
-    {
-        let path = path.try_clone(alloc)?;
-        self.fates.push(if skipped {
-            Fate::Skipped(path)
-        } else {
-            Fate::Unchanged(path)
-        })?;
-        Ok(())
-    }
-
-    // Adds a refusal, unless it tells a fault of the store or want of memory.
-    pub(crate) fn push_refusal(&mut self, refusal: Refusal) -> Result<(), Refusal>
-        ensures adds { (tree : Files) (given : Result (Option Edit) Refusal) → IsRefusalOf given refusal → OnOk result (Adds tree given (fate.Refused refusal) self.old self.new) }
-        ensures told { OnOk result (IsTold refusal) }
-        ensures fault { IfErr result (IsPassedOn refusal) }
-        ensures refusal { IfErr result IsLookRefusal }
-    {
-        self.fates.push(as_fate(refusal)?)?;
-        self.changes = None;
-        Ok(())
-    }
-}
-
-// A refusal as a fate, unless it tells a fault of the store or want of memory.
-pub(crate) fn as_fate(refusal: Refusal) -> Result<Fate, Refusal>
-    ensures told { IfOk result (λ told. (told ≡ fate.Refused refusal) × IsTold refusal) }
-    ensures fault { IfErr result (λ fault. (fault ≡ refusal) × IsLookRefusal fault) }
-{
-    Ok(Fate::Refused(told(refusal)?))
-}
-
-// A refusal alone.
-pub(crate) fn refused(alloc: Global, refusal: Refusal) -> Result<Planned, Refusal>
-    ensures alone { IfOk result (λ planned. IsTold refusal × (planned.fates.items ≡ fate.Refused refusal ∷ []) × (planned.changes ≡ None)) }
-    ensures fault { IfErr result (IsPassedOn refusal) }
-    ensures refusal { IfErr result IsLookRefusal }
-{
-    let fate = as_fate(refusal)?;
-    let mut fates = Vec::new(alloc);
-    fates.push(fate)?;
-    Ok(Planned {
-        fates,
-        changes: None,
-    })
-}
-
-// What is found of changes that are all made or refused together.
-pub(crate) fn of_changes(
-    alloc: Global,
-    planned: Result<Vec<Change>, Refusal>,
-) -> Result<Planned, Refusal>
-    ensures planned { (tree : Files) (edits : Result (List Edit) Refusal) → AnswersEdits tree edits planned → IfOk result (Plans tree (edit_fates edits) edits) }
-    ensures fault { IfErr result (λ fault. (fault ≡ Refusal.Memory) ⊎ (planned ≡ Err fault)) }
-    ensures refusal { IfErr result IsLookRefusal }
-{
-    match planned {
-        Ok(changes) => {
-            let mut fates = Vec::new(alloc);
-            for change in &changes {
-                fates.push(Fate::Changes(change.path().try_clone(alloc)?))?;
+        let fate = match plan {
+            PathPlan::Change(change) => {
+                let path = change.path().try_clone(alloc)?;
+                self.changes.push(change)?;
+                Fate::Changes(path)
             }
-            Ok(Planned {
-                fates,
-                changes: Some(changes),
-            })
-        }
-        Err(refusal) => refused(alloc, refusal),
+            PathPlan::Unchanged(path) => Fate::Unchanged(path),
+            PathPlan::Skipped(path) => Fate::Skipped(path),
+            PathPlan::Refused(refusal) => {
+                self.is_refused = true;
+                Fate::Refused(refusal)
+            }
+        };
+        self.fates.push(fate)?;
+        Ok(())
     }
+}
+
+/// The changes among the plans.
+pub(crate) fn changes_planned(
+    alloc: Global,
+    plans: Vec<PathPlan>,
+) -> Result<Vec<Change>, AllocError>
+    ensures { IfOk result (λ changes. changes.items ≡ changes_planned plans.items) }
+{
+    let mut changes = Vec::new(alloc);
+    for plan in plans {
+        push_change(&mut changes, plan)?;
+    }
+    Ok(changes)
+}
+
+// Adds the change that is planned, if there is one.
+fn push_change(changes: &mut Vec<Change>, plan: PathPlan) -> Result<(), AllocError>
+    ensures { OnOk result (changes.new.items ≡ changes.old.items ++ option_to_list (change_planned plan)) }
+{
+    if let PathPlan::Change(change) = plan {
+        changes.push(change)?;
+    }
+    Ok(())
 }

@@ -170,7 +170,9 @@ pub carried : {S : Type 0} (files : S → Files) (before : Files) (request : Req
 carried files before request session answer after opened settles meets clashes same keeps =
     inr (record {
       made = (opened.0, files (store_of session), opened.2, meets opened.0 opened.1, clashes opened.0 opened.1, same, keeps opened.0 opened.1);
-      settles = λ first second doubt. ⊎_elim (λ (stands : StandsOn files session first). inl (meets first stands)) (λ (stands : StandsOn files session second). inr (meets second stands)) (settles first second doubt);
+      settles = λ first second doubt.
+          ⊎_elim (λ (stands : StandsOn files session first). inl (files (store_of session), stands.standing, meets first stands))
+          (λ (stands : StandsOn files session second). inr (files (store_of session), stands.standing, meets second stands)) (settles first second doubt);
     })
 
 -- a session that opened on a standing stands on it, and the files are the same

@@ -5,7 +5,7 @@ use Rattle.reuse_tree.specs.Files.{Files}
 use Rattle.reuse_tree.specs.declared.store.Store.{Ghosts}
 use Rattle.reuse_session.specs.Answer.{HasCause}
 use Rattle.reuse_session.specs.Standing.{IsStanding}
-use Rattle.reuse_session.specs.Stops.{HoldState}
+use Rattle.reuse_session.specs.Stops.{HoldState, AreLeft}
 use Rattle.reuse_session.specs.declared.reply.Refusal.{Refusal}
 use Rattle.reuse_undo.specs.CarriedOut.{CarriesOut}
 use Rattle.reuse_undo.specs.RunLine.{HasCallClash, RequestLeaves, FollowsMachine, TellsAnswer, IfRefused, IfNoDiff}
@@ -69,6 +69,10 @@ same_inside outer inner contents has_failed request telling before after old new
       machine = λ honest state held.
           subst (λ f. TellsAnswer telling (λ answer. FollowsMachine state request answer f) (contents out) (contents left) result) a.files
           (carried.machine (a.gives honest) state (subst (λ f. HoldState f state) (sym b.files) held));
+      after_stop = λ honest start found.
+          let at = carried.after_stop (a.gives honest) start (subst (λ f. AreLeft f start.state start.next) (sym b.files) found) in
+          (at.0, at.1, subst (λ f. AreLeft f (at.0).state (at.0).next) a.files at.2);
+      drawn = λ honest held standing. carried.drawn (a.gives honest) held (subst (λ f. IsStanding f held) (sym b.files) standing);
       looks = λ honest look held standing.
           reads_inside outer inner before after old new b a (carried.looks (a.gives honest) look held (subst (λ f. IsStanding f held) (sym b.files) standing));
       quiet = carried.quiet;

@@ -15,7 +15,7 @@ use Rattle.reuse_session.specs.JournalFiles.{entry_in, entry_path, number_of}
 use Rattle.reuse_session.specs.Machine.{is_full, as_reply, row_of}
 use Rattle.reuse_session.specs.Outcome.{outcome_of}
 use Rattle.reuse_session.specs.Plan.{IsRefusalOf}
-use Rattle.reuse_session.specs.Previews.{run_fates_on, IsLookRefusal}
+use Rattle.reuse_session.specs.Previews.{run_fates_on, IsLookRefusal, IsPreviewRefusal}
 use Rattle.reuse_session.specs.RevertCalls.{GivesRevert, touched_later}
 use Rattle.reuse_session.specs.Session.{store_of, is_broken, memory_of, IsKept, StandsOn}
 use Rattle.reuse_session.specs.Showing.{IsUnused, ShowsIn}
@@ -140,34 +140,21 @@ changes_kind {S} {A} files session held command (Err refusal) stands fates e non
       | inr (inr plan) ↦ of_plan (outcome_of command held.tree) refusal plan (right plan) (not_refused command held fates e none refusal)
     ]
 
--- ---- a step that is shown
+-- ---- the step that is next
 
--- neither a stop nor another refusal that is told
-only_looks : (A : Type 0) (refusal : Refusal) → IsEarly refusal → (TellsNoFault (refused A refusal) → ⊥) → IsLookRefusal refusal
-only_looks A Memory early none = tt
-only_looks A (StoreFailed fault) early none = tt
-only_looks A (Interrupted cause) early none = absurd early
-only_looks A refusal early none = absurd (none tt)
+next_refusal : (A : Type 0) (refusal : Refusal) → IsPreviewRefusal refusal → (TellsNoFault (refused A refusal) → ⊥) → IsLookRefusal refusal
+next_refusal A Memory kind none = tt
+next_refusal A (StoreFailed fault) kind none = tt
+next_refusal A (Interrupted cause) kind none = absurd kind
+next_refusal A refusal kind none = absurd (none tt)
 
-all_reverse : {X : Type 0} (P : X → Type 0) (xs : List X) → All P xs → All P (reverse xs)
-all_reverse P xs all k d low =
-    let within : k < length xs = omega (arith, low, length-reverse xs) in
-    subst P (sym (get_or-reverse xs k d within)) (all (length xs - 1 - k) d (omega (arith, within)))
+no_value : (A : Type 0) (refusal : Refusal) (value : A) → refused A refusal ≡ Ok value → ⊥
+no_value A refusal value is = cc
 
--- a row of the log has the number of a step
-row_is_used : (journal : Journal) (number : ℕ) (row : Row) → IsUnused number journal.done → IsUnused number journal.undone → Contains (rows_in journal) row → row.number ≡ number → ⊥
-row_is_used journal number row done undone is_in =
-    let P : Row → Type 0 = λ r. r.number ≢ number in
-    All-contains P (rows_in journal) row (
-    All-append P _ _ (All-map P (λ (step : Recorded). row_of step.label (length step.changes) true) (reverse journal.done) (all_reverse (λ (step : Recorded). number_of step ≢ number) journal.done done))
-    (All-map P (λ (step : Recorded). row_of step.label (length step.changes) false) journal.undone undone)
-    ) is_in
-
-pub show_kind : (journal : Journal) (number : ℕ) (row : Row) (answer : Result Shown Refusal) → Contains (rows_in journal) row → row.number ≡ number → (TellsNoFault answer → ShowsIn journal number answer)
-    → IfErr answer IsEarly → IfErr answer IsLookRefusal
-show_kind journal number row (Ok shown) is_in numbered exact early = tt
-show_kind journal number row (Err refusal) is_in numbered exact early =
-    only_looks Shown refusal early (λ told. let none = exact told in row_is_used journal number row none.1 none.2 is_in numbered)
+-- what is told without a fault is a value
+pub next_kind : {A : Type 0} (answer : Result A Refusal) (value : A) → (TellsNoFault answer → answer ≡ Ok value) → IfErr answer IsPreviewRefusal → IfErr answer IsLookRefusal
+next_kind (Ok given) value exact kind = tt
+next_kind {A} (Err refusal) value exact kind = next_refusal A refusal kind (λ told. no_value A refusal value (exact told))
 
 -- ---- a step that is taken back
 

@@ -1,18 +1,18 @@
 -- What comes of a session's one call from a state of the machine, and what is told of it.
-use Rattle.std.proofs.Common.{◌≡◌, ◌⊎◌, inl, inr, ⊎_elim, ◌∙◌, ℕ, Bool, cond, List, Some, Result, Ok, Err, IfOk, refl, sym, ap, subst, length}
+use Rattle.std.proofs.Common.{◌≡◌, ◌⊎◌, inl, inr, ⊎_elim, ◌∙◌, ℕ, Bool, cond, List, [], ◌∷◌, Some, Result, Ok, Err, ◌<◌, refl, sym, ap, subst, length, get_or, zero, suc, arith}
 use Rattle.std.specs.List.{Contains}
 use Rattle.reuse_tree.specs.Files.{Files}
 use Rattle.reuse_session.specs.Answer.{TellsNoFault, IsFailure}
 use Rattle.reuse_session.specs.Fates.{fates_of}
 use Rattle.reuse_session.specs.Journal.{State, Recorded, rows_in}
 use Rattle.reuse_session.specs.JournalFiles.{number_of}
-use Rattle.reuse_session.specs.Machine.{Snapshots, step, as_reply, fates_in, is_full, run_fates}
+use Rattle.reuse_session.specs.Machine.{Kept, Snapshots, step, as_reply, fates_in, is_full, run_fates}
 use Rattle.reuse_session.specs.Previews.{run_fates_on}
 use Rattle.reuse_session.specs.RevertCalls.{Reverts, TakesBack, as_run, touched_later, changed_later}
 use Rattle.reuse_session.specs.Session.{Runs, StopsAfterRun}
 use Rattle.reuse_session.proofs.LaterSteps.{later_as_machine}
-use Rattle.reuse_session.specs.Session.{HoldsSnapshots}
-use Rattle.reuse_session.specs.Showing.{IsUnused, ShowsIn, ShowsAt}
+use Rattle.reuse_session.specs.Session.{HoldsSnapshots, LeadOn}
+use Rattle.reuse_session.specs.Showing.{IsUnused, ShowsIn}
 use Rattle.reuse_session.specs.Standing.{IsStanding}
 use Rattle.reuse_session.specs.Stops.{Point, open_at, closed, Reopens, HoldState, AreLeft}
 use Rattle.reuse_session.specs.declared.command.Command.{Command}
@@ -42,14 +42,14 @@ use Rattle.reuse_undo.specs.declared.request.Request.{Request}
 use Rattle.reuse_undo.specs.declared.request.Request.TheVariants as requests
 use Rattle.reuse_undo.specs.declared.request.Told.{Told}
 use Rattle.reuse_undo.specs.Outputs.{AddsSome}
-use Rattle.reuse_undo.specs.RunLine.{Looks, Previews, CallLeadsTo, IsStopped, StepLeaves, CallLeaves, RevertsOn, PreviewsRevert, Meets, IsUnopened, IsMade, RequestLeaves, StepsBy, StepsBack, StepsBackBy, ForetellsBack, FollowsMachine, TellsAnswer, IfRefused}
+use Rattle.reuse_undo.specs.RunLine.{Looks, Previews, CallLeadsTo, IsStopped, StepLeaves, CallLeaves, RevertsOn, PreviewsRevert, AnswersOn, Meets, IsUnopened, IsMade, RequestLeaves, StepsBy, StepsBack, StepsBackBy, IsUnkept, ShowsBy, ForetellsBack, FollowsMachine, TellsAnswer, IfRefused}
 use Rattle.reuse_undo.specs.Told.{IsToldText, Finishes}
 use Rattle.reuse_undo.proofs.LookLemmas.{refused}
 
 -- ---- from a state of the machine
 
 -- what a revert answers: that no such step is done, or what it takes back
-reverts_one : (number : ℕ) (skip_moved : Bool) (when : ℕ) (old : State) (answer : Result Reverted Refusal) (new : State) → Reverts number skip_moved when old answer new
+pub reverts_one : (number : ℕ) (skip_moved : Bool) (when : ℕ) (old : State) (answer : Result Reverted Refusal) (new : State) → Reverts number skip_moved when old answer new
     → ((answer ≡ Err (NoSuchStep number)) × IsUnused number old.journal.done × (new ≡ old)) ⊎ TakesBack number skip_moved when old answer new
 reverts_one number skip_moved when old (Ok reverted) new back = inr back
 reverts_one number skip_moved when old (Err (NoSuchStep other)) new none = inl (ap (λ n. Err (NoSuchStep n)) none.0, none.1, none.2)
@@ -72,11 +72,24 @@ steps_told state event (Err Memory) after told did = absurd told
 steps_told state event (Err (Interrupted cause)) after told did = absurd told
 steps_told state event (Err refusal) after told did = did
 
+-- no step that leads on from the tree has the number
+unkept_on : (number : ℕ) (tree : Files) (steps : List Recorded) (future : List Kept) → LeadOn tree steps future → IsUnused number steps → IsUnkept number future
+unkept_on number tree steps future on none k d low same = at tree steps future on none k low same
+  where
+    at : (tree : Files) (steps : List Recorded) (future : List Kept) → LeadOn tree steps future → IsUnused number steps → (k : ℕ) → k < length future → (get_or future k d).label.number ≡ number → ⊥
+    at tree [] [] on none k low same = omega (arith, low)
+    at tree [] (kept ∷ future) on none k low same = on
+    at tree (s ∷ steps) [] on none k low same = on
+    at tree (s ∷ steps) (kept ∷ future) on none zero low same = none 0 s (omega arith) (sym (ap (λ l. l.number) on.0) ∙ same)
+    at tree (s ∷ steps) (kept ∷ future) on none (suc k) low same = at kept.tree steps future on.2 (λ i x lt. none (suc i) x (omega (arith, lt))) k (omega (arith, low)) same
+
 -- what a step that is shown is to the machine
-shown_at : (held : State) (state : Snapshots) → HoldsSnapshots held state → (number : ℕ) (shown : Result Shown Refusal) (after : Files) → Looks (ShowsIn held.journal number) held shown after
-    → IfOk shown (ShowsAt state number)
-shown_at held state holds number (Ok shown) after looks = shows_at held state holds number shown (looks.right tt)
-shown_at held state holds number (Err refusal) after looks = tt
+pub shown_at : (held : State) (state : Snapshots) → HoldsSnapshots held state → (number : ℕ) (shown : Result Shown Refusal) (after : Files) → Looks (ShowsIn held.journal number) held shown after
+    → TellsNoFault shown → ShowsBy state number shown
+shown_at held state holds number (Ok shown) after looks told = shows_at held state holds number shown (looks.right tt)
+shown_at held state holds number (Err refusal) after looks told =
+    let none = looks.right told in
+    (none.0, unkept number state.tree held.journal.done state.past holds.past none.1, unkept_on number state.tree held.journal.undone state.future holds.future none.2)
 
 -- what a run would do on a standing is what the machine says
 run_alike : (held : State) (state : Snapshots) → HoldsSnapshots held state → (command : Command) → run_fates_on held command ≡ run_fates state command
@@ -85,7 +98,7 @@ run_alike held state holds command =
     ∙ ap (λ t. cond (is_full (length state.past) state.used) (Err JournalFull) (Ok (fates_of command t))) holds.tree
 
 -- and a dry run of a revert
-foretold_back : (held : State) (state : Snapshots) → HoldsSnapshots held state → (number : ℕ) (skip_moved : Bool) (answer : Result (List Fate) Refusal) → PreviewsRevert number skip_moved held answer
+pub foretold_back : (held : State) (state : Snapshots) → HoldsSnapshots held state → (number : ℕ) (skip_moved : Bool) (answer : Result (List Fate) Refusal) → PreviewsRevert number skip_moved held answer
     → ForetellsBack state number skip_moved answer
 foretold_back held state holds number skip_moved answer previews =
     ⊎_elim (λ (none : (answer ≡ Err (NoSuchStep number)) × IsUnused number held.journal.done). inl (none.0, unkept number state.tree held.journal.done state.past holds.past none.1))
@@ -99,7 +112,7 @@ foretold_back held state holds number skip_moved answer previews =
     )) previews
 
 -- a preview answers what the machine says
-previews_as_machine : (held : State) (state : Snapshots) → HoldsSnapshots held state → (call : Call) (fates : Result (List Fate) Refusal) → Previews call held fates → fates ≡ fates_in state call
+pub previews_as_machine : (held : State) (state : Snapshots) → HoldsSnapshots held state → (call : Call) (fates : Result (List Fate) Refusal) → Previews call held fates → fates ≡ fates_in state call
 previews_as_machine held state holds (calls.Run command) fates previews = previews ∙ run_alike held state holds command
 previews_as_machine held state holds calls.Undo fates previews = undo_foretold held state holds fates previews
 previews_as_machine held state holds calls.Redo fates previews = redo_foretold held state holds fates previews
@@ -118,7 +131,7 @@ module _ (held : State) (state : Snapshots) (holds : HoldsSnapshots held state) 
   does_step events.Log answer left does = (does.0 ∙ ap (λ rows. Ok (replies.Log rows)) (log_follows held state holds), subst (λ s. HoldsSnapshots s state) (sym does.1) holds)
   does_step events.Reopen answer left does = (does.0, subst (λ s. HoldsSnapshots s state) (sym does.1) holds)
 
-  stopped_near : (event : Event) → IsStopped event held after → AreLeft after state (Some (step state event).1)
+  pub stopped_near : (event : Event) → IsStopped event held after → AreLeft after state (Some (step state event).1)
   stopped_near (events.Run command when) stopped = run_left held state holds after before command when standing stopped
   stopped_near events.Undo stopped = (held, stopped.0, holds, undo_next held state holds stopped.0 (stopped.1, stopped.2), stopped.3)
   stopped_near events.Redo stopped = (held, stopped.0, holds, redo_next held state holds stopped.0 (stopped.1, stopped.2), stopped.3)
@@ -126,7 +139,7 @@ module _ (held : State) (state : Snapshots) (holds : HoldsSnapshots held state) 
   stopped_near events.Log stopped = absurd stopped
   stopped_near events.Reopen stopped = absurd stopped
 
-  did : (event : Event) (answer : Result Reply Refusal) → (left : State) × CallLeadsTo event held answer left × IsStanding after left
+  pub did : (event : Event) (answer : Result Reply Refusal) → (left : State) × CallLeadsTo event held answer left × IsStanding after left
       → (answer ≡ (step state event).0) × HoldState after (step state event).1
   did event answer made = let does = does_step event answer made.0 made.1 in (does.0, (made.0, made.2, does.1))
 
@@ -165,7 +178,7 @@ module _ (held : State) (state : Snapshots) (holds : HoldsSnapshots held state) 
   called events.Reopen answer calls = made events.Reopen answer calls
 
   -- a revert goes on as the machine's run that takes the step's changes back
-  ran_back : (number : ℕ) (skip_moved : Bool) (when : ℕ) (answer : Result Reverted Refusal) → TellsNoFault answer → (new : State) × Reverts number skip_moved when held answer new × IsStanding after new
+  pub ran_back : (number : ℕ) (skip_moved : Bool) (when : ℕ) (answer : Result Reverted Refusal) → TellsNoFault answer → (new : State) × Reverts number skip_moved when held answer new × IsStanding after new
       → StepsBackBy state number skip_moved when answer after
   ran_back number skip_moved when answer told reverts =
       ⊎_elim (λ (none : (answer ≡ Err (NoSuchStep number)) × IsUnused number held.journal.done × (reverts.0 ≡ held)).
@@ -220,11 +233,11 @@ failed_event state event Memory after failure held = held
 failed_event state event (Interrupted cause) after failure held = inl held
 failed_event state event refusal after failure held = absurd failure
 
-untold_fates : (refusal : Refusal) → IsFailure refusal → TellsNoFault {A = List Fate} (Err refusal) → ⊥
-untold_fates (StoreFailed fault) failure told = told
-untold_fates Memory failure told = told
-untold_fates (Interrupted cause) failure told = told
-untold_fates refusal failure told = failure
+untold_answer : (A : Type 0) (refusal : Refusal) → IsFailure refusal → TellsNoFault {A = A} (Err refusal) → ⊥
+untold_answer A (StoreFailed fault) failure told = told
+untold_answer A Memory failure told = told
+untold_answer A (Interrupted cause) failure told = told
+untold_answer A refusal failure told = failure
 
 failed_back : (state : Snapshots) (number : ℕ) (skip_moved : Bool) (when : ℕ) (refusal : Refusal) (after : Files) → IsFailure refusal → HoldState after state
     → StepsBack state number skip_moved when (Err refusal) after
@@ -235,9 +248,9 @@ failed_back state number skip_moved when refusal after failure held = absurd fai
 
 failed : (state : Snapshots) (request : Request) (refusal : Refusal) (after : Files) → IsFailure refusal → HoldState after state → FollowsMachine state request (Err refusal) after
 failed state (requests.Call event) refusal after failure held = (Err refusal, refl, failed_event state event refusal after failure held)
-failed state (requests.Show number) refusal after failure held = (Err refusal, refl, tt, held)
+failed state (requests.Show number) refusal after failure held = (Err refusal, refl, λ told. absurd (untold_answer Shown refusal failure told), held)
 failed state (requests.Revert number skip_moved when) refusal after failure held = (Err refusal, refl, failed_back state number skip_moved when refusal after failure held)
-failed state (requests.PreviewRevert number skip_moved) refusal after failure held = (Err refusal, refl, λ told. absurd (untold_fates refusal failure told), held)
+failed state (requests.PreviewRevert number skip_moved) refusal after failure held = (Err refusal, refl, λ told. absurd (untold_answer (List Fate) refusal failure told), held)
 
 pub carries_step : (state : Snapshots) (before : Files) (request : Request) (answer : Result Told Refusal) (after : Files) → HoldState before state → RequestLeaves before request answer after
     → FollowsMachine state request answer after
@@ -247,8 +260,8 @@ carries_step state before request answer after held carries =
     subst (λ a. FollowsMachine state request a after) (sym refused.1)
     (failed state request refused.0 after (refused.2.settles first first (inl held.1)).0 (still_held state before refused.0 after held refused.2)))
     (λ (made : IsMade before request answer after).
-    met first state held.2 before after held.1 request answer
-    (⊎_elim (λ (meets : Meets request first answer after). meets) (λ (meets : Meets request first answer after). meets) (made.settles first first (inl held.1)))) carries
+    let on = ⊎_elim (λ (on : AnswersOn request first answer after). on) (λ (on : AnswersOn request first answer after). on) (made.settles first first (inl held.1)) in
+    met first state held.2 before after held.1 request answer on.2) carries
 
 -- the same, of an equal answer
 pub carries_as : (before after : Files) (request : Request) (answer same : Result Told Refusal) → RequestLeaves before request answer after → answer ≡ same → RequestLeaves before request same after

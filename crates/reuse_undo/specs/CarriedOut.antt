@@ -1,17 +1,22 @@
 -- What carrying out what a line asks for answers and leaves, on a store and what the answer is written to.
-use Rattle.std.specs.Prelude.{◌≡◌, ◌<◌, ◌≤◌, ℕ, Bool, List, Result}
+use Rattle.std.specs.Prelude.{◌≡◌, ◌<◌, ◌≤◌, ℕ, Bool, List, Result, IfOk}
 use Rattle.reuse_tree.specs.Asked.{OnlyReads}
+use Rattle.reuse_tree.specs.Files.{Files}
 use Rattle.reuse_tree.specs.declared.store.Store.{Ghosts}
 use Rattle.reuse_session.specs.Answer.{HasCause}
 use Rattle.reuse_session.specs.Journal.{State}
 use Rattle.reuse_session.specs.Machine.{Snapshots}
 use Rattle.reuse_session.specs.Standing.{IsStanding}
-use Rattle.reuse_session.specs.Stops.{HoldState}
+use Rattle.reuse_session.specs.Stops.{Point, HoldState, AreLeft}
+use Rattle.reuse_undo.specs.AfterStops.{AnswersAfterStop}
+use Rattle.reuse_undo.specs.Drawn.{IsDrawnText, WouldLeave}
+use Rattle.reuse_undo.specs.Outputs.{AddsSome}
 use Rattle.reuse_undo.specs.Requests.{IsLook}
 use Rattle.reuse_undo.specs.RunLine.{HasCallClash, RequestLeaves, FollowsMachine, TellsAnswer, IfRefused, IfNoDiff}
 use Rattle.reuse_undo.specs.Told.{TellsFailure}
 use Rattle.reuse_undo.specs.WriterFaults.{IsUndrawn}
 use Rattle.reuse_undo.specs.declared.fault.Fault.{Fault}
+use Rattle.reuse_undo.specs.declared.line.OutputFormat.TheVariants.{Diff}
 use Rattle.reuse_undo.specs.declared.line.Telling.{Telling}
 use Rattle.reuse_undo.specs.declared.request.Request.{Request}
 
@@ -23,6 +28,14 @@ pub record CarriesOut {S O : Type 0} (store : Ghosts S) (contents : O → List �
   -- from any state that the files hold it is that of the machine that keeps whole copies
   pub machine : store.honest new → (state : Snapshots) → HoldState (store.files old) state
       → TellsAnswer telling (λ answer. FollowsMachine state request answer (store.files new)) (contents before) (contents after) result
+  -- From files that an earlier stop may have left in doubt too: what is told is the answer of a run of the machine with stops, and the files are left
+  -- where that run is.
+  pub after_stop : store.honest new → (start : Point) → AreLeft (store.files old) start.state start.next
+      → (end : Point) × TellsAnswer telling (λ answer. AnswersAfterStop request answer start end) (contents before) (contents after) result
+      × AreLeft (store.files new) end.state end.next
+  -- where a dry run's diff is wanted it stands behind the lines: the diff of the tree as it is, and of that which the call would leave
+  pub drawn : store.honest new → (held : State) → IsStanding (store.files old) held → telling.format ≡ Diff → (tree : Files) → WouldLeave request held tree
+      → IfOk result (λ count. AddsSome (contents before) (contents after) (IsDrawnText telling.names held.tree tree))
   -- what only asks only reads the store, where nothing is pending
   pub looks : store.honest new → IsLook request → (held : State) → IsStanding (store.files old) held → OnlyReads store old new
   -- a refusal is told before anything is written, and that the reply couldn't be written exactly where the output failed

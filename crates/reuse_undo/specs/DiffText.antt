@@ -2,8 +2,24 @@
 use Rattle.std.specs.Prelude.{◌≡◌, ◌≢◌, ℕ, ◌+◌, ◌/◌, ◌%◌, Bool, true, false, not, ◌&&◌, ◌||◌, ◌==◌, nat_le, List, [], ◌∷◌, ◌++◌, Option, None, Some, is_none, if◌then◌else◌, codes, MatchBool, unwrap_or}
 use Rattle.std.specs.List.{flat_map, list_any}
 use Rattle.std.specs.Str.{bytes_eq}
+use Rattle.reuse_tree.specs.declared.change.Change.{Change}
+use Rattle.reuse_tree.specs.declared.change.Change.TheVariants.{Make, Drop, Splice}
 use Rattle.reuse_undo.specs.declared.diff.hunk.Hunk.{Hunk}
 use Rattle.reuse_undo.specs.Hunks.{IsHunk, hunk_text}
+
+-- ---- what a change records
+
+-- the file that it takes away, or of a range the bytes that give way
+abbrev pub part_before : Change → Option (List ℕ)
+part_before (Make path new digest) = None
+part_before (Drop path old digest) = Some old
+part_before (Splice path at old new rest seal) = Some old
+
+-- the file that it makes, or of a range the bytes in their place
+abbrev pub part_after : Change → Option (List ℕ)
+part_after (Make path new digest) = Some new
+part_after (Drop path old digest) = None
+part_after (Splice path at old new rest seal) = Some new
 
 -- ---- names
 

@@ -1,7 +1,8 @@
 -- Which paths a list of files names.
-use Rattle.std.specs.Prelude.{ℕ, ◌-◌, Bool, List, [], ◌∷◌, Option, None, Some, filter_map, length, nat_eq, ◌==◌, if◌then◌else◌, take}
+use Rattle.std.specs.Prelude.{ℕ, ◌-◌, Bool, List, [], ◌∷◌, Option, None, Some, filter_map, length, nat_eq, ◌==◌, if◌then◌else◌, nat_le, take}
 use Rattle.std.specs.List.{ends_with, list_any, slice_split}
 use Rattle.std.specs.Str.{is_utf8}
+use Rattle.reuse_notice.specs.Sets.{set_of}
 use Rattle.reuse_session.specs.Command.{path_in}
 use Rattle.reuse_session.specs.declared.command.Place.{Place}
 use Rattle.reuse_undo.specs.Places.{place_of_word}
@@ -36,3 +37,7 @@ path_listed separator word = if separator == 10 then path_of_word (without_retur
 -- the paths that a list names
 abbrev pub listed_paths : List ℕ → List (List ℕ)
 listed_paths list = filter_map (path_listed (separator_of list)) (words_of list)
+
+-- the paths of a list that is no longer than this, as a set
+abbrev pub paths_within : ℕ → List ℕ → Option (List (List ℕ))
+paths_within longest list = if nat_le (length list) longest then Some (set_of (listed_paths list)) else None

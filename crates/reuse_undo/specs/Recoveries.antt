@@ -1,9 +1,12 @@
 -- What recovering prints and leaves.
 use Rattle.std.specs.Prelude.{◌≡◌, ℕ, Bool, List, [], ◌∷◌, ◌++◌, length, Result, Ok, Err, codes}
 use Rattle.reuse_tree.specs.Files.{Files}
-use Rattle.reuse_session.specs.Answer.{TellsNoFault}
-use Rattle.reuse_session.specs.Recovery.{RecoversFiles, RefusesRecovery}
+use Rattle.reuse_tree.specs.declared.cause.Cause.{Cause}
+use Rattle.reuse_session.specs.Answer.{IsEarly, IsOpenRefusal, TellsNoFault}
+use Rattle.reuse_session.specs.Recovery.{RecoversFiles, RefusesRecovery, StopsRecovering}
 use Rattle.reuse_session.specs.declared.reply.Recovered.{Recovered}
+use Rattle.reuse_session.specs.declared.reply.Refusal.{Refusal}
+use Rattle.reuse_session.specs.declared.reply.Refusal.TheVariants.{Interrupted}
 use Rattle.reuse_undo.specs.declared.fault.Fault.{Fault}
 use Rattle.reuse_undo.specs.declared.fault.Fault.TheVariants.{Refused, Write, Memory}
 use Rattle.reuse_undo.specs.declared.shown_name.Names.{Names}
@@ -19,13 +22,21 @@ set_back_text names (path ∷ paths) = lines_of names (codes "set back") (path �
 abbrev pub recovered_text : Names → Recovered → List ℕ
 recovered_text names recovered = set_back_text names recovered.changed ++ lines_of names (codes "skipped") recovered.skipped
 
--- The files are recovered, and of what became of them the output took the lines, or some front part of them if it failed, or nothing for want of memory. Or it is refused, and nothing is written: unless a fault of the store or want of memory is told, exactly where the journal is
--- bad or a path is stuck.
+-- How it is refused, and what it leaves then
+pub record RefusesToRecover (skip_moved : Bool) (before : Files) (refusal : Refusal) (after : Files) : Type 0 where
+  pub is_of_opening : IsOpenRefusal refusal
+  -- unless a fault of the store or want of memory is told, exactly where the journal is bad or a path is stuck
+  pub exact : TellsNoFault {A = Recovered} (Err refusal) → RefusesRecovery skip_moved before (Err refusal)
+  pub unchanged : IsEarly refusal → after ≡ before
+  -- it stops only where a step is pending: that is recovered, or each of its paths is as it was or as recovering leaves it
+  pub stopped : (cause : Cause) → refusal ≡ Interrupted cause → StopsRecovering before after
+
+-- The files are recovered, and of what became of them the output took the lines, or some front part of them if it failed, or nothing for want of
+-- memory. Or it is refused, and nothing is written.
 abbrev pub RecoversOn : Names → Bool → (before after : Files) → (old new : List ℕ) → Result ℕ Fault → Type 0
 RecoversOn names skip_moved before after old new (Ok count) =
     (recovered : Recovered) × RecoversFiles skip_moved before after recovered × Adds old new (recovered_text names recovered) × (count ≡ length recovered.changed)
-RecoversOn names skip_moved before after old new (Err (Refused refusal)) =
-    (TellsNoFault {A = Recovered} (Err refusal) → RefusesRecovery skip_moved before (Err refusal)) × (new ≡ old)
+RecoversOn names skip_moved before after old new (Err (Refused refusal)) = RefusesToRecover skip_moved before refusal after × (new ≡ old)
 RecoversOn names skip_moved before after old new (Err Write) =
     (recovered : Recovered) × RecoversFiles skip_moved before after recovered × AddsFront old new (recovered_text names recovered)
 RecoversOn names skip_moved before after old new (Err Memory) = (recovered : Recovered) × RecoversFiles skip_moved before after recovered × (new ≡ old)

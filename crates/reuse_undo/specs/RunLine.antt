@@ -151,13 +151,17 @@ pub record IsUnopened (before : Files) (refusal : Refusal) (after : Files) : Typ
   -- of the journal's files none but the head holds something else
   pub folder : IsSameBut head_path (undo_folder_of before) (undo_folder_of after)
 
+-- a session was opened on the standing, and the request is answered from it
+abbrev pub AnswersOn : Request → State → Result Told Refusal → Files → Type 0
+AnswersOn request held answer after = (opened : Files) × IsStanding opened held × Meets request held answer after
+
 -- A session was opened, which of the journal's files puts none but the head, and the call was made on the standing that it found. A clash that is told is
 -- one of the files as the opening left them.
 pub record IsMade (before : Files) (request : Request) (answer : Result Told Refusal) (after : Files) : Type 0 where
   pub made : (found : State) × (opened : Files) × OpensOn before found opened × Meets request found answer after × IfErr answer (HasCallClash request found opened)
       × IsSameBut head_path (undo_folder_of before) (undo_folder_of opened) × KeepsFolder request found opened after
   -- of files in doubt that is one of the two
-  pub settles : (first second : State) → InDoubt first second before → Meets request first answer after ⊎ Meets request second answer after
+  pub settles : (first second : State) → InDoubt first second before → AnswersOn request first answer after ⊎ AnswersOn request second answer after
 
 -- a session's answer to the request, or its opening's refusal, and the files then
 abbrev pub RequestLeaves : Files → Request → Result Told Refusal → Files → Type 0
@@ -173,9 +177,14 @@ StepsBy state event (Err refusals.Memory) files = HoldState files state
 StepsBy state event (Err (refusals.Interrupted cause)) files = HoldState files state ⊎ AreLeft files state (Some (step state event).1)
 StepsBy state event answer files = (answer ≡ (step state event).0) × HoldState files (step state event).1
 
--- no step that led to the tree has the number
+-- no step has the number, of those that led to the tree or of those that lead on from it
 abbrev pub IsUnkept : ℕ → List Kept → Type 0
 IsUnkept number past = All (λ (kept : Kept). ¬ (kept.label.number ≡ number)) past
+
+-- what is shown is a step of the machine's, or no step that it keeps has the number
+abbrev pub ShowsBy : Snapshots → ℕ → Result Shown Refusal → Type 0
+ShowsBy state number (Ok shown) = ShowsAt state number shown
+ShowsBy state number (Err refusal) = (refusal ≡ refusals.NoSuchStep number) × IsUnkept number state.past × IsUnkept number state.future
 
 -- where neither is told: the answer and the files are those of the machine's run that takes back what the step of the number changed, or no step that is
 -- done has the number
@@ -203,7 +212,9 @@ ForetellsBack state number skip_moved answer =
 -- the same of a request; what only looks leaves the state, and a step that is shown is one of the machine's
 abbrev pub FollowsMachine : Snapshots → Request → Result Told Refusal → Files → Type 0
 FollowsMachine state (requests.Call event) answer files = (reply : Result Reply Refusal) × (answer ≡ as_told tells.Reply reply) × StepsBy state event reply files
-FollowsMachine state (requests.Show number) answer files = (shown : Result Shown Refusal) × (answer ≡ as_told tells.Shown shown) × IfOk shown (ShowsAt state number) × HoldState files state
+FollowsMachine state (requests.Show number) answer files =
+    (shown : Result Shown Refusal) × (answer ≡ as_told tells.Shown shown)
+    × (TellsNoFault shown → ShowsBy state number shown) × HoldState files state
 FollowsMachine state (requests.Revert number skip_moved when) answer files =
     (reverted : Result Reverted Refusal) × (answer ≡ as_told tells.Reverted reverted) × StepsBack state number skip_moved when reverted files
 FollowsMachine state (requests.PreviewRevert number skip_moved) answer files =

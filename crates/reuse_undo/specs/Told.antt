@@ -72,6 +72,10 @@ IsForeseen telling told = (telling.format ≡ Diff) × (fates : List Fate) × (t
 
 -- ---- for private clauses
 
+-- the answer's lines, with this behind them
+abbrev pub HasBehind : Names → Told → List ℕ → List ℕ → Type 0
+HasBehind names told behind text = (lines : List ℕ) × IsLinesText names told lines × (text ≡ lines ++ behind)
+
 -- there is no diff
 abbrev pub IsNoDiff : {A : Type 0} → Result (Vec ℕ A) Fault → Type 0
 IsNoDiff (Ok diff) = diff.items ≡ []

@@ -66,7 +66,7 @@ fn ruled<'a>(arg: Arg<'a>, rule: Rule) -> Result<Arg<'a>, AllocError> {
         Rule::Requires(other) => arg.requires_arg(other),
         Rule::Excludes(other) => arg.conflicts_with(other),
         Rule::Alias(name) => arg.visible_alias(name),
-        Rule::Global => Ok(arg.global(true)),
+        Rule::Global(order) => Ok(arg.global(true).display_order(order)),
     }
 }
 

@@ -2,7 +2,8 @@
 ghost use Rattle.std.specs.Prelude.{◌≡◌, OnOk, ◌++◌, unwrap_or, []};
 ghost use Rattle.std.specs.Option.{option_copied};
 ghost use Rattle.std.specs.Io.KnownBytes.{Appends};
-ghost use Rattle.reuse_undo.specs.DiffText.{head_text, title_text, both_text, mode_text, names_text, side_text, end_text, binary_text, old_binary_text, new_binary_text, is_binary, is_either_binary, same_side, IsDiff, IsBody, IsTextBody};
+ghost use Rattle.reuse_tree.specs.Change.{path_of};
+ghost use Rattle.reuse_undo.specs.DiffText.{head_text, title_text, both_text, mode_text, names_text, side_text, end_text, binary_text, old_binary_text, new_binary_text, is_binary, is_either_binary, part_before, part_after, same_side, IsDiff, IsBody, IsTextBody};
 ghost use Rattle.reuse_undo.specs.Hunks.{hunk_text};
 ghost use Rattle.reuse_undo.specs.RowLines.{AppendsSome};
 
@@ -31,7 +32,11 @@ pub struct Turn<'a> {
 impl<'a> Turn<'a> {
     /// What a change records: a file that is made or removed, or of a range the bytes that give way
     /// and those in their place.
-    pub fn of(change: &'a Change) -> Turn<'a> {
+    pub fn of(change: &'a Change) -> Turn<'a>
+        ensures path { result.path.now ≡ path_of change.now }
+        ensures before { option_copied result.before ≡ part_before change.now }
+        ensures after { option_copied result.after ≡ part_after change.now }
+    {
         let (before, after) = match change {
             Change::Make { new, .. } => (None, Some(new.as_slice())),
             Change::Drop { old, .. } => (Some(old.as_slice()), None),
@@ -45,7 +50,11 @@ impl<'a> Turn<'a> {
     }
 
     /// The turn back.
-    pub fn back(self) -> Turn<'a> {
+    pub fn back(self) -> Turn<'a>
+        ensures path { result.path.now ≡ self.entry.path.now }
+        ensures before { option_copied result.before ≡ option_copied self.entry.after }
+        ensures after { option_copied result.after ≡ option_copied self.entry.before }
+    {
         Turn {
             path: self.path,
             before: self.after,
@@ -118,8 +127,8 @@ fn print_named<W: Write>(out: &mut W, turn: Turn<'_>, hunk: &Hunk<'_>) -> io::Re
     print_hunk(out, hunk)
 }
 
-// The bytes of a file, none of one that isn't there.
-fn bytes_of<'a>(file: Option<&'a [u8]>) -> &'a [u8]
+/// The bytes of a file, none of one that isn't there.
+pub fn bytes_of<'a>(file: Option<&'a [u8]>) -> &'a [u8]
     ensures { result.now ≡ unwrap_or (option_copied file.entry) [] }
 {
     match file {

@@ -18,6 +18,26 @@ impl<'a, P: Eprint + Drop> ErrorOutput<'a, P> {
     pub fn new(to: &'a P, alloc: Global, names: Names) -> ErrorOutput<'a, P> {
         ErrorOutput { to, alloc, names }
     }
+
+    /// Prints a text that has lines of its own. Their ends stay as they are.
+    pub fn eprint_lines(&self, text: &str) -> io::Result<()> {
+        match self.names {
+            Names::AsTheyAre => eprint!(self.to; "{text}"),
+            Names::Escaped => self.eprint_split(text),
+        }
+    }
+
+    fn eprint_split(&self, text: &str) -> io::Result<()> {
+        let mut is_first = true;
+        for line in text.split('\n') {
+            if !is_first {
+                eprintln!(self.to; "")?;
+            }
+            eprint!(self; "{line}")?;
+            is_first = false;
+        }
+        Ok(())
+    }
 }
 
 // Where there is no memory for the text as a terminal needs it, it is printed as it is.

@@ -1,8 +1,10 @@
 //! Lists of files: of the files beneath folders, those that are annotated or amended.
-ghost use Rattle.std.specs.Prelude.{◌≡◌, ◌++◌, IfOk, OnOk};
-ghost use Rattle.std.specs.Option.{option_to_list};
+ghost use Rattle.std.specs.Prelude.{◌≡◌, ◌++◌, IfErr, IfOk, IfSome, OnOk, string_bytes};
+ghost use Rattle.std.specs.Option.{option_map, option_to_list};
 ghost use Rattle.reuse_notice.specs.Sets.{set_of};
-ghost use Rattle.reuse_undo.specs.FileLists.{has_nul, separator_of, path_of_word, path_listed, listed_paths, without_return};
+ghost use Rattle.reuse_undo.specs.LineFaults.{mistake_of, unreadable};
+ghost use Rattle.reuse_undo.specs.ListedCommands.{IsWithList, action_listed, command_listed, deed_listed};
+ghost use Rattle.reuse_undo.specs.FileLists.{has_nul, separator_of, path_of_word, path_listed, listed_paths, paths_within, without_return};
 
 use crate::line::{Action, Deed, Line, LineFault};
 use crate::place_word::place_of_word;
@@ -11,7 +13,7 @@ use reuse_session::{Command, PathList, Place};
 use reuse_tree::PathText;
 use std::alloc::{AllocError, Global};
 use std::fs;
-use std::io::{self, ErrorKind};
+use std::io::{self, ErrorKind, Read};
 use std::rt::Files;
 
 /// The most bytes that a list may have.
@@ -23,7 +25,9 @@ pub fn with_list<R: Files + Input>(
     alloc: Global,
     line: Line,
     files_from: Option<String>,
-) -> Result<Line, LineFault> {
+) -> Result<Line, LineFault>
+    ensures { IsWithList (option_map string_bytes files_from) line result }
+{
     let Some(file) = files_from else {
         return Ok(line);
     };
@@ -41,29 +45,63 @@ pub fn with_list<R: Files + Input>(
 }
 
 /// Of the files beneath folders the command goes through those of the list alone.
-fn set_listed(action: &mut Action, listed: PathList) {
-    if let Action::Do(deed) | Action::Foretell(deed) = action {
-        if let Deed::Run(Command::Annotate { scope, .. } | Command::Amend { scope, .. }) = deed {
-            scope.listed = Some(listed);
-        }
+fn set_listed(action: &mut Action, listed: PathList)
+    ensures { action.new ≡ action_listed listed action.old }
+{
+    match action {
+        Action::Do(deed) => set_deed_listed(deed, listed),
+        Action::Foretell(deed) => set_deed_listed(deed, listed),
+        Action::Log | Action::Show(_) => drop(listed),
     }
 }
 
-fn read_list<R: Files + Input>(rt: &R, alloc: Global, file: &str) -> Result<PathList, LineFault> {
-    match read_bytes(rt, alloc, file) {
-        Ok(bytes) if bytes.len() as u64 <= LONGEST_LIST => Ok(paths_of_list(alloc, &bytes)?),
+fn set_deed_listed(deed: &mut Deed, listed: PathList)
+    ensures { deed.new ≡ deed_listed listed deed.old }
+{
+    match deed {
+        Deed::Run(command) => set_command_listed(command, listed),
+        _ => drop(listed),
+    }
+}
+
+fn set_command_listed(command: &mut Command, listed: PathList)
+    ensures { command.new ≡ command_listed listed command.old }
+{
+    match command {
+        Command::Annotate { scope, .. } => scope.listed = Some(listed),
+        Command::Amend { scope, .. } => scope.listed = Some(listed),
+        _ => drop(listed),
+    }
+}
+
+fn read_list<R: Files + Input>(rt: &R, alloc: Global, file: &str) -> Result<PathList, LineFault>
+    ensures { IfErr result (λ fault. IfSome (mistake_of fault) (λ mistake. mistake ≡ unreadable file.now)) }
+{
+    match read_paths(rt, alloc, file) {
+        Ok(Some(paths)) => Ok(paths),
         Err(error) if error.kind() == ErrorKind::OutOfMemory => Err(LineFault::Memory),
         _ => Err(LineFault::Unreadable(String::from_str(alloc, file)?)),
     }
 }
 
-/// The bytes of a file, or of standard input for `-`, as far as one past the longest list.
-fn read_bytes<R: Files + Input>(rt: &R, alloc: Global, file: &str) -> io::Result<Vec<u8>> {
+/// The paths of the list in a file, or on standard input for `-`; none if the list is too long.
+fn read_paths<R: Files + Input>(rt: &R, alloc: Global, file: &str) -> io::Result<Option<PathList>> {
     if file == "-" {
-        read_front(rt.reader(), alloc, LONGEST_LIST + 1)
+        paths_from(rt.reader(), alloc)
     } else {
-        read_front(fs::open(rt, file)?, alloc, LONGEST_LIST + 1)
+        paths_from(fs::open(rt, file)?, alloc)
     }
+}
+
+/// The paths of the list that a reader has, all of it; none if the list is too long.
+fn paths_from<R: Read + Drop>(reader: R, alloc: Global) -> io::Result<Option<PathList>>
+    ensures { IfOk result (λ paths. IfSome (R.remaining reader) (λ list. paths ≡ paths_within LONGEST_LIST list)) }
+{
+    let list = read_front(reader, alloc, LONGEST_LIST + 1)?;
+    if list.len() as u64 > LONGEST_LIST {
+        return Ok(None);
+    }
+    Ok(Some(paths_of_list(alloc, &list)?))
 }
 
 /// The paths that a list names, one a line, which ends in LF or CR LF, or, where it holds a NUL,

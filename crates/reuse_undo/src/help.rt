@@ -40,6 +40,9 @@ pub const AFTER_AMEND: &str = "\
 PATHs, FILE and GLOB are as those of annotate. No header is made: a PATH without one is unchanged,
 and so is one whose header has nothing of what is named. If one file is refused, none is changed.
 
+DIR/REUSE.toml is amended if it is a PATH, or if `.` is one with --recursive. The values of
+SPDX-License-Identifier and SPDX-FileCopyrightText in its [[annotations]] change, and all else stays.
+
 Texts are compared byte for byte, without their outer spaces. If OLD is an identifier such as
 GPL-2.0, it is replaced within expressions, too, and GPL-2.0+ and GPL-2.0-only are others. First
 licences are replaced, then removed; then holders and contributors; last come years and prefix.

@@ -1,5 +1,6 @@
 //! What a command line asks for.
-ghost use Rattle.std.specs.Prelude.{◌≡◌, if◌then◌else◌};
+ghost use Rattle.std.specs.Prelude.{◌≡◌, Some, if◌then◌else◌};
+ghost use Rattle.reuse_undo.specs.RefusalTexts.{line_fault_text};
 ghost use Rattle.reuse_undo.specs.declared.line.Action.TheVariants as actions;
 ghost use Rattle.reuse_undo.specs.declared.line.ChangeStatus.TheVariants as statuses;
 
@@ -7,7 +8,8 @@ use crate::shown_name::Names;
 use reuse_notice::NoticeRefusal;
 use reuse_session::{Command, EntryNumbers, Ids, Moment};
 use std::alloc::{AllocError, AllocFailed};
-use thiserror::Error;
+use std::error::Error;
+use std::fmt;
 
 /// What changes a tree.
 #[derive(Drop)]
@@ -160,47 +162,69 @@ pub enum Steps {
 }
 
 /// Why words are no line.
-#[derive(Debug, Drop, Error)]
+#[derive(Debug, Drop)]
 pub enum LineFault {
     /// A mistake in the words, with the text for the user.
-    #[error("{0}")]
     Usage(String),
     /// Help or the version was asked for, with the text.
-    #[error("{0}")]
     Help(String),
     /// A word names no place of a tree.
-    #[error("bad path: {0}")]
     BadPath(String),
     /// The arguments of `annotate` or `amend` can't be written, or add nothing.
-    #[error("{0}")]
     BadAdditions(NoticeRefusal),
     /// Nothing that `amend` is to change is given.
-    #[error("nothing to amend")]
     NothingToAmend,
     /// A word is no glob.
-    #[error("bad glob: {0}")]
     BadGlob(String),
     /// The list of files can't be read.
-    #[error("{0}: cannot be read")]
     Unreadable(String),
     /// Memory ran out.
-    #[error("out of memory")]
     Memory,
 }
 
+impl fmt::Display for LineFault {
+    ghost output = { λ fault. Some (line_fault_text fault) };
+
+    fn fmt<W: fmt::Write>(&self, f: &mut fmt::Formatter<W>) -> fmt::Result {
+        match self {
+            LineFault::Usage(text) | LineFault::Help(text) => f.write_str(text.as_str()),
+            LineFault::BadPath(word) => write!(f, "bad path: {word}"),
+            LineFault::BadAdditions(refusal) => write!(f, "{refusal}"),
+            LineFault::NothingToAmend => f.write_str("nothing to amend"),
+            LineFault::BadGlob(word) => write!(f, "bad glob: {word}"),
+            LineFault::Unreadable(file) => write!(f, "{file}: cannot be read"),
+            LineFault::Memory => f.write_str("out of memory"),
+        }
+    }
+}
+
+impl Error for LineFault {}
+
 impl From<AllocError> for LineFault {
+    ghost use Rattle.reuse_undo.specs.declared.line.LineFault.TheVariants as faults;
+
+    ghost from_gives = { λ _ fault. fault ≡ faults.Memory };
+
     fn from(_: AllocError) -> LineFault {
         LineFault::Memory
     }
 }
 
 impl<T: Drop> From<AllocFailed<T>> for LineFault {
+    ghost use Rattle.reuse_undo.specs.declared.line.LineFault.TheVariants as faults;
+
+    ghost from_gives = { λ _ fault. fault ≡ faults.Memory };
+
     fn from(_: AllocFailed<T>) -> LineFault {
         LineFault::Memory
     }
 }
 
 impl From<NoticeRefusal> for LineFault {
+    ghost use Rattle.reuse_undo.specs.declared.line.LineFault.TheVariants as faults;
+
+    ghost from_gives = { λ refusal fault. fault ≡ faults.BadAdditions refusal };
+
     fn from(refusal: NoticeRefusal) -> LineFault {
         LineFault::BadAdditions(refusal)
     }

@@ -1,6 +1,10 @@
 //! `reuse-undo`: adds licensing information to the files of a tree, and takes it back.
 #![tactic(auto)]
 
+ghost use Rattle.std.specs.Prelude.{string_bytes};
+ghost use Rattle.std.specs.Option.{option_map};
+ghost use Rattle.reuse_undo.specs.ListedCommands.{IsAskedWithList};
+
 mod above;
 mod amend_options;
 mod answering;
@@ -19,6 +23,7 @@ mod findings;
 mod forgetting;
 mod glob_word;
 mod help;
+mod laws;
 mod line;
 mod lines;
 mod lock;
@@ -89,7 +94,9 @@ fn said_in<R: Env + AllocGlobal>(rt: &R, alloc: Global, moment: Moment) -> Said 
 }
 
 /// What was asked for, with the list of files that the line names.
-fn whole_asked<R: Files + Input>(rt: &R, alloc: Global, said: Said) -> Result<Asked, LineFault> {
+fn whole_asked<R: Files + Input>(rt: &R, alloc: Global, said: Said) -> Result<Asked, LineFault>
+    ensures { IsAskedWithList (option_map string_bytes said.files_from) said.asked result }
+{
     let Said {
         verbose: _,
         settings: _,

@@ -91,12 +91,13 @@ fn begun_advice(findings: &Findings) -> &'static str {
 fn gone_advice(task: Task) -> &'static str {
     match task {
         Task::Revert | Task::PreviewRevert => {
-            "this file is gone: put it back and call again, or leave it out with --skip-moved"
+            "this file is gone: put it back and call again, or leave it out with --skip-moved; \
+            or reuse-undo forget takes the step out of the history, and leaves all files"
         }
         Task::Redo => "this file is gone: put it back and call again",
         _ => {
             "this file is gone: put it back and call again; or reuse-undo revert --skip-moved takes the step out of the \
-            other files"
+            other files, and reuse-undo forget out of the history alone"
         }
     }
 }
@@ -106,14 +107,16 @@ fn moved_advice(task: Task) -> &'static str {
     match task {
         Task::Revert | Task::PreviewRevert => {
             "what the step wrote doesn't stand in this file as it did: take that change back and call again, \
-            or leave the file as it is with --skip-moved"
+            or leave the file as it is with --skip-moved; or reuse-undo forget takes the step out of the history, \
+            and leaves all files"
         }
         Task::Redo => {
             "this file was changed since the step was taken back: take that change back and call again"
         }
         _ => {
             "this file was changed since: take that change back and call again, or keep it; \
-            reuse-undo revert takes a step out of files that were edited below what it wrote"
+            reuse-undo revert takes a step out of files that were edited below what it wrote, \
+            and reuse-undo forget out of the history alone"
         }
     }
 }
@@ -142,7 +145,8 @@ fn amend_advice(fault: AmendFault) -> &'static str {
             or take the step back that wrote it, by reuse-undo revert"
         }
         AmendFault::CannotBeAmended => {
-            "a value over several lines would change: write it on one line, and call again"
+            "a value over several lines would change, a single one would go, or the file isn't TOML of texts, \
+            whole numbers and truth values: write the value on one line, or amend the file by hand"
         }
     }
 }
@@ -215,6 +219,11 @@ fn note_change(rt: &impl Eprint, task: Task, count: usize) {
         Task::Step | Task::Conversion | Task::Redo | Task::Revert if count > 0 => {
             eprintln!(rt;
                 "reuse-undo: note: {count} {files} changed; reuse-undo undo takes that back"
+            )
+        }
+        Task::Revert => {
+            eprintln!(rt;
+                "reuse-undo: note: the step couldn't be taken out of any file, and stays done; reuse-undo forget takes it out of the history"
             )
         }
         Task::Undo => {

@@ -40,8 +40,8 @@ pub enum Rule {
     Excludes(&'static str),
     /// It has this name too.
     Alias(&'static str),
-    /// It may stand behind the subcommand as well.
-    Global,
+    /// It may stand behind the subcommand as well, and is the one of this order in its help.
+    Global(usize),
 }
 
 /// An option, or words without one: its long name, its short one, what it takes, what else holds of
@@ -81,35 +81,35 @@ pub const BEFORE: &[Argument] = &[
         "root",
         None,
         Takes::Default(".", "DIR"),
-        Rule::Global,
+        Rule::Global(101),
         "Work on the source tree below DIR",
     ),
     Argument(
         "verbose",
         Some('v'),
         Takes::Nothing,
-        Rule::Global,
+        Rule::Global(102),
         "Print notes on standard error, as on a terminal",
     ),
     Argument(
         "no-sync",
         None,
         Takes::Nothing,
-        Rule::Global,
+        Rule::Global(103),
         "Leave out all syncs: faster, but a loss of power can empty files",
     ),
     Argument(
         "allow-owner-change",
         None,
         Takes::Nothing,
-        Rule::Global,
+        Rule::Global(104),
         "Change files even if they can't keep owner and group",
     ),
     Argument(
         "trust-journal",
         None,
         Takes::Nothing,
-        Rule::Global,
+        Rule::Global(105),
         "Open the journal even if it belongs to another user",
     ),
 ];

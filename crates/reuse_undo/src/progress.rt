@@ -14,9 +14,12 @@ const LEAST: u64 = 1_000;
 /// The time between two lines.
 const STEP: u64 = 100;
 
-/// How many files were read and written so far, and how many there are where the call lists the
-/// tree. One line on standard error tells it, which is written over by the next, and cleared before
-/// anything else is told.
+/// A look at one path and its neighbour is a listing, too, of at most so many files.
+const LOOKED_AT: usize = 2;
+
+/// How many files were read and written so far, and how many there are, if the call lists them.
+/// Else how often a file was read or written, since one may be read twice. One line on standard
+/// error tells it, which is written over by the next, and cleared before anything else is told.
 #[derive(Drop)]
 pub struct Progress<R: Clock + Eprint + Drop> {
     rt: R,
@@ -24,8 +27,8 @@ pub struct Progress<R: Clock + Eprint + Drop> {
     start: Option<Instant>,
     read: Cell<u64>,
     written: Cell<u64>,
-    /// How many files the tree has, once it is listed.
-    listed: Cell<Option<usize>>,
+    /// How many files the largest listing had so far.
+    listed: Cell<usize>,
     /// How long the work took so far when the line was written that stands there.
     told: Cell<Option<Duration>>,
 }
@@ -43,7 +46,7 @@ impl<R: Clock + Eprint + Drop> Progress<R> {
             start,
             read: Cell::new(0),
             written: Cell::new(0),
-            listed: Cell::new(None),
+            listed: Cell::new(0),
             told: Cell::new(None),
         }
     }
@@ -64,14 +67,12 @@ impl<R: Clock + Eprint + Drop> Progress<R> {
             return;
         }
         let (read, written) = (self.read.get(), self.written.get());
-        let _ = match self.listed.get() {
-            Some(listed) => {
-                let read = read_of(read, listed);
-                eprint!(&self.rt;
-                    "\r{read} files read of {listed} in the tree, {written} written\x1b[K"
-                )
-            }
-            None => eprint!(&self.rt; "\r{read} files read, {written} written\x1b[K"),
+        let listed = self.listed.get();
+        let _ = if listed > LOOKED_AT {
+            let (read, written) = (count_of(read, listed), count_of(written, listed));
+            eprint!(&self.rt; "\r{read} files read of {listed} listed, {written} written\x1b[K")
+        } else {
+            eprint!(&self.rt; "\r{read} reads, {written} writes\x1b[K")
         };
         self.told.set(Some(elapsed));
     }
@@ -84,12 +85,12 @@ impl<R: Clock + Eprint + Drop> Progress<R> {
     }
 }
 
-/// How many of the files in the tree are told as read. Some are read twice, and the journal's are
-/// no files of the tree.
-fn read_of(read: u64, listed: usize) -> u64
-    ensures { result ≡ min read listed }
+/// How many of the listed files are told as read or written. Some are read twice, and the journal's
+/// are none of them.
+fn count_of(calls: u64, listed: usize) -> u64
+    ensures { result ≡ min calls listed }
 {
-    read.min(listed as u64)
+    calls.min(listed as u64)
 }
 
 /// A writer before whose lines the line of progress is cleared.
@@ -135,8 +136,7 @@ impl<R: Clock + Eprint + Drop> Watcher for Progress<R> {
     }
 
     fn after(&self, _: Global, listed: Option<usize>) {
-        if listed.is_some() {
-            self.listed.set(listed);
-        }
+        let most = self.listed.get();
+        self.listed.set(listed.unwrap_or(0).max(most));
     }
 }

@@ -31,7 +31,7 @@ fn tell<R: Print + Eprint + Drop>(
 ) -> io::Result<()> {
     match fault {
         LineFault::Help(text) => print!(rt; "{text}"),
-        LineFault::Usage(text) => eprint!(rt; "{text}"),
+        LineFault::Usage(text) => errors.eprint_lines(text.as_str()),
         _ => eprintln!(errors; "reuse-undo: {fault}"),
     }
 }

@@ -1,14 +1,16 @@
 //! Carries out on a store what a line asks for.
-ghost use Rattle.std.specs.Prelude.{◌≡◌, ◌≤◌, ◌<◌, IfOk, IfErr, IsTrue, true, false};
+ghost use Rattle.std.specs.Prelude.{◌≡◌, ◌↔◌, ◌≤◌, ◌<◌, IfOk, IfErr, true, false};
 ghost use Rattle.reuse_tree.specs.Asked.{OnlyReads};
+ghost use Rattle.reuse_tree.specs.Files.{Files, tree_of};
 ghost use Rattle.reuse_session.specs.Answer.{HasCause};
 ghost use Rattle.reuse_session.specs.Journal.{State};
-ghost use Rattle.reuse_session.specs.Session.{store_of};
+ghost use Rattle.reuse_session.specs.Session.{store_of, StandsOn};
 ghost use Rattle.reuse_session.specs.Standing.{IsStanding};
 ghost use Rattle.reuse_undo.specs.CarriedOut.{CarriesOut};
+ghost use Rattle.reuse_undo.specs.Drawn.{Foretells, IsDiffOfCall, IsTreeDiff};
 ghost use Rattle.reuse_undo.specs.Requests.{IsLook};
 ghost use Rattle.reuse_undo.specs.RunLine.{HasCallClash, RequestLeaves, IfNoDiff, StandsAccepted};
-ghost use Rattle.reuse_undo.specs.Told.{IsDiffOf, IsNoDiff, IsWanted};
+ghost use Rattle.reuse_undo.specs.Told.{IsDiffOf, IsForeseen, IsNoDiff, IsWanted};
 ghost use Rattle.reuse_undo.specs.WriterFaults.{IsOfDiff, IsUndrawn};
 
 mod calls;
@@ -63,6 +65,8 @@ fn call<S: Store + Drop>(
     ensures fault { IfErr result.1 (HasCause (S.failures store < S.failures result.0)) }
     ensures clash { S.honest result.0 → (held : State) → IsStanding (S.files store) held → IfErr result.1 (HasCallClash request.now held (S.files store)) }
     ensures diff { IfOk result.1 (λ told. IsDiffOf telling told result.2) }
+    ensures drawn { S.honest result.0 → (held : State) → IsStanding (S.files store) held
+        → IfOk result.1 (λ told. IsForeseen telling told → IfOk result.2 (λ text. IsDiffOfCall request.now held text.items)) }
     ensures undrawn { IfNoDiff result.2 (IsUndrawn S.Store store result.0) }
     ensures failures { S.failures store ≤ S.failures result.0 }
     ensures was_honest { S.honest result.0 → S.honest store }
@@ -80,7 +84,7 @@ fn call<S: Store + Drop>(
 
 // Whether a diff is wanted, of a preview without a refusal.
 fn wants_diff(telling: Telling, answer: &Result<Told, Refusal>) -> bool
-    ensures { IsTrue result → IsWanted telling answer.now }
+    ensures { (result ≡ true) ↔ IsWanted telling answer.now }
 {
     match (telling.format, answer) {
         (OutputFormat::Diff, Ok(Told::Reply(Reply::Preview(fates)))) => !is_refused(
@@ -99,6 +103,7 @@ fn close<S: Store + Drop>(
     wants_diff: bool,
 ) -> (S, Result<Vec<u8>, Fault>)
     requires { wants_diff ≡ true → StandsAccepted S.Store request.now session }
+    ensures drawn { wants_diff ≡ true → S.honest result.0 → (held : State) → StandsOn S.files session held → IfOk result.1 (λ text. IsDiffOfCall request.now held text.items) }
     ensures reads { OnlyReads S.Store (store_of session) result.0 }
     ensures none { wants_diff ≡ false → IsNoDiff result.1 }
     ensures diff { IfErr result.1 (IsOfDiff S.Store (store_of session) result.0) }
@@ -116,6 +121,7 @@ fn look<S: Store + Drop>(
     request: &Request,
 ) -> (S, Result<Vec<u8>, Fault>)
     requires { StandsAccepted S.Store request.now session }
+    ensures drawn { S.honest result.0 → (held : State) → StandsOn S.files session held → IfOk result.1 (λ text. IsDiffOfCall request.now held text.items) }
     ensures reads { OnlyReads S.Store (store_of session) result.0 }
     ensures diff { IfErr result.1 (IsOfDiff S.Store (store_of session) result.0) }
 {
@@ -131,6 +137,8 @@ fn draw_from<S: Store + Drop>(
     store: S,
     foreseen: &Foreseen,
 ) -> (S, Result<Vec<u8>, Fault>)
+    ensures drawn { S.honest result.0 → (before : Files) → (after : Files) → tree_of (S.files store) ≡ before → Foretells foreseen.now before after
+        → IfOk result.1 (λ text. IsTreeDiff before after text.items) }
     ensures reads { OnlyReads S.Store store result.0 }
     ensures diff { IfErr result.1 (IsOfDiff S.Store store result.0) }
 {

@@ -1,4 +1,7 @@
 //! What is asked for of all calls alike.
+ghost use Rattle.std.specs.Prelude.{◌≡◌};
+ghost use Rattle.reuse_undo.specs.Choices.{usual_settings};
+
 use crate::disk::{OwnerChange, Syncs};
 
 /// How a call works with the folder, by the options before the subcommand.
@@ -14,7 +17,9 @@ pub struct Settings {
 
 impl Settings {
     /// Those without an option.
-    pub fn usual() -> Settings {
+    pub fn usual() -> Settings
+        ensures { result ≡ usual_settings }
+    {
         Settings {
             syncs: Syncs::Kept,
             owner_change: OwnerChange::Refused,

@@ -1,14 +1,15 @@
 //! Previews: what a call would do, and the changes that a run would record. They only read.
-ghost use Rattle.std.specs.Prelude.{◌≡◌, ◌⊎◌, ◌↔◌, ◌++◌, ◌∷◌, [], List, true, false, length, IfOk, IfErr};
+ghost use Rattle.std.specs.Prelude.{◌≡◌, ◌⊎◌, ◌↔◌, ◌++◌, ◌∷◌, [], List, true, false, length, IfOk, IfErr, IfSome};
 ghost use Rattle.reuse_session.specs.Answer.{IsOfPlan, TellsNoFault};
 ghost use Rattle.reuse_session.specs.Fates.{fates_of};
 ghost use Rattle.reuse_session.specs.History.{entries_ahead};
-ghost use Rattle.reuse_session.specs.Journal.{State, ahead, end_of};
+ghost use Rattle.reuse_session.specs.Journal.{State, ahead, changes_ahead, end_of};
 ghost use Rattle.reuse_session.specs.Machine.{Snapshots, is_full, run_fates, undo_fates, redo_fates};
 ghost use Rattle.reuse_session.specs.Outcome.{outcome_of, edits_of};
 ghost use Rattle.reuse_session.specs.Plan.{IsPlan, IsRefusalOf, Records};
 ghost use Rattle.reuse_session.specs.Previews.{run_fates_on, Foresees, OnlyLooks, IsPreviewRefusal, IsListedPreviewRefusal};
 ghost use Rattle.reuse_session.specs.Session.{store_of, is_broken, memory_of, StandsOn, StandsAt};
+ghost use Rattle.reuse_tree.specs.Entry.{IsEntry};
 ghost use Rattle.reuse_tree.specs.declared.way.Way.TheVariants as go;
 ghost use Rattle.reuse_session.specs.declared.history.ListedEntry.{ListedEntry};
 
@@ -16,12 +17,12 @@ use crate::command::Command;
 use crate::fate::Fates;
 use crate::history::ListedEntry;
 use crate::journal_files::read_entry;
-use crate::plan::plan;
-use crate::plan_fates::plan_fates;
+use crate::plan_run::{plan, plan_fates};
 use crate::reply::Refusal;
-use crate::session::{Session, end_of};
+use crate::session::Session;
+use crate::session::travel::end_of;
 use crate::travel_fates::travel_fates;
-use reuse_tree::{Changes, Store, Way};
+use reuse_tree::{Changes, EntryChanges, Store, Way};
 use std::alloc::Global;
 
 impl<S: Store + Drop> Session<S> {
@@ -111,6 +112,29 @@ impl<S: Store + Drop> Session<S> {
             return Err(Refusal::JournalFull);
         }
         Ok(Changes::new(plan(alloc, &mut self.store, command)?))
+    }
+
+    /// The changes of the step that is next this way, which an undo takes back or a redo makes
+    /// again; none where there is no step.
+    ///
+    /// It is refused as `Broken`, as `BadJournal` where the entry can't be read, or for a fault of
+    /// the store or want of memory.
+    pub fn next_changes(&mut self, alloc: Global, way: Way) -> Result<Option<EntryChanges>, Refusal>
+        ensures broken { (result ≡ Err Refusal.Broken) ↔ (is_broken self.old ≡ true) }
+        ensures exact { S.honest (store_of self.new) → (held : State) → StandsOn S.files self.old held
+            → TellsNoFault result → result ≡ Ok (changes_ahead (ahead way held.journal)) }
+        ensures good { IfOk result (λ found. IfSome found IsEntry) }
+        ensures looks { OnlyLooks S.Store result self.old self.new }
+        ensures refusal { IfErr result IsPreviewRefusal }
+    {
+        if self.broken {
+            return Err(Refusal::Broken);
+        }
+        let Some(listed) = self.history.next(way) else {
+            return Ok(None);
+        };
+        let entry = read_entry(alloc, &mut self.store, listed.number())?;
+        Ok(Some(EntryChanges::new(entry.changes)))
     }
 
     // What going one step this way would do.

@@ -1,5 +1,7 @@
-//! Reading a file that is open.
-ghost use Rattle.std.specs.Prelude.{IfOk};
+//! Reading a file that is open, by any reader.
+ghost use Rattle.std.specs.Prelude.{◌≢◌, IfErr, IfOk, IfSome};
+ghost use Rattle.std.specs.IoError.{error_kind};
+ghost use Rattle.reuse_undo.specs.Readings.{IsReadingOf, IsWholeOf};
 ghost use Rattle.reuse_undo.specs.Within.{IsWithin};
 
 use crate::disk::fault::FolderFault;
@@ -9,17 +11,17 @@ use std::alloc::Global;
 use std::io::{self, ErrorKind, Read};
 
 /// The bytes of a regular file that was of this length, where they are at most `limit`.
-pub fn read_file(
-    file: impl Read + Drop,
+pub fn read_file<R: Read + Drop>(
+    file: R,
     alloc: Global,
     len: u64,
     limit: usize,
 ) -> Result<Reading, FolderFault>
-    ensures { IfOk result (IsWithin limit) }
+    ensures within { IfOk result (IsWithin limit) }
+    ensures whole { IfOk result (λ reading. IfSome (R.remaining file) (λ had. IsReadingOf len limit had reading)) }
 {
     let most = (limit as u64).saturating_add(1);
-    let len = usize::try_from(len).unwrap_or(0);
-    let bytes = read_whole(file.take(most), alloc, len)?;
+    let bytes = read_whole(file.take(most), alloc, len as usize)?;
     if bytes.len() > limit {
         return Ok(Reading::TooLong);
     }
@@ -28,8 +30,12 @@ pub fn read_file(
 
 /// The bytes of a file that is said to have this length. It is asked for one byte more: if it gives
 /// as many as were said, it ends there, as a regular file gives fewer than it is asked for only at
-/// its end. Else it is read on, since it may be longer.
-fn read_whole(mut file: impl Read + Drop, alloc: Global, len: usize) -> io::Result<Vec<u8>> {
+/// its end. Else it is read on, since it may be longer. So of any reader that has no more than was
+/// said all is read, however it is given, and what is read is always its front.
+fn read_whole<R: Read + Drop>(mut file: R, alloc: Global, len: usize) -> io::Result<Vec<u8>>
+    ensures whole { IfOk result (λ bytes. IfSome (R.remaining file) (λ had. IsWholeOf len had bytes.items)) }
+    ensures retried { IfErr result (λ error. error_kind error ≢ ErrorKind.Interrupted) }
+{
     let mut bytes = vec![in alloc; 0; len.saturating_add(1)]?;
     match file.read(&mut bytes) {
         Ok(count) if count == len => {

@@ -2,9 +2,10 @@
 ghost use Rattle.std.specs.Prelude.{◌≡◌, ◌==◌};
 
 use crate::disk::owner::Process;
+use crate::reading::read_front;
 use std::alloc::{AllocError, Global};
 use std::fs::{self, File};
-use std::io::{self, Read};
+use std::io;
 use std::rt::Files;
 
 /// Where the system shows the number, the users and the groups of the process, on lines that begin
@@ -85,11 +86,7 @@ impl Process {
 }
 
 fn read_status(rt: &impl Files<File = File>, alloc: Global) -> io::Result<Vec<u8>> {
-    let mut status = Vec::new(alloc);
-    fs::open(rt, STATUS)?
-        .take(MOST_STATUS)
-        .read_to_end(&mut status)?;
-    Ok(status)
+    read_front(fs::open(rt, STATUS)?, alloc, MOST_STATUS)
 }
 
 /// The lines behind the first one. That has the name of the program, whose bytes needn't be text.

@@ -1,9 +1,9 @@
 //! What is told of an answer.
-ghost use Rattle.std.specs.Prelude.{◌≡◌, ◌⊎◌, [], Err, IfOk, IfErr, OnOk};
+ghost use Rattle.std.specs.Prelude.{◌≡◌, ◌⊎◌, [], Err, IfOk, IfErr, IsOkAnd, OnOk};
 ghost use Rattle.reuse_undo.specs.Outputs.{AddsSome};
 ghost use Rattle.reuse_undo.specs.RowLines.{AppendsSome};
 ghost use Rattle.reuse_undo.specs.RunLine.{IfNoDiff};
-ghost use Rattle.reuse_undo.specs.Told.{Accepts, Finishes, is_refusal, is_refused, IsBehind, IsDiffOf, IsDrawn, IsLinesText, IsTextIn, IsToldText, TellsFailure};
+ghost use Rattle.reuse_undo.specs.Told.{Accepts, Finishes, HasBehind, is_refusal, is_refused, IsBehind, IsDiffOf, IsDrawn, IsForeseen, IsLinesText, IsTextIn, IsToldText, TellsFailure};
 ghost use Rattle.reuse_undo.specs.declared.fault.Fault.TheVariants as faults;
 
 use crate::diff::print_record;
@@ -30,6 +30,7 @@ pub fn finish<O: Sink>(
 ) -> Result<usize, Fault>
     requires { IsDiffOf telling told diff }
     ensures told { Finishes telling told (O.contents out.old) (O.contents out.new) result }
+    ensures behind { IsForeseen telling told → IfOk result (λ count. IsOkAnd diff (λ text. AddsSome (O.contents out.old) (O.contents out.new) (HasBehind telling.names told text.items))) }
     ensures undrawn { IfNoDiff result (λ refusal. (diff ≡ Err (faults.NoDiff refusal)) × (out.new ≡ out.old)) }
     ensures failed { TellsFailure (O.failed out.old) (O.failed out.new) result }
 {
@@ -52,6 +53,7 @@ fn print<O: Sink>(
 ) -> Result<(), Fault>
     requires { IsDiffOf telling told.now diff }
     ensures printed { OnOk result (AddsSome (O.contents out.old) (O.contents out.new) (IsToldText telling told.now)) }
+    ensures behind { IsForeseen telling told.now → OnOk result (IsOkAnd diff (λ text. AddsSome (O.contents out.old) (O.contents out.new) (HasBehind telling.names told.now text.items))) }
     ensures kept { OnOk result (O.failed out.new ≡ O.failed out.old) }
     ensures told { IfErr result (λ fault. Finishes telling told.now (O.contents out.old) (O.contents out.new) (Err fault)) }
     ensures undrawn { IfNoDiff result (λ refusal. (diff ≡ Err (faults.NoDiff refusal)) × (out.new ≡ out.old)) }
@@ -66,6 +68,7 @@ fn print<O: Sink>(
 // What is told of an answer. No part of it is written before it is whole.
 fn text_of(alloc: Global, told: &Told, telling: Telling, diff: &[u8]) -> Result<Vec<u8>, Fault>
     ensures text { (diff.now ≡ []) ⊎ IsDrawn told.now → IfOk result (λ text. IsToldText telling told.now text.items) }
+    ensures behind { telling.format ≡ OutputFormat.Diff → IfOk result (λ text. HasBehind telling.names told.now diff.now text.items) }
     ensures fault { IfErr result (λ fault. fault ≡ faults.Memory) }
 {
     let mut text = Vec::new(alloc);
@@ -82,6 +85,7 @@ fn whole_diff(
 ) -> Result<Vec<u8>, Fault>
     requires { IsDiffOf telling told.now diff }
     ensures behind { IsBehind telling told.now result }
+    ensures same { IsForeseen telling told.now → result ≡ diff }
     ensures undrawn { IfNoDiff result (λ refusal. diff ≡ Err (faults.NoDiff refusal)) }
 {
     match (telling.format, told) {
@@ -111,7 +115,8 @@ fn print_told<W: Write>(
     telling: Telling,
     diff: &[u8],
 ) -> io::Result<()>
-    ensures { (diff.now ≡ []) ⊎ IsDrawn told.now → OnOk result (AppendsSome (W.contents out.old) (W.contents out.new) (IsToldText telling told.now)) }
+    ensures text { (diff.now ≡ []) ⊎ IsDrawn told.now → OnOk result (AppendsSome (W.contents out.old) (W.contents out.new) (IsToldText telling told.now)) }
+    ensures behind { telling.format ≡ OutputFormat.Diff → OnOk result (AppendsSome (W.contents out.old) (W.contents out.new) (HasBehind telling.names told.now diff.now)) }
 {
     match telling.format {
         OutputFormat::Lines => print_lines(out, telling.names, told),

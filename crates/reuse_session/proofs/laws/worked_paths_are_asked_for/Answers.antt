@@ -1,5 +1,14 @@
+use Rattle.reuse_session.proofs.AmendedPlaces.{amended_exactly, amended_given, amended_ascend}
 use Rattle.reuse_session.proofs.Choosing.{worked_exactly, given_exactly, worked_ascend, all_chosen}
 use Rattle.reuse_session.proofs.laws.worked_paths_are_asked_for.Goals as goal
 
 pub returns : goal.returns
-returns c = record { asked = worked_exactly; given = given_exactly; ascend = worked_ascend; all = all_chosen }
+returns c = record {
+  asked = worked_exactly;
+  given = given_exactly;
+  ascend = worked_ascend;
+  all = all_chosen;
+  amended = amended_exactly;
+  amended_given = amended_given;
+  amended_ascend = amended_ascend;
+}

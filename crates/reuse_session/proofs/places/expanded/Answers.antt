@@ -1,4 +1,4 @@
-use Rattle.std.proofs.Common.{◌≡◌, ◌++◌, ◌∙◌, OnOk, sym, ap, subst}
+use Rattle.std.proofs.Common.{◌≡◌, ◌++◌, ◌∙◌, sym, ap, subst}
 use Rattle.reuse_tree.specs.Files.{tree_of}
 use Rattle.reuse_tree.proofs.AskedLemmas.{reads_more}
 use Rattle.reuse_session.specs.Shown.{ShowsPlace}

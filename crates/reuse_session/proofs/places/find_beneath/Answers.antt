@@ -6,7 +6,6 @@ use Rattle.reuse_tree.specs.Files.{tree_of}
 use Rattle.reuse_tree.specs.Listing.{ArePaths, listed_paths}
 use Rattle.reuse_tree.proofs.TreeLemmas.{tree_are_files}
 use Rattle.reuse_session.specs.Choice.{is_passed_over}
-use Rattle.reuse_session.specs.Command.{paths_among}
 use Rattle.reuse_session.specs.Shown.{folders_for, ShowsEach, ShowsPlace}
 use Rattle.reuse_session.specs.Worked.{expanded}
 use Rattle.reuse_session.specs.declared.places.Listing.TheVariants.{Listed}

@@ -1,4 +1,4 @@
-use Rattle.std.proofs.Common.{◌≡◌, ◌∙◌, cond, sym, ap}
+use Rattle.std.proofs.Common.{◌∙◌, cond, sym, ap}
 use Rattle.std.specs.Prelude.{flat_map}
 use Rattle.std.proofs.lemmas.Result.{IfOk-weaker}
 use Rattle.reuse_notice.specs.Sets.{set_of}

@@ -1,4 +1,4 @@
-use Rattle.std.proofs.Common.{◌≡◌, ◌∙◌, ◌==◌, not, true, false, sym, ap}
+use Rattle.std.proofs.Common.{◌∙◌, not, sym, ap}
 use Rattle.reuse_session.proofs.PlaceLemmas.{not_zero}
 use Rattle.reuse_session.proofs.places.stands_alone.Goals as goal
 

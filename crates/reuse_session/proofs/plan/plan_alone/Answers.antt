@@ -1,17 +1,19 @@
-use Rattle.std.proofs.Common.{Err, ap, subst, sym, ◌∙◌}
+use Rattle.std.proofs.Common.{subst, sym}
 use Rattle.reuse_tree.specs.Files.{tree_of}
 use Rattle.reuse_session.specs.Answer.{IsOfPlan}
-use Rattle.reuse_session.specs.Asked.{AnswersPath}
+use Rattle.reuse_session.specs.Asked.{at_by}
+use Rattle.reuse_session.specs.PathPlans.{AnswersPlan}
 use Rattle.reuse_session.specs.Shown.{ShowsPair}
+use Rattle.reuse_session.specs.declared.path_plan.Policy.TheVariants.{Stop}
 use Rattle.reuse_session.proofs.Asking.{later}
 use Rattle.reuse_session.proofs.plan.plan_alone.Goals as goal
 
-pub returns-in-Ok-clause-edit : goal.returns-in-Ok-clause-edit
-returns-in-Ok-clause-edit g c honest =
+pub returns-in-Ok-clause-plan : goal.returns-in-Ok-clause-plan
+returns-in-Ok-clause-plan g c honest =
     let before = c.plan_path.ensures.asks.reads.was_honest honest in
     let same = c.pair_paths.ensures.asks.reads.files before in
-    subst (λ f. AnswersPath c.args.asked.now (tree_of f) c.args.path.now c.plan_path.result) same
-    (c.plan_path.ensures.edit honest
+    subst (λ f. AnswersPlan Stop (tree_of f) (at_by c.args.asked.now (tree_of f) c.args.path.now) c.plan_path.result) same
+    (c.plan_path.ensures.plan honest
     (subst (λ ps. ShowsPair ps (tree_of (g.S.Store.files c.pair_paths.new.store)) c.args.path.now) (sym c.deref.ensures.value)
     (subst (λ f. ShowsPair c.in-Ok.paths.items (tree_of f) c.args.path.now) (sym same) (c.in-Ok.ensures.paths before))))
 

@@ -1,15 +1,16 @@
-use Rattle.std.proofs.Common.{drop}
+use Rattle.std.proofs.Common.{drop, map}
 use Rattle.reuse_session.specs.Shown.{ShowsEach}
 use Rattle.reuse_tree.specs.Files.{tree_of}
 use Rattle.reuse_tree.specs.Asked.{OnlyReads}
-use Rattle.reuse_session.specs.Asked.{done_by}
-use Rattle.reuse_session.proofs.Annotating.{SoFar}
+use Rattle.reuse_session.specs.Asked.{at_by}
+use Rattle.reuse_session.proofs.PathPlanning.{WalkedSoFar}
 use Rattle.reuse_session.proofs.plan.plan_paths.Given as goal
 
--- the store is read alone, and the changes so far do what the edits so far say
+-- the store is read alone, and the plans so far are of the paths so far
 abbrev pub invariant-loop-path : goal.invariant-loop-path
 invariant-loop-path g l = record {
   reads : OnlyReads g.S.Store l.initial.store l.store;
   so_far : g.S.Store.honest l.store → ShowsEach l.listing (tree_of (g.S.Store.files l.initial.store)) l.worked
-      → SoFar (done_by l.asked (tree_of (g.S.Store.files l.initial.store))) (tree_of (g.S.Store.files l.initial.store)) l.worked (drop l.path-index l.worked) l.changes.items;
+      → WalkedSoFar l.policy (tree_of (g.S.Store.files l.initial.store)) (map (at_by l.asked (tree_of (g.S.Store.files l.initial.store))) l.worked)
+      (map (at_by l.asked (tree_of (g.S.Store.files l.initial.store))) (drop l.path-index l.worked)) l.plans.items;
 }

@@ -1,24 +1,37 @@
-use Rattle.std.proofs.Common.{◌≡◌, ◌∙◌, Bool, List, ℕ, Some, None, IsSome, sym, ap, subst, true, false, Err}
+use Rattle.std.proofs.Common.{◌≡◌, ◌∙◌, List, ℕ, Some, None, IsSome, sym, ap, subst, Err}
 use Rattle.std.specs.FinMap.{get}
 use Rattle.reuse_tree.specs.Files.{tree_of}
 use Rattle.reuse_tree.specs.Listing.{is_among}
-use Rattle.reuse_session.specs.AmendmentPlan.{names_of}
+use Rattle.reuse_session.specs.AmendmentPlan.{amended_by, names_of}
 use Rattle.reuse_session.specs.Annotate.{neighbour_of}
 use Rattle.reuse_session.specs.Covered.{is_covered}
 use Rattle.reuse_session.specs.Plan.{AnswersEdit}
 use Rattle.reuse_session.specs.Shown.{ShowsPair}
 use Rattle.reuse_session.specs.declared.reply.Refusal.TheVariants as refusals
-use Rattle.reuse_session.proofs.AmendmentEdits.{uncovered_is, goes_beside, goes_inside}
+use Rattle.reuse_session.proofs.AmendmentEdits.{uncovered_is, goes_beside, goes_inside, goes_to_table}
 use Rattle.reuse_session.proofs.Annotating.{is_absent, some_file}
 use Rattle.reuse_session.proofs.EditLemmas.{some_bytes}
+use Rattle.reuse_session.proofs.PathPlanning.{is_refusal_of}
 use Rattle.reuse_session.proofs.plan_amendment.plan_amended.Given.{Over}
 use Rattle.reuse_session.proofs.plan_amendment.plan_amended.Goals.{After-is_covered}
 use Rattle.reuse_session.proofs.plan_amendment.plan_amended.Goals as goal
 
 pub returns-then-not-is_among-clause-edit : goal.returns-then-not-is_among-clause-edit
 returns-then-not-is_among-clause-edit g c honest are =
-    c.plan_absent.ensures.amended c.args.asked.now.amendments.now c.args.asked.now.scope.now (names_of c.args.asked.now) (tree_of (g.S.Store.files c.args.store.now)) are
-    (sym (c.is_among.ensures are.ordered ∙ ap (is_among c.args.paths.now) c.as_bytes.ensures.bytes) ∙ c.if-not-is_among.true)
+    let tree = tree_of (g.S.Store.files c.args.store.now) in
+    let asked = c.args.asked.now in
+    is_refusal_of (amended_by asked tree c.args.path.now) c.in_ok-absent_refusal.field-0
+    (c.in_ok-absent_refusal.ensures.amended asked.amendments.now asked.scope.now (names_of asked) tree are
+    (sym (c.is_among.ensures are.ordered ∙ ap (is_among c.args.paths.now) c.as_bytes.ensures.bytes) ∙ c.if-not-is_among.true))
+
+pub returns-then-is_table-clause-edit : goal.returns-then-is_table-clause-edit
+returns-then-is_table-clause-edit g c honest are =
+    let tree = tree_of (g.S.Store.files c.args.store.now) in
+    let path = c.args.path.now in
+    let there = sym (c.is_among.ensures are.ordered ∙ ap (is_among c.args.paths.now) c.as_bytes.ensures.bytes) ∙ c.if-not-is_among.false in
+    let file = some_bytes (get tree path) (some_file tree path c.args.paths.now are.there there) in
+    subst (λ r. AnswersEdit tree r c.plan_table.result) (sym (goes_to_table c.args.asked.now tree path file.0 file.1 (sym c.is_table.ensures ∙ c.if-is_table.true)))
+    (c.plan_table.ensures.edit honest file.0 file.1)
 
 -- the tree has a file at the path where it is among those of the tree
 module _ (g : Over) (c : After-is_covered g) (are : ShowsPair c.args.paths.now (tree_of (g.S.Store.files c.args.store.now)) c.args.path.now) where
@@ -37,7 +50,7 @@ pub returns-then-not-is_covered-clause-edit : goal.returns-then-not-is_covered-c
 returns-then-not-is_covered-clause-edit g c honest are =
     let at = (goal.at.returns-then-not-is_covered-clause-edit g c).After-is_covered in
     let tree = tree_of (g.S.Store.files c.args.store.now) in
-    uncovered_is c.args.asked.now tree c.args.path.now (get tree c.args.path.now) (some g at are) (covered g at are ∙ c.if-not-is_covered.true)
+    uncovered_is c.args.asked.now tree c.args.path.now (get tree c.args.path.now) (some g at are) (sym c.is_table.ensures ∙ c.if-is_table.false) (covered g at are ∙ c.if-not-is_covered.true)
     ∙ ap (λ p. Err (refusals.NotCovered p)) (sym c.in_ok-try_clone.ensures)
 
 pub returns-then-is_among-clause-edit : goal.returns-then-is_among-clause-edit

@@ -1,4 +1,4 @@
-use Rattle.std.proofs.Common.{IfOk, ◌∷◌, [], ap, sym, subst, false, ◌∙◌}
+use Rattle.std.proofs.Common.{◌∷◌, [], ap, sym, subst, false, ◌∙◌}
 use Rattle.std.proofs.lemmas.Result.{IfOk-weaker}
 use Rattle.reuse_tree.specs.Files.{tree_of}
 use Rattle.reuse_tree.specs.Listing.{listed_paths}

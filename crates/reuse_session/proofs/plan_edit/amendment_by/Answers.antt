@@ -1,4 +1,4 @@
-use Rattle.std.proofs.Common.{Option, Some, Ok, sym, subst, ap, ◌∙◌}
+use Rattle.std.proofs.Common.{Some, Ok, sym, subst, ap, ◌∙◌}
 use Rattle.reuse_header.specs.Amendment.{amendment_answer, IsAmendmentDue}
 use Rattle.reuse_header.specs.Splices.{splice_of}
 use Rattle.reuse_session.specs.Amend.{amendment_edit}

@@ -2,8 +2,10 @@ use Rattle.std.proofs.Common.{◌≡◌, ◌∙◌, List, ℕ, length, Some, Res
 use Rattle.std.proofs.lemmas.Result.{err_from_is_err_and}
 use Rattle.reuse_header.specs.declared.style.Style.{Style}
 use Rattle.reuse_tree.specs.Files.{Files}
-use Rattle.reuse_session.specs.AnnotationPlan.{place_by, edit_by_place, inside_by}
-use Rattle.reuse_session.specs.Plan.{IsRefusalOf, MakesEdit}
+use Rattle.reuse_session.specs.AnnotationPlan.{place_by, edit_by_place, path_by_place, path_inside_by}
+use Rattle.reuse_session.specs.PathPlans.{IsPlanOf}
+use Rattle.reuse_session.specs.declared.path_plan.Policy.TheVariants.{Stop}
+use Rattle.reuse_session.specs.Plan.{IsRefusalOf}
 use Rattle.reuse_session.specs.Steps.{short_file, StepsTo, StepsBy}
 use Rattle.reuse_session.specs.declared.annotation.Annotation.{Annotation}
 use Rattle.reuse_session.specs.declared.target.Target.TheVariants.{Inside}
@@ -15,8 +17,8 @@ use Rattle.reuse_session.proofs.EditLemmas.{short_is, long_is}
 use Rattle.reuse_session.proofs.plan_place.plan_reading.Goals as goal
 
 steps_inside : (tree : Files) (asked : Annotation) (path bytes : List ℕ) (style : Style) (r : Result Step Refusal) → place_by asked path bytes ≡ Ok (Inside style)
-    → StepsBy tree (inside_by asked path bytes style) r → StepsTo asked tree path bytes r
-steps_inside tree asked path bytes style (Ok (Done change)) e h = subst (λ t. MakesEdit tree (edit_by_place asked tree path bytes t) change) (sym e) h
+    → StepsBy tree (path_inside_by asked path bytes style) r → StepsTo asked tree path bytes r
+steps_inside tree asked path bytes style (Ok (Done plan)) e h = subst (λ t. IsPlanOf Stop tree (path_by_place asked tree path bytes t) plan) (sym e) h
 steps_inside tree asked path bytes style (Ok Beside) e h = absurd h
 steps_inside tree asked path bytes style (Err refusal) e h = subst (λ t. IsRefusalOf (edit_by_place asked tree path bytes t) refusal) (sym e) h
 
@@ -40,5 +42,5 @@ returns-in-Ok-Inside-clause-step c tree bytes here reading =
     let again : c.as_slice-in-Ok-Inside.result.now ≡ bytes = c.as_slice-in-Ok-Inside.ensures ∙ sym same in
     steps_inside tree c.args.asked.now c.args.path.now bytes c.in-Ok-Inside.style c.plan_inside.result
     (subst (λ xs. place_by c.args.asked.now c.args.path.now xs ≡ Ok (Inside c.in-Ok-Inside.style)) first (c.in-Ok-Inside.ensures.target ∙ ap (λ t. Ok t) c.in-Ok-Inside.field-0-is))
-    (subst (λ xs. StepsBy tree (inside_by c.args.asked.now c.args.path.now xs c.in-Ok-Inside.style) c.plan_inside.result) again
+    (subst (λ xs. StepsBy tree (path_inside_by c.args.asked.now c.args.path.now xs c.in-Ok-Inside.style) c.plan_inside.result) again
     (c.plan_inside.ensures.step tree (here ∙ ap (λ xs. Some xs) (sym again))))

@@ -1,4 +1,4 @@
-use Rattle.std.proofs.Common.{◌≡◌, ◌&&◌, IfOk, Bool, true, sym, ap, subst, ◌∙◌}
+use Rattle.std.proofs.Common.{◌≡◌, ◌&&◌, IfOk, true, sym, ap, subst, ◌∙◌}
 use Rattle.reuse_tree.specs.Change.{path_of}
 use Rattle.reuse_tree.specs.Clash.{is_clash}
 use Rattle.reuse_tree.specs.Entry.{makes}

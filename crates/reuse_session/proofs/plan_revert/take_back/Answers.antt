@@ -1,6 +1,5 @@
-use Rattle.std.proofs.Common.{◌∙◌, Ok, Err, sym, ap, subst}
+use Rattle.std.proofs.Common.{◌∙◌, Ok, sym, ap, subst}
 use Rattle.std.specs.FinMap.{get}
-use Rattle.std.proofs.lemmas.Result.{err_from_is_err_and}
 use Rattle.reuse_tree.specs.Change.{path_of}
 use Rattle.reuse_tree.specs.Files.{tree_of}
 use Rattle.reuse_tree.specs.Store.{reading_of}
@@ -9,7 +8,7 @@ use Rattle.reuse_tree.proofs.AskedLemmas.{reads_more}
 use Rattle.reuse_tree.proofs.OfTree.{tree_at}
 use Rattle.reuse_session.specs.Plan.{MakesEdit}
 use Rattle.reuse_session.specs.Previews.{IsLookRefusal}
-use Rattle.reuse_session.proofs.Asking.{told, short, failed, later, look_faults}
+use Rattle.reuse_session.proofs.Asking.{told}
 use Rattle.reuse_session.proofs.RevertPlanning.{found, stuck_by_clash, where_free}
 use Rattle.reuse_session.proofs.plan_revert.take_back.Goals as goal
 

@@ -1,4 +1,4 @@
-use Rattle.std.proofs.Common.{◌≡◌, ◌∙◌, ◌||◌, sym, ap, subst}
+use Rattle.std.proofs.Common.{◌≡◌, ◌∙◌, ◌||◌, sym, ap}
 use Rattle.reuse_session.specs.Annotate.{neighbour_of, goes_beside_unread}
 use Rattle.reuse_session.specs.AnnotationPlan.{own_of}
 use Rattle.reuse_tree.specs.Listing.{is_among}

@@ -1,4 +1,4 @@
-use Rattle.std.proofs.Common.{◌≡◌, ◌↔◌, true, IsTrue, arith, sym, subst, ◌∙◌, List, ℕ, ◌<◌, Result, Ok, Err, IfErr, ap}
+use Rattle.std.proofs.Common.{◌≡◌, ◌↔◌, IsTrue, arith, sym, subst, ◌∙◌, List, ℕ, ◌<◌, Result, Ok, Err, IfErr, ap}
 use Rattle.std.specs.List.{All}
 use Rattle.std.proofs.lemmas.Bool.{false≢true}
 use Rattle.std.proofs.lemmas.List.{take_all}

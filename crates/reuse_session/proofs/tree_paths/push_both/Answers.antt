@@ -1,6 +1,5 @@
-use Rattle.std.proofs.Common.{◌≡◌, ◌∙◌, ◌++◌, ◌∷◌, [], true, false, length, nat_lt, IfSome, IfNone, sym, ap, subst, append_assoc}
+use Rattle.std.proofs.Common.{◌≡◌, ◌∙◌, ◌++◌, ◌∷◌, [], true, false, length, nat_lt, IfSome, IfNone, ap, subst, append_assoc}
 use Rattle.reuse_session.specs.Annotate.{neighbour_of}
-use Rattle.reuse_session.specs.Shown.{neighbours_of}
 use Rattle.reuse_session.proofs.Results.{none_unless_some}
 use Rattle.reuse_session.proofs.ShownLemmas.{pair_of, no_pair}
 use Rattle.reuse_session.proofs.tree_paths.push_both.Goals as goal

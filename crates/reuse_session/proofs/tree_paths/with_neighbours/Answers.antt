@@ -1,4 +1,4 @@
-use Rattle.std.proofs.Common.{◌≡◌, ◌∙◌, ◌++◌, ◌∷◌, ap}
+use Rattle.std.proofs.Common.{◌∙◌, ◌++◌, ◌∷◌, ap}
 use Rattle.std.proofs.lemmas.List.{take_all}
 use Rattle.reuse_session.specs.Shown.{neighbours_of, with_neighbours}
 use Rattle.reuse_session.proofs.ShownLemmas.{pairs_more}

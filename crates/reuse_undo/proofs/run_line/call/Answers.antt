@@ -3,7 +3,9 @@ use Rattle.reuse_session.specs.Session.{store_of}
 use Rattle.reuse_undo.specs.RunLine.{RequestLeaves, HasCallClash}
 use Rattle.reuse_tree.proofs.AskedLemmas.{reads_more}
 use Rattle.reuse_undo.proofs.LookLemmas.{caused}
+use Rattle.reuse_session.proofs.Driving.{stands_still}
 use Rattle.reuse_undo.proofs.CallLemmas.{carried, found_again, unclashed}
+use Rattle.reuse_undo.proofs.DrawnLines.{drawn_where_wanted}
 use Rattle.reuse_undo.proofs.ForeseenLemmas.{stands_accepted}
 use Rattle.reuse_undo.proofs.run_line.call.Goals as goal
 
@@ -79,4 +81,17 @@ pub close-store-requires : goal.close-store-requires
 close-store-requires g c wants =
     let ask = c.ask-answer in
     stands_accepted g.S.Store c.args.request.now c.args.telling ask.result c.in-Ok.opened ask.new.session (λ honest. let found = c.in-Ok.ensures.opened honest in (found.0, found.1)) ask.ensures.meets
-    ask.ensures.looks ask.ensures.kept (c.wants_diff.ensures wants)
+    ask.ensures.looks ask.ensures.kept (c.wants_diff.ensures.0 wants)
+
+pub returns-in-Ok-clause-drawn : goal.returns-in-Ok-clause-drawn
+returns-in-Ok-clause-drawn g c honest held standing =
+    let files = g.S.Store.files in
+    let ask = c.ask-answer in
+    let close = c.close-store in
+    let is_honest = close.ensures.reads.was_honest honest in
+    let was_honest = ask.ensures.was_honest is_honest in
+    let found =
+    found_again files (files c.args.store) c.in-Ok.opened held standing (c.in-Ok.ensures.opened was_honest) (λ first second doubt. c.in-Ok.ensures.settles first second doubt was_honest) in
+    drawn_where_wanted c.args.telling c.args.request.now held ask.result close.result.1 (λ wanted look.
+    close.ensures.drawn (c.wants_diff.ensures.1 wanted) honest held
+    (stands_still files c.in-Ok.opened ask.new.session held found.0 (ask.ensures.kept look) ((ask.ensures.looks look).files is_honest)))

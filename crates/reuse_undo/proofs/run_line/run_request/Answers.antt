@@ -1,8 +1,16 @@
-use Rattle.std.proofs.Common.{◌≡◌, ◌<◌, Ok, Err, IfErr, refl, subst}
+use Rattle.std.proofs.Common.{◌≡◌, ◌<◌, Ok, Err, IfOk, IfErr, refl, subst}
+use Rattle.std.proofs.lemmas.Result.{IfOk-at_ok}
 use Rattle.reuse_session.specs.Answer.{HasCause}
+use Rattle.reuse_session.specs.Stops.{Point, AreLeft}
+use Rattle.reuse_undo.specs.AfterStops.{AnswersAfterStop}
+use Rattle.reuse_undo.specs.Drawn.{IsDiffOfCall}
 use Rattle.reuse_undo.specs.RunLine.{HasCallClash, RequestLeaves, FollowsMachine}
+use Rattle.reuse_undo.specs.Told.{IsForeseen}
 use Rattle.reuse_undo.specs.WriterFaults.{IsUndrawn}
+use Rattle.reuse_undo.specs.declared.request.Told.{Told}
+use Rattle.reuse_undo.proofs.AfterStopLemmas.{answers_after_stop, told_of_end}
 use Rattle.reuse_undo.proofs.DiffLemmas.{undrawn_told}
+use Rattle.reuse_undo.proofs.DrawnLines.{drawn_in_lines, previews_tell, told_diff}
 use Rattle.reuse_undo.proofs.MachineLemmas.{carries_as, carries_step, told_of, no_refusal}
 use Rattle.reuse_undo.proofs.run_line.run_request.Goals as goal
 
@@ -22,6 +30,17 @@ returns-in-Ok g c =
       exact = λ honest. told_of c.args.telling (λ answer. RequestLeaves before request answer after) c.in-Ok.told old new outcome (carries honest) told;
       machine = λ honest state held.
           told_of c.args.telling (λ answer. FollowsMachine state request answer after) c.in-Ok.told old new outcome (carries_step state before request (Ok c.in-Ok.told) after held (carries honest)) told;
+      after_stop = λ honest start found.
+          let Ends = (λ (end : Point). AreLeft after end.state end.next) in
+          told_of_end c.args.telling (λ end answer. AnswersAfterStop request answer start end) Ends old new outcome
+          (told_of c.args.telling (λ answer. (end : Point) × AnswersAfterStop request answer start end × Ends end) c.in-Ok.told old new outcome
+          (answers_after_stop before request (Ok c.in-Ok.told) after start found (carries honest)) told);
+      drawn = λ honest held standing wants tree would.
+          let tells = previews_tell request held tree before after c.in-Ok.told would (carries honest) in
+          drawn_in_lines c.args.telling held.tree tree c.in-Ok.told tells.0 old new outcome c.call-store.result.2 tells.1 wants told c.finish.ensures.behind
+          (λ foreseen. told_diff request held tree c.call-store.result.2 would
+          (IfOk-at_ok (λ (answer : Told). IsForeseen c.args.telling answer → IfOk c.call-store.result.2 (λ text. IsDiffOfCall request held text.items)) c.in-Ok.is
+          (c.call-store.ensures.drawn honest held standing) foreseen));
       looks = c.call-store.ensures.looks;
       quiet = no_refusal _ _ _ _ outcome (λ refusal. c.finish.new.out ≡ c.args.out.now) told;
       failed = c.finish.ensures.failed;
@@ -42,6 +61,8 @@ returns-in-Err g c =
     record {
       exact = λ honest. (carries honest, refl);
       machine = λ honest state held. (carries_step state before request (Err c.in-Err.refusal) after held (carries honest), refl);
+      after_stop = λ honest start found. let at = answers_after_stop before request (Err c.in-Err.refusal) after start found (carries honest) in (at.0, (at.1, refl), at.2);
+      drawn = λ honest held standing wants tree would. tt;
       looks = c.call-store.ensures.looks;
       quiet = refl;
       failed = refl;

@@ -1,21 +1,33 @@
-use Rattle.std.proofs.Common.{subst, ◌∙◌}
-use Rattle.std.specs.List.{Contains}
+use Rattle.std.proofs.Common.{◌≡◌, ◌∙◌, List, Option, Some, None, Result, Ok, IfSome, sym, subst}
+use Rattle.reuse_session.specs.Journal.{ahead, changes_ahead}
 use Rattle.reuse_session.specs.Session.{store_of}
+use Rattle.reuse_session.specs.declared.reply.Refusal.{Refusal}
+use Rattle.reuse_tree.specs.Entry.{IsEntry}
+use Rattle.reuse_tree.specs.declared.change.Change.{Change}
 use Rattle.reuse_undo.specs.WriterFaults.{IsUndrawn}
-use Rattle.reuse_undo.proofs.DiffLemmas.{undrawn_look, handed_on}
-use Rattle.reuse_undo.proofs.ForeseenLemmas.{show_kind}
-use Rattle.reuse_undo.proofs.LookLemmas.{show_peeks}
+use Rattle.reuse_undo.proofs.DiffLemmas.{handed_on, undrawn_look}
+use Rattle.reuse_undo.proofs.ForeseenLemmas.{next_kind}
+use Rattle.reuse_undo.proofs.TreeDiffLemmas.{next_is, travel_foretells, travel_none}
 use Rattle.reuse_undo.proofs.run_line.drawn.foresee_step.Goals as goal
 
-pub returns-in_err-shown-clause-fault : goal.returns-in_err-shown-clause-fault
-returns-in_err-shown-clause-fault g c =
+pub returns-in_err-changes-clause-fault : goal.returns-in_err-changes-clause-fault
+returns-in_err-changes-clause-fault g c =
     let store = g.S.Store in
     let old = c.args.session.now in
-    let new = c.show.new.self in
-    let row = c.in-Some.ensures in
-    let peeks = show_peeks store c.show.result old new c.show.ensures.reads c.show.ensures.kept c.show.ensures.fails c.show.ensures.call in
-    handed_on (IsUndrawn store (store_of old) (store_of new)) c.show.result c.in_err-shown.field-0.0 c.from_residual-in_err-shown.result c.in_err-shown.was c.from_residual-in_err-shown.ensures.1
-    (undrawn_look store (store_of old) (store_of new) c.show.result c.show.ensures.fails (λ honest.
-    let at = c.requires (c.show.ensures.reads.was_honest honest) in
-    let is_in = subst (λ rows. Contains rows row.0) (c.as_slice.ensures ∙ c.in_ok-rows.ensures.exact at.0 at.1) row.1 in
-    show_kind at.0.journal c.in-Some.number row.0 c.show.result is_in row.2 (c.show.ensures.exact honest at.0 at.1) (peeks.unstopped at.1.whole)))
+    let new = c.next_changes.new.self in
+    let told = c.next_changes.ensures in
+    handed_on (IsUndrawn store (store_of old) (store_of new)) c.next_changes.result c.in_err-changes.field-0.0 c.from_residual.result c.in_err-changes.was c.from_residual.ensures.1
+    (undrawn_look store (store_of old) (store_of new) c.next_changes.result told.looks.fails (λ honest.
+    let at = c.requires (told.looks.reads.was_honest honest) in
+    next_kind c.next_changes.result (changes_ahead (ahead c.args.way (at.0).journal)) (told.exact honest at.0 at.1) told.refusal))
+
+pub returns-in-Some-clause-foretells : goal.returns-in-Some-clause-foretells
+returns-in-Some-clause-foretells g c honest held stands reply new travels =
+    let next = next_is _ (changes_ahead (ahead c.args.way held.journal)) (c.in_ok-changes.ensures.exact honest held stands tt) in
+    travel_foretells c.args.way (ahead c.args.way held.journal) held reply new c.in-Some.changes travels (sym next ∙ c.in-Some.is)
+    (subst (λ (found : Option (List Change)). IfSome found IsEntry) c.in-Some.is c.in_ok-changes.ensures.good)
+
+pub returns-in-None-clause-foretells : goal.returns-in-None-clause-foretells
+returns-in-None-clause-foretells g c honest held stands reply new travels =
+    let next = next_is _ (changes_ahead (ahead c.args.way held.journal)) (c.in_ok-changes.ensures.exact honest held stands tt) in
+    absurd (travel_none c.args.way (ahead c.args.way held.journal) held reply new travels (sym next ∙ c.in-None.is))

@@ -1,4 +1,4 @@
-use Rattle.std.proofs.Common.{◌≡◌, ℕ, Bool, List, Result, Ok, Err}
+use Rattle.std.proofs.Common.{◌≡◌, ℕ, Bool, List, Result, Ok, Err, IfOk}
 use Rattle.reuse_session.specs.declared.reply.Refusal.{Refusal}
 use Rattle.reuse_undo.specs.Outputs.{AddsSome}
 use Rattle.reuse_undo.specs.RunLine.{IfNoDiff}
@@ -15,6 +15,11 @@ told telling answer old new (Ok count) accepts appends = (appends, accepts)
 told telling answer old new (Err (WouldRefuse fates)) accepts appends = (appends, accepts)
 told telling answer old new (Err fault) accepts appends = absurd accepts
 
+-- what holds however the answer is accepted
+either_way : {T E : Type 0} {P : Type 0} (result : Result T E) → P → IfOk result (λ value. P)
+either_way (Ok value) holds = holds
+either_way (Err fault) holds = tt
+
 drawn : (answer : Told) (Claim : Refusal → Type 0) (result : Result ℕ Fault) → Accepts answer result → IfNoDiff result Claim
 drawn answer Claim (Ok count) accepts = tt
 drawn answer Claim (Err (WouldRefuse fates)) accepts = tt
@@ -29,6 +34,7 @@ pub returns-in-Ok : goal.returns-in-Ok
 returns-in-Ok g c =
     record {
       told = told c.args.telling c.args.told _ _ c.accept.result c.accept.ensures c.in-Ok.ensures.printed;
+      behind = λ foreseen. either_way c.accept.result (c.in-Ok.ensures.behind foreseen);
       undrawn = drawn c.args.told _ c.accept.result c.accept.ensures;
       failed = written c.args.told _ _ c.accept.result c.accept.ensures c.in-Ok.ensures.kept;
     }

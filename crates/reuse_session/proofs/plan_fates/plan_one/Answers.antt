@@ -1,9 +1,0 @@
-use Rattle.std.proofs.Common.{subst, sym, ◌∙◌}
-use Rattle.reuse_tree.specs.Files.{tree_of}
-use Rattle.reuse_session.specs.Shown.{ShowsOne, ShowsPair}
-use Rattle.reuse_session.proofs.plan_fates.plan_one.Goals as goal
-
-pub returns-in-Listed-clause-adds : goal.returns-in-Listed-clause-adds
-returns-in-Listed-clause-adds g c honest are =
-    let tree = tree_of (g.S.Store.files c.args.store.now) in
-    c.plan_next.ensures.adds honest (subst (λ ps. ShowsPair ps tree c.args.path.now) (sym c.as_slice.ensures) (subst (λ l. ShowsOne l tree c.args.path.now) c.in-Listed.is are))

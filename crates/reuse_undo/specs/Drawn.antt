@@ -1,0 +1,110 @@
+-- The diff of a dry run: of each path that would change, its file as it is and as the call would leave it.
+use Rattle.std.specs.Prelude.{◌≡◌, ◌+◌, ◌≤◌, ℕ, Bool, List, [], ◌++◌, length, Ok}
+use Rattle.std.specs.FinMap.{get}
+use Rattle.std.specs.List.{All}
+use Rattle.reuse_text.specs.declared.TheConstants.{LONGEST_FILE}
+use Rattle.reuse_tree.specs.Change.{path_of, inverse_of}
+use Rattle.reuse_tree.specs.Entry.{paths_of, IsSmall, LeadsBy}
+use Rattle.reuse_tree.specs.Files.{Files}
+use Rattle.reuse_tree.specs.Tree.{changed_paths}
+use Rattle.reuse_tree.specs.declared.change.Change.{Change}
+use Rattle.reuse_tree.specs.declared.way.Way.{Way}
+use Rattle.reuse_tree.specs.declared.way.Way.TheVariants as go
+use Rattle.reuse_session.specs.Journal.{State}
+use Rattle.reuse_session.specs.RevertCalls.{Reverts}
+use Rattle.reuse_session.specs.declared.events.Event.{Event}
+use Rattle.reuse_session.specs.declared.events.Event.TheVariants as events
+use Rattle.reuse_session.specs.declared.fate.Call.{Call}
+use Rattle.reuse_session.specs.declared.fate.Call.TheVariants as calls
+use Rattle.reuse_session.specs.declared.fate.Fate.{Fate}
+use Rattle.reuse_session.specs.declared.reply.Reply.{Reply as SessionReply}
+use Rattle.reuse_session.specs.declared.reply.Reply.TheVariants.{Preview}
+use Rattle.reuse_session.specs.declared.reply.Reverted.{Reverted}
+use Rattle.reuse_undo.specs.DiffText.{IsDiff}
+use Rattle.reuse_undo.specs.RowLines.{AreJoined}
+use Rattle.reuse_undo.specs.RunLine.{CallLeadsTo}
+use Rattle.reuse_undo.specs.Told.{IsLinesText}
+use Rattle.reuse_undo.specs.declared.request.Request.{Request}
+use Rattle.reuse_undo.specs.declared.request.Request.TheVariants as requests
+use Rattle.reuse_undo.specs.declared.request.Told.TheVariants.{Reply}
+use Rattle.reuse_undo.specs.declared.shown_name.Names.{Names}
+use Rattle.reuse_undo.specs.declared.run_line.drawn.Foreseen.{Foreseen}
+use Rattle.reuse_undo.specs.declared.run_line.drawn.Foreseen.TheVariants.{Nothing, Run, Step}
+
+-- the diff of what a path holds in the one tree and in the other
+abbrev pub IsPathDiff : Files → Files → List ℕ → List ℕ → Type 0
+IsPathDiff before after path text = IsDiff path (get before path) (get after path) text
+
+-- the diffs of what the paths of the changes hold in the one tree and in the other, one behind the other
+abbrev pub AreDiffs : Files → Files → List Change → List ℕ → Type 0
+AreDiffs before after changes text = AreJoined (λ change. IsPathDiff before after (path_of change)) changes text
+
+-- gone through this way, changes of small files lead from the one tree to the other
+pub record AreSmallSteps (way : Way) (changes : List Change) (before after : Files) : Type 0 where
+  pub small : All IsSmall changes
+  pub leads : LeadsBy way changes before after
+
+-- the changes that are foreseen, and the way that they are gone through
+abbrev pub changes_in : Foreseen → List Change
+changes_in Nothing = []
+changes_in (Run changes) = changes
+changes_in (Step way changes) = changes
+
+abbrev pub way_in : Foreseen → Way
+way_in (Step way changes) = way
+way_in foreseen = go.Do
+
+-- what is foreseen leads from the one tree to the other
+abbrev pub WouldLead : Foreseen → Files → Files → Type 0
+WouldLead foreseen before after = AreSmallSteps (way_in foreseen) (changes_in foreseen) before after
+
+-- ---- the two trees
+
+-- the call of which this is the dry run
+abbrev pub made : Call → ℕ → Event
+made (calls.Run command) when = events.Run command when
+made calls.Undo when = events.Undo
+made calls.Redo when = events.Redo
+
+-- Made on the standing, the call whose dry run is asked for is accepted and leaves this tree.
+abbrev pub WouldLeave : Request → State → Files → Type 0
+WouldLeave (requests.Call (events.Preview call)) held after =
+    (when : ℕ) × (reply : SessionReply) × (new : State) × CallLeadsTo (made call when) held (Ok reply) new × (new.tree ≡ after)
+WouldLeave (requests.PreviewRevert number skip_moved) held after =
+    (when : ℕ) × (reverted : Reverted) × (new : State) × Reverts number skip_moved when held (Ok reverted) new × (new.tree ≡ after)
+WouldLeave request held after = ⊥
+
+-- the diff of two trees: of each path at which they differ, in byte order, what it holds in the one and in the other
+abbrev pub IsTreeDiff : Files → Files → List ℕ → Type 0
+IsTreeDiff before after text = AreJoined (IsPathDiff before after) (changed_paths before after) text
+
+-- a dry run's lines, and behind them the diff of two trees
+pub record IsDrawnText (names : Names) (before after : Files) (text : List ℕ) : Type 0 where
+  pub fates : List Fate
+  pub lines : List ℕ
+  pub diff : List ℕ
+  pub told : IsLinesText names (Reply (Preview fates)) lines
+  pub drawn : IsTreeDiff before after diff
+  pub whole : text ≡ lines ++ diff
+
+-- ---- for private clauses
+
+-- what is foreseen leads from the one tree to the other, by changes of the paths at which they differ
+pub record Foretells (foreseen : Foreseen) (before after : Files) : Type 0 where
+  pub leads : WouldLead foreseen before after
+  pub paths : changed_paths before after ≡ paths_of (changes_in foreseen)
+
+-- whatever tree the call would leave, this is the diff of the tree that stands and of that one
+abbrev pub IsDiffOfCall : Request → State → List ℕ → Type 0
+IsDiffOfCall request held text = (after : Files) → WouldLeave request held after → IsTreeDiff held.tree after text
+
+-- the change that is made where a change is gone through this way
+abbrev pub gone : Way → Change → Change
+gone go.Do change = change
+gone go.Undo change = inverse_of change
+
+-- the range lies within the file, and neither that nor the new bytes are too long
+pub record IsRangeWithin (file : List ℕ) (at : ℕ) (old new : List ℕ) : Type 0 where
+  pub within : at + length old ≤ length file
+  pub small : length file ≤ LONGEST_FILE
+  pub new_small : length new ≤ LONGEST_FILE

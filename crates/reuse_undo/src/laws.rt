@@ -1,0 +1,16 @@
+//! What the contracts of the program say of lines that follow one another.
+ghost use Rattle.std.specs.Prelude.{List};
+ghost use Rattle.reuse_session.specs.Stops.{Point, AreLeft};
+ghost use Rattle.reuse_undo.specs.LinesInTurn.{CarriedLine, HoldsSame, AreInTurn, RunAsModel};
+
+use crate::output::Sink;
+use reuse_tree::Store;
+
+/// Lines are carried out one after the other, each on the files that the one before it left, as
+/// `run_request` and `run_on_folder` do. Each may be stopped, by any failure of its store, and so
+/// may the rollback with which the next one begins. Then what they tell is a run of the model with
+/// stops, and the files are left where that run is.
+pub fn lines_run_as_the_model<S: Store, O: Sink>()
+    ensures stops { (lines : List (CarriedLine S O)) (first last : S) (start : Point) → AreInTurn (HoldsSame S.Store) S.Store O.contents O.failed first lines last
+        → AreLeft (S.files first) start.state start.next → (end : Point) × RunAsModel O.contents lines start end × AreLeft (S.files last) end.state end.next }
+{}
