@@ -14,7 +14,10 @@ notes=0
 # The one note that is told without -v and a terminal, too
 always='^reuse-undo: note: step [0-9]+, which a stopped run had begun, was set back \([0-9]+ files?\)$'
 
-# Words, and the call with this root, as a text for a shell
+# Words, and the call with this root, as a text for bash, which `script` then runs, since another
+# shell may not read `$'..'`
+SHELL=$(command -v bash)
+export SHELL
 spelt() { printf '%q ' "$@"; }
 spelt_call() { spelt "$program" --root "$tree" "$@"; }
 
