@@ -1,5 +1,5 @@
 -- The diff that stands behind an answer's lines.
-use Rattle.std.proofs.Common.{◌≡◌, ◌≤◌, inl, inr, ℕ, Bool, true, false, Result, Ok, Err, IfOk, IfErr, IsErrAnd, refl, sym, ap, subst, arith}
+use Rattle.std.proofs.Common.{◌≡◌, ◌≤◌, inl, inr, ℕ, List, [], Bool, true, false, Result, Ok, Err, IfOk, IfErr, IsErrAnd, refl, sym, ap, subst, arith}
 use Rattle.std.specs.declared.vec.Vec.{Vec}
 use Rattle.reuse_tree.specs.Asked.{OnlyReads, FailsAsRead}
 use Rattle.reuse_tree.specs.declared.fault.StoreFault.{StoreFault}
@@ -9,11 +9,15 @@ use Rattle.reuse_session.specs.Answer.{RefusedAsRead}
 use Rattle.reuse_session.specs.Cause.{refusal_of}
 use Rattle.reuse_session.specs.Previews.{IsLookRefusal}
 use Rattle.reuse_session.specs.declared.reply.Refusal.{Refusal}
+use Rattle.reuse_session.specs.declared.reply.Reply.TheVariants as replies
 use Rattle.reuse_undo.specs.declared.fault.Fault.{Fault}
 use Rattle.reuse_undo.specs.declared.fault.Fault.TheVariants as faults
+use Rattle.reuse_undo.specs.declared.line.OutputFormat.TheVariants.{Diff}
 use Rattle.reuse_undo.specs.declared.line.Telling.{Telling}
 use Rattle.reuse_undo.specs.declared.request.Told.{Told}
-use Rattle.reuse_undo.specs.Told.{IsBehind, IsDiffOf, IsDrawn, IsForeseen, IsNoDiff, IsWanted}
+use Rattle.reuse_undo.specs.declared.request.Told.TheVariants as tells
+use Rattle.reuse_undo.specs.Told.{Finishes, IsBehind, IsDiffBehind, IsDiffOf, IsForeseen, IsNoDiff, IsNoRecord, IsToldText, IsWanted}
+use Rattle.reuse_undo.specs.Outputs.{AddsFront}
 use Rattle.reuse_undo.specs.RunLine.{IfNoDiff}
 use Rattle.reuse_undo.specs.WriterFaults.{IsOfDiff, IsUndrawn}
 
@@ -35,16 +39,34 @@ diff_for store old new telling (Err refusal) diff b is none fault = tt
 diff_for store old new telling (Ok told) diff true is none fault = wanted store old new telling told diff (is refl) fault
 diff_for store old new telling (Ok told) diff false is none fault = unwanted telling told diff (none refl)
 
-foreseen_drawn : (telling : Telling) (told : Told) → IsForeseen telling told → IsDrawn told
-foreseen_drawn telling told is = subst IsDrawn (sym is.2) is.3
+-- no diff stands behind an answer that has none
+none_behind : (told : Told) (diff : List ℕ) → IsNoRecord told → diff ≡ [] → IsDiffBehind told diff
+none_behind (tells.Reply (replies.Preview fates)) diff is none = inl none
+none_behind (tells.Reply replies.Opened) diff is none = none
+none_behind (tells.Reply (replies.Changed paths)) diff is none = none
+none_behind (tells.Reply replies.NothingChanged) diff is none = none
+none_behind (tells.Reply (replies.Undone paths)) diff is none = none
+none_behind (tells.Reply (replies.Redone paths)) diff is none = none
+none_behind (tells.Reply (replies.Log rows)) diff is none = none
+none_behind (tells.Shown shown) diff is none = absurd is
+none_behind (tells.Reverted reverted) diff is none = none
 
--- and behind the lines
-pub behind : {A : Type 0} (telling : Telling) (told : Told) (diff : Result (Vec ℕ A) Fault) → IsDiffOf telling told diff → IsBehind telling told diff
-behind telling told (Ok diff) (inl none) = inl none
-behind telling told (Ok diff) (inr is) = inr (foreseen_drawn telling told is)
-behind telling told (Err (faults.NoDiff refusal)) is = is
-behind telling told (Err faults.Memory) is = is
-behind telling told (Err other) is = is
+-- some, of a call that was only looked at
+foreseen_behind : (telling : Telling) (told : Told) (diff : List ℕ) → IsForeseen telling told → IsDiffBehind told diff
+foreseen_behind telling told diff is = subst (λ t. IsDiffBehind t diff) (sym is.2) (inr is.3)
+
+-- and behind the lines of an answer that is no step
+pub behind : {A : Type 0} (telling : Telling) (told : Told) (diff : Result (Vec ℕ A) Fault) → (telling.format ≡ Diff → IsNoRecord told) → IsDiffOf telling told diff → IsBehind telling told diff
+behind telling told (Ok diff) is (inl none) = λ format. none_behind told diff.items (is format) none
+behind telling told (Ok diff) is (inr foreseen) = λ format. foreseen_behind telling told diff.items foreseen
+behind telling told (Err (faults.NoDiff refusal)) is foreseen = foreseen
+behind telling told (Err faults.Memory) is same = same
+behind telling told (Err other) is same = same
+
+-- an output that failed took a front part of what is told
+pub cut_short : (telling : Telling) (told : Told) (old new text : List ℕ) (fault : Fault) → fault ≡ faults.Write → IsToldText telling told text → AddsFront old new text
+    → Finishes telling told old new (Err fault)
+cut_short telling told old new text fault is tells front = subst (λ f. Finishes telling told old new (Err f)) (sym is) (text, tells, front)
 
 -- ---- what can't be drawn has its cause
 

@@ -9,7 +9,7 @@ use Rattle.reuse_undo.specs.declared.shown_name.Names.{Names}
 use Rattle.reuse_undo.specs.declared.request.Told.{Told}
 use Rattle.reuse_undo.specs.Lines.{change_lines, IsShownText}
 use Rattle.reuse_undo.specs.RowLines.{AreJoined, AppendsSome, IsRowLine}
-use Rattle.reuse_undo.specs.Told.{IsDrawn, IsLinesText, IsTextIn, HasBehind}
+use Rattle.reuse_undo.specs.Told.{IsDiffBehind, IsLinesText, IsTextIn, HasBehind}
 
 AreJoined-push : {A : Type 0} (IsText : A → List ℕ → Type 0) (xs : List A) (x : A) (text line : List ℕ) → AreJoined IsText xs text → IsText x line
     → AreJoined IsText (xs ++ x ∷ []) (text ++ line)
@@ -46,6 +46,6 @@ pub AppendsSome-behind : (names : Names) (told : Told) (diff : List ℕ) (old mi
     → AppendsSome old new (HasBehind names told diff)
 AppendsSome-behind names told diff old mid new lines rest = (lines.0 ++ diff, ((lines.0, lines.1.0, refl), Appends-trans old mid new lines.0 diff lines.1.1 rest))
 
-pub AppendsSome-diff : (names : Names) (told : Told) (diff : List ℕ) (old mid new : Option (List ℕ)) → (diff ≡ []) ⊎ IsDrawn told → AppendsSome old mid (IsLinesText names told) → Appends mid new diff
+pub AppendsSome-diff : (names : Names) (told : Told) (diff : List ℕ) (old mid new : Option (List ℕ)) → IsDiffBehind told diff → AppendsSome old mid (IsLinesText names told) → Appends mid new diff
     → AppendsSome old new (IsTextIn Diff names told)
 AppendsSome-diff names told diff old mid new may lines rest = (lines.0 ++ diff, ((lines.0, diff, lines.1.0, may, refl), Appends-trans old mid new lines.0 diff lines.1.1 rest))

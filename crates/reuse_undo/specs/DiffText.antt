@@ -1,11 +1,16 @@
 -- The text of the diff of a file, as git writes and reads it.
 use Rattle.std.specs.Prelude.{◌≡◌, ◌≢◌, ℕ, ◌+◌, ◌/◌, ◌%◌, Bool, true, false, not, ◌&&◌, ◌||◌, ◌==◌, nat_le, List, [], ◌∷◌, ◌++◌, Option, None, Some, is_none, if◌then◌else◌, codes, MatchBool, unwrap_or}
+use Rattle.std.specs.Fmt.{decimal}
 use Rattle.std.specs.List.{flat_map, list_any}
 use Rattle.std.specs.Str.{bytes_eq}
+use Rattle.reuse_tree.specs.Change.{path_of}
 use Rattle.reuse_tree.specs.declared.change.Change.{Change}
 use Rattle.reuse_tree.specs.declared.change.Change.TheVariants.{Make, Drop, Splice}
 use Rattle.reuse_undo.specs.declared.diff.hunk.Hunk.{Hunk}
-use Rattle.reuse_undo.specs.Hunks.{IsHunk, hunk_text}
+use Rattle.reuse_undo.specs.declared.diff.hunk.Piece.{Piece}
+use Rattle.reuse_undo.specs.Hunks.{IsHunk, hunk_text, old_lines, new_lines, piece_text}
+use Rattle.reuse_undo.specs.RowLines.{AreJoined}
+use Rattle.reuse_undo.specs.TextLines.{AreLinesOf}
 
 -- ---- what a change records
 
@@ -128,3 +133,35 @@ abbrev pub IsDiff : List ℕ → Option (List ℕ) → Option (List ℕ) → Lis
 IsDiff path before after text =
     MatchBool (same_side before after) (text ≡ [])
     ((body : List ℕ) × IsBody path before after body × (text ≡ head_text path before after ++ body))
+
+-- ---- what a step has recorded
+
+-- where a range stands in its file
+abbrev pub range_title : ℕ → List ℕ
+range_title at = codes "@@ byte " ++ decimal at ++ codes " @@\n"
+
+-- names, where the range stands, and lines that are kept, removed or added: those that are kept or removed are the bytes that gave way, and
+-- those that are kept or added the bytes in their place
+abbrev pub IsRangeLines : List ℕ → ℕ → (old new text : List ℕ) → Type 0
+IsRangeLines names at old new text =
+    (pieces : List Piece) × AreLinesOf old (old_lines pieces) × AreLinesOf new (new_lines pieces) × (text ≡ names ++ range_title at ++ flat_map piece_text pieces)
+
+-- what stands behind the head of a range: that it is a binary, or its lines
+abbrev pub IsRangeBody : List ℕ → Option (List ℕ) → Option (List ℕ) → ℕ → List ℕ → Type 0
+IsRangeBody path before after at text =
+    MatchBool (is_either_binary (unwrap_or before []) (unwrap_or after []))
+    (text ≡ binary_text path before after)
+    (IsRangeLines (names_text path before after) at (unwrap_or before []) (unwrap_or after []) text)
+
+abbrev pub IsRange : List ℕ → Option (List ℕ) → Option (List ℕ) → ℕ → List ℕ → Type 0
+IsRange path before after at text = (body : List ℕ) × IsRangeBody path before after at body × (text ≡ head_text path before after ++ body)
+
+-- What a change has recorded: of a range the bytes that gave way and those in their place, and else the diff of the file that is made or
+-- removed.
+abbrev pub IsRecord : Change → List ℕ → Type 0
+IsRecord (Splice path at old new rest seal) text = IsRange path (Some old) (Some new) at text
+IsRecord change text = IsDiff (path_of change) (part_before change) (part_after change) text
+
+-- what a step has recorded of each of its changes, one behind the other
+abbrev pub AreRecords : List Change → List ℕ → Type 0
+AreRecords changes text = AreJoined IsRecord changes text

@@ -14,6 +14,7 @@ use Rattle.reuse_undo.specs.declared.line.OutputFormat.TheVariants.{Diff, Json}
 use Rattle.reuse_undo.specs.declared.request.Told.{Told}
 use Rattle.reuse_undo.specs.declared.request.Told.TheVariants.{Reply, Shown, Reverted}
 use Rattle.reuse_undo.specs.declared.shown_name.Names.{Names}
+use Rattle.reuse_undo.specs.DiffText.{AreRecords}
 use Rattle.reuse_undo.specs.Lines.{IsReplyText, IsShownText, reverted_text, path_count}
 use Rattle.reuse_undo.specs.Objects.{AreFateObjects, AreRowObjects, IsShownObject}
 use Rattle.reuse_undo.specs.Outputs.{AddsFront, AddsSome}
@@ -38,18 +39,19 @@ abbrev pub WouldBeMade : Told → Type 0
 WouldBeMade (Reply (Preview fates)) = is_refused fates ≡ false
 WouldBeMade told = Unit {0}
 
--- an answer that can have a diff behind it: a call that was only looked at and would be made, or a step that is shown
-abbrev pub IsDrawn : Told → Type 0
-IsDrawn (Reply (Preview fates)) = is_refused fates ≡ false
-IsDrawn (Shown shown) = Unit {0}
-IsDrawn told = ⊥
+-- what may stand behind the lines of an answer where a diff is wanted: some diff, of a call that was only looked at and would be made; what a step has
+-- recorded, where it is shown; and else nothing
+abbrev pub IsDiffBehind : Told → List ℕ → Type 0
+IsDiffBehind (Reply (Preview fates)) diff = (diff ≡ []) ⊎ (is_refused fates ≡ false)
+IsDiffBehind (Shown shown) diff = AreRecords shown.changes diff
+IsDiffBehind told diff = diff ≡ []
 
--- what an answer is printed as: in lines; in lines with some diff behind them, where there can be one; or rows, steps and dry runs as objects, and all else in lines
+-- what an answer is printed as: in lines; in lines with a diff behind them; or rows, steps and dry runs as objects, and all else in lines
 abbrev pub IsTextIn : OutputFormat → Names → Told → List ℕ → Type 0
 IsTextIn Json names (Reply (Log rows)) text = AreRowObjects rows text
 IsTextIn Json names (Reply (Preview fates)) text = AreFateObjects fates text
 IsTextIn Json names (Shown shown) text = IsShownObject shown text
-IsTextIn Diff names told text = (lines : List ℕ) × (diff : List ℕ) × IsLinesText names told lines × ((diff ≡ []) ⊎ IsDrawn told) × (text ≡ lines ++ diff)
+IsTextIn Diff names told text = (lines : List ℕ) × (diff : List ℕ) × IsLinesText names told lines × IsDiffBehind told diff × (text ≡ lines ++ diff)
 IsTextIn format names told text = IsLinesText names told text
 
 abbrev pub IsToldText : Telling → Told → List ℕ → Type 0
@@ -87,9 +89,14 @@ IsDiffOf telling told (Ok diff) = (diff.items ≡ []) ⊎ IsForeseen telling tol
 IsDiffOf telling told (Err (NoDiff refusal)) = IsForeseen telling told
 IsDiffOf telling told (Err fault) = fault ≡ Memory
 
--- what stands behind an answer's lines: some, where there can be a diff, and else none; or it can't be had
+-- the answer is no step that is shown
+abbrev pub IsNoRecord : Told → Type 0
+IsNoRecord (Shown shown) = ⊥
+IsNoRecord told = Unit {0}
+
+-- what stands behind an answer's lines, where a diff is wanted; or it can't be had
 abbrev pub IsBehind : {A : Type 0} → Telling → Told → Result (Vec ℕ A) Fault → Type 0
-IsBehind telling told (Ok diff) = (diff.items ≡ []) ⊎ IsDrawn told
+IsBehind telling told (Ok diff) = telling.format ≡ Diff → IsDiffBehind told diff.items
 IsBehind telling told (Err (NoDiff refusal)) = IsForeseen telling told
 IsBehind telling told (Err fault) = fault ≡ Memory
 

@@ -3,7 +3,7 @@ ghost use Rattle.std.specs.Prelude.{◌≡◌, OnOk, ◌++◌, unwrap_or, []};
 ghost use Rattle.std.specs.Option.{option_copied};
 ghost use Rattle.std.specs.Io.KnownBytes.{Appends};
 ghost use Rattle.reuse_tree.specs.Change.{path_of};
-ghost use Rattle.reuse_undo.specs.DiffText.{head_text, title_text, both_text, mode_text, names_text, side_text, end_text, binary_text, old_binary_text, new_binary_text, is_binary, is_either_binary, part_before, part_after, same_side, IsDiff, IsBody, IsTextBody};
+ghost use Rattle.reuse_undo.specs.DiffText.{head_text, title_text, both_text, mode_text, names_text, side_text, end_text, binary_text, old_binary_text, new_binary_text, is_binary, is_either_binary, part_before, part_after, same_side, IsDiff, IsBody, IsTextBody, IsRange, IsRangeBody, IsRangeLines, IsRecord};
 ghost use Rattle.reuse_undo.specs.Hunks.{hunk_text};
 ghost use Rattle.reuse_undo.specs.RowLines.{AppendsSome};
 
@@ -79,24 +79,56 @@ pub fn print_diff<W: Write>(out: &mut W, alloc: Global, turn: Turn<'_>) -> io::R
 /// Prints what a change has recorded: all lines of a file that is made or removed, and of a range
 /// of a file the bytes that gave way and those that stand in their place, by the byte at which they
 /// stand.
-pub fn print_record<W: Write>(out: &mut W, alloc: Global, change: &Change) -> io::Result<()> {
+pub fn print_record<W: Write>(out: &mut W, alloc: Global, change: &Change) -> io::Result<()>
+    ensures { OnOk result (AppendsSome (W.contents out.old) (W.contents out.new) (IsRecord change.now)) }
+{
     let turn = Turn::of(change);
     match change {
         Change::Splice { at, .. } => print_range(out, alloc, turn, *at),
-        _ => print_diff(out, alloc, turn),
+        Change::Make { .. } => print_diff(out, alloc, turn),
+        Change::Drop { .. } => print_diff(out, alloc, turn),
     }
 }
 
-fn print_range<W: Write>(out: &mut W, alloc: Global, turn: Turn<'_>, at: usize) -> io::Result<()> {
-    let before = turn.before.unwrap_or(b"");
-    let after = turn.after.unwrap_or(b"");
+// What becomes of a range of a file.
+fn print_range<W: Write>(out: &mut W, alloc: Global, turn: Turn<'_>, at: usize) -> io::Result<()>
+    ensures { OnOk result (AppendsSome (W.contents out.old) (W.contents out.new) (IsRange turn.entry.path.now (option_copied turn.entry.before) (option_copied turn.entry.after) at)) }
+{
     print_head(out, turn)?;
-    if is_binary(before) || is_binary(after) {
+    print_range_body(out, alloc, turn, at)?;
+    Ok(())
+}
+
+// What stands behind the head of a range.
+fn print_range_body<W: Write>(
+    out: &mut W,
+    alloc: Global,
+    turn: Turn<'_>,
+    at: usize,
+) -> io::Result<()>
+    ensures { OnOk result (AppendsSome (W.contents out.old) (W.contents out.new) (IsRangeBody turn.entry.path.now (option_copied turn.entry.before) (option_copied turn.entry.after) at)) }
+{
+    if is_either_binary(bytes_of(turn.before), bytes_of(turn.after)) {
         return print_binary(out, turn);
     }
+    print_range_lines(out, alloc, turn, at)
+}
+
+// The names of two texts, and how the one range gives way to the other.
+fn print_range_lines<W: Write>(
+    out: &mut W,
+    alloc: Global,
+    turn: Turn<'_>,
+    at: usize,
+) -> io::Result<()>
+    ensures { OnOk result (AppendsSome (W.contents out.old) (W.contents out.new)
+        (IsRangeLines (names_text turn.entry.path.now (option_copied turn.entry.before) (option_copied turn.entry.after)) at (unwrap_or (option_copied turn.entry.before) []) (unwrap_or (option_copied turn.entry.after) []))) }
+{
+    let pieces = pieces_of(alloc, bytes_of(turn.before), bytes_of(turn.after))?;
     print_names(out, turn)?;
     writeln!(out, "@@ byte {at} @@")?;
-    print_pieces(out, pieces_of(alloc, before, after)?.as_slice())
+    print_pieces(out, pieces.as_slice())?;
+    Ok(())
 }
 
 // What stands behind the head.

@@ -1,9 +1,10 @@
 //! What is told of an answer.
-ghost use Rattle.std.specs.Prelude.{◌≡◌, ◌⊎◌, [], Err, IfOk, IfErr, IsOkAnd, OnOk};
+ghost use Rattle.std.specs.Prelude.{◌≡◌, Err, IfOk, IfErr, IsOkAnd, OnOk};
+ghost use Rattle.reuse_undo.specs.DiffText.{AreRecords};
 ghost use Rattle.reuse_undo.specs.Outputs.{AddsSome};
 ghost use Rattle.reuse_undo.specs.RowLines.{AppendsSome};
 ghost use Rattle.reuse_undo.specs.RunLine.{IfNoDiff};
-ghost use Rattle.reuse_undo.specs.Told.{Accepts, Finishes, HasBehind, is_refusal, is_refused, IsBehind, IsDiffOf, IsDrawn, IsForeseen, IsLinesText, IsTextIn, IsToldText, TellsFailure};
+ghost use Rattle.reuse_undo.specs.Told.{Accepts, Finishes, HasBehind, is_refusal, is_refused, IsBehind, IsDiffBehind, IsDiffOf, IsForeseen, IsLinesText, IsTextIn, IsToldText, TellsFailure};
 ghost use Rattle.reuse_undo.specs.declared.fault.Fault.TheVariants as faults;
 
 use crate::diff::print_record;
@@ -67,7 +68,7 @@ fn print<O: Sink>(
 
 // What is told of an answer. No part of it is written before it is whole.
 fn text_of(alloc: Global, told: &Told, telling: Telling, diff: &[u8]) -> Result<Vec<u8>, Fault>
-    ensures text { (diff.now ≡ []) ⊎ IsDrawn told.now → IfOk result (λ text. IsToldText telling told.now text.items) }
+    ensures text { (telling.format ≡ OutputFormat.Diff → IsDiffBehind told.now diff.now) → IfOk result (λ text. IsToldText telling told.now text.items) }
     ensures behind { telling.format ≡ OutputFormat.Diff → IfOk result (λ text. HasBehind telling.names told.now diff.now text.items) }
     ensures fault { IfErr result (λ fault. fault ≡ faults.Memory) }
 {
@@ -99,7 +100,8 @@ fn whole_diff(
 
 // What the changes of a step have recorded.
 fn records_of(alloc: Global, changes: &[Change]) -> Result<Vec<u8>, Fault>
-    ensures { IfErr result (λ fault. fault ≡ faults.Memory) }
+    ensures records { IfOk result (λ text. AreRecords changes.now text.items) }
+    ensures fault { IfErr result (λ fault. fault ≡ faults.Memory) }
 {
     let mut text = Vec::new(alloc);
     for change in changes {
@@ -115,7 +117,7 @@ fn print_told<W: Write>(
     telling: Telling,
     diff: &[u8],
 ) -> io::Result<()>
-    ensures text { (diff.now ≡ []) ⊎ IsDrawn told.now → OnOk result (AppendsSome (W.contents out.old) (W.contents out.new) (IsToldText telling told.now)) }
+    ensures text { (telling.format ≡ OutputFormat.Diff → IsDiffBehind told.now diff.now) → OnOk result (AppendsSome (W.contents out.old) (W.contents out.new) (IsToldText telling told.now)) }
     ensures behind { telling.format ≡ OutputFormat.Diff → OnOk result (AppendsSome (W.contents out.old) (W.contents out.new) (HasBehind telling.names told.now diff.now)) }
 {
     match telling.format {

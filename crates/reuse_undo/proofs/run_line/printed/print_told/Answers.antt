@@ -12,7 +12,7 @@ returns-in_ok-print_lines-in-Diff-clause-text g c may =
     let mid = contents c.print_lines-in-Diff.new.out in
     let new = contents c.write_all.new.self in
     subst (λ f. OnOk c.write_all.result (AppendsSome (contents c.args.out.now) (contents c.write_all.new.self) (IsTextIn f c.args.telling.names c.args.told.now))) (sym c.in-Diff.is)
-    (on_ok_weaker c.write_all.result (λ (wrote : Appends mid new c.args.diff.now). AppendsSome-diff c.args.telling.names c.args.told.now c.args.diff.now (contents c.args.out.now) mid new may c.in_ok-print_lines-in-Diff.ensures wrote)
+    (on_ok_weaker c.write_all.result (λ (wrote : Appends mid new c.args.diff.now). AppendsSome-diff c.args.telling.names c.args.told.now c.args.diff.now (contents c.args.out.now) mid new (may c.in-Diff.is) c.in_ok-print_lines-in-Diff.ensures wrote)
     c.write_all.ensures.bytes)
 
 pub returns-in_ok-print_lines-in-Diff-clause-behind : goal.returns-in_ok-print_lines-in-Diff-clause-behind
