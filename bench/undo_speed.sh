@@ -1,19 +1,21 @@
 #!/usr/bin/env bash
-# Measures annotate, undo and redo on a tmpfs, on three trees: 20,000 Python files of some 3 kB, as
-# many of some 16 kB, and 100,000 of some bytes. Beside them in the same run: `cp -r` of the same
-# tree; the floor, a C program that reads each file once, writes it aside with a header, and renames
-# it; and the goal, half again of the floor and the time in which the kit's SHA-256 hashes each file
-# of the tree twice, right after it was read, as the seals of a step ask for (without seals, for a
-# journal of version 1.0, half again of the floor alone). Then histories: a log of 500 MB in 61
-# entries, and of 1,000 entries; one file of the 100,000; and help. Prints the least of nine rounds
-# on the first tree and of five on the others, each with all that is compared: seconds, those of the
-# processor, the ratio to `cp -r` and to the goal, and the peak memory.
+# Measures annotate, undo and redo without syncs on a tmpfs, on three trees: 20,000 Python files of
+# some 3 kB, as many of some 16 kB, and 100,000 of some bytes. Beside them in the same run: `cp -r`
+# of the same tree; the floor, a C program that reads each file once, writes it aside with a header,
+# and renames it; and the goal, half again of the floor and the time in which the kit's SHA-256
+# hashes each file of the tree twice, right after it was read, as the seals of a step ask for
+# (without seals, for a journal of version 1.0, half again of the floor alone). Each call begins a
+# tenth of a second after the files were written: those that were changed right before a call are
+# read twice. Then histories: a log of 500 MB in 61 entries, and of 1,000 entries; one file of the
+# 100,000; and help. Prints the least of nine rounds on the first tree and of five on the others,
+# each with all that is compared: seconds, those of the processor, the ratio to `cp -r` and to the
+# goal, and the peak memory.
 # usage: bench/undo_speed.sh PROGRAM [FILES]      (20,000 files by default in the first two trees)
 set -euo pipefail
 . "$(dirname "$0")/../tests/common.sh"
 . "$(dirname "$0")/python_tree.sh"
 files=${2:-20000}
-annotate=(annotate -c "Jane Doe" -l MIT -y 2024 -r .)
+annotate=(--no-sync annotate -c "Jane Doe" -l MIT -y 2024 -r .)
 # The tags below are data: REUSE-IgnoreStart
 header=$'# SPDX-FileCopyrightText: 2024 Jane Doe\n#\n# SPDX-License-Identifier: MIT\n\n'
 # REUSE-IgnoreEnd
@@ -78,13 +80,15 @@ work_on() {
   measure floor "$room/floor" "$room/tree" "$header"
   rm -rf "$room/tree"
   cp -r "$1" "$room/tree"
+  sleep 0.1
   measure annotate "$program" --root "$room/tree" "${annotate[@]}"
-  measure undo "$program" --root "$room/tree" undo
+  sleep 0.1
+  measure undo "$program" --root "$room/tree" --no-sync undo
   diff -r -x .reuse "$1" "$room/tree" || { echo "undo doesn't give the tree back" >&2; exit 1; }
-  measure redo "$program" --root "$room/tree" redo
+  measure redo "$program" --root "$room/tree" --no-sync redo
   measure log "$program" --root "$room/tree" log
   as_format_1 "$room/tree"
-  measure "undo without seals" "$program" --root "$room/tree" undo
+  measure "undo without seals" "$program" --root "$room/tree" --no-sync undo
 }
 
 # Works on a tree so many times, and prints the times.

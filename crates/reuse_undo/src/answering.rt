@@ -24,6 +24,7 @@ use std::alloc::Global;
 use std::fs::File;
 use std::io;
 use std::rt::{Clock, Files};
+use std::time::{Duration, SystemTime, UNIX_EPOCH};
 
 /// How a call ends: its outcome, or why it isn't begun.
 pub type CallEnding = Result<Result<usize, Fault>, Denial>;
@@ -47,6 +48,7 @@ pub fn answer<R: Files<File = File> + AllocGlobal + Clock + Print + Eprint + Clo
     let mut folder = folder;
     if changes_tree(asking.request) {
         folder.watch_owners();
+        folder.remember_files(time_now(asking.rt));
     }
     let (mut folder, outcome) = answer_at_once(folder, alloc, asking);
     if !folder.release_owners() {
@@ -61,6 +63,11 @@ pub fn answer<R: Files<File = File> + AllocGlobal + Clock + Print + Eprint + Clo
             (folder, Ok(outcome))
         }
     }
+}
+
+/// The time since 1970, if the system's clock tells a later one.
+fn time_now(rt: &impl Clock) -> Option<Duration> {
+    SystemTime::now(rt).ok()?.duration_since(UNIX_EPOCH).ok()
 }
 
 fn answer_at_once<R: Files<File = File> + AllocGlobal + Clock + Print + Eprint + Clone + Drop>(

@@ -26,6 +26,7 @@ mod owner;
 mod parts_writer;
 mod place;
 mod process;
+mod remembered;
 mod set_back;
 mod syncs;
 mod trail;
@@ -46,6 +47,7 @@ use set_back::SetBack;
 use std::alloc::Global;
 use std::fs::File;
 use std::rt::Files;
+use std::time::Duration;
 pub use syncs::Syncs;
 
 /// The files of a folder. It is honest as long as each call was answered as a folder answers that
@@ -102,6 +104,12 @@ impl<R: Files<File = File> + AllocGlobal + Clone + Drop> DiskStore<R> {
     /// unless that is allowed.
     pub fn watch_owners(&mut self) {
         self.folder.keeping().watch();
+    }
+
+    /// Short files that are read from now on are remembered, for a call that began at this time
+    /// since 1970: they aren't read again as long as the system tells the same of them.
+    pub fn remember_files(&mut self, since: Option<Duration>) {
+        self.folder.remember_files(since);
     }
 
     /// No put fails for that any more, but those of such files; whether one has failed.

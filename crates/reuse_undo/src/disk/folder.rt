@@ -17,6 +17,7 @@ use crate::disk::kept_out::{JOURNAL, is_kept_out};
 use crate::disk::listing::{Listing, list_below};
 use crate::disk::new_file::{Content, NewFile, Target};
 use crate::disk::place::{FileStatus, Found, Place, folder_and_name};
+use crate::disk::remembered::Remembered;
 use crate::disk::syncs::{Syncs, Unsynced};
 use crate::disk::trail::Trail;
 pub use batch::Stop;
@@ -24,6 +25,7 @@ use reuse_tree::{Change, Parts, PathText, Pruning, Reading};
 use std::alloc::{AllocError, Global};
 use std::fs::{self, File};
 use std::rt::Files;
+use std::time::Duration;
 
 /// How many files that were read are remembered.
 const MOST_SEEN: usize = 1_024;
@@ -49,6 +51,8 @@ pub struct RootFolder<R: Files<File = File> + AllocGlobal + Clone + Drop> {
     /// The regular files that were read since the last listing or write, in order and up to a
     /// bound: a write at the path of one needs no second look.
     reads: Vec<ReadFile>,
+    /// Short files that were read, so that they need no second reading.
+    remembered: Remembered,
     /// The place of new files, where its folder was looked at since the last listing or fault.
     new_file: Option<NewFile>,
     /// The folder that the last listing looked at last.
@@ -64,10 +68,12 @@ impl<R: Files<File = File> + AllocGlobal + Clone + Drop> RootFolder<R> {
         let listed = String::new(rt.alloc());
         let unsynced = Unsynced::new(rt.alloc(), syncs);
         let reads = Vec::new(rt.alloc());
+        let remembered = Remembered::nothing(rt.alloc());
         RootFolder {
             rt,
             trail,
             reads,
+            remembered,
             new_file: None,
             listed,
             unsynced,
@@ -78,6 +84,12 @@ impl<R: Files<File = File> + AllocGlobal + Clone + Drop> RootFolder<R> {
     /// How files keep their owners here.
     pub fn keeping(&mut self) -> &mut Keeping {
         &mut self.keeping
+    }
+
+    /// Short files that are read from now on are remembered, for a call that began at this time
+    /// since 1970.
+    pub fn remember_files(&mut self, since: Option<Duration>) {
+        self.remembered.begin(since);
     }
 
     /// The folder that the last listing looked at last, which is empty for the root: where one that
@@ -208,10 +220,19 @@ impl<R: Files<File = File> + AllocGlobal + Clone + Drop> RootFolder<R> {
                 self.note_read(alloc, path, status)?;
                 return Ok(Reading::TooLong);
             }
+            if let Some(bytes) = self.remembered.take(path, &status)
+                && bytes.len() <= limit
+            {
+                self.note_read(alloc, path, status)?;
+                return Ok(Reading::Found(bytes));
+            }
             let (_, name) = folder_and_name(path.text());
             let folder = self.trail.current()?;
             if let Some(file) = folder.open_file(&self.rt, alloc, name, status)? {
                 let reading = read_file(file, alloc, status.len, limit)?;
+                if let Reading::Found(bytes) = &reading {
+                    self.remembered.note(alloc, path, &status, bytes);
+                }
                 self.note_read(alloc, path, status)?;
                 return Ok(reading);
             }

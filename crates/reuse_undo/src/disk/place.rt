@@ -8,6 +8,7 @@ use std::fs::{self, Metadata};
 use std::io::ErrorKind;
 use std::os::unix::fs::{MetadataExt, PermissionsExt};
 use std::rt::Files;
+use std::time::Duration;
 
 /// The bits of a file's mode that a rewritten file keeps: who may read, write and run it.
 const KEPT_BITS: u32 = 0o777;
@@ -39,6 +40,64 @@ impl Owner {
     }
 }
 
+/// When something was done with a file, as the system tells it.
+#[derive(Clone, Copy, PartialEq, Eq)]
+struct Stamp {
+    seconds: i64,
+    nanos: i64,
+}
+
+/// How many milliseconds the system's stamps may lie behind its clock: it takes them at its ticks.
+const TICKS: u64 = 50;
+
+/// The same of a file system whose stamps are of whole seconds, or of two.
+const WHOLE_SECONDS: u64 = 3_000;
+
+impl Stamp {
+    /// Whether what is done at this time since 1970 or later has another stamp.
+    fn is_settled_at(&self, since: Duration) -> bool {
+        let (Ok(seconds), Ok(nanos)) = (u64::try_from(self.seconds), u64::try_from(self.nanos))
+        else {
+            return false;
+        };
+        let behind = if nanos == 0 { WHOLE_SECONDS } else { TICKS };
+        let stamp = Duration::from_secs(seconds).saturating_add(Duration::from_nanos(nanos));
+        stamp.saturating_add(Duration::from_millis(behind)) < since
+    }
+}
+
+/// Which file it is, how long, and when it was written and changed last. As long as these stay, so
+/// do its bytes.
+#[derive(Clone, Copy, PartialEq, Eq)]
+pub struct FileVersion {
+    identity: Identity,
+    len: u64,
+    written: Stamp,
+    changed: Stamp,
+}
+
+impl FileVersion {
+    fn of(metadata: &Metadata) -> FileVersion {
+        FileVersion {
+            identity: Identity::of(metadata),
+            len: metadata.len(),
+            written: Stamp {
+                seconds: metadata.mtime(),
+                nanos: metadata.mtime_nsec(),
+            },
+            changed: Stamp {
+                seconds: metadata.ctime(),
+                nanos: metadata.ctime_nsec(),
+            },
+        }
+    }
+
+    /// Whether a file that is changed at this time since 1970 or later has another version.
+    pub fn is_settled_at(&self, since: Duration) -> bool {
+        self.written.is_settled_at(since) && self.changed.is_settled_at(since)
+    }
+}
+
 /// What the system tells of a regular file.
 #[derive(Clone, Copy)]
 pub struct FileStatus {
@@ -50,7 +109,7 @@ pub struct FileStatus {
     pub owner: Owner,
     /// How many names it has.
     pub links: u64,
-    identity: Identity,
+    version: FileVersion,
 }
 
 impl FileStatus {
@@ -61,7 +120,7 @@ impl FileStatus {
             mode: kept_bits(metadata),
             owner: Owner::of(metadata),
             links: metadata.nlink(),
-            identity: Identity::of(metadata),
+            version: FileVersion::of(metadata),
         }
     }
 
@@ -74,7 +133,12 @@ impl FileStatus {
 
     /// Whether the system tells this of the same regular file.
     pub fn is_of(&self, metadata: &Metadata) -> bool {
-        metadata.is_file() && Identity::of(metadata) == self.identity
+        metadata.is_file() && Identity::of(metadata) == self.version.identity
+    }
+
+    /// Which file it is, and which bytes it has.
+    pub fn version(&self) -> FileVersion {
+        self.version
     }
 }
 
