@@ -1,11 +1,12 @@
 #!/usr/bin/env bash
 # A call that changes files reads short ones once, if they were changed last before it began: its
-# system calls a file are counted by strace. Then files are changed while a call stands still, once
-# it has planned and before it writes: in their place and to the same length, also with their time
-# set back, or by another file of the same length and time. The call must see each such change, as
-# it does where it reads a file again: it is interrupted, the file stays as the other program left
-# it, and `recover --skip-moved` leads out. Prints how many changes were seen and how many system
-# calls a file takes; ends with status 1 at the first fault.
+# system calls a file are counted by strace. Then a file is changed while a call stands still, once
+# it has planned and before it writes the file: in its place and to the same length, also with its
+# time set back, or by another file of the same length and time. Nothing of such a change may be
+# lost. The call sees it, as it does where it reads a file again: it changes its own lines and keeps
+# the others, or it is interrupted and the file stays as the other program left it. Then
+# `recover --skip-moved` leads out. Prints how many changes were kept and how many system calls a
+# file takes; ends with status 1 at the first fault.
 # usage: tests/remembered_files.sh PROGRAM
 # The tags below are data: REUSE-IgnoreStart
 set -euo pipefail
@@ -13,7 +14,7 @@ set -euo pipefail
 wants strace strace
 tree=$room/tree
 annotate=(annotate -l MIT -r .)
-seen=0
+kept=0 interrupted=0
 
 # Makes files of so many lines each, that were changed last before any call from now on.
 make_tree() {
@@ -50,8 +51,11 @@ count_calls() {
   done | paste -sd ' '
 }
 
-# Ways in which another program changes a file
-in_place() { printf 'y' | dd of="$1" conv=notrunc status=none; }
+# Ways in which another program changes a file: its last byte but the line end
+in_place() {
+  printf 'y' | dd of="$1" bs=1 seek=$(($(stat -c %s "$1") - 2)) conv=notrunc status=none
+}
+in_what_goes() { printf 'y' | dd of="$1" conv=notrunc status=none; }
 in_place_with_its_time() {
   touch -r "$1" "$room/time"
   in_place "$1"
@@ -63,25 +67,51 @@ by_another_file() {
   mv "$room/other" "$1"
 }
 
-# This call, while which a file is changed in this way
+# Waits until the run stands still; not if it has ended.
+stands_still() {
+  local state='' times=0
+  while ((times < 3)) && read -r state < "/proc/$1/stat" && [[ $state != *') Z '* ]]; do
+    if [[ $state == *') '[tT]' '* ]]; then times=$((times + 1)); else times=0; fi
+    sleep 0.01
+  done 2> /dev/null
+  ((times == 3))
+}
+
+# Lets the run go on until it has ended.
+go_on() {
+  local state
+  while read -r state < "/proc/$1/stat" && [[ $state != *') Z '* ]]; do
+    kill -CONT "$1"
+    sleep 0.01
+  done 2> /dev/null || true
+}
+
+# This call, which stands still behind its first rename, that of the entry, while a file is changed
+# in this way
 change_during() {
-  local way=$1 pid status=0 before
+  local way=$1 file=$tree/102.py pid status=0 name left
   shift
+  name="$1 while a file is changed $way"
   sleep 0.1
-  strace -D -qq -o "$room/trace" -e trace=rename -e inject=rename:delay_enter=700000:when=1 \
+  strace -D -qq -o "$room/trace" -e trace=rename -e inject=rename:signal=STOP:when=1 \
     "$program" --root "$tree" --no-sync "$@" > "$room/out" 2>&1 &
   pid=$!
-  sleep 0.3
-  "$way" "$tree/102.py"
-  before=$(sha256sum "$tree/102.py")
+  stands_still $pid || fail "$name: the call doesn't stand still"
+  "$way" "$file"
+  left=$(sha256sum < "$file")
+  tail -n 2 "$file" > "$room/last"
+  go_on $pid
   wait $pid || status=$?
-  [[ $status == 1 ]] || fail "$* while a file is changed $way: status $status: $(cat "$room/out")"
-  grep -q '^reuse-undo: interrupted' "$room/out" ||
-    fail "$* while a file is changed $way: $(cat "$room/out")"
-  [[ $(sha256sum "$tree/102.py") == "$before" ]] || fail "$*: what was written $way is lost"
-  "$program" --root "$tree" recover --skip-moved > "$room/out" ||
-    fail "$*: no recovery after a change $way"
-  seen=$((seen + 1))
+  tail -n 2 "$file" | cmp -s - "$room/last" || fail "$name: the change is lost"
+  if ((status == 1)); then
+    grep -q '^reuse-undo: interrupted' "$room/out" || fail "$name: $(< "$room/out")"
+    [[ $(sha256sum < "$file") == "$left" ]] || fail "$name: the file isn't left as it was"
+    interrupted=$((interrupted + 1))
+  elif ((status != 0)); then
+    fail "$name: status $status"
+  fi
+  "$program" --root "$tree" recover --skip-moved > "$room/out" || fail "$name: no recovery"
+  kept=$((kept + 1))
 }
 
 change_files() {
@@ -92,6 +122,12 @@ change_files() {
     make_tree 5 "$1"
     "$program" --root "$tree" --no-sync "${annotate[@]}" > "$room/out"
     change_during "$way" undo
+    if [[ $way == in_place ]]; then
+      # The header is taken away, so a change in it can't be kept beside.
+      make_tree 5 "$1"
+      "$program" --root "$tree" --no-sync "${annotate[@]}" > "$room/out"
+      change_during in_what_goes undo
+    fi
     make_tree 5 "$1"
     "$program" --root "$tree" --no-sync "${annotate[@]}" > "$room/out"
     "$program" --root "$tree" --no-sync undo > "$room/out"
@@ -107,5 +143,5 @@ read -r -a each <<< "$short"
 for calls in "${each[@]}"; do
   ((calls <= 13)) || fail "a short file takes $short system calls"
 done
-echo "$seen changes while a call stood still were seen; system calls a file in annotate, undo and" \
-  "redo: $short of short files, $long of long ones"
+echo "$kept changes beside a call were kept, $interrupted of them by an interruption; system calls a" \
+  "file in annotate, undo and redo: $short of short files, $long of long ones"

@@ -31,8 +31,9 @@ trace() {
   } 2> /dev/null
 }
 
-# In what strace wrote, the folders in place of the handles that lead to them. Openings are left
-# out.
+# In what strace wrote, the folders in place of the handles that lead to them: a path through one is
+# absolute, or begins with its number, as the run stays where its handles are shown. Openings are
+# left out.
 named() {
   awk '
     match($0, / = [0-9]+<[^>]*>$/) {
@@ -44,6 +45,10 @@ named() {
       while (match($0, "/proc/[0-9]+/fd/[0-9]+")) {
         split(substr($0, RSTART, RLENGTH), parts, "/")
         $0 = substr($0, 1, RSTART - 1) folder[parts[5]] substr($0, RSTART + RLENGTH)
+      }
+      while (match($0, "\"[0-9]+/")) {
+        handle = substr($0, RSTART + 1, RLENGTH - 2)
+        $0 = substr($0, 1, RSTART) folder[handle] "/" substr($0, RSTART + RLENGTH)
       }
       print
     }' "$room/trace"

@@ -23,7 +23,7 @@ use reuse_tree::{PathText, Store};
 use std::alloc::Global;
 use std::fs::File;
 use std::io;
-use std::rt::{Clock, Files};
+use std::rt::{Clock, Env, Files};
 use std::time::{Duration, SystemTime, UNIX_EPOCH};
 
 /// How a call ends: its outcome, or why it isn't begun.
@@ -40,7 +40,7 @@ pub struct Asking<'a, R: Clock + Eprint + Drop> {
 }
 
 /// Makes the call and prints the answer, unless a file that it would change can't keep its owner.
-pub fn answer<R: Files<File = File> + AllocGlobal + Clock + Print + Eprint + Clone + Drop>(
+pub fn answer<R: Files<File = File> + AllocGlobal + Clock + Env + Print + Eprint + Clone + Drop>(
     folder: DiskStore<R>,
     alloc: Global,
     asking: &Asking<'_, R>,
@@ -70,14 +70,18 @@ fn time_now(rt: &impl Clock) -> Option<Duration> {
     SystemTime::now(rt).ok()?.duration_since(UNIX_EPOCH).ok()
 }
 
-fn answer_at_once<R: Files<File = File> + AllocGlobal + Clock + Print + Eprint + Clone + Drop>(
+fn answer_at_once<
+    R: Files<File = File> + AllocGlobal + Clock + Env + Print + Eprint + Clone + Drop,
+>(
     folder: DiskStore<R>,
     alloc: Global,
     asking: &Asking<'_, R>,
 ) -> (DiskStore<R>, Result<usize, Fault>) {
+    let mut folder = folder;
+    folder.go_to_handles(asking.rt, alloc);
     let progress = asking.progress;
     let mut out = Output::new(ClearedOutput::new(progress, io::writer(asking.rt)));
-    let answered = run_on_folder(
+    let (mut folder, outcome) = run_on_folder(
         folder,
         progress,
         alloc,
@@ -85,8 +89,9 @@ fn answer_at_once<R: Files<File = File> + AllocGlobal + Clock + Print + Eprint +
         asking.telling,
         &mut out,
     );
+    folder.come_back(asking.rt, alloc);
     progress.clear();
-    answered
+    (folder, outcome)
 }
 
 fn changes_tree(request: &Request) -> bool {

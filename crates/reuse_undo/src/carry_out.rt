@@ -19,7 +19,7 @@ use reuse_session::LicenceTexts;
 use std::alloc::{AllocError, Global};
 use std::fs::File;
 use std::io;
-use std::rt::{Clock, Files};
+use std::rt::{Clock, Env, Files};
 
 /// What is told beside the reply or the fault, how names are shown on standard output, and how a
 /// call works with the folder.
@@ -32,7 +32,7 @@ pub struct Extras {
 }
 
 /// Carries out a line.
-pub fn carry_out<R: Files<File = File> + AllocGlobal + Clock + Print + Eprint + Clone + Drop>(
+pub fn carry_out<R: Files<File = File> + AllocGlobal + Clock + Env + Print + Eprint + Clone + Drop>(
     rt: &R,
     alloc: Global,
     line: Line,
@@ -98,7 +98,7 @@ fn is_denied<R: Files<File = File> + AllocGlobal + Clone + Drop>(
     !extras.settings.trusts_journal && folder.is_journal_of_other(alloc)
 }
 
-fn work_with<R: Files<File = File> + AllocGlobal + Clock + Print + Eprint + Clone + Drop>(
+fn work_with<R: Files<File = File> + AllocGlobal + Clock + Env + Print + Eprint + Clone + Drop>(
     rt: &R,
     alloc: Global,
     tools: Tools<R>,

@@ -22,6 +22,7 @@ mod kept_out;
 mod listing;
 mod made_folder;
 mod new_file;
+mod origin;
 mod owner;
 mod parts_writer;
 mod place;
@@ -46,7 +47,7 @@ use reuse_tree::{
 use set_back::SetBack;
 use std::alloc::Global;
 use std::fs::File;
-use std::rt::Files;
+use std::rt::{Env, Files};
 use std::time::Duration;
 pub use syncs::Syncs;
 
@@ -110,6 +111,17 @@ impl<R: Files<File = File> + AllocGlobal + Clone + Drop> DiskStore<R> {
     /// since 1970: they aren't read again as long as the system tells the same of them.
     pub fn remember_files(&mut self, since: Option<Duration>) {
         self.folder.remember_files(since);
+    }
+
+    /// Goes to where the system shows the handles of the process, so that paths through them are
+    /// short, until `come_back`. Meanwhile no other path is to be told from where the process was.
+    pub fn go_to_handles(&mut self, env: &impl Env, alloc: Global) {
+        self.folder.go_to_handles(env, alloc);
+    }
+
+    /// Comes back to the folder that the process was called in.
+    pub fn come_back(&mut self, env: &impl Env, alloc: Global) {
+        self.folder.come_back(env, alloc);
     }
 
     /// No put fails for that any more, but those of such files; whether one has failed.

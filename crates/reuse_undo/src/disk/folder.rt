@@ -24,7 +24,7 @@ pub use batch::Stop;
 use reuse_tree::{Change, Parts, PathText, Pruning, Reading};
 use std::alloc::{AllocError, Global};
 use std::fs::{self, File};
-use std::rt::Files;
+use std::rt::{Env, Files};
 use std::time::Duration;
 
 /// How many files that were read are remembered.
@@ -90,6 +90,19 @@ impl<R: Files<File = File> + AllocGlobal + Clone + Drop> RootFolder<R> {
     /// since 1970.
     pub fn remember_files(&mut self, since: Option<Duration>) {
         self.remembered.begin(since);
+    }
+
+    /// Goes to where the system shows the handles of the process, so that paths are short, until
+    /// `come_back`.
+    pub fn go_to_handles(&mut self, env: &impl Env, alloc: Global) {
+        self.new_file = None;
+        self.trail.go_to_handles(&self.rt, env, alloc);
+    }
+
+    /// Comes back to the folder that the process was called in.
+    pub fn come_back(&mut self, env: &impl Env, alloc: Global) {
+        self.new_file = None;
+        self.trail.come_back(env, alloc);
     }
 
     /// The folder that the last listing looked at last, which is empty for the root: where one that

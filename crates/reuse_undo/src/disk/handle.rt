@@ -38,12 +38,22 @@ pub struct OpenFolder {
     passes_group: bool,
 }
 
+/// From where a path through an open folder is told.
+#[derive(Clone, Copy)]
+pub enum Start {
+    /// From the root of the file system.
+    Root,
+    /// From where the system shows the handles of the process, which is there.
+    Handles,
+}
+
 /// What the system offers for all folders of a run.
 #[derive(Clone, Copy)]
 struct Ways {
     /// Whether the system shows a handle as a path, so that calls go through it.
     is_shown: bool,
     process: ProcessIds,
+    start: Start,
 }
 
 /// What stands at a name: a folder, which is opened, or anything else.
@@ -66,14 +76,20 @@ impl OpenFolder {
         alloc: Global,
         root: &str,
         process: ProcessIds,
+        start: Start,
     ) -> Result<OpenFolder, FolderFault> {
         let path = root_path(alloc, root)?;
         let identity = root_identity(rt, path.as_str())?;
         let handle = open_folder(rt, path.as_str())?;
-        let shown = handle_path(alloc, &handle, process)?;
         let ways = Ways {
-            is_shown: is_shown(rt, shown.as_str(), identity),
+            is_shown: true,
             process,
+            start,
+        };
+        let shown = handle_path(alloc, &handle, ways)?;
+        let ways = Ways {
+            is_shown: identity.is_at(rt, shown.as_str()),
+            ..ways
         };
         OpenFolder::of(alloc, handle, path, ways)?.seen_as(identity)
     }
@@ -87,7 +103,7 @@ impl OpenFolder {
     ) -> Result<OpenFolder, FolderFault> {
         let metadata = handle.metadata()?;
         let prefix = if ways.is_shown {
-            handle_path(alloc, &handle, ways.process)?
+            handle_path(alloc, &handle, ways)?
         } else {
             path
         };
@@ -100,6 +116,17 @@ impl OpenFolder {
             owner: Owner::of(&metadata),
             passes_group: metadata.mode() & PASSES_GROUP != 0,
         })
+    }
+
+    /// From now on paths through the folder, and through those below it, are told from there. If
+    /// handles aren't shown they stay.
+    pub fn tell_from(&mut self, alloc: Global, start: Start) -> Result<(), AllocError> {
+        if self.ways.is_shown {
+            let ways = Ways { start, ..self.ways };
+            self.prefix = handle_path(alloc, &self.handle, ways)?;
+            self.ways = ways;
+        }
+        Ok(())
     }
 
     /// This folder, if it is the one that was looked at.
@@ -315,19 +342,12 @@ fn is_shared(folder: &Metadata, user: u32) -> bool {
 
 /// The path at which the system shows an open folder of this process. By the number of the process
 /// the system comes there sooner than by `self`, which is a link.
-fn handle_path(alloc: Global, handle: &File, process: ProcessIds) -> Result<String, AllocError> {
+fn handle_path(alloc: Global, handle: &File, ways: Ways) -> Result<String, AllocError> {
     let handle = handle.as_raw_fd();
-    match process.number {
-        Some(number) => format!(in alloc; "/proc/{number}/fd/{handle}/"),
-        None => format!(in alloc; "/proc/self/fd/{handle}/"),
-    }
-}
-
-/// Whether the system shows this folder at this path.
-fn is_shown(rt: &impl Files, path: &str, identity: Identity) -> bool {
-    match fs::metadata(rt, path) {
-        Ok(metadata) => Identity::of(&metadata) == identity,
-        Err(_) => false,
+    match (ways.start, ways.process.number) {
+        (Start::Handles, _) => format!(in alloc; "{handle}/"),
+        (Start::Root, Some(number)) => format!(in alloc; "/proc/{number}/fd/{handle}/"),
+        (Start::Root, None) => format!(in alloc; "/proc/self/fd/{handle}/"),
     }
 }
 

@@ -28,6 +28,14 @@ impl Identity {
             number: metadata.ino(),
         }
     }
+
+    /// Whether the file or folder of this identity is found at this path.
+    pub fn is_at(self, rt: &impl Files, path: &str) -> bool {
+        match fs::metadata(rt, path) {
+            Ok(metadata) => Identity::of(&metadata) == self,
+            Err(_) => false,
+        }
+    }
 }
 
 impl Owner {

@@ -36,6 +36,8 @@ pub struct Remembered {
     files: Vec<RememberedFile>,
     /// How many bytes they have in all.
     bytes: usize,
+    /// The one that is likely to be asked for next.
+    next: usize,
 }
 
 impl Remembered {
@@ -45,6 +47,7 @@ impl Remembered {
             since: None,
             files: Vec::new(alloc),
             bytes: 0,
+            next: 0,
         }
     }
 
@@ -86,13 +89,20 @@ impl Remembered {
         }
     }
 
+    /// Where the file of this path stands, if it is remembered. Files are mostly asked for in the
+    /// order in which they were read.
+    fn place_of(&self, path: &PathText) -> Option<usize> {
+        match self.files.get(self.next) {
+            Some(file) if file.path == *path => Some(self.next),
+            _ => self.files.binary_search_by(|file| file.path.cmp(path)).ok(),
+        }
+    }
+
     /// The bytes of the file, if it is remembered and is still as it was. It isn't remembered any
     /// more.
     pub fn take(&mut self, path: &PathText, status: &FileStatus) -> Option<Bytes> {
-        let at = self
-            .files
-            .binary_search_by(|file| file.path.cmp(path))
-            .ok()?;
+        let at = self.place_of(path)?;
+        self.next = at.saturating_add(1);
         let file = self.files.get_mut(at)?;
         if file.version != status.version() {
             return None;

@@ -3,14 +3,15 @@
 //! handle of the one above it.
 use crate::disk::empty_folders::path_in;
 use crate::disk::fault::{FolderFault, Obstacle};
-use crate::disk::handle::{Below, OpenFolder};
+use crate::disk::handle::{Below, OpenFolder, Start};
 use crate::disk::made_folder::open_made_by_root;
+use crate::disk::origin::Origin;
 use crate::disk::place::{Found, Place, folder_and_name};
 use crate::disk::process::ProcessIds;
 use crate::disk::syncs::Unsynced;
 use std::alloc::{AllocError, Global};
 use std::fs::{self, File};
-use std::rt::Files;
+use std::rt::{Env, Files};
 
 /// How many folders are open at most. Where a path has more, those next to the root are closed.
 const MOST_OPEN: usize = 16;
@@ -31,6 +32,8 @@ pub struct Trail {
     process: ProcessIds,
     /// The first one is the root. There is none until the root is asked for.
     steps: Vec<Step>,
+    /// The folder that the process was called in, while it is where its handles are shown.
+    origin: Option<Origin>,
 }
 
 impl Trail {
@@ -41,6 +44,55 @@ impl Trail {
             root,
             process,
             steps: Vec::new(alloc),
+            origin: None,
+        }
+    }
+
+    /// Goes to where the system shows the handles of the process, so that paths through open folders
+    /// are short, until `come_back`. If the root can't be opened, or handles aren't shown, the
+    /// process stays where it is.
+    pub fn go_to_handles(&mut self, rt: &impl Files<File = File>, env: &impl Env, alloc: Global) {
+        if self.go_back(rt, alloc, "").is_err() || self.is_by_path() {
+            return;
+        }
+        self.origin = Origin::leave(rt, env, alloc, self.process);
+        self.tell_from_start(alloc);
+    }
+
+    /// Comes back to the folder that the process was called in.
+    pub fn come_back(&mut self, env: &impl Env, alloc: Global) {
+        if let Some(origin) = self.origin.take() {
+            origin.come_back(env, alloc);
+            self.tell_from_start(alloc);
+        }
+    }
+
+    /// Tells paths through the root from where the process is, and closes all other folders. For
+    /// want of memory the root is closed, too.
+    fn tell_from_start(&mut self, alloc: Global) {
+        self.steps.truncate(1);
+        let start = self.start();
+        let is_told = match self.steps.first_mut() {
+            Some(step) => step.folder.tell_from(alloc, start).is_ok(),
+            None => true,
+        };
+        if !is_told {
+            self.steps.clear();
+        }
+    }
+
+    fn start(&self) -> Start {
+        match self.origin {
+            Some(_) => Start::Handles,
+            None => Start::Root,
+        }
+    }
+
+    /// The path of the root, as the system takes it from where the process is.
+    fn root_path(&self, alloc: Global) -> Result<String, AllocError> {
+        match &self.origin {
+            Some(origin) if !self.root.is_empty() => origin.path_from(alloc, self.root.as_str()),
+            _ => String::from_str(alloc, self.root.as_str()),
         }
     }
 
@@ -68,7 +120,8 @@ impl Trail {
         folder: &str,
     ) -> Result<(), FolderFault> {
         if self.steps.is_empty() {
-            let root = OpenFolder::root(rt, alloc, self.root.as_str(), self.process)?;
+            let path = self.root_path(alloc)?;
+            let root = OpenFolder::root(rt, alloc, path.as_str(), self.process, self.start())?;
             self.push(String::new(alloc), root)?;
         }
         for _ in 0..self.steps.len() {
@@ -209,7 +262,10 @@ impl Trail {
     /// Fails if another folder than the open one stands at the path of the root, or none.
     pub fn check_root(&self, rt: &impl Files, alloc: Global) -> Result<(), FolderFault> {
         match self.steps.first() {
-            Some(step) => step.folder.check_root(rt, alloc, self.root.as_str()),
+            Some(step) => {
+                let path = self.root_path(alloc)?;
+                step.folder.check_root(rt, alloc, path.as_str())
+            }
             None => Err(FolderFault::Device(Obstacle::NoRoot)),
         }
     }
