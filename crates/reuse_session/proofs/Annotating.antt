@@ -17,6 +17,7 @@ use Rattle.reuse_tree.specs.Path.{lies_under, journal_folder}
 use Rattle.reuse_tree.specs.Files.{Files, AreFiles}
 use Rattle.reuse_tree.specs.declared.change.Change.{Change}
 use Rattle.reuse_session.specs.declared.reply.Refusal.{Refusal}
+use Rattle.reuse_session.specs.declared.failure.Failure.TheVariants as failures
 use Rattle.reuse_session.specs.declared.reply.Refusal.TheVariants as refusals
 use Rattle.reuse_session.specs.declared.command.Place.TheVariants as place
 use Rattle.reuse_tree.specs.Tree.{is_of_tree}
@@ -45,8 +46,8 @@ use Rattle.reuse_session.proofs.CommandEdits.{edits_at}
 
 -- a refusal of one result is that of another
 pub refusal_passes : {A B : Type 0} (g : Result A Refusal) (h : Result B Refusal) → ((r : Refusal) → g ≡ Err r → h ≡ Err r) → (r : Refusal) → IsRefusalOf g r → IsRefusalOf h r
-refusal_passes g h k refusals.Memory e = tt
-refusal_passes g h k (refusals.Fault fault) e = tt
+refusal_passes g h k (refusals.Failed failures.Memory) e = tt
+refusal_passes g h k (refusals.Failed (failures.Fault fault)) e = tt
 refusal_passes g h k refusal e = k refusal e
 
 -- ---- one path

@@ -19,7 +19,8 @@ use Rattle.reuse_session.specs.JournalFiles.{head_path}
 use Rattle.reuse_session.specs.Losses.{HaveTree, MayHaveHead, StopsBackWithDoubt}
 use Rattle.reuse_session.specs.Session.{IsSameBut}
 use Rattle.reuse_session.specs.declared.reply.Refusal.{Refusal}
-use Rattle.reuse_session.specs.declared.reply.Refusal.TheVariants.{Interrupted}
+use Rattle.reuse_session.specs.declared.failure.Failure.TheVariants.{Interrupted}
+use Rattle.reuse_session.specs.declared.reply.Refusal.TheVariants.{Failed}
 use Rattle.reuse_session.proofs.HeadPuts.{head_sets, head_keeps_tree}
 
 module _ (way : Way) (text : List ℕ) (old new : Files) where
@@ -61,10 +62,10 @@ module _ {S : Type 0} (store : Ghosts S) (way : Way) (text : List ℕ) (changes 
 
 -- the rest of the journal's folder stays
 pub cleared_alone : {A S : Type 0} (store : Ghosts S) (text : List ℕ) (old new : S) (result : Result A Refusal) → store.honest new → OnOk result (Sets head_path (Some text) (store.files old) (store.files new))
-    → ((cause : Cause) → result ≡ Err (Interrupted cause) → (store.files new ≡ store.files old) ⊎ Sets head_path (Some text) (store.files old) (store.files new))
+    → ((cause : Cause) → result ≡ Err (Failed (Interrupted cause)) → (store.files new ≡ store.files old) ⊎ Sets head_path (Some text) (store.files old) (store.files new))
     → IfErr result (λ refusal. IsEarly refusal → OnlyReads store old new) → IsSameBut head_path (undo_folder_of (store.files old)) (undo_folder_of (store.files new))
 cleared_alone store text old new (Ok x) honest done stopped early = (head_sets (store.files old) (store.files new) (Some text) done).elsewhere
-cleared_alone store text old new (Err (Interrupted cause)) honest done stopped early = ⊎_elim
+cleared_alone store text old new (Err (Failed (Interrupted cause))) honest done stopped early = ⊎_elim
     (λ (same : store.files new ≡ store.files old). λ other differs. ap (λ files. get (undo_folder_of files) other) same)
     (λ (sets : Sets head_path (Some text) (store.files old) (store.files new)). (head_sets (store.files old) (store.files new) (Some text) sets).elsewhere)
     (stopped cause refl)

@@ -24,6 +24,7 @@ use Rattle.reuse_session.specs.Shown.{Shows}
 use Rattle.reuse_session.specs.Plan.{CarriesOutEdit, MakesEach, MakesEdits, IsRefusalOf}
 use Rattle.reuse_session.specs.declared.licence.LicenceText.{LicenceText}
 use Rattle.reuse_session.specs.declared.reply.Refusal.{Refusal}
+use Rattle.reuse_session.specs.declared.failure.Failure.TheVariants as failures
 use Rattle.reuse_session.specs.declared.reply.Refusal.TheVariants as refusals
 use Rattle.reuse_tree.proofs.Testing.{clashes_keys}
 use Rattle.reuse_session.proofs.LicenceLemmas.{id_of_path, id_bytes, path_is_good, path_of_tree, paths_apart}
@@ -182,8 +183,8 @@ download_makes ids texts tree changes none are = (
 
 -- a refusal of the ids is that of the download
 pub refusal_due : (given : Option Refusal) (edits : List Edit) (r : Refusal) → IsRefused given r → IsRefusalOf (unless_refused given edits) r
-refusal_due given edits refusals.Memory e = tt
-refusal_due given edits (refusals.Fault fault) e = tt
+refusal_due given edits (refusals.Failed failures.Memory) e = tt
+refusal_due given edits (refusals.Failed (failures.Fault fault)) e = tt
 refusal_due given edits refusal e = ap (λ g. unless_refused g edits) e
 
 -- ---- one id
@@ -230,5 +231,5 @@ module _ (tree : Files) (id path text : List ℕ) (paths : List (List ℕ)) (fou
 
 -- the first refusal stands
 pub first_refused : (given more : Option Refusal) (r : Refusal) → IsRefused given r → IsRefused (option_or given more) r
-first_refused given more refusals.Memory e = tt
+first_refused given more (refusals.Failed failures.Memory) e = tt
 first_refused given more refusal e = ap (λ g. option_or g more) e

@@ -2,14 +2,15 @@
 use Rattle.std.proofs.Common.{◌≡◌, ⊎_elim, ℕ, ◌+◌, ◌<◌, ◌≤◌, true, List, [], ◌∷◌, ◌++◌, length, take, get_or, Some, None, Result, Ok, Err, IfErr, refl, sym, ap, subst, ◌∙◌, arith}
 use Rattle.std.specs.List.{AllByRecursion}
 use Rattle.std.proofs.lemmas.List.{take_more}
-use Rattle.reuse_tree.specs.declared.fault.StoreFault.TheVariants as faults
+use Rattle.reuse_session.specs.declared.failure.Fault.TheVariants as faults
 use Rattle.reuse_session.specs.declared.events.Event.{Event}
 use Rattle.reuse_session.specs.declared.events.Event.TheVariants as asked
 use Rattle.reuse_tree.specs.declared.cause.Cause.TheVariants as causes
 use Rattle.reuse_session.specs.declared.reply.Reply.{Reply}
 use Rattle.reuse_session.specs.declared.reply.Reply.TheVariants.{Opened}
 use Rattle.reuse_session.specs.declared.reply.Refusal.{Refusal}
-use Rattle.reuse_session.specs.declared.reply.Refusal.TheVariants.{Memory, Fault, Interrupted}
+use Rattle.reuse_session.specs.declared.failure.Failure.TheVariants.{Memory, Fault, Interrupted}
+use Rattle.reuse_session.specs.declared.reply.Refusal.TheVariants.{Failed}
 use Rattle.reuse_session.specs.Answer.{IsNoWantOfMemory, IsNoClash, HasCause, TellsNoFault}
 use Rattle.reuse_session.specs.Machine.{Snapshots, Step, step, answers_to, after_all}
 use Rattle.reuse_session.specs.Stops.{Point, open_at, closed, Reopens, GoesOrStops, Lists, Foretells, AnswersEvent, RunsWithStops, HaveCauses}
@@ -55,9 +56,8 @@ all_told (a ∷ answers) answer told last = (told.0, all_told answers answer tol
 -- a fault that has one cause has the other that follows
 caused : (Rose Higher : Type 0) → (Rose → Higher) → (answer : Result Reply Refusal) → IfErr answer (HasCause Rose) → IfErr answer (HasCause Higher)
 caused Rose Higher on (Ok reply) h = tt
-caused Rose Higher on (Err (Fault faults.Device)) h = on h
-caused Rose Higher on (Err (Fault faults.Memory)) h = h
-caused Rose Higher on (Err (Interrupted causes.Device)) h = on h
+caused Rose Higher on (Err (Failed (Fault faults.Device))) h = on h
+caused Rose Higher on (Err (Failed (Interrupted causes.Device))) h = on h
 caused Rose Higher on (Err refusal) h = tt
 
 -- the answers so far and one more have their causes
@@ -76,14 +76,13 @@ first_one first after le answers answer items cause =
 -- an answer with a cause that didn't come to pass tells no fault
 pub no_fault : (before after : ℕ) (answer : Result Reply Refusal) → IfErr answer (HasCause (before < after)) → IfErr answer IsNoClash → IsNoWantOfMemory answer → after ≡ before → TellsNoFault answer
 no_fault before after (Ok reply) cause clash enough same = tt
-no_fault before after (Err (Fault faults.Device)) cause clash enough same = omega arith
-no_fault before after (Err (Fault faults.Clash)) cause clash enough same = clash
-no_fault before after (Err (Fault faults.Memory)) cause clash enough same = cause
-no_fault before after (Err (Interrupted causes.Device)) cause clash enough same = omega arith
-no_fault before after (Err (Interrupted causes.Clash)) cause clash enough same = clash
-no_fault before after (Err (Interrupted causes.Moved)) cause clash enough same = clash
-no_fault before after (Err (Interrupted causes.Memory)) cause clash enough same = enough
-no_fault before after (Err Memory) cause clash enough same = enough
+no_fault before after (Err (Failed (Fault faults.Device))) cause clash enough same = omega arith
+no_fault before after (Err (Failed (Fault faults.Clash))) cause clash enough same = clash
+no_fault before after (Err (Failed (Interrupted causes.Device))) cause clash enough same = omega arith
+no_fault before after (Err (Failed (Interrupted causes.Clash))) cause clash enough same = clash
+no_fault before after (Err (Failed (Interrupted causes.Moved))) cause clash enough same = clash
+no_fault before after (Err (Failed (Interrupted causes.Memory))) cause clash enough same = enough
+no_fault before after (Err (Failed Memory)) cause clash enough same = enough
 no_fault before after (Err _) cause clash enough same = tt
 
 -- ---- the machine, where no answer tells a fault
@@ -92,27 +91,23 @@ reopened : (answer : Result Reply Refusal) (old new : Point) → old.next ≡ No
 reopened (Ok Opened) old new none told h =
     (refl, h.2 ∙ ⊎_elim (λ (same : old.state ≡ h.0). ap open_at (sym same)) (λ (next : old.next ≡ Some h.0). cc) h.1)
 reopened (Ok reply) old new none told h = absurd h
-reopened (Err (Fault fault)) old new none told h = absurd told
-reopened (Err Memory) old new none told h = absurd told
-reopened (Err (Interrupted cause)) old new none told h = absurd told
+reopened (Err (Failed failure)) old new none told h = absurd told
 reopened (Err refusal) old new none told h = absurd h
 
 went : (next : Step) (answer : Result Reply Refusal) (state : Snapshots) (new : Point) → TellsNoFault answer → GoesOrStops next answer (open_at state) new → (answer ≡ next.0) × (new ≡ open_at next.1)
 went next (Ok reply) state new told h = h
-went next (Err (Fault fault)) state new told h = absurd told
-went next (Err Memory) state new told h = absurd told
-went next (Err (Interrupted cause)) state new told h = absurd told
+went next (Err (Failed failure)) state new told h = absurd told
 went next (Err refusal) state new told h = h
 
 listed : (next : Step) (answer : Result Reply Refusal) (state : Snapshots) (new : Point) → TellsNoFault answer → Lists next answer (open_at state) new → (answer ≡ next.0) × (new ≡ open_at state)
 listed next (Ok reply) state new told h = h
-listed next (Err Memory) state new told h = absurd told
+listed next (Err (Failed Memory)) state new told h = absurd told
 listed next (Err refusal) state new told h = h
 
 foretold : (next : Step) (answer : Result Reply Refusal) (state : Snapshots) (new : Point) → TellsNoFault answer → Foretells next answer (open_at state) new → (answer ≡ next.0) × (new ≡ open_at state)
 foretold next (Ok reply) state new told h = h
-foretold next (Err (Fault fault)) state new told h = absurd told
-foretold next (Err Memory) state new told h = absurd told
+foretold next (Err (Failed (Fault fault))) state new told h = absurd told
+foretold next (Err (Failed Memory)) state new told h = absurd told
 foretold next (Err refusal) state new told h = h
 
 answered : (event : Event) (answer : Result Reply Refusal) (state : Snapshots) (new : Point) → TellsNoFault answer → AnswersEvent true event answer (open_at state) new

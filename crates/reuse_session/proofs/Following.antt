@@ -10,7 +10,7 @@ use Rattle.reuse_tree.specs.declared.command_name.CommandName.{CommandName}
 use Rattle.reuse_session.specs.declared.reply.Reply.{Reply}
 use Rattle.reuse_session.specs.declared.reply.Reply.TheVariants.{Changed, NothingChanged, Undone, Redone}
 use Rattle.reuse_session.specs.declared.reply.Refusal.{Refusal}
-use Rattle.reuse_session.specs.declared.reply.Refusal.TheVariants.{JournalFull, Moved, Memory, Fault}
+use Rattle.reuse_session.specs.declared.reply.Refusal.TheVariants.{JournalFull, Moved, Failed}
 use Rattle.reuse_session.specs.Answer.{TellsNoFault, IsTestRefusal}
 use Rattle.reuse_session.specs.Command.{name_of}
 use Rattle.reuse_session.specs.Outcome.{outcome_of}
@@ -172,9 +172,8 @@ log_follows held state holds =
 
 -- a refusal of the test that is neither memory's nor the store's names a path
 pub names_path : (refusal : Refusal) → IsTestRefusal refusal → TellsNoFault {A = Reply} (Err refusal) → (path : List ℕ) × (refusal ≡ Moved path)
-names_path Memory h told = absurd told
 names_path (Moved path) h told = (path, refl)
-names_path (Fault fault) h told = absurd told
+names_path (Failed failure) h told = absurd told
 names_path refusal h told = absurd h
 
 -- a plan of some changes is an entry

@@ -23,7 +23,8 @@ use Rattle.reuse_session.specs.Session.{store_of, memory_of, listed_count, head_
 use Rattle.reuse_session.specs.Standing.{IsStanding}
 use Rattle.reuse_session.specs.declared.history.ListedEntry.{ListedEntry}
 use Rattle.reuse_session.specs.declared.reply.Refusal.{Refusal}
-use Rattle.reuse_session.specs.declared.reply.Refusal.TheVariants.{Memory as no_memory, Fault, Interrupted}
+use Rattle.reuse_session.specs.declared.failure.Failure.TheVariants.{Interrupted}
+use Rattle.reuse_session.specs.declared.reply.Refusal.TheVariants.{Failed}
 use Rattle.reuse_session.specs.declared.session.Session.{Session}
 use Rattle.reuse_session.proofs.ForgottenFiles.{AreEntriesOf, entries_of, entries_of_first, tree_then, text_then, folder_then, free_then, gone_then, gone_from_the_top, safe_then, standing_then, standing_then_some}
 use Rattle.reuse_session.proofs.ForgottenSteps.{each_given_out, filter_whole, none_besides_all, remembers_besides, sound_besides, sound_listing}
@@ -129,7 +130,7 @@ module _ {S : Type 0} (store : Ghosts S) (old : Session S) (numbers ordered text
   module _ (new : Session S) (cause : Cause) (made : store.honest (store_of new) → Stops (files_of store new)) (asked : store.moves (store_of old) < store.moves (store_of new))
       (written : store.written (store_of new) ≤ store.written (store_of old) + length text) (moves : store.moves (store_of new) ≤ store.moves (store_of old) + 1 + length paths)
       (not_moved : cause ≡ causes.Moved → ⊥) (clash : store.honest (store_of new) → cause ≡ causes.Clash → Clashes (files_of store old) head_path) where
-    pub leaves_stop : LeavesForgetting store numbers (Err (Interrupted cause)) old new
+    pub leaves_stop : LeavesForgetting store numbers (Err (Failed (Interrupted cause))) old new
     leaves_stop = record {
       tree = λ honest. ⊎_elim (λ (same : files_of store new ≡ files_of store old). ap tree_of same)
           (λ (part : (count : ℕ) × PutsAndRemoves text (take count paths) (files_of store old) (files_of store new)). tree_then numbers text (take part.0 paths) (first_entries part.0) (files_of store old) (files_of store new) part.1) (made honest);
@@ -200,9 +201,7 @@ survives_nothing store numbers forgotten earlier held new nothing safe = subst (
 pub forgets_listed : {S : Type 0} (files : S → Files) (new : Session S) (numbers : List ℕ) (held : State) (result : Result (List ℕ) Refusal) → IfErr result IsFailure → TellsNoFault result
     → OnOk result (StandsOn files new (state_besides numbers held)) → first_absent held.journal numbers ≡ None → IfOk result (AreInOrder numbers) → (left : State) × StandsOn files new left × Forgets numbers held result left
 forgets_listed files new numbers held (Ok forgotten) failure told stands none order = (state_besides numbers held, stands, (none, order, refl))
-forgets_listed files new numbers held (Err no_memory) failure told stands none order = absurd told
-forgets_listed files new numbers held (Err (Fault fault)) failure told stands none order = absurd told
-forgets_listed files new numbers held (Err (Interrupted cause)) failure told stands none order = absurd told
+forgets_listed files new numbers held (Err (Failed how)) failure told stands none order = absurd told
 forgets_listed files new numbers held (Err refusal) failure told stands none order = absurd failure
 
 pub only_order : (P : Type 0) (numbers : List ℕ) (result : Result (List ℕ) Refusal) → IfOk result (λ forgotten. AreInOrder numbers forgotten × P) → IfOk result (AreInOrder numbers)

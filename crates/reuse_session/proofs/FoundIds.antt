@@ -14,13 +14,13 @@ use Rattle.reuse_session.specs.declared.licence.LicenceText.{LicenceText}
 use Rattle.reuse_session.specs.declared.path_plan.PathPlan.{PathPlan}
 use Rattle.reuse_session.specs.declared.path_plan.Policy.{Policy}
 use Rattle.reuse_session.specs.declared.reply.Refusal.{Refusal}
-use Rattle.reuse_session.specs.declared.reply.Refusal.TheVariants.{Fault, Memory}
+use Rattle.reuse_session.specs.declared.failure.Failure.TheVariants.{Fault, Memory}
+use Rattle.reuse_session.specs.declared.reply.Refusal.TheVariants.{Failed}
 use Rattle.reuse_session.proofs.PathPlanning.{WalkedSoFar, after_plan, at_refusal, is_refusal_of}
 
 -- a refusal that is told is the one that is due
 is_due : (due : Option Refusal) (refusal : Refusal) → IsTold refusal → IsRefused due refusal → due ≡ Some refusal
-is_due due Memory told is = absurd told
-is_due due (Fault fault) told is = absurd told
+is_due due (Failed failure) told is = absurd told
 is_due due refusal told is = is
 
 none_after : {A : Type 0} (done : List A) (x : A) (rest : List A) → done ++ x ∷ rest ≡ [] → ⊥
@@ -52,8 +52,8 @@ module _ (policy : Policy) (tree : Files) (texts : List LicenceText) (all : List
 
   -- one at which the walk ends
   pub ended : (refusal : Refusal) → EndsWalk policy refusal → IsRefused (id_refusal tree texts id) refusal → IsRefusalOf (edits_in all) refusal
-  ended Memory ends is = tt
-  ended (Fault fault) ends is = tt
+  ended (Failed Memory) ends is = tt
+  ended (Failed (Fault fault)) ends is = tt
   ended refusal ends is =
       at_refusal policy tree all (refused_with refusal) (id_refusals tree texts rest) plans refusal (subst (λ left. WalkedSoFar policy tree all left plans) (is_refused refusal is) so) ends
       (is_refusal_of (refused_with refusal).edit refusal refl)

@@ -19,7 +19,7 @@ use Rattle.reuse_tree.specs.Tree.{undo_folder_of}
 use Rattle.reuse_tree.specs.declared.journal.head.Pending.{Pending}
 use Rattle.reuse_tree.specs.declared.journal.head.PendingWay.{PendingWay}
 use Rattle.reuse_session.specs.declared.reply.Refusal.{Refusal}
-use Rattle.reuse_session.specs.declared.reply.Refusal.TheVariants.{BadJournal, Moved, Memory, Interrupted, Fault}
+use Rattle.reuse_session.specs.declared.reply.Refusal.TheVariants.{BadJournal, Moved, Failed}
 use Rattle.reuse_session.proofs.FilesInDoubt.{standing_bad, under_way_bad}
 use Rattle.reuse_session.proofs.JournalLemmas.{same_entry, entry_good}
 use Rattle.reuse_tree.proofs.MadeLemmas.{back_at_start, settles_from}
@@ -185,7 +185,5 @@ pub opens_refused : {A : Type 0} (files : Files) (refusal : Refusal) → IsOpenR
     → OpensAs {A = A} files (Err refusal)
 opens_refused files (BadJournal path) is told bad moved = refuses_bad files path (bad path refl)
 opens_refused files (Moved path) is told bad moved = refuses_moved files path (moved path refl)
-opens_refused files Memory is told bad moved = absurd told
-opens_refused files (Fault fault) is told bad moved = absurd told
-opens_refused files (Interrupted cause) is told bad moved = absurd told
+opens_refused files (Failed failure) is told bad moved = absurd told
 opens_refused files refusal is told bad moved = absurd is

@@ -1,34 +1,35 @@
 -- Calls that only read the store before they are refused, or before a step.
 use Rattle.std.proofs.Common.{◌≡◌, Result, Ok, Err, IfErr, IsErrAnd, ap, subst, ◌∙◌}
 use Rattle.std.proofs.lemmas.Result.{err_from_is_err_and}
-use Rattle.reuse_tree.specs.declared.fault.StoreFault.TheVariants as faults
+use Rattle.reuse_session.specs.declared.failure.Fault.TheVariants as faults
 use Rattle.reuse_tree.specs.declared.store.Store.{Ghosts}
 use Rattle.reuse_tree.specs.Asked.{OnlyReads}
-use Rattle.reuse_session.specs.Answer.{IsEarly, IsOfPlan, IsPutRefusal, IsReadRefusal, IsStop, IsTestRefusal, HasCause}
+use Rattle.reuse_session.specs.Answer.{IsEarly, IsOfPlan, IsReadRefusal, IsStop, IsTestRefusal, HasCause, IsEarlyFailure}
 use Rattle.reuse_tree.specs.declared.cause.Cause.{Cause}
 use Rattle.reuse_tree.specs.declared.cause.Cause.TheVariants as causes
 use Rattle.reuse_session.specs.declared.reply.Refusal.{Refusal}
-use Rattle.reuse_session.specs.declared.reply.Refusal.TheVariants.{Fault, Interrupted}
+use Rattle.reuse_session.specs.declared.failure.Failure.TheVariants.{Fault, Interrupted}
+use Rattle.reuse_session.specs.declared.reply.Refusal.TheVariants.{Failed}
 
 pub early_is_no_stop : (refusal : Refusal) → IsEarly refusal → IsStop refusal → ⊥
-early_is_no_stop (Interrupted cause) early stop = early
+early_is_no_stop (Failed (Interrupted cause)) early stop = early
 early_is_no_stop refusal early stop = stop
 
 -- a reading's refusal comes early, and that of a plan and of a test
 pub read_early : (refusal : Refusal) → IsReadRefusal refusal → IsEarly refusal
-read_early (Interrupted cause) is = is
+read_early (Failed (Interrupted cause)) is = is
 read_early refusal is = tt
 
-pub put_early : (refusal : Refusal) → IsPutRefusal refusal → IsEarly refusal
-put_early (Interrupted cause) is = is
+pub put_early : (refusal : Refusal) → IsEarlyFailure refusal → IsEarly refusal
+put_early (Failed (Interrupted cause)) is = is
 put_early refusal is = tt
 
 pub planned_early : (refusal : Refusal) → IsOfPlan refusal → IsEarly refusal
-planned_early (Interrupted cause) is = is
+planned_early (Failed (Interrupted cause)) is = is
 planned_early refusal is = tt
 
 pub tested_early : (refusal : Refusal) → IsTestRefusal refusal → IsEarly refusal
-tested_early (Interrupted cause) is = is
+tested_early (Failed (Interrupted cause)) is = is
 tested_early refusal is = tt
 
 -- what the exit of a `?` returns is the refusal
@@ -41,13 +42,12 @@ passed_on result call is was e = let p = err_from_is_err_and result is in let fr
 
 -- a cause stays one where more have failed
 pub still_caused : (refusal : Refusal) (few more : Type 0) → (few → more) → HasCause few refusal → HasCause more refusal
-still_caused (Fault faults.Device) few more rise cause = rise cause
-still_caused (Fault faults.Memory) few more rise cause = cause
-still_caused (Interrupted causes.Device) few more rise cause = rise cause
+still_caused (Failed (Fault faults.Device)) few more rise cause = rise cause
+still_caused (Failed (Interrupted causes.Device)) few more rise cause = rise cause
 still_caused refusal few more rise cause = tt
 
 -- what is said of a stop holds at each cause
-pub at_stop : {A : Type 0} (Left : Type 0) {result : Result A Refusal} {cause : Cause} → result ≡ Err (Interrupted cause) → IfErr result (λ refusal. IsStop refusal → Left) → Left
+pub at_stop : {A : Type 0} (Left : Type 0) {result : Result A Refusal} {cause : Cause} → result ≡ Err (Failed (Interrupted cause)) → IfErr result (λ refusal. IsStop refusal → Left) → Left
 at_stop Left is left = (subst (λ r. IfErr r (λ refusal. IsStop refusal → Left)) is left) tt
 
 -- a refusal before which was only read leaves the files

@@ -22,7 +22,8 @@ use Rattle.reuse_session.specs.Opening.{IsRead}
 use Rattle.reuse_session.specs.Session.{Remembers}
 use Rattle.reuse_session.specs.Standing.{Moves, IsStanding, IsStep, IsUnderWay, InDoubt}
 use Rattle.reuse_session.specs.declared.reply.Refusal.{Refusal}
-use Rattle.reuse_session.specs.declared.reply.Refusal.TheVariants.{Interrupted}
+use Rattle.reuse_session.specs.declared.failure.Failure.TheVariants.{Interrupted}
+use Rattle.reuse_session.specs.declared.reply.Refusal.TheVariants.{Failed}
 use Rattle.reuse_session.proofs.FilesInDoubt.{none_pending}
 use Rattle.reuse_session.proofs.HeadPuts.{head_keeps_tree, head_sets}
 use Rattle.reuse_session.proofs.OpeningLemmas.{same_journal}
@@ -158,8 +159,8 @@ module _ {S : Type 0} (store : Ghosts S) (earlier held next : State) where
 
   -- what is answered, and what may be left then
   pub survives : {A : Type 0} (result : Result A Refusal) (new : S) (Q : Refusal → Type 0) → MatchResult result (λ _. IsStanding (store.files new) held) Q → OnOk result (IsSynced store new)
-      → IfErr result (λ refusal. IsEarly refusal → AreInDoubt store earlier held next new) → ((cause : Cause) → result ≡ Err (Interrupted cause) → AreInDoubt store earlier held next new)
+      → IfErr result (λ refusal. IsEarly refusal → AreInDoubt store earlier held next new) → ((cause : Cause) → result ≡ Err (Failed (Interrupted cause)) → AreInDoubt store earlier held next new)
       → MatchResult result (λ _. IsStanding (store.files new) held × AreSafeOn store earlier held new) (λ refusal. AreInDoubt store earlier held next new)
   survives (Ok x) new Q stands synced early stopped = (stands, λ left is. standing_safe left (subst (λ files. IsStanding files held) (sym (synced left is)) stands))
-  survives (Err (Interrupted cause)) new Q stands synced early stopped = stopped cause refl
+  survives (Err (Failed (Interrupted cause))) new Q stands synced early stopped = stopped cause refl
   survives (Err refusal) new Q stands synced early stopped = early tt

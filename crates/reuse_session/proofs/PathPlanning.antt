@@ -12,7 +12,8 @@ use Rattle.reuse_session.specs.Fates.{fate_by, fate_of, limit_fates}
 use Rattle.std.specs.declared.vec.Vec.{Vec}
 use Rattle.reuse_session.specs.PathEdits.{PathEdit, edited_at, refused_alone, all_or_none, with_edit, or_first, edits_in}
 use Rattle.reuse_session.specs.PathPlans.{IsPlanOf, ArePlansOf, AnswersPlans, EndsWalk, change_planned, changes_planned, fate_planned, is_refusal, limit_planned}
-use Rattle.reuse_session.specs.Previews.{IsLookRefusal, IsTold}
+use Rattle.reuse_session.specs.Answer.{IsEarlyFailure}
+use Rattle.reuse_session.specs.Previews.{IsTold}
 use Rattle.reuse_session.specs.Plan.{MakesEach, MakesEdits, IsRefusalOf}
 use Rattle.reuse_session.specs.declared.fate.Fate.TheVariants as fate
 use Rattle.reuse_session.specs.declared.path_plan.PathPlan.{PathPlan}
@@ -20,6 +21,7 @@ use Rattle.reuse_session.specs.declared.path_plan.PathPlan.TheVariants as plan
 use Rattle.reuse_session.specs.declared.path_plan.Policy.{Policy}
 use Rattle.reuse_session.specs.declared.path_plan.Policy.TheVariants.{Stop, Collect}
 use Rattle.reuse_session.specs.declared.reply.Refusal.{Refusal}
+use Rattle.reuse_session.specs.declared.failure.Failure.TheVariants as failures
 use Rattle.reuse_session.specs.declared.reply.Refusal.TheVariants as refusals
 use Rattle.reuse_session.proofs.Planning.{same_many}
 
@@ -63,8 +65,8 @@ stops_at tree (first ∷ done) [] here rest refusal are e = absurd are
 
 ends_at : (policy : Policy) (tree : Files) (done : List PathEdit) (plans : List PathPlan) (here : PathEdit) (rest : List PathEdit) (refusal : Refusal) → ArePlansOf policy tree done plans
     → EndsWalk policy refusal → IsRefusalOf here.edit refusal → IsRefusalOf (edits_in (done ++ here ∷ rest)) refusal
-ends_at policy tree done plans here rest refusals.Memory are ends is = tt
-ends_at policy tree done plans here rest (refusals.Fault fault) are ends is = tt
+ends_at policy tree done plans here rest (refusals.Failed failures.Memory) are ends is = tt
+ends_at policy tree done plans here rest (refusals.Failed (failures.Fault fault)) are ends is = tt
 ends_at Stop tree done plans here rest refusal are ends is = stops_at tree done plans here rest refusal are is
 ends_at Collect tree done plans here rest refusal are ends is = absurd ends
 
@@ -89,30 +91,30 @@ module _ (policy : Policy) (tree : Files) (all : List PathEdit) where
 
 -- ---- what ends each walk
 
-pub look_refusal : {A : Type 0} (given : Result A Refusal) (refusal : Refusal) → IsLookRefusal refusal → IsRefusalOf given refusal
-look_refusal given refusals.Memory is = tt
-look_refusal given (refusals.Fault fault) is = tt
+pub look_refusal : {A : Type 0} (given : Result A Refusal) (refusal : Refusal) → IsEarlyFailure refusal → IsRefusalOf given refusal
+look_refusal given (refusals.Failed failures.Memory) is = tt
+look_refusal given (refusals.Failed (failures.Fault fault)) is = tt
 look_refusal given refusal is = absurd is
 
-pub look_ends : (policy : Policy) (refusal : Refusal) → IsLookRefusal refusal → EndsWalk policy refusal
-look_ends policy refusals.Memory is = tt
-look_ends policy (refusals.Fault fault) is = tt
-look_ends policy refusal is = absurd is
+pub look_ends : (policy : Policy) (refusal : Refusal) → IsEarlyFailure refusal → EndsWalk policy refusal
+look_ends Stop (refusals.Failed failures.Memory) is = tt
+look_ends Stop (refusals.Failed (failures.Fault fault)) is = tt
+look_ends Stop refusal is = absurd is
+look_ends Collect refusal is = is
 
 pub is_refusal_of : {A : Type 0} (given : Result A Refusal) (refusal : Refusal) → given ≡ Err refusal → IsRefusalOf given refusal
-is_refusal_of given refusals.Memory e = tt
-is_refusal_of given (refusals.Fault fault) e = tt
+is_refusal_of given (refusals.Failed failures.Memory) e = tt
+is_refusal_of given (refusals.Failed (failures.Fault fault)) e = tt
 is_refusal_of given refusal e = e
 
 -- a refusal that is told is that of the outcome
 pub told_is : {A : Type 0} (given : Result A Refusal) (refusal : Refusal) → IsTold refusal → IsRefusalOf given refusal → given ≡ Err refusal
-told_is given refusals.Memory told is = absurd told
-told_is given (refusals.Fault fault) told is = absurd told
+told_is given (refusals.Failed failure) told is = absurd told
 told_is given refusal told is = is
 
 -- a refusal alone, which tells of another result
 pub alone_as : {A B : Type 0} (policy : Policy) (tree : Files) (given : Result A Refusal) (all : List PathEdit) (refusal : Refusal) (result : Result (Vec PathPlan B) Refusal) → IsRefusalOf given refusal
-    → (given ≡ Err refusal → all ≡ refused_alone refusal) → IfOk result (λ plans. IsTold refusal) → IfErr result (λ ended. (ended ≡ refusals.Memory) ⊎ (ended ≡ refusal))
+    → (given ≡ Err refusal → all ≡ refused_alone refusal) → IfOk result (λ plans. IsTold refusal) → IfErr result (λ ended. (ended ≡ refusals.Failed failures.Memory) ⊎ (ended ≡ refusal))
     → AnswersPlans policy tree (refused_alone refusal) result → AnswersPlans policy tree all result
 alone_as policy tree given all refusal (Ok plans) is alone told same answers =
     subst (λ es. ArePlansOf policy tree es plans.items) (sym (alone (told_is given refusal told is))) answers
@@ -120,8 +122,8 @@ alone_as policy tree given all refusal (Err ended) is alone told (inl memory) an
 alone_as policy tree given all refusal (Err ended) is alone told (inr same) answers = subst (IsRefusalOf (edits_in all)) (sym same) (passes refusal alone is)
   where
     passes : (r : Refusal) → (given ≡ Err r → all ≡ refused_alone r) → IsRefusalOf given r → IsRefusalOf (edits_in all) r
-    passes refusals.Memory k e = tt
-    passes (refusals.Fault fault) k e = tt
+    passes (refusals.Failed failures.Memory) k e = tt
+    passes (refusals.Failed (failures.Fault fault)) k e = tt
     passes r k e = ap edits_in (k e)
 
 -- ---- changes together

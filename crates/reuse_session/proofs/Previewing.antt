@@ -5,14 +5,14 @@ use Rattle.std.proofs.lemmas.List.Elements.{All-head, All-tail}
 use Rattle.reuse_tree.specs.Files.{Files}
 use Rattle.reuse_tree.specs.Change.{path_of}
 use Rattle.reuse_tree.specs.declared.change.Change.{Change}
-use Rattle.reuse_tree.specs.declared.fault.StoreFault.TheVariants as faults
+use Rattle.reuse_session.specs.declared.failure.Fault.TheVariants as faults
 use Rattle.reuse_tree.specs.declared.store.Store.{Ghosts}
-use Rattle.reuse_session.specs.Answer.{IsEarly, IsNoClash, HasCause, RefusedAsRead, TellsNoFault}
+use Rattle.reuse_session.specs.Answer.{IsEarly, IsNoClash, HasCause, RefusedAsRead, TellsNoFault, IsEarlyFailure}
 use Rattle.reuse_tree.specs.Entry.{paths_of, CanBeMade}
 use Rattle.reuse_session.specs.Fates.{fates_of, IsFateOf, AreFatesOf}
 use Rattle.reuse_session.specs.Journal.{Recorded, State}
 use Rattle.reuse_session.specs.Machine.{Kept, Snapshots, is_full, run_fates, undo_fates, redo_fates}
-use Rattle.reuse_session.specs.Previews.{Foresees, OnlyLooks, IsLookRefusal, IsPreviewRefusal, run_fates_on}
+use Rattle.reuse_session.specs.Previews.{Foresees, OnlyLooks, IsPreviewRefusal, run_fates_on}
 use Rattle.reuse_session.specs.Session.{store_of, LeadUpTo, LeadOn, HoldsSnapshots, StandsAt}
 use Rattle.reuse_session.specs.declared.command.Command.{Command}
 use Rattle.reuse_tree.specs.declared.way.Way.{Way}
@@ -21,6 +21,7 @@ use Rattle.reuse_session.specs.declared.fate.Fate.{Fate}
 use Rattle.reuse_session.specs.declared.fate.Fate.TheVariants as fate
 use Rattle.reuse_tree.specs.declared.cause.Cause.{Cause}
 use Rattle.reuse_session.specs.declared.reply.Refusal.{Refusal}
+use Rattle.reuse_session.specs.declared.failure.Failure.TheVariants as failures
 use Rattle.reuse_session.specs.declared.reply.Refusal.TheVariants as refusals
 use Rattle.reuse_session.specs.declared.session.Session.{Session}
 use Rattle.reuse_session.proofs.Following.{back_from, on_from}
@@ -80,35 +81,32 @@ module _ (held : State) (state : Snapshots) (holds : HoldsSnapshots held state) 
   redo_foretold answer told = redo_by_cases answer held.journal.undone state.future holds.future told
 
 -- a refusal that tells a fault isn't told
-pub look_told : (A : Type 0) (refusal : Refusal) → IsLookRefusal refusal → TellsNoFault {A = A} (Err refusal) → ⊥
-look_told A refusals.Memory look told = told
-look_told A (refusals.Fault fault) look told = told
+pub look_told : (A : Type 0) (refusal : Refusal) → IsEarlyFailure refusal → TellsNoFault {A = A} (Err refusal) → ⊥
+look_told A (refusals.Failed failure) look told = told
 look_told A refusal look told = look
 
 pub any_told : (A B : Type 0) (refusal : Refusal) → TellsNoFault {A = A} (Err refusal) → TellsNoFault {A = B} (Err refusal)
-any_told A B (refusals.Fault fault) told = told
-any_told A B (refusals.Interrupted cause) told = told
-any_told A B refusals.Memory told = told
+any_told A B (refusals.Failed failure) told = told
 any_told A B refusal told = tt
 
 -- on a tree, with a journal that is full or not
 foretold : (command : Command) (now tree : Files) (due full : Bool) (answer : Result (List Fate) Refusal) → now ≡ tree → due ≡ full
-    → cond full (answer ≡ Err refusals.JournalFull) (IfOk answer (λ fates. fates ≡ fates_of command now) × IfErr answer IsLookRefusal) → TellsNoFault answer → answer ≡ cond due (Err refusals.JournalFull) (Ok (fates_of command tree))
+    → cond full (answer ≡ Err refusals.JournalFull) (IfOk answer (λ fates. fates ≡ fates_of command now) × IfErr answer IsEarlyFailure) → TellsNoFault answer → answer ≡ cond due (Err refusals.JournalFull) (Ok (fates_of command tree))
 foretold command now tree due true answer same full is told = is ∙ sym (ap (λ b. cond b (Err refusals.JournalFull) (Ok (fates_of command tree))) full)
 foretold command now tree due false (Ok fates) same full is told =
     ap (λ fs. Ok fs) (is.0 ∙ ap (fates_of command) same) ∙ sym (ap (λ b. cond b (Err refusals.JournalFull) (Ok (fates_of command tree))) full)
 foretold command now tree due false (Err refusal) same full is told = absurd (look_told (List Fate) refusal is.1 told)
 
 pub run_foretold : (command : Command) (tree : Files) (state : Snapshots) (full : Bool) (answer : Result (List Fate) Refusal) → tree ≡ state.tree → is_full (length state.past) state.used ≡ full
-    → cond full (answer ≡ Err refusals.JournalFull) (IfOk answer (λ fates. fates ≡ fates_of command tree) × IfErr answer IsLookRefusal) → TellsNoFault answer → answer ≡ run_fates state command
+    → cond full (answer ≡ Err refusals.JournalFull) (IfOk answer (λ fates. fates ≡ fates_of command tree) × IfErr answer IsEarlyFailure) → TellsNoFault answer → answer ≡ run_fates state command
 run_foretold command tree state full = foretold command tree state.tree (is_full (length state.past) state.used) full
 
 pub run_foretold_on : (command : Command) (held : State) (full : Bool) (answer : Result (List Fate) Refusal) → is_full (length held.journal.done) held.journal.used ≡ full
-    → cond full (answer ≡ Err refusals.JournalFull) (IfOk answer (λ fates. fates ≡ fates_of command held.tree) × IfErr answer IsLookRefusal) → TellsNoFault answer → answer ≡ run_fates_on held command
+    → cond full (answer ≡ Err refusals.JournalFull) (IfOk answer (λ fates. fates ≡ fates_of command held.tree) × IfErr answer IsEarlyFailure) → TellsNoFault answer → answer ≡ run_fates_on held command
 run_foretold_on command held full answer = foretold command held.tree held.tree (is_full (length held.journal.done) held.journal.used) full answer refl
 
 pub travel_foretold : (way : Way) (step : Recorded) (steps : List Recorded) (made : List Change) (tree now : Files) (answer : Result (List Fate) Refusal) → step.changes ≡ made → now ≡ tree
-    → IfOk answer (AreFatesOf way now made) → IfErr answer IsLookRefusal → TellsNoFault answer → Foresees way (step ∷ steps) tree answer
+    → IfOk answer (AreFatesOf way now made) → IfErr answer IsEarlyFailure → TellsNoFault answer → Foresees way (step ∷ steps) tree answer
 travel_foretold way step steps made tree now (Ok fates) changes same are kind told = subst (λ t. AreFatesOf way t step.changes fates) same (subst (λ cs. AreFatesOf way now cs fates) (sym changes) are)
 travel_foretold way step steps made tree now (Err refusal) changes same are kind told = absurd (look_told (List Fate) refusal kind told)
 
@@ -127,16 +125,15 @@ always (Err refusal) P p = λ early. p
 
 pub looks_cause : {A S : Type 0} (store : Ghosts S) (old new : S) (answer : Result A Refusal) → RefusedAsRead store old new answer → IfErr answer IsPreviewRefusal → IfErr answer (HasCause (store.failures old < store.failures new))
 looks_cause store old new (Ok x) fails kind = tt
-looks_cause store old new (Err (refusals.Fault faults.Device)) fails kind = fails.device refl
-looks_cause store old new (Err (refusals.Fault faults.Memory)) fails kind = fails.memory refl
-looks_cause store old new (Err (refusals.Interrupted cause)) fails kind = absurd kind
+looks_cause store old new (Err (refusals.Failed (failures.Fault faults.Device))) fails kind = fails.device refl
+looks_cause store old new (Err (refusals.Failed (failures.Interrupted cause))) fails kind = absurd kind
 looks_cause store old new (Err refusal) fails kind = tt
 
 pub looks_no_clash : {A S : Type 0} (store : Ghosts S) (old new : S) (answer : Result A Refusal) → RefusedAsRead store old new answer → store.honest new → IfErr answer IsPreviewRefusal → IfErr answer IsNoClash
 looks_no_clash store old new (Ok x) fails honest kind = tt
-looks_no_clash store old new (Err (refusals.Fault faults.Clash)) fails honest kind = fails.clash honest refl
-looks_no_clash store old new (Err (refusals.Interrupted cause)) fails honest kind = absurd kind
+looks_no_clash store old new (Err (refusals.Failed (failures.Fault faults.Clash))) fails honest kind = fails.clash honest refl
+looks_no_clash store old new (Err (refusals.Failed (failures.Interrupted cause))) fails honest kind = absurd kind
 looks_no_clash store old new (Err refusal) fails honest kind = tt
 
-pub looks_no_stop : {A : Type 0} (answer : Result A Refusal) (cause : Cause) → IfErr answer IsPreviewRefusal → answer ≡ Err (refusals.Interrupted cause) → ⊥
+pub looks_no_stop : {A : Type 0} (answer : Result A Refusal) (cause : Cause) → IfErr answer IsPreviewRefusal → answer ≡ Err (refusals.Failed (failures.Interrupted cause)) → ⊥
 looks_no_stop answer cause kind is = subst (λ a. IfErr a IsPreviewRefusal) is kind

@@ -5,9 +5,9 @@ use Rattle.std.specs.List.{All}
 use Rattle.std.proofs.lemmas.List.{length-append}
 use Rattle.reuse_tree.specs.Files.{Files, Clashes, tree_of}
 use Rattle.reuse_tree.specs.declared.change.Change.{Change}
-use Rattle.reuse_tree.specs.declared.fault.StoreFault.TheVariants as faults
+use Rattle.reuse_session.specs.declared.failure.Fault.TheVariants as faults
 use Rattle.reuse_tree.specs.declared.store.Store.{Ghosts}
-use Rattle.reuse_session.specs.Answer.{IsEarly, IsStop, IsPutRefusal, HasClash}
+use Rattle.reuse_session.specs.Answer.{IsEarly, IsStop, HasClash, IsEarlyFailure}
 use Rattle.reuse_session.specs.Calls.{files_of, folder_of, next_path, LeavesRun}
 use Rattle.reuse_session.specs.Command.{name_of}
 use Rattle.reuse_tree.specs.Entry.{paths_of, entry_size, IsEntry, LeadsAll, CanBeMade, CanGo}
@@ -31,7 +31,8 @@ use Rattle.reuse_tree.specs.declared.journal.head.PendingWay.TheVariants as ways
 use Rattle.reuse_session.specs.declared.reply.Reply.{Reply}
 use Rattle.reuse_session.specs.declared.reply.Reply.TheVariants.{Changed}
 use Rattle.reuse_session.specs.declared.reply.Refusal.{Refusal}
-use Rattle.reuse_session.specs.declared.reply.Refusal.TheVariants.{Fault, Interrupted}
+use Rattle.reuse_session.specs.declared.failure.Failure.TheVariants.{Fault, Interrupted}
+use Rattle.reuse_session.specs.declared.reply.Refusal.TheVariants.{Failed}
 use Rattle.reuse_session.specs.declared.session.Session.{Session}
 use Rattle.reuse_session.proofs.FolderLemmas.{folder_put, folder_stepped, entry_text_stays}
 use Rattle.reuse_session.proofs.HeadMoves.{below}
@@ -53,8 +54,8 @@ pub record Recording {S : Type 0} (files : S → Files) (command : Command) (whe
   pub run : IsRun command when held second
   pub runs : Runs command when held (Ok (Changed (paths_of changes))) second
 
-pub put_early : (refusal : Refusal) → IsPutRefusal refusal → IsEarly refusal
-put_early (Interrupted cause) is = absurd is
+pub put_early : (refusal : Refusal) → IsEarlyFailure refusal → IsEarly refusal
+put_early (Failed (Interrupted cause)) is = absurd is
 put_early refusal is = tt
 
 -- a planned entry is put, or not: at most the file of the next number is changed
@@ -118,7 +119,7 @@ module _ {S : Type 0} {store : Ghosts S} {old : Session S} {command : Command} {
         }
 
     -- the entry was not put
-    pub unput_leaves : (refusal : Refusal) → IsPutRefusal refusal → (store.honest put → refusal ≡ Fault faults.Clash → Clashes (files_of store old) (entry_path (number + 1)))
+    pub unput_leaves : (refusal : Refusal) → IsEarlyFailure refusal → (store.honest put → refusal ≡ Failed (Fault faults.Clash) → Clashes (files_of store old) (entry_path (number + 1)))
         → LeavesRun store command when (Err refusal) old (record old { store = put })
     unput_leaves refusal is clash = record {
       unchanged = λ honest early. others honest;

@@ -34,7 +34,8 @@ use Rattle.reuse_session.specs.Session.{IsSameBut}
 use Rattle.reuse_session.specs.Standing.{IsStanding, IsStep, IsTree, IsUnderWay}
 use Rattle.reuse_session.specs.declared.reply.Recovered.{Recovered}
 use Rattle.reuse_session.specs.declared.reply.Refusal.{Refusal}
-use Rattle.reuse_session.specs.declared.reply.Refusal.TheVariants.{Interrupted}
+use Rattle.reuse_session.specs.declared.failure.Failure.TheVariants.{Interrupted}
+use Rattle.reuse_session.specs.declared.reply.Refusal.TheVariants.{Failed}
 use Rattle.reuse_session.proofs.OnlyReading.{early_is_no_stop}
 use Rattle.reuse_session.proofs.HeadPuts.{head_keeps_tree, head_sets}
 use Rattle.reuse_session.proofs.JournalLemmas.{entry_good, keeps_again}
@@ -167,10 +168,10 @@ module _ (way : PendingWay) (step : Recorded) (held : State) where
   pub rolled_on_the_way : {S : Type 0} (store : Ghosts S) (old mid new : S) (result : Result Recovered Refusal)
       (refusal : Refusal) → result ≡ Err refusal → OnlyReads store old mid → store.honest new
       → AwaitsRecovery store way step held old → (IsEarly refusal → OnlyReads store mid new)
-      → ((cause : Cause) → refusal ≡ Interrupted cause
+      → ((cause : Cause) → refusal ≡ Failed (Interrupted cause)
       → AwaitsOrIs store way step held new × Leaves store new (IsOrRecoversTo way step held))
       → SurvivesRecovery store way step held result new
-  rolled_on_the_way store old mid new result (Interrupted cause) is reads honest awaits early stops =
+  rolled_on_the_way store old mid new result (Failed (Interrupted cause)) is reads honest awaits early stops =
       let left = stops cause refl in subst (λ r. SurvivesRecovery store way step held r new) (sym is)
       (left.0, λ stop. left.1)
   rolled_on_the_way store old mid new result refusal is reads honest awaits early stops =
@@ -348,7 +349,7 @@ module _ (way : PendingWay) (step : Recorded) (held next : State) where
         λ left is. standing_safe store earlier held next left
             (subst (λ files. IsStanding files held) (sym (survived.1 left is)) survived.0),
       )
-      survives_in_doubt (Err (Interrupted cause)) survived early = doubt_left survived.0 (survived.1 tt)
+      survives_in_doubt (Err (Failed (Interrupted cause))) survived early = doubt_left survived.0 (survived.1 tt)
       survives_in_doubt (Err refusal) survived early = early tt
 
 -- what recovering files in doubt leaves

@@ -22,7 +22,8 @@ use Rattle.reuse_session.specs.Recovery.{AreStuck, HasPending, IsHalfway, IsReco
 use Rattle.reuse_session.specs.Standing.{IsStanding, IsUnderWay, InDoubt}
 use Rattle.reuse_session.specs.declared.reply.Recovered.{Recovered}
 use Rattle.reuse_session.specs.declared.reply.Refusal.{Refusal}
-use Rattle.reuse_session.specs.declared.reply.Refusal.TheVariants.{BadJournal, Fault, Interrupted, Memory, Moved}
+use Rattle.reuse_session.specs.declared.failure.Failure.TheVariants.{Fault, Interrupted, Memory}
+use Rattle.reuse_session.specs.declared.reply.Refusal.TheVariants.{BadJournal, Moved, Failed}
 use Rattle.reuse_session.proofs.JournalLemmas.{entry_good}
 use Rattle.reuse_session.proofs.OneOpening.{IsOneStep, bad_once, none_pending, not_bad_and_opened, not_bad_and_stuck, not_stuck_and_opened, one_step, stuck_once}
 use Rattle.reuse_session.proofs.OpeningLemmas.{none_bad}
@@ -62,9 +63,7 @@ refuses_recovery skip_moved files after (Err (Moved path)) no_fault kinds recove
   bad = λ other. (λ e. absurd (cc), λ also. absurd (not_bad_and_stuck files other path also (moved path refl).1));
   moved = λ other. (moved other, λ stuck. ap (λ p. Err (Moved p)) (stuck_once files path other (moved path refl).1 stuck.1));
 }
-refuses_recovery skip_moved files after (Err Memory) no_fault kinds recovered bad moved = absurd no_fault
-refuses_recovery skip_moved files after (Err (Fault fault)) no_fault kinds recovered bad moved = absurd no_fault
-refuses_recovery skip_moved files after (Err (Interrupted cause)) no_fault kinds recovered bad moved = absurd no_fault
+refuses_recovery skip_moved files after (Err (Failed failure)) no_fault kinds recovered bad moved = absurd no_fault
 refuses_recovery skip_moved files after (Err refusal) no_fault kinds recovered bad moved = absurd kinds
 
 -- ---- of a step that was under way from a tree
@@ -164,12 +163,12 @@ module _ (skip_moved : Bool) (files after : Files) (first second : State) where
 
   pub settles_recovery : InDoubt first second files → (answer : Result Recovered Refusal) → IfErr answer IsOpenRefusal → IfOk answer (RecoversFiles skip_moved files after)
       → ((path : List ℕ) → answer ≡ Err (BadJournal path) → IsFirstBad files path) → ((path : List ℕ) → answer ≡ Err (Moved path) → (skip_moved ≡ false) × IsStuckAt files path)
-      → ((cause : Cause) → answer ≡ Err (Interrupted cause) → StopsRecovering files after) → IfErr answer (λ refusal. IsEarly refusal → after ≡ files)
+      → ((cause : Cause) → answer ≡ Err (Failed (Interrupted cause)) → StopsRecovering files after) → IfErr answer (λ refusal. IsEarly refusal → after ≡ files)
       → MatchResult answer (λ told. IsStanding after first ⊎ IsStanding after second) (λ refusal. IsFailure refusal × InDoubt first second after)
   settles_recovery doubt (Ok told) kinds recovered bad moved interrupted early = settled doubt told recovered
   settles_recovery doubt (Err (BadJournal path)) kinds recovered bad moved interrupted early = let opens = opens_on_one doubt in absurd (not_bad_and_opened files path opens.0 (bad path refl) opens.1)
   settles_recovery doubt (Err (Moved path)) kinds recovered bad moved interrupted early = let opens = opens_on_one doubt in absurd (not_stuck_and_opened files path opens.0 (moved path refl).1 opens.1)
-  settles_recovery doubt (Err (Interrupted cause)) kinds recovered bad moved interrupted early = (tt, stopped doubt (interrupted cause refl))
-  settles_recovery doubt (Err Memory) kinds recovered bad moved interrupted early = (tt, subst (InDoubt first second) (sym (early tt)) doubt)
-  settles_recovery doubt (Err (Fault fault)) kinds recovered bad moved interrupted early = (tt, subst (InDoubt first second) (sym (early tt)) doubt)
+  settles_recovery doubt (Err (Failed (Interrupted cause))) kinds recovered bad moved interrupted early = (tt, stopped doubt (interrupted cause refl))
+  settles_recovery doubt (Err (Failed Memory)) kinds recovered bad moved interrupted early = (tt, subst (InDoubt first second) (sym (early tt)) doubt)
+  settles_recovery doubt (Err (Failed (Fault fault))) kinds recovered bad moved interrupted early = (tt, subst (InDoubt first second) (sym (early tt)) doubt)
   settles_recovery doubt (Err refusal) kinds recovered bad moved interrupted early = absurd kinds

@@ -6,7 +6,7 @@ use Rattle.std.specs.FinMap.{get}
 use Rattle.reuse_tree.specs.Asked.{OnlyReads}
 use Rattle.reuse_tree.specs.Files.{Files}
 use Rattle.reuse_tree.specs.declared.change.Change.{Change}
-use Rattle.reuse_tree.specs.declared.fault.StoreFault.TheVariants as faults
+use Rattle.reuse_session.specs.declared.failure.Fault.TheVariants as faults
 use Rattle.reuse_tree.specs.declared.store.Store.{Ghosts}
 use Rattle.reuse_tree.proofs.AskedLemmas.{later_more, later_reads}
 use Rattle.reuse_session.specs.Answer.{IsEarly, IsReadRefusal, IsRunAnswer, RefusedAsRead, TellsNoFault}
@@ -23,7 +23,8 @@ use Rattle.reuse_session.specs.declared.command.Command.{Command}
 use Rattle.reuse_session.specs.declared.command.Command.TheVariants.{Revert}
 use Rattle.reuse_tree.specs.declared.journal.entry.Entry.{Entry}
 use Rattle.reuse_session.specs.declared.reply.Refusal.{Refusal}
-use Rattle.reuse_session.specs.declared.reply.Refusal.TheVariants.{BadJournal, Fault, NoSuchStep}
+use Rattle.reuse_session.specs.declared.failure.Failure.TheVariants.{Fault}
+use Rattle.reuse_session.specs.declared.reply.Refusal.TheVariants.{BadJournal, NoSuchStep, Failed}
 use Rattle.reuse_session.specs.declared.reply.Reply.{Reply}
 use Rattle.reuse_session.specs.declared.reply.Reply.TheVariants.{Changed, NothingChanged}
 use Rattle.reuse_session.specs.declared.reply.Reverted.{Reverted}
@@ -155,7 +156,7 @@ no_step_back number refusal (inr is) told good = absurd (read_told refusal is to
 
 -- the refusal tells no fault of the store
 abbrev pub IsNoFaultOfStore : Refusal → Type 0
-IsNoFaultOfStore (Fault fault) = ⊥
+IsNoFaultOfStore (Failed (Fault fault)) = ⊥
 IsNoFaultOfStore refusal = Unit {0}
 
 -- a refusal before the run
@@ -169,17 +170,15 @@ same_refusal A one other e = cc
 -- a refusal that tells no fault of the store
 pub no_fault : {A S : Type 0} (store : Ghosts S) (old new : S) (refusal : Refusal) → IsNoFaultOfStore refusal → RefusedAsRead {A = A} store old new (Err refusal)
 no_fault {A} store old new refusal is = record {
-  device = λ e. absurd (subst IsNoFaultOfStore (same_refusal A refusal (Fault faults.Device) e) is);
-  clash = λ honest e. subst IsNoFaultOfStore (same_refusal A refusal (Fault faults.Clash) e) is;
-  memory = λ e. subst IsNoFaultOfStore (same_refusal A refusal (Fault faults.Memory) e) is;
+  device = λ e. absurd (subst IsNoFaultOfStore (same_refusal A refusal (Failed (Fault faults.Device)) e) is);
+  clash = λ honest e. subst IsNoFaultOfStore (same_refusal A refusal (Failed (Fault faults.Clash)) e) is;
 }
 
 -- a reading's refusal, told as a revert's
 pub fails_too : {A B S : Type 0} (store : Ghosts S) (old new : S) (refusal : Refusal) → RefusedAsRead {A = A} store old new (Err refusal) → RefusedAsRead {A = B} store old new (Err refusal)
 fails_too {A} {B} store old new refusal fails = record {
-  device = λ e. fails.device (ap (λ r. Err r) (same_refusal B refusal (Fault faults.Device) e));
-  clash = λ honest e. fails.clash honest (ap (λ r. Err r) (same_refusal B refusal (Fault faults.Clash) e));
-  memory = λ e. fails.memory (ap (λ r. Err r) (same_refusal B refusal (Fault faults.Memory) e));
+  device = λ e. fails.device (ap (λ r. Err r) (same_refusal B refusal (Failed (Fault faults.Device)) e));
+  clash = λ honest e. fails.clash honest (ap (λ r. Err r) (same_refusal B refusal (Failed (Fault faults.Clash)) e));
 }
 
 -- what the run leaves

@@ -17,7 +17,7 @@ use Rattle.reuse_tree.specs.declared.way.Way.TheVariants as way
 use Rattle.reuse_session.specs.declared.reply.Reply.{Reply}
 use Rattle.reuse_session.specs.declared.reply.Reply.TheVariants.{Changed, NothingChanged}
 use Rattle.reuse_session.specs.declared.reply.Refusal.{Refusal}
-use Rattle.reuse_session.specs.declared.reply.Refusal.TheVariants.{JournalFull, Memory, Fault, Interrupted}
+use Rattle.reuse_session.specs.declared.reply.Refusal.TheVariants.{JournalFull, Failed}
 use Rattle.reuse_session.specs.declared.session.Session.{Session}
 use Rattle.reuse_tree.proofs.Differ.{changed_by_entry}
 use Rattle.reuse_session.proofs.Following.{journal_full, run_refused, run_nothing, run_follows}
@@ -33,9 +33,7 @@ stays_by_none files = record { each = All-nil _; others = λ path e. refl }
 pub runs_refused : (command : Command) (when : ℕ) (held : State) (refusal : Refusal) → is_full (length held.journal.done) held.journal.used ≡ false → IsOfPlan refusal
     → TellsNoFault {A = Reply} (Err refusal) → IsRefusalOf (outcome_of command held.tree) refusal → Runs command when held (Err refusal) held
 runs_refused command when held JournalFull room planned told due = absurd planned
-runs_refused command when held Memory room planned told due = absurd told
-runs_refused command when held (Fault fault) room planned told due = absurd told
-runs_refused command when held (Interrupted cause) room planned told due = absurd told
+runs_refused command when held (Failed failure) room planned told due = absurd told
 runs_refused command when held refusal room planned told due = (room, due, refl)
 
 -- a plan without changes

@@ -26,7 +26,8 @@ use Rattle.reuse_session.specs.declared.fate.Call.{Call}
 use Rattle.reuse_session.specs.declared.reply.Reply.{Reply}
 use Rattle.reuse_session.specs.declared.reply.Reply.TheVariants.{Opened, NothingChanged}
 use Rattle.reuse_session.specs.declared.reply.Refusal.{Refusal}
-use Rattle.reuse_session.specs.declared.reply.Refusal.TheVariants.{Broken, JournalFull, Memory, Fault, Interrupted}
+use Rattle.reuse_session.specs.declared.failure.Failure.TheVariants.{Memory, Fault, Interrupted}
+use Rattle.reuse_session.specs.declared.reply.Refusal.TheVariants.{Broken, JournalFull, Failed}
 use Rattle.reuse_session.specs.declared.session.Session.{Session}
 use Rattle.reuse_session.proofs.Driving.{left_out, no_step, some_doubt, stands_still, stopped}
 use Rattle.reuse_session.proofs.StepDoubt.{reads_are_safe, synced_is_safe}
@@ -79,12 +80,12 @@ ran_nothing files command when held answer new exact is =
 
 module _ {S : Type 0} (store : Ghosts S) (next : Step) (state : Snapshots) (new : Session S) where
   -- one that changed nothing
-  pub keeps_safely : (answer : Result Reply Refusal) → (TellsNoFault answer → (answer ≡ next.0) × (next.1 ≡ state)) → ((cause : Cause) → answer ≡ Err (Interrupted cause) → ⊥) → StandsSafely store new state
+  pub keeps_safely : (answer : Result Reply Refusal) → (TellsNoFault answer → (answer ≡ next.0) × (next.1 ≡ state)) → ((cause : Cause) → answer ≡ Err (Failed (Interrupted cause)) → ⊥) → StandsSafely store new state
       → GoesSafely store next answer state new
   keeps_safely (Ok reply) told never safely = let t = told tt in (t.0, subst (StandsSafely store new) (sym t.1) safely)
-  keeps_safely (Err (Fault fault)) told never safely = safely
-  keeps_safely (Err Memory) told never safely = safely
-  keeps_safely (Err (Interrupted cause)) told never safely = absurd (never cause refl)
+  keeps_safely (Err (Failed (Fault fault))) told never safely = safely
+  keeps_safely (Err (Failed Memory)) told never safely = safely
+  keeps_safely (Err (Failed (Interrupted cause))) told never safely = absurd (never cause refl)
   keeps_safely (Err refusal) told never safely = let t = told tt in (t.0, subst (StandsSafely store new) (sym t.1) safely)
 
   -- one that may have made a step
@@ -97,7 +98,7 @@ module _ {S : Type 0} (store : Ghosts S) (next : Step) (state : Snapshots) (new 
   steps_safely IsNext earlier held holds on stays (Ok reply) follows nothing early survives =
       let f = follows tt in
       (f.0, record { at = f.1; earlier = f.1.held; safe = synced_is_safe store f.1.held f.1.held (store_of new) f.1.stands.standing survives })
-  steps_safely IsNext earlier held holds on stays (Err (Interrupted cause)) follows nothing early survives = (earlier, held, survives.0, holds, on survives.0 survives.1, survives.2)
+  steps_safely IsNext earlier held holds on stays (Err (Failed (Interrupted cause))) follows nothing early survives = (earlier, held, survives.0, holds, on survives.0 survives.1, survives.2)
   steps_safely IsNext earlier held holds on stays (Err refusal) follows nothing early survives =
       keeps_safely (Err refusal) (λ told. let is = (follows told).0 in (is, stays (subst IsNoStep is told))) (λ cause e. cc) (record { at = record { held = held; stands = early tt; holds = holds }; earlier = earlier; safe = survives })
 
@@ -111,37 +112,37 @@ looks_safely store answer old new state looks honest safely = record {
 
 -- one that wasn't interrupted leaves the session open
 module _ {S : Type 0} (store : Ghosts S) (state : Snapshots) (session : Session S) where
-  goes : (next : Step) (answer : Result Reply Refusal) → GoesSafely store next answer state session → ((cause : Cause) → answer ≡ Err (Interrupted cause) → ⊥)
+  goes : (next : Step) (answer : Result Reply Refusal) → GoesSafely store next answer state session → ((cause : Cause) → answer ≡ Err (Failed (Interrupted cause)) → ⊥)
       → (new : Point) × GoesOrStops next answer (open_at state) new × IsSafelyAt store (Open session) new
   goes next (Ok reply) safely other = (open_at next.1, (safely.0, refl), (refl, safely.1))
-  goes next (Err (Fault fault)) safely other = (open_at state, refl, (refl, safely))
-  goes next (Err Memory) safely other = (open_at state, refl, (refl, safely))
-  goes next (Err (Interrupted cause)) safely other = absurd (other cause refl)
+  goes next (Err (Failed (Fault fault))) safely other = (open_at state, refl, (refl, safely))
+  goes next (Err (Failed Memory)) safely other = (open_at state, refl, (refl, safely))
+  goes next (Err (Failed (Interrupted cause))) safely other = absurd (other cause refl)
   goes next (Err refusal) safely other = (open_at next.1, (safely.0, refl), (refl, safely.1))
 
   lists : (answer : Result Reply Refusal) → GoesSafely store (step state asked.Log) answer state session → IfErr answer IsBrokenOrMemory
       → (new : Point) × Lists (step state asked.Log) answer (open_at state) new × IsSafelyAt store (Open session) new
   lists (Ok reply) safely kind = (open_at state, (safely.0, refl), (refl, safely.1))
-  lists (Err Memory) safely kind = (open_at state, refl, (refl, safely))
+  lists (Err (Failed Memory)) safely kind = (open_at state, refl, (refl, safely))
   lists (Err Broken) safely kind = (open_at state, (safely.0, refl), (refl, safely.1))
   lists (Err refusal) safely kind = absurd kind
 
-  foretells : (call : Call) (answer : Result Reply Refusal) → GoesSafely store (step state (asked.Preview call)) answer state session → ((cause : Cause) → answer ≡ Err (Interrupted cause) → ⊥)
+  foretells : (call : Call) (answer : Result Reply Refusal) → GoesSafely store (step state (asked.Preview call)) answer state session → ((cause : Cause) → answer ≡ Err (Failed (Interrupted cause)) → ⊥)
       → (new : Point) × Foretells (step state (asked.Preview call)) answer (open_at state) new × IsSafelyAt store (Open session) new
   foretells call (Ok reply) safely other = (open_at state, (safely.0, refl), (refl, safely.1))
-  foretells call (Err (Fault fault)) safely other = (open_at state, refl, (refl, safely))
-  foretells call (Err Memory) safely other = (open_at state, refl, (refl, safely))
-  foretells call (Err (Interrupted cause)) safely other = absurd (other cause refl)
+  foretells call (Err (Failed (Fault fault))) safely other = (open_at state, refl, (refl, safely))
+  foretells call (Err (Failed Memory)) safely other = (open_at state, refl, (refl, safely))
+  foretells call (Err (Failed (Interrupted cause))) safely other = absurd (other cause refl)
   foretells call (Err refusal) safely other = (open_at state, (safely.0, refl), (refl, safely.1))
 
   pub goes_on_safely : (event : Event) (answer : Result Reply Refusal) → GoesSafely store (step state event) answer state session → (event ≡ asked.Log → IfErr answer IsBrokenOrMemory)
-      → ((cause : Cause) → answer ≡ Err (Interrupted cause) → ⊥) → (new : Point) × Continues event answer (open_at state) new × IsSafelyAt store (Open session) new
+      → ((cause : Cause) → answer ≡ Err (Failed (Interrupted cause)) → ⊥) → (new : Point) × Continues event answer (open_at state) new × IsSafelyAt store (Open session) new
   goes_on_safely asked.Log answer safely kind other = lists answer safely (kind refl)
   goes_on_safely (asked.Preview call) answer safely kind other = foretells call answer safely other
   goes_on_safely event answer safely kind other = goes (step state event) answer safely other
 
 -- one that was closes it
-pub closes_safely : {S : Type 0} (store : Ghosts S) (event : Event) (answer : Result Reply Refusal) (state : Snapshots) (session : Session S) (cause : Cause) → answer ≡ Err (Interrupted cause)
+pub closes_safely : {S : Type 0} (store : Ghosts S) (event : Event) (answer : Result Reply Refusal) (state : Snapshots) (session : Session S) (cause : Cause) → answer ≡ Err (Failed (Interrupted cause))
     → (event ≡ asked.Log → IfErr answer IsBrokenOrMemory) → ((call : Call) → event ≡ asked.Preview call → IfErr answer IsPreviewRefusal) → GoesSafely store (step state event) answer state session
     → (new : Point) × Continues event answer (open_at state) new × IsSafelyAt store (Closed (store_of session)) new
 closes_safely store event answer state session cause is kind seen safely =

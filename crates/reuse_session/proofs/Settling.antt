@@ -23,6 +23,7 @@ use Rattle.reuse_tree.specs.declared.journal.head.Pending.{Pending}
 use Rattle.reuse_tree.specs.declared.journal.head.PendingWay.{PendingWay}
 use Rattle.reuse_tree.specs.declared.cause.Cause.{Cause}
 use Rattle.reuse_session.specs.declared.reply.Refusal.{Refusal}
+use Rattle.reuse_session.specs.declared.failure.Failure.TheVariants as failures
 use Rattle.reuse_session.specs.declared.reply.Refusal.TheVariants as refusals
 use Rattle.reuse_tree.proofs.TreeLemmas.{tree_file, tree_are_files}
 use Rattle.reuse_session.proofs.HeadMoves.{sound_unpended}
@@ -121,14 +122,14 @@ module _ (before : Files) (pending : Pending) (memory : Memory) (journal : Journ
     -- what rolling back answers and leaves
     pub settles : {A : Type 0} (result : Result A Refusal) (after : Files) (text : List ℕ) → IsGoodHead text (head_of journal None)
         → OnOk result (IsRolledBack (way_of pending.way) entry.changes text before after)
-        → ((cause : Cause) → result ≡ Err (refusals.Interrupted cause) → StopsRollingBack (way_of pending.way) entry.changes text first.tree before after)
+        → ((cause : Cause) → result ≡ Err (refusals.Failed (failures.Interrupted cause)) → StopsRollingBack (way_of pending.way) entry.changes text first.tree before after)
         → IfErr result (λ refusal. IsEarly refusal → after ≡ before)
         → ((path : List ℕ) → result ≡ Err (refusals.Moved path) → ⊥)
         → IfErr result IsRollBackRefusal
         → MatchResult result (λ _. IsStanding after first) (λ refusal. IsFailure refusal × (IsStanding after first ⊎ IsUnderWay pending.way step first after))
     settles (Ok x) after text good done stopped early moved refusal =
         stands after text good (back_at_start (way_of pending.way) entry.changes is_entry first.tree (tree_of before) (tree_of after) partly_made done.partly) done.sets
-    settles (Err (refusals.Interrupted cause)) after text good done stopped early moved refusal = (
+    settles (Err (refusals.Failed (failures.Interrupted cause))) after text good done stopped early moved refusal = (
       tt,
       ⊎_elim
           (λ (still : SomeMade (way_of pending.way) entry.changes first.tree (tree_of after) × (undo_folder_of after ≡ undo_folder_of before)).
@@ -137,8 +138,8 @@ module _ (before : Files) (pending : Pending) (memory : Memory) (journal : Journ
           (stopped cause refl),
     )
     settles (Err (refusals.Moved path)) after text good done stopped early moved refusal = absurd (moved path refl)
-    settles (Err refusals.Memory) after text good done stopped early moved refusal = (tt, inr (subst (IsUnderWay pending.way step first) (sym (early tt)) under))
-    settles (Err (refusals.Fault fault)) after text good done stopped early moved refusal = (tt, inr (subst (IsUnderWay pending.way step first) (sym (early tt)) under))
+    settles (Err (refusals.Failed failures.Memory)) after text good done stopped early moved refusal = (tt, inr (subst (IsUnderWay pending.way step first) (sym (early tt)) under))
+    settles (Err (refusals.Failed (failures.Fault fault))) after text good done stopped early moved refusal = (tt, inr (subst (IsUnderWay pending.way step first) (sym (early tt)) under))
     settles (Err other) after text good done stopped early moved refusal = absurd refusal
 
 -- the entry of what is pending can be read
@@ -171,7 +172,7 @@ settled_good folder journal p memory text keeps remembers good =
 
 -- reading fails for the device or memory alone, where nothing is at fault
 pub read_failure : (refusal : Refusal) → IsReadRefusal refusal → ((path : List ℕ) → refusal ≡ refusals.BadJournal path → ⊥) → IsFailure refusal
-read_failure refusals.Memory is good = tt
-read_failure (refusals.Fault fault) is good = tt
+read_failure (refusals.Failed failures.Memory) is good = tt
+read_failure (refusals.Failed (failures.Fault fault)) is good = tt
 read_failure (refusals.BadJournal path) is good = absurd (good path refl)
 read_failure other is good = absurd is

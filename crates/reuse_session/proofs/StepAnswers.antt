@@ -5,8 +5,8 @@ use Rattle.std.proofs.lemmas.List.{length-append, length-map, length-reverse, ge
 use Rattle.std.specs.FinMap.{get}
 use Rattle.reuse_tree.specs.Path.{lies_under}
 use Rattle.reuse_tree.specs.Files.{Files, Clashes, tree_of}
-use Rattle.reuse_tree.specs.declared.fault.StoreFault.TheVariants as faults
-use Rattle.reuse_session.specs.Answer.{IsEarly, TellsNoFault, IsReadRefusal, IsPutRefusal, IsFailure, HasClash, IsNoClash}
+use Rattle.reuse_session.specs.declared.failure.Fault.TheVariants as faults
+use Rattle.reuse_session.specs.Answer.{IsEarly, TellsNoFault, IsReadRefusal, IsFailure, HasClash, IsNoClash, IsEarlyFailure}
 use Rattle.reuse_tree.specs.Head.{IsSoundHead}
 use Rattle.reuse_session.specs.History.{Memory}
 use Rattle.reuse_session.specs.Journal.{Recorded, Journal, State, ahead, moved_on}
@@ -22,7 +22,8 @@ use Rattle.reuse_tree.specs.declared.way.Way.TheVariants.{Do, Undo}
 use Rattle.reuse_tree.specs.declared.cause.Cause.TheVariants as causes
 use Rattle.reuse_session.specs.declared.reply.Reply.{Reply}
 use Rattle.reuse_session.specs.declared.reply.Refusal.{Refusal}
-use Rattle.reuse_session.specs.declared.reply.Refusal.TheVariants.{Memory as OutOfMemory, Fault, Interrupted, BadJournal, JournalFull}
+use Rattle.reuse_session.specs.declared.failure.Failure.TheVariants.{Memory as OutOfMemory, Fault, Interrupted}
+use Rattle.reuse_session.specs.declared.reply.Refusal.TheVariants.{BadJournal, JournalFull, Failed}
 use Rattle.reuse_session.proofs.OnlyReading.{is_refused}
 use Rattle.reuse_session.proofs.HeadMoves.{below}
 use Rattle.reuse_session.proofs.JournalLemmas.{clash_beneath, entry_in_folder, like, paths_apart}
@@ -55,25 +56,21 @@ stands_beside files session store held room same stands = record {
 
 -- none of these is told without a fault
 pub read_told : (refusal : Refusal) → IsReadRefusal refusal → TellsNoFault {A = Reply} (Err refusal) → ((path : List ℕ) → refusal ≡ BadJournal path → ⊥) → ⊥
-read_told OutOfMemory is told never = told
+read_told (Failed failure) is told never = told
 read_told (BadJournal path) is told never = never path refl
-read_told (Fault fault) is told never = told
-read_told (Interrupted cause) is told never = told
 read_told refusal is told never = is
 
 failure_told : (refusal : Refusal) → IsFailure refusal → TellsNoFault {A = Reply} (Err refusal) → ⊥
-failure_told OutOfMemory is told = told
-failure_told (Fault fault) is told = told
-failure_told (Interrupted cause) is told = told
+failure_told (Failed failure) is told = told
 failure_told refusal is told = is
 
 -- nor is a call that failed so
 pub failed_untold : (refusal : Refusal) (result : Result Reply Refusal) → IsErrAnd result (λ given. given ≡ refusal) → IsFailure refusal → TellsNoFault result → ⊥
 failed_untold refusal result is fails told = failure_told refusal fails (subst TellsNoFault (is_refused result is) told)
 
-pub put_fails : (refusal : Refusal) → IsPutRefusal refusal → IsFailure refusal
-put_fails OutOfMemory is = tt
-put_fails (Fault fault) is = tt
+pub put_fails : (refusal : Refusal) → IsEarlyFailure refusal → IsFailure refusal
+put_fails (Failed OutOfMemory) is = tt
+put_fails (Failed (Fault fault)) is = tt
 put_fails refusal is = absurd is
 
 -- an entry's file that was put is in the folder of the journal
@@ -87,24 +84,24 @@ kept_put files number entry says =
 
 module _ (entry head : Type 0) where
   -- a refusal before a stop tells a clash as a fault of the store alone
-  pub fault_clash : (refusal : Refusal) → IsEarly refusal → (refusal ≡ Fault faults.Clash → entry) → HasClash entry head refusal
-  fault_clash (Fault faults.Clash) early clash = clash refl
-  fault_clash (Interrupted cause) early clash = absurd early
+  pub fault_clash : (refusal : Refusal) → IsEarly refusal → (refusal ≡ Failed (Fault faults.Clash) → entry) → HasClash entry head refusal
+  fault_clash (Failed (Fault faults.Clash)) early clash = clash refl
+  fault_clash (Failed (Interrupted cause)) early clash = absurd early
   fault_clash refusal early clash = tt
 
   -- a clash that is told of some paths is told of others that clash then
   pub clash_of : (other more : Type 0) → (entry → other) → (head → more) → (refusal : Refusal) → HasClash entry head refusal → HasClash other more refusal
-  clash_of other more on_entry on_head (Fault faults.Clash) clash = on_entry clash
-  clash_of other more on_entry on_head (Interrupted causes.Clash) clash = on_head clash
-  clash_of other more on_entry on_head (Interrupted causes.Moved) clash = clash
+  clash_of other more on_entry on_head (Failed (Fault faults.Clash)) clash = on_entry clash
+  clash_of other more on_entry on_head (Failed (Interrupted causes.Clash)) clash = on_head clash
+  clash_of other more on_entry on_head (Failed (Interrupted causes.Moved)) clash = clash
   clash_of other more on_entry on_head refusal clash = tt
 
   -- where neither can be, none is told
   pub never_clashes : (entry → ⊥) → (head → ⊥) → (answer : Result Reply Refusal) → IfErr answer (HasClash entry head) → IfErr answer IsNoClash
   never_clashes no_entry no_head (Ok reply) clash = tt
-  never_clashes no_entry no_head (Err (Fault faults.Clash)) clash = no_entry clash
-  never_clashes no_entry no_head (Err (Interrupted causes.Clash)) clash = no_head clash
-  never_clashes no_entry no_head (Err (Interrupted causes.Moved)) clash = clash
+  never_clashes no_entry no_head (Err (Failed (Fault faults.Clash))) clash = no_entry clash
+  never_clashes no_entry no_head (Err (Failed (Interrupted causes.Clash))) clash = no_head clash
+  never_clashes no_entry no_head (Err (Failed (Interrupted causes.Moved))) clash = clash
   never_clashes no_entry no_head (Err refusal) clash = tt
 
 -- no path of a file of the journal clashes where none is a folder

@@ -25,7 +25,8 @@ use Rattle.reuse_session.specs.Session.{IsSameBut}
 use Rattle.reuse_session.specs.declared.reply.Reply.{Reply}
 use Rattle.reuse_session.specs.declared.reply.Reply.TheVariants.{NothingChanged}
 use Rattle.reuse_session.specs.declared.reply.Refusal.{Refusal}
-use Rattle.reuse_session.specs.declared.reply.Refusal.TheVariants.{Interrupted}
+use Rattle.reuse_session.specs.declared.failure.Failure.TheVariants.{Interrupted}
+use Rattle.reuse_session.specs.declared.reply.Refusal.TheVariants.{Failed}
 use Rattle.reuse_session.specs.Standing.{IsTree, IsStanding, IsStep, IsUnderWay}
 use Rattle.reuse_session.proofs.JournalReading.{file_in_folder}
 use Rattle.reuse_session.proofs.Travelling.{first_of_all}
@@ -145,12 +146,12 @@ module _ (earlier held second : State) (step : Recorded) (was left : Files) (is_
 
 -- a refusal before anything is pending
 pub survives_early : {S : Type 0} (store : Ghosts S) (IsNext : State → Type 0) (earlier held : State) (new : S) (refusal : Refusal) → IsEarly refusal → AreSafeOn store earlier held new → Survives store IsNext earlier held (Err refusal) new
-survives_early store IsNext earlier held new (Interrupted cause) early safe = absurd early
+survives_early store IsNext earlier held new (Failed (Interrupted cause)) early safe = absurd early
 survives_early store IsNext earlier held new refusal early safe = safe
 
 pub survives_stop : {S : Type 0} (store : Ghosts S) (IsNext : State → Type 0) (earlier held next : State) (new : S) (refusal : Refusal) → (IsEarly refusal → AreSafeOn store earlier held new) → IsNext next → (IsStop refusal → AreInDoubt store earlier held next new)
     → Survives store IsNext earlier held (Err refusal) new
-survives_stop store IsNext earlier held next new (Interrupted cause) early is doubt = (next, is, doubt tt)
+survives_stop store IsNext earlier held next new (Failed (Interrupted cause)) early is doubt = (next, is, doubt tt)
 survives_stop store IsNext earlier held next new refusal early is doubt = early tt
 
 -- by another word for the next standing
@@ -158,7 +159,7 @@ pub survives_weaker : {S : Type 0} (store : Ghosts S) (IsNext IsOther : State �
     → Survives store IsOther earlier held result new
 survives_weaker store IsNext IsOther earlier held new (Ok NothingChanged) weaker survives = survives
 survives_weaker store IsNext IsOther earlier held new (Ok reply) weaker survives = survives
-survives_weaker store IsNext IsOther earlier held new (Err (Interrupted cause)) weaker survives = (survives.0, weaker survives.0 survives.1, survives.2)
+survives_weaker store IsNext IsOther earlier held new (Err (Failed (Interrupted cause))) weaker survives = (survives.0, weaker survives.0 survives.1, survives.2)
 survives_weaker store IsNext IsOther earlier held new (Err refusal) weaker survives = survives
 
 pub survives_travel : {S : Type 0} (store : Ghosts S) (IsNext : State → Type 0) (earlier held : State) (new : S) (way : Way) (paths : List (List ℕ)) (reply : Reply) → reply ≡ reply_of way paths → IsSynced store new → Survives store IsNext earlier held (Ok reply) new

@@ -25,7 +25,8 @@ use Rattle.reuse_tree.specs.declared.journal.head.PendingWay.TheVariants.{Do}
 use Rattle.reuse_session.specs.Answer.{HasClash}
 use Rattle.reuse_tree.specs.declared.cause.Cause.{Cause}
 use Rattle.reuse_tree.specs.declared.cause.Cause.TheVariants as causes
-use Rattle.reuse_session.specs.declared.reply.Refusal.TheVariants.{Interrupted}
+use Rattle.reuse_session.specs.declared.failure.Failure.TheVariants.{Interrupted}
+use Rattle.reuse_session.specs.declared.reply.Refusal.TheVariants.{Failed}
 use Rattle.reuse_session.proofs.HeadMoves.{sound_pending, sound_moved}
 use Rattle.reuse_session.proofs.JournalLemmas.{sound_head}
 use Rattle.reuse_session.proofs.MemoryLemmas.{listing_of}
@@ -124,7 +125,7 @@ module _ (memory : Memory) (files : Files) (first second : State) (standing : Is
 -- ---- causes
 
 -- a stop that tells a clash only of the head, and no file that has moved
-pub stop_clash : (entry head : Type 0) (cause : Cause) → (cause ≡ causes.Moved → ⊥) → (cause ≡ causes.Clash → head) → HasClash entry head (Interrupted cause)
+pub stop_clash : (entry head : Type 0) (cause : Cause) → (cause ≡ causes.Moved → ⊥) → (cause ≡ causes.Clash → head) → HasClash entry head (Failed (Interrupted cause))
 stop_clash entry head causes.Memory moved clash = tt
 stop_clash entry head causes.Device moved clash = tt
 stop_clash entry head causes.Moved moved clash = moved refl

@@ -32,7 +32,8 @@ use Rattle.reuse_session.specs.declared.amend_fault.AmendFault.TheVariants.{BadE
 use Rattle.reuse_session.specs.declared.command.Place.TheVariants as place
 use Rattle.reuse_session.specs.declared.command.Scope.{Scope}
 use Rattle.reuse_session.specs.declared.reply.Refusal.{Refusal}
-use Rattle.reuse_session.specs.declared.reply.Refusal.TheVariants.{NoSuchPath, IsFolder, NotCovered, TooLong, Amend, Memory}
+use Rattle.reuse_session.specs.declared.failure.Failure.TheVariants.{Memory}
+use Rattle.reuse_session.specs.declared.reply.Refusal.TheVariants.{NoSuchPath, IsFolder, NotCovered, TooLong, Amend, Failed}
 
 -- ---- the style of a file
 
@@ -91,7 +92,7 @@ abbrev pub table_refused_by : List ℕ → AmendTomlRefusal → Refusal
 table_refused_by path toml_refusals.BadExpression = Amend path BadExpression
 table_refused_by path toml_refusals.CannotBeAmended = Amend path CannotBeAmended
 table_refused_by path toml_refusals.TooLong = TooLong path
-table_refused_by path (toml_refusals.Memory e) = Memory
+table_refused_by path (toml_refusals.Memory e) = Failed Memory
 
 -- a change of one range of its bytes
 abbrev pub table_edit : List ℕ → List ℕ → TomlSplice → Edit

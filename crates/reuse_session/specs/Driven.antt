@@ -16,7 +16,8 @@ use Rattle.reuse_session.specs.declared.events.Event.TheVariants as asked
 use Rattle.reuse_session.specs.declared.fate.Call.{Call}
 use Rattle.reuse_tree.specs.declared.cause.Cause.{Cause}
 use Rattle.reuse_session.specs.declared.reply.Refusal.{Refusal}
-use Rattle.reuse_session.specs.declared.reply.Refusal.TheVariants.{Fault, Memory, Interrupted}
+use Rattle.reuse_session.specs.declared.failure.Failure.TheVariants.{Interrupted}
+use Rattle.reuse_session.specs.declared.reply.Refusal.TheVariants.{Failed}
 use Rattle.reuse_session.specs.declared.reply.Reply.{Reply}
 use Rattle.reuse_session.specs.declared.session.Session.{Session}
 use Rattle.reuse_session.specs.declared.events.Driven.{Driven}
@@ -46,9 +47,8 @@ IsSafelyAt store (Closed new) point = (point.is_open ≡ false) × MayBeFound st
 -- What an event leaves of an open session that stood safely at the state. It stands safely there still, or at the machine's next, or was
 -- stopped on the way.
 abbrev pub GoesSafely : {S : Type 0} → Ghosts S → Step → Result Reply Refusal → Snapshots → Session S → Type 0
-GoesSafely store next (Err (Fault fault)) state new = StandsSafely store new state
-GoesSafely store next (Err Memory) state new = StandsSafely store new state
-GoesSafely store next (Err (Interrupted cause)) state new = MayBeFound store (store_of new) state (Some next.1)
+GoesSafely store next (Err (Failed (Interrupted cause))) state new = MayBeFound store (store_of new) state (Some next.1)
+GoesSafely store next (Err (Failed failure)) state new = StandsSafely store new state
 GoesSafely store next answer state new = (answer ≡ next.0) × StandsSafely store new next.1
 
 -- what one event of an open session answers and leaves
@@ -56,7 +56,7 @@ pub record IsAsked {S : Type 0} (store : Ghosts S) (event : Event) (answer : Res
   pub follows : store.honest (store_of new) → (state : Snapshots) → StandsAt store.files old state → TellsNoFault answer → Follows store.files answer new (step state event)
   pub stands : store.honest (store_of new) → (state : Snapshots) → StandsAt store.files old state → IfErr answer (λ refusal. IsEarly refusal → StandsAt store.files new state)
   pub stops : store.honest (store_of new) → (state : Snapshots) → StandsAt store.files old state
-      → (cause : Cause) → answer ≡ Err (Interrupted cause) → AreLeft (files_of store new) state (Some (step state event).1)
+      → (cause : Cause) → answer ≡ Err (Failed (Interrupted cause)) → AreLeft (files_of store new) state (Some (step state event).1)
   pub survives : store.honest (store_of new) → (state : Snapshots) → StandsSafely store old state → GoesSafely store (step state event) answer state new
   pub log : event ≡ asked.Log → IfErr answer IsBrokenOrMemory
   pub preview : (call : Call) → event ≡ asked.Preview call → IfErr answer IsPreviewRefusal

@@ -19,6 +19,7 @@ use Rattle.reuse_session.specs.Showing.{lists}
 use Rattle.reuse_session.specs.Standing.{IsStanding}
 use Rattle.reuse_session.specs.declared.history.ListedEntry.{ListedEntry}
 use Rattle.reuse_session.specs.declared.reply.Refusal.{Refusal}
+use Rattle.reuse_session.specs.declared.failure.Failure.TheVariants as failures
 use Rattle.reuse_session.specs.declared.reply.Refusal.TheVariants as refusals
 use Rattle.reuse_session.specs.declared.session.Session.{Session}
 
@@ -126,8 +127,8 @@ IsSameButGone numbers before after =
 abbrev pub IsForgetRefusal : Refusal → Type 0
 IsForgetRefusal refusals.Broken = Unit {0}
 IsForgetRefusal (refusals.NoSuchStep number) = Unit {0}
-IsForgetRefusal refusals.Memory = Unit {0}
-IsForgetRefusal (refusals.Interrupted cause) = Unit {0}
+IsForgetRefusal (refusals.Failed failures.Memory) = Unit {0}
+IsForgetRefusal (refusals.Failed (failures.Interrupted cause)) = Unit {0}
 IsForgetRefusal refusal = ⊥
 
 -- what forgetting leaves, whatever it answers
@@ -158,7 +159,7 @@ pub record LeavesForgetting {S : Type 0} (store : Ghosts S) (numbers : List ℕ)
 abbrev pub SurvivesForgetting : {S : Type 0} → Ghosts S → List ℕ → (earlier held : State) → Result (List ℕ) Refusal → S → Type 0
 SurvivesForgetting store numbers earlier held (Ok []) new = AreSafeOn store earlier held new
 SurvivesForgetting store numbers earlier held (Ok (number ∷ more)) new = Leaves store new (λ left. IsStanding left (state_besides numbers held))
-SurvivesForgetting store numbers earlier held (Err (refusals.Interrupted cause)) new = Leaves store new (λ left. IsSafeOn earlier held left ⊎ IsStanding left (state_besides numbers held))
+SurvivesForgetting store numbers earlier held (Err (refusals.Failed (failures.Interrupted cause))) new = Leaves store new (λ left. IsSafeOn earlier held left ⊎ IsStanding left (state_besides numbers held))
 SurvivesForgetting store numbers earlier held (Err refusal) new = AreSafeOn store earlier held new
 
 -- so it is from whatever standing all that might be left before was safe on

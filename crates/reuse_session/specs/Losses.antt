@@ -19,7 +19,8 @@ use Rattle.reuse_session.specs.declared.reply.Recovered.{Recovered}
 use Rattle.reuse_session.specs.declared.reply.Reply.{Reply}
 use Rattle.reuse_session.specs.declared.reply.Reply.TheVariants.{NothingChanged}
 use Rattle.reuse_session.specs.declared.reply.Refusal.{Refusal}
-use Rattle.reuse_session.specs.declared.reply.Refusal.TheVariants.{Interrupted}
+use Rattle.reuse_session.specs.declared.failure.Failure.TheVariants.{Interrupted}
+use Rattle.reuse_session.specs.declared.reply.Refusal.TheVariants.{Failed}
 use Rattle.reuse_session.specs.Session.{store_of, StandsOn}
 use Rattle.reuse_session.specs.declared.session.Session.{Session}
 use Rattle.reuse_session.specs.Standing.{IsStanding, IsStep, IsUnderWay, InDoubt}
@@ -52,7 +53,7 @@ AreInDoubt store earlier held next new =
 abbrev pub Survives : {S : Type 0} → Ghosts S → (State → Type 0) → (earlier held : State) → Result Reply Refusal → S → Type 0
 Survives store IsNext earlier held (Ok NothingChanged) new = AreSafeOn store earlier held new
 Survives store IsNext earlier held (Ok reply) new = IsSynced store new
-Survives store IsNext earlier held (Err (Interrupted cause)) new = (next : State) × IsNext next × AreInDoubt store earlier held next new
+Survives store IsNext earlier held (Err (Failed (Interrupted cause))) new = (next : State) × IsNext next × AreInDoubt store earlier held next new
 Survives store IsNext earlier held (Err refusal) new = AreSafeOn store earlier held new
 
 -- the next standing is that after a step this way

@@ -5,7 +5,7 @@ use Rattle.reuse_tree.specs.Change.{path_of}
 use Rattle.reuse_tree.specs.Entry.{entry_size}
 use Rattle.reuse_tree.specs.Files.{Files}
 use Rattle.reuse_tree.specs.declared.change.Change.{Change}
-use Rattle.reuse_session.specs.Answer.{IsOfPlan}
+use Rattle.reuse_session.specs.Answer.{IsEarlyFailure, IsOfPlan}
 use Rattle.reuse_session.specs.Edit.{Edit}
 use Rattle.reuse_session.specs.PathEdits.{PathEdit, edits_in}
 use Rattle.reuse_session.specs.Plan.{CarriesOutEdit, IsRefusalOf}
@@ -17,7 +17,7 @@ use Rattle.reuse_session.specs.declared.path_plan.PathPlan.TheVariants as plan
 use Rattle.reuse_session.specs.declared.path_plan.Policy.{Policy}
 use Rattle.reuse_session.specs.declared.path_plan.Policy.TheVariants.{Stop, Collect}
 use Rattle.reuse_session.specs.declared.reply.Refusal.{Refusal}
-use Rattle.reuse_session.specs.declared.reply.Refusal.TheVariants.{Fault, Memory, TooMany}
+use Rattle.reuse_session.specs.declared.reply.Refusal.TheVariants.{TooMany}
 
 -- ---- by what is done
 
@@ -45,12 +45,10 @@ abbrev pub AnswersPlans : {A : Type 0} → Policy → Files → List PathEdit �
 AnswersPlans policy tree all (Ok plans) = ArePlansOf policy tree all plans.items
 AnswersPlans policy tree all (Err refusal) = IsRefusalOf (edits_in all) refusal
 
--- what a walk ends at: any refusal, or a fault of the store and want of memory alone
+-- what a walk ends at: any refusal, or a failure alone
 abbrev pub EndsWalk : Policy → Refusal → Type 0
-EndsWalk policy Memory = Unit {0}
-EndsWalk policy (Fault fault) = Unit {0}
 EndsWalk Stop refusal = IsOfPlan refusal
-EndsWalk Collect refusal = ⊥
+EndsWalk Collect refusal = IsEarlyFailure refusal
 
 -- ---- what is made of plans
 

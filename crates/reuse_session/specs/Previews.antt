@@ -3,7 +3,7 @@ use Rattle.std.specs.Prelude.{◌≡◌, List, [], ◌∷◌, Result, Ok, Err, l
 use Rattle.reuse_tree.specs.Asked.{OnlyReads}
 use Rattle.reuse_tree.specs.Files.{Files}
 use Rattle.reuse_tree.specs.declared.store.Store.{Ghosts}
-use Rattle.reuse_session.specs.Answer.{RefusedAsRead}
+use Rattle.reuse_session.specs.Answer.{RefusedAsRead, IsReadRefusal}
 use Rattle.reuse_session.specs.Fates.{AreFatesOf, fates_of}
 use Rattle.reuse_session.specs.Journal.{Recorded, State, end_of}
 use Rattle.reuse_session.specs.Machine.{is_full}
@@ -12,7 +12,7 @@ use Rattle.reuse_session.specs.declared.command.Command.{Command}
 use Rattle.reuse_tree.specs.declared.way.Way.{Way}
 use Rattle.reuse_session.specs.declared.fate.Fate.{Fate}
 use Rattle.reuse_session.specs.declared.reply.Refusal.{Refusal}
-use Rattle.reuse_session.specs.declared.reply.Refusal.TheVariants.{Broken, JournalFull, NothingToUndo, NothingToRedo, BadJournal, Fault, Memory}
+use Rattle.reuse_session.specs.declared.reply.Refusal.TheVariants.{Broken, JournalFull, NothingToUndo, NothingToRedo, Failed}
 use Rattle.reuse_session.specs.declared.session.Session.{Session}
 
 -- a preview of an undo or a redo: the fates of the next step's changes, or that there is no step
@@ -27,30 +27,18 @@ pub record OnlyLooks {S A : Type 0} (store : Ghosts S) (answer : Result A Refusa
   pub kept : IsKept old new
   pub fails : RefusedAsRead store (store_of old) (store_of new) answer
 
--- the refusals of looking at a tree
-abbrev pub IsLookRefusal : Refusal → Type 0
-IsLookRefusal Memory = Unit {0}
-IsLookRefusal (Fault fault) = Unit {0}
-IsLookRefusal refusal = ⊥
-
--- the refusal tells neither a fault of the store nor want of memory
+-- the refusal is no failure
 abbrev pub IsTold : Refusal → Type 0
-IsTold Memory = ⊥
-IsTold (Fault fault) = ⊥
+IsTold (Failed failure) = ⊥
 IsTold refusal = Unit {0}
 
--- the refusals of a preview of an entry that is listed
-abbrev pub IsListedPreviewRefusal : Refusal → Type 0
-IsListedPreviewRefusal (BadJournal path) = Unit {0}
-IsListedPreviewRefusal refusal = IsLookRefusal refusal
-
--- the refusals of a preview
+-- the refusals of a preview; that of an entry that is listed reads it
 abbrev pub IsPreviewRefusal : Refusal → Type 0
 IsPreviewRefusal Broken = Unit {0}
 IsPreviewRefusal JournalFull = Unit {0}
 IsPreviewRefusal NothingToUndo = Unit {0}
 IsPreviewRefusal NothingToRedo = Unit {0}
-IsPreviewRefusal refusal = IsListedPreviewRefusal refusal
+IsPreviewRefusal refusal = IsReadRefusal refusal
 
 -- what a run of the command would do on a standing, path by path, or that the journal is full
 abbrev pub run_fates_on : State → Command → Result (List Fate) Refusal

@@ -9,6 +9,8 @@ use Rattle.reuse_session.specs.declared.amend_fault.AmendFault.TheVariants as am
 use Rattle.reuse_session.specs.declared.header_fault.HeaderFault.{HeaderFault}
 use Rattle.reuse_session.specs.declared.header_fault.HeaderFault.TheVariants as faults
 use Rattle.reuse_session.specs.declared.reply.Refusal.{Refusal}
+use Rattle.reuse_session.specs.declared.failure.Failure.{Failure}
+use Rattle.reuse_session.specs.declared.failure.Failure.TheVariants as failures
 use Rattle.reuse_session.specs.declared.reply.Refusal.TheVariants as refusals
 
 -- why a header can't be written
@@ -24,6 +26,12 @@ abbrev pub amend_fault_text : AmendFault → List ℕ
 amend_fault_text amend_faults.BadExpression = codes "bad licence expression"
 amend_fault_text amend_faults.NothingLeft = codes "nothing left"
 amend_fault_text amend_faults.CannotBeAmended = codes "cannot be amended"
+
+-- why a call failed
+abbrev pub failure_text : Failure → List ℕ
+failure_text (failures.Interrupted cause) = codes "interrupted"
+failure_text (failures.Fault fault) = codes "store fault"
+failure_text failures.Memory = codes "out of memory"
 
 -- bytes as text, with a replacement character for what is not UTF-8
 abbrev pub shown : List ℕ → List ℕ
@@ -53,6 +61,4 @@ refusal_text (refusals.Moved path) = path ++ codes ": moved"
 refusal_text refusals.NothingToRedo = codes "nothing to redo"
 refusal_text (refusals.NoSuchStep number) = codes "no such step: " ++ decimal number
 refusal_text (refusals.BadJournal path) = path ++ codes ": bad journal"
-refusal_text (refusals.Interrupted cause) = codes "interrupted"
-refusal_text (refusals.Fault fault) = codes "store fault"
-refusal_text refusals.Memory = codes "out of memory"
+refusal_text (refusals.Failed failure) = failure_text failure

@@ -13,7 +13,8 @@ use Rattle.reuse_session.specs.declared.events.Event.TheVariants as event
 use Rattle.reuse_session.specs.declared.reply.Reply.{Reply}
 use Rattle.reuse_session.specs.declared.reply.Reply.TheVariants.{Opened}
 use Rattle.reuse_session.specs.declared.reply.Refusal.{Refusal}
-use Rattle.reuse_session.specs.declared.reply.Refusal.TheVariants.{Broken, Fault, Memory, Interrupted}
+use Rattle.reuse_session.specs.declared.failure.Failure.TheVariants.{Fault, Memory, Interrupted}
+use Rattle.reuse_session.specs.declared.reply.Refusal.TheVariants.{Broken, Failed}
 
 -- Where a run is: whether a session is open, the state of the machine, and, where a call stopped since the last opening, the state
 -- after its step, which may have been reached or not.
@@ -35,28 +36,25 @@ IsReached point state = (point.state ≡ state) ⊎ (point.next ≡ Some state)
 -- An opening goes on from the state, or from that after the step that stopped. Where it fails it is left out.
 abbrev pub Reopens : Result Reply Refusal → Point → Point → Type 0
 Reopens (Ok Opened) old new = (state : Snapshots) × IsReached old state × (new ≡ open_at state)
-Reopens (Err (Fault fault)) old new = new ≡ closed old
-Reopens (Err Memory) old new = new ≡ closed old
-Reopens (Err (Interrupted cause)) old new = new ≡ closed old
+Reopens (Err (Failed failure)) old new = new ≡ closed old
 Reopens answer old new = ⊥
 
--- An event of an open session that makes a step. One that a fault of the store or want of memory refused is left out; one that was
--- interrupted closes the session, and is kept or left out; and every other is that of the machine.
+-- An event of an open session that makes a step. One that was interrupted closes the session, and is kept or left out; one that failed
+-- earlier is left out; and every other is that of the machine.
 abbrev pub GoesOrStops : Step → Result Reply Refusal → Point → Point → Type 0
-GoesOrStops next (Err (Fault fault)) old new = new ≡ old
-GoesOrStops next (Err Memory) old new = new ≡ old
-GoesOrStops next (Err (Interrupted cause)) old new = new ≡ record { is_open = false; state = old.state; next = Some next.1 }
+GoesOrStops next (Err (Failed (Interrupted cause))) old new = new ≡ record { is_open = false; state = old.state; next = Some next.1 }
+GoesOrStops next (Err (Failed failure)) old new = new ≡ old
 GoesOrStops next answer old new = (answer ≡ next.0) × (new ≡ open_at next.1)
 
 -- a log answers the machine's rows, or memory ran out, and changes nothing
 abbrev pub Lists : Step → Result Reply Refusal → Point → Point → Type 0
-Lists next (Err Memory) old new = new ≡ old
+Lists next (Err (Failed Memory)) old new = new ≡ old
 Lists next answer old new = (answer ≡ next.0) × (new ≡ old)
 
 -- a preview answers the machine's fates, or a fault of the store or want of memory refused it, and changes nothing
 abbrev pub Foretells : Step → Result Reply Refusal → Point → Point → Type 0
-Foretells next (Err (Fault fault)) old new = new ≡ old
-Foretells next (Err Memory) old new = new ≡ old
+Foretells next (Err (Failed (Fault fault))) old new = new ≡ old
+Foretells next (Err (Failed Memory)) old new = new ≡ old
 Foretells next answer old new = (answer ≡ next.0) × (new ≡ old)
 
 -- an event of an open session

@@ -8,7 +8,8 @@ use Rattle.reuse_header.specs.declared.style_refusal.StylesRefusal.TheVariants a
 use Rattle.reuse_tree.specs.Files.{Files}
 use Rattle.reuse_text.specs.declared.TheConstants.{LONGEST_FILE}
 use Rattle.reuse_session.specs.declared.reply.Refusal.{Refusal}
-use Rattle.reuse_session.specs.declared.reply.Refusal.TheVariants.{TooLong, BadStyles, Memory}
+use Rattle.reuse_session.specs.declared.failure.Failure.TheVariants.{Memory}
+use Rattle.reuse_session.specs.declared.reply.Refusal.TheVariants.{TooLong, BadStyles, Failed}
 
 -- the kind that each name has in the tree, where the tree gives it one
 abbrev pub OwnNames : Type 0
@@ -19,7 +20,7 @@ styles_path = codes ".reuse/styles.toml"
 
 -- a refusal of the file as one of the command
 abbrev pub styles_refusal : StylesRefusal → Refusal
-styles_refusal (styles.Memory e) = Memory
+styles_refusal (styles.Memory e) = Failed Memory
 styles_refusal refusal = BadStyles refusal
 
 -- what the file gives, its refusal as one of the command

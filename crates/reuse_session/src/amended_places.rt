@@ -3,7 +3,7 @@
 ghost use Rattle.std.specs.Prelude.{◌≡◌, ◌∷◌, ◌++◌, ◌&&◌, IfOk, OnOk, is_some, if◌then◌else◌};
 ghost use Rattle.reuse_tree.specs.Asked.{FailsAsRead};
 ghost use Rattle.reuse_session.specs.Conversion.{toml_path};
-ghost use Rattle.reuse_session.specs.Previews.{IsLookRefusal};
+ghost use Rattle.reuse_session.specs.Answer.{IsEarlyFailure};
 ghost use Rattle.reuse_session.specs.Reading.{get, tree_of, OnlyReads, ReadsAlone};
 ghost use Rattle.reuse_session.specs.Worked.{asks_for_table, with_table};
 ghost use Rattle.reuse_session.specs.declared.command.Place.TheVariants as place;
@@ -25,7 +25,7 @@ pub(crate) fn with_table<S: Store>(
     scope: &Scope,
 ) -> Result<Vec<Place>, Refusal>
     ensures places { S.honest store.new → IfOk result (λ all. all.items ≡ with_table scope.now places.now (tree_of (S.files store.old))) }
-    ensures asks { ReadsAlone S.Store IsLookRefusal store.old store.new result }
+    ensures asks { ReadsAlone S.Store IsEarlyFailure store.old store.new result }
 {
     let is_chosen = is_table_chosen(alloc, store, places, scope)?;
     Ok(places_if(alloc, places, is_chosen)?)

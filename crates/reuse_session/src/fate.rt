@@ -1,6 +1,7 @@
 //! What a call would do, path by path.
 ghost use Rattle.std.specs.Prelude.{◌≡◌, IfOk, IfErr};
-ghost use Rattle.reuse_session.specs.Previews.{IsLookRefusal, IsTold};
+ghost use Rattle.reuse_session.specs.Answer.{IsFailure};
+ghost use Rattle.reuse_session.specs.Previews.{IsTold};
 
 use crate::command::Command;
 use crate::reply::Refusal;
@@ -33,14 +34,13 @@ pub enum Call {
     Redo,
 }
 
-/// The refusal, unless it tells a fault of the store or want of memory.
+/// The refusal, unless it is a failure.
 pub(crate) fn told(refusal: Refusal) -> Result<Refusal, Refusal>
     ensures told { IfOk result (λ told. (told ≡ refusal) × IsTold told) }
-    ensures fault { IfErr result (λ fault. (fault ≡ refusal) × IsLookRefusal fault) }
+    ensures failed { IfErr result (λ failed. (failed ≡ refusal) × IsFailure failed) }
 {
     match refusal {
-        Refusal::Memory => Err(Refusal::Memory),
-        Refusal::Fault(fault) => Err(Refusal::Fault(fault)),
+        Refusal::Failed(failure) => Err(Refusal::Failed(failure)),
         refusal => Ok(refusal),
     }
 }

@@ -3,9 +3,8 @@ ghost use Rattle.std.specs.Prelude.{◌≡◌, ◌≢◌, ◌⊎◌, ◌<◌, �
 ghost use Rattle.std.specs.FinMap as map;
 ghost use Rattle.reuse_tree.specs.Files.{Clashes, tree_of};
 ghost use Rattle.reuse_tree.specs.Store.{reading_of};
-ghost use Rattle.reuse_tree.specs.declared.fault.StoreFault.{StoreFault};
-ghost use Rattle.reuse_tree.specs.declared.fault.StoreFault.TheVariants as faults;
-ghost use Rattle.reuse_session.specs.Answer.{IsReadRefusal, IsPutRefusal, bad_text, RefusedAsRead};
+ghost use Rattle.reuse_session.specs.declared.failure.Fault.TheVariants as faults;
+ghost use Rattle.reuse_session.specs.Answer.{IsReadRefusal, bad_text, RefusedAsRead, IsEarlyFailure};
 ghost use Rattle.reuse_tree.specs.Entry.{IsEntry, entry_size};
 ghost use Rattle.reuse_tree.specs.EntryText.{entry_text, is_any_sealed, HavePaths};
 ghost use Rattle.reuse_tree.specs.Format.{knows};
@@ -17,13 +16,16 @@ ghost use Rattle.reuse_tree.specs.declared.journal.head.Head.{Head};
 ghost use Rattle.reuse_tree.specs.declared.journal.entry.Entry.{Entry};
 ghost use Rattle.reuse_tree.specs.Asked.{OnlyReads, IsLater, IsSynced, MaySet};
 ghost use Rattle.reuse_session.specs.Losses.{HaveTree};
+ghost use Rattle.reuse_session.specs.declared.failure.Fault.{Fault};
+ghost use Rattle.reuse_session.specs.declared.failure.Failure.TheVariants as failures;
 
+use crate::failure::Failure;
 use crate::known_path::known_path;
 use crate::reply::Refusal;
 use reuse_text::LONGEST_FILE;
 use reuse_tree::{
-    Cause, DecodeFault, Entry, EntryNumbers, Head, PathText, Reading, Store, StoreFault,
-    decode_entry, decode_head, encode_entry,
+    Cause, DecodeFault, Entry, EntryNumbers, Head, PathText, Reading, Store, decode_entry,
+    decode_head, encode_entry,
 };
 use std::alloc::{AllocError, Global};
 use std::marker::Model;
@@ -107,7 +109,7 @@ fn head_in(alloc: Global, path: PathText, reading: Reading) -> Result<Head, Refu
         → (place ≡ path) × ((head : Head) → ¬ (HeadSays file head)) }
     ensures sound { IfOk result IsSoundHead }
     ensures refusal { IfErr result IsReadRefusal }
-    ensures no_fault { (fault : StoreFault) → result ≢ Err (Refusal.Fault fault) }
+    ensures no_fault { (fault : Fault) → result ≢ Err (Refusal.Failed (failures.Fault fault)) }
 {
     match reading {
         Reading::Absent => Ok(Head {
@@ -148,7 +150,7 @@ fn entry_in(alloc: Global, path: PathText, reading: Reading) -> Result<Entry, Re
     ensures bad { (file : Option (List ℕ)) → reading ≡ reading_of file 268_435_456 → (place : List ℕ) → result ≡ Err (Refusal.BadJournal place)
         → (place ≡ path) × ((entry : Entry) → ¬ (EntrySays file entry)) }
     ensures refusal { IfErr result IsReadRefusal }
-    ensures no_fault { (fault : StoreFault) → result ≢ Err (Refusal.Fault fault) }
+    ensures no_fault { (fault : Fault) → result ≢ Err (Refusal.Failed (failures.Fault fault)) }
 {
     match reading {
         Reading::Found(text) => match decode_entry(alloc, text.as_slice()) {
@@ -165,7 +167,7 @@ fn bad_text(path: PathText, fault: DecodeFault) -> Refusal
 {
     match fault {
         DecodeFault::NotGood => Refusal::BadJournal(path),
-        DecodeFault::Memory => Refusal::Memory,
+        DecodeFault::Memory => Refusal::Failed(Failure::Memory),
     }
 }
 
@@ -187,9 +189,9 @@ pub fn put_entry<S: Store>(
     ensures left { IsEntry entry.now.changes → knows (is_any_sealed entry.now.changes) entry.now.command ≡ true
         → MaySet S.Store (entry_path number) (λ file. EntrySays file entry.now) store.old store.new }
     ensures lasting { S.honest store.new → HaveTree S.Store store.old (tree_of (S.files store.old)) → OnOk result (IsSynced S.Store store.new) }
-    ensures refusal { IfErr result IsPutRefusal }
-    ensures clash { S.honest store.new → result ≡ Err (Refusal.Fault faults.Clash) → Clashes (S.files store.old) (entry_path number) }
-    ensures device { result ≡ Err (Refusal.Fault faults.Device) → S.failures store.old < S.failures store.new }
+    ensures refusal { IfErr result IsEarlyFailure }
+    ensures clash { S.honest store.new → result ≡ Err (Refusal.Failed (failures.Fault faults.Clash)) → Clashes (S.files store.old) (entry_path number) }
+    ensures device { result ≡ Err (Refusal.Failed (failures.Fault faults.Device)) → S.failures store.old < S.failures store.new }
     ensures written { IsEntry entry.now.changes → S.written store.new ≤ S.written store.old + entry_size entry.now.changes }
     ensures moves { S.moves store.new ≤ S.moves store.old + 1 }
     ensures later { IsLater S.Store store.old store.new }

@@ -17,6 +17,7 @@ ghost use Rattle.reuse_tree.specs.Tree.{undo_folder_of};
 ghost use Rattle.reuse_tree.specs.declared.cause.Cause.{Cause};
 ghost use Rattle.reuse_tree.specs.declared.cause.Cause.TheVariants as causes;
 ghost use Rattle.reuse_tree.specs.Asked.{OnlyReads, IsLater};
+ghost use Rattle.reuse_session.specs.declared.failure.Failure.TheVariants as failures;
 
 use crate::history::{History, ListedEntry};
 use crate::journal_files::{HeadPath, entry_path, read_entry, read_head};
@@ -33,7 +34,7 @@ pub fn open_journal<S: Store>(alloc: Global, store: &mut S) -> Result<History, R
     ensures bad { S.honest store.new → (path : List ℕ) → result ≡ Err (Refusal.BadJournal path) → IsFirstBad (S.files store.old) path }
     ensures moved { S.honest store.new → (path : List ℕ) → result ≡ Err (Refusal.Moved path) → IsStuckAt (S.files store.old) path }
     // It stops only where a step was under way, which is still, or is set back.
-    ensures interrupted { S.honest store.new → (cause : Cause) → result ≡ Err (Refusal.Interrupted cause) → StopsOpening (S.files store.old) (S.files store.new) }
+    ensures interrupted { S.honest store.new → (cause : Cause) → result ≡ Err (Refusal.Failed (failures.Interrupted cause)) → StopsOpening (S.files store.old) (S.files store.new) }
     // Of files in doubt it makes one of the two standings, or leaves them in doubt where it fails.
     ensures settles { S.honest store.new → (first second : State) → InDoubt first second (S.files store.old)
         → MatchResult result (λ memory. (IsStanding (S.files store.new) first × Remembers memory first.journal) ⊎ (IsStanding (S.files store.new) second × Remembers memory second.journal))
@@ -53,7 +54,7 @@ pub fn open_journal<S: Store>(alloc: Global, store: &mut S) -> Result<History, R
     // Nothing is moved before a refusal, nor where nothing is pending; and of the journal's folder
     // nothing but the head changes.
     ensures early { IfErr result (λ refusal. IsEarly refusal → OnlyReads S.Store store.old store.new) }
-    ensures late { (cause : Cause) → result ≡ Err (Refusal.Interrupted cause) → cause ≢ causes.Moved → S.moves store.old < S.moves store.new }
+    ensures late { (cause : Cause) → result ≡ Err (Refusal.Failed (failures.Interrupted cause)) → cause ≢ causes.Moved → S.moves store.old < S.moves store.new }
     ensures quiet { S.honest store.new → (held : State) → IsStanding (S.files store.old) held → OnlyReads S.Store store.old store.new }
     ensures folder { S.honest store.new → IsSameBut head_path (undo_folder_of (S.files store.old)) (undo_folder_of (S.files store.new)) }
     ensures refusal { IfErr result IsOpenRefusal }
@@ -108,9 +109,9 @@ fn settle<S: Store>(
         → (earlier held next : State) → AreInDoubt S.Store earlier held next store.old
         → MatchResult result (λ done. IsStanding (S.files store.new) held × AreSafeOn S.Store earlier held store.new) (λ refusal. AreInDoubt S.Store earlier held next store.new) }
     ensures interrupted { S.honest store.new → (journal : Journal) → IsRead (S.files store.old) (Some pending) history.now journal
-        → (cause : Cause) → result ≡ Err (Refusal.Interrupted cause) → StopsOpening (S.files store.old) (S.files store.new) }
+        → (cause : Cause) → result ≡ Err (Refusal.Failed (failures.Interrupted cause)) → StopsOpening (S.files store.old) (S.files store.new) }
     ensures early { IfErr result (λ refusal. IsEarly refusal → OnlyReads S.Store store.old store.new) }
-    ensures late { (cause : Cause) → result ≡ Err (Refusal.Interrupted cause) → cause ≢ causes.Moved → S.moves store.old < S.moves store.new }
+    ensures late { (cause : Cause) → result ≡ Err (Refusal.Failed (failures.Interrupted cause)) → cause ≢ causes.Moved → S.moves store.old < S.moves store.new }
     ensures folder { S.honest store.new → (journal : Journal) → IsRead (S.files store.old) (Some pending) history.now journal
         → IsSameBut head_path (undo_folder_of (S.files store.old)) (undo_folder_of (S.files store.new)) }
     ensures texts { S.honest store.new → (journal : Journal) → IsRead (S.files store.old) (Some pending) history.now journal

@@ -10,6 +10,7 @@ ghost use Rattle.reuse_session.specs.Reading.{Files, IsOfPlan};
 ghost use Rattle.reuse_session.specs.declared.reply.Refusal.{Refusal};
 ghost use Rattle.reuse_session.specs.declared.path_plan.PathPlan.TheVariants as plan;
 ghost use Rattle.reuse_session.specs.declared.path_plan.Policy.TheVariants.{Stop};
+ghost use Rattle.reuse_session.specs.declared.failure.Failure.TheVariants as failures;
 
 use crate::fate::told;
 use crate::reply::Refusal;
@@ -76,7 +77,7 @@ impl Policy {
         refusal: Refusal,
     ) -> Result<Vec<PathPlan>, Refusal>
         ensures plans { (tree : Files) → AnswersPlans self tree (refused_alone refusal) result }
-        ensures same { IfErr result (λ ended. (ended ≡ Refusal.Memory) ⊎ (ended ≡ refusal)) }
+        ensures same { IfErr result (λ ended. (ended ≡ Refusal.Failed failures.Memory) ⊎ (ended ≡ refusal)) }
         ensures told { IfOk result (λ plans. IsTold refusal) }
         ensures ends { IsOfPlan refusal → IfErr result (EndsWalk self) }
     {
@@ -93,7 +94,7 @@ impl Policy {
         changes: Result<Vec<Change>, Refusal>,
     ) -> Result<Vec<PathPlan>, Refusal>
         ensures plans { (tree : Files) (edits : Result (List Edit) Refusal) → AnswersEdits tree edits changes → AnswersPlans self tree (all_or_none edits) result }
-        ensures same { IfErr result (λ ended. (ended ≡ Refusal.Memory) ⊎ (changes ≡ Err ended)) }
+        ensures same { IfErr result (λ ended. (ended ≡ Refusal.Failed failures.Memory) ⊎ (changes ≡ Err ended)) }
         ensures ends { IfErr changes IsOfPlan → IfErr result (EndsWalk self) }
     {
         match changes {

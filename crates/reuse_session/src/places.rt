@@ -3,7 +3,7 @@ ghost use Rattle.std.specs.Prelude.{◌≡◌, ◌&&◌, not, ◌++◌, [], ◌�
 ghost use Rattle.std.specs.List.{All};
 ghost use Rattle.reuse_tree.specs.Asked.{FailsAsRead};
 ghost use Rattle.reuse_tree.specs.Listing.{ArePaths, is_folder, listed_paths};
-ghost use Rattle.reuse_session.specs.Previews.{IsLookRefusal};
+ghost use Rattle.reuse_session.specs.Answer.{IsEarlyFailure};
 ghost use Rattle.reuse_session.specs.Reading.{tree_of, OnlyReads, ReadsAlone};
 ghost use Rattle.reuse_session.specs.Shown.{folders_for, ShowsEach, ShowsPlace};
 ghost use Rattle.reuse_session.specs.Choice.{is_chosen, is_listed, is_passed_over};
@@ -12,6 +12,7 @@ ghost use Rattle.reuse_session.specs.declared.command.Place.TheVariants as place
 ghost use Rattle.std.specs.Option.{option_to_list};
 ghost use Rattle.reuse_notice.specs.Sets.{set_of};
 ghost use Rattle.reuse_session.specs.Command.{is_root, has_root, path_in, paths_among};
+ghost use Rattle.reuse_session.specs.declared.failure.Failure.TheVariants as failures;
 
 use crate::choice::matches_one;
 use crate::command::{Place, Scope};
@@ -72,7 +73,7 @@ pub(crate) fn find_worked<S: Store>(
 ) -> Result<Worked, Refusal>
     ensures paths { S.honest store.new → IfOk result (λ worked. worked.paths.items ≡ worked_paths scope.now places.now (tree_of (S.files store.old))) }
     ensures shown { S.honest store.new → IfOk result (λ worked. ShowsEach worked.listing (tree_of (S.files store.old)) worked.paths.items) }
-    ensures asks { ReadsAlone S.Store IsLookRefusal store.old store.new result }
+    ensures asks { ReadsAlone S.Store IsEarlyFailure store.old store.new result }
 {
     if !scope.recursive {
         return Ok(Worked {
@@ -92,7 +93,7 @@ fn find_beneath<S: Store>(
 ) -> Result<Worked, Refusal>
     ensures paths { S.honest store.new → IfOk result (λ worked. worked.paths.items ≡ set_of (flat_map (expanded scope.now (tree_of (S.files store.old))) places.now)) }
     ensures shown { S.honest store.new → IfOk result (λ worked. ShowsEach worked.listing (tree_of (S.files store.old)) worked.paths.items) }
-    ensures asks { ReadsAlone S.Store IsLookRefusal store.old store.new result }
+    ensures asks { ReadsAlone S.Store IsEarlyFailure store.old store.new result }
 {
     let given = given_paths(alloc, places)?;
     let listed = list_selected(alloc, store, places, &given, scope)?;
@@ -113,7 +114,7 @@ fn list_selected<S: Store>(
     scope: &Scope,
 ) -> Result<Vec<PathText>, Refusal>
     ensures listed { S.honest store.new → IfOk result (λ listed. listed.items ≡ listed_paths (tree_of (S.files store.old)) (folders_for places.now given.now) (is_passed_over scope.now given.now)) }
-    ensures asks { ReadsAlone S.Store IsLookRefusal store.old store.new result }
+    ensures asks { ReadsAlone S.Store IsEarlyFailure store.old store.new result }
 {
     let folders = folders_for(alloc, places, given)?;
     let unselected = Unselected::new(scope, given);
@@ -127,7 +128,7 @@ fn folders_for(
     given: &[PathText],
 ) -> Result<Vec<PathText>, Refusal>
     ensures folders { IfOk result (λ folders. folders.items ≡ folders_for places.now given.now) }
-    ensures memory { IfErr result (λ refusal. refusal ≡ Refusal.Memory) }
+    ensures memory { IfErr result (λ refusal. refusal ≡ Refusal.Failed failures.Memory) }
 {
     if has_root(places) {
         return Ok(Vec::new(alloc));

@@ -10,6 +10,7 @@ ghost use Rattle.reuse_session.specs.Conversion.{dep5_path, toml_path, conversio
 ghost use Rattle.reuse_dep5.specs.Conversion.{converted};
 ghost use Rattle.reuse_session.specs.Plan.{AnswersEdits};
 
+use crate::failure::Failure;
 use crate::known_path::known_path;
 use crate::reply::Refusal;
 use crate::tree_paths::tree_paths;
@@ -111,7 +112,7 @@ fn of_dep5(refusal: Dep5Refusal) -> Refusal
     ensures { result ≡ dep5_refusal refusal }
 {
     match refusal {
-        Dep5Refusal::Memory => Refusal::Memory,
+        Dep5Refusal::Memory => Refusal::Failed(Failure::Memory),
         refusal => Refusal::Dep5(refusal),
     }
 }

@@ -17,6 +17,7 @@ ghost use Rattle.reuse_session.specs.Plan.{AnswersEdit};
 ghost use Rattle.reuse_session.specs.Refused.{IsNoFault};
 
 use crate::amend_fault::AmendFault;
+use crate::failure::Failure;
 use crate::header_fault::HeaderFault;
 use crate::reply::Refusal;
 use reuse_dep5::{AmendTomlRefusal, TomlSplice};
@@ -136,7 +137,7 @@ fn table_refused_by(
         AmendTomlRefusal::BadExpression => AmendFault::BadExpression,
         AmendTomlRefusal::CannotBeAmended => AmendFault::CannotBeAmended,
         AmendTomlRefusal::TooLong => return Ok(Refusal::TooLong(path.try_clone(alloc)?)),
-        AmendTomlRefusal::Memory(_) => return Ok(Refusal::Memory),
+        AmendTomlRefusal::Memory(_) => return Ok(Refusal::Failed(Failure::Memory)),
     };
     Ok(Refusal::Amend(path.try_clone(alloc)?, fault))
 }
@@ -167,7 +168,7 @@ fn refused_by(alloc: Global, path: &PathText, refusal: HeaderRefusal) -> Result<
         HeaderRefusal::HoldsCloser => HeaderFault::HoldsCloser,
         HeaderRefusal::TooLong => HeaderFault::TooLong,
         HeaderRefusal::Unsettled => HeaderFault::Unsettled,
-        HeaderRefusal::Memory(_) => return Ok(Refusal::Memory),
+        HeaderRefusal::Memory(_) => return Ok(Refusal::Failed(Failure::Memory)),
     };
     Ok(Refusal::Header(path.try_clone(alloc)?, fault))
 }

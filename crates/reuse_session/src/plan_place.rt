@@ -18,9 +18,11 @@ ghost use Rattle.reuse_session.specs.Refused.{IsNoFault};
 ghost use Rattle.reuse_session.specs.Steps.{short_file, StepsTo, StepsBy};
 ghost use Rattle.reuse_session.specs.declared.command.Scope.{Scope};
 ghost use Rattle.reuse_session.specs.declared.path_plan.Policy.TheVariants.{Stop};
+ghost use Rattle.reuse_session.specs.declared.failure.Failure.TheVariants as failures;
 
 use crate::annotation::Annotation;
 use crate::command::Place;
+use crate::failure::Failure;
 use crate::path_plan::PathPlan;
 use crate::plan_edit::{change_by, making_by};
 use crate::plan_target::{neighbour_of, target_by_bytes};
@@ -67,13 +69,13 @@ pub(crate) fn neighbour_path(alloc: Global, path: &PathText) -> Result<Option<Pa
     ensures path { IfOk result (λ found. IfSome found (λ neighbour. neighbour ≡ neighbour_of path.now)) }
     ensures long { IfOk result (λ found. IfNone found (nat_lt 4096 (length (neighbour_of path.now)) ≡ true)) }
     ensures short { IfOk result (λ found. IfSome found (λ neighbour. nat_lt 4096 (length (neighbour_of path.now)) ≡ false)) }
-    ensures memory { IfErr result (λ refusal. refusal ≡ Refusal.Memory) }
+    ensures memory { IfErr result (λ refusal. refusal ≡ Refusal.Failed failures.Memory) }
 {
     let text = format!(in alloc; "{}.license", path.text())?;
     match PathText::new(alloc, text.as_str()) {
         Ok(neighbour) => Ok(Some(neighbour)),
         Err(PathError::BadPath) => Ok(None),
-        Err(PathError::Memory) => Err(Refusal::Memory),
+        Err(PathError::Memory) => Err(Refusal::Failed(Failure::Memory)),
     }
 }
 

@@ -8,14 +8,14 @@ ghost use Rattle.reuse_tree.specs.Entry.{makes, IsEntry, IsSmall};
 ghost use Rattle.reuse_tree.specs.EntryText.{HavePaths};
 ghost use Rattle.reuse_tree.specs.Tree.{is_of_tree};
 ghost use Rattle.reuse_tree.specs.declared.change.Change.TheVariants.{Make, Splice};
-ghost use Rattle.reuse_tree.specs.declared.fault.StoreFault.{StoreFault};
 ghost use Rattle.reuse_tree.specs.declared.way.Way.TheVariants.{Undo};
-ghost use Rattle.reuse_session.specs.Answer.{IsTestRefusal};
+ghost use Rattle.reuse_session.specs.Answer.{IsTestRefusal, IsEarlyFailure};
 ghost use Rattle.reuse_session.specs.PathPlans.{AnswersPlan, AnswersPlans, EndsWalk};
 ghost use Rattle.reuse_session.specs.Plan.{MakesEdit};
-ghost use Rattle.reuse_session.specs.Previews.{IsLookRefusal};
 ghost use Rattle.reuse_session.specs.Reading.{get, reading_of, tree_of, Files, OnlyReads, ReadsAlone};
 ghost use Rattle.reuse_session.specs.Reverting.{has_digest, is_as_left, reverted_at, stands_as_written, stands_at, taken_back, taken_back_on, taken_back_unless};
+ghost use Rattle.reuse_session.specs.declared.failure.Fault.{Fault};
+ghost use Rattle.reuse_session.specs.declared.failure.Failure.TheVariants as failures;
 
 use crate::choice::PathList;
 use crate::path_plan::{PathPlan, Policy};
@@ -89,7 +89,7 @@ fn plan_back(
         → AnswersPlan policy tree (reverted_at touched skip_moved tree change.now) result }
     ensures ends { IfErr result (EndsWalk policy) }
     ensures other { IfErr result IsTestRefusal }
-    ensures fault { (fault : StoreFault) → result ≡ Err (Refusal.Fault fault) → ⊥ }
+    ensures fault { (fault : Fault) → result ≢ Err (Refusal.Failed (failures.Fault fault)) }
 {
     match back {
         Some(back) => Ok(PathPlan::Change(back)),
@@ -107,7 +107,7 @@ fn take_back_unless<S: Store>(
 ) -> Result<Option<Change>, Refusal>
     ensures edit { S.honest store.new → IsProper change.now → IsSmall change.now → is_of_tree (path_of change.now) ≡ true
         → IfOk result (MakesEdit (tree_of (S.files store.old)) (Ok (taken_back_unless touched.now (tree_of (S.files store.old)) change.now))) }
-    ensures asks { ReadsAlone S.Store IsLookRefusal store.old store.new result }
+    ensures asks { ReadsAlone S.Store IsEarlyFailure store.old store.new result }
 {
     if touched.has(change.path()) {
         return Ok(None);
@@ -123,7 +123,7 @@ fn take_back<S: Store>(
 ) -> Result<Option<Change>, Refusal>
     ensures edit { S.honest store.new → IsProper change.now → IsSmall change.now → is_of_tree (path_of change.now) ≡ true
         → IfOk result (MakesEdit (tree_of (S.files store.old)) (Ok (taken_back_on (tree_of (S.files store.old)) change.now))) }
-    ensures asks { ReadsAlone S.Store IsLookRefusal store.old store.new result }
+    ensures asks { ReadsAlone S.Store IsEarlyFailure store.old store.new result }
 {
     if makes_at_clash(alloc, store, change)? {
         return Ok(None);

@@ -5,7 +5,7 @@ ghost use Rattle.reuse_session.specs.Fates.{fates_of};
 ghost use Rattle.reuse_session.specs.Outcome.{outcome_of, edits_of};
 ghost use Rattle.reuse_session.specs.PathPlans.{limit_planned};
 ghost use Rattle.reuse_session.specs.Plan.{IsPlan, IsRefusalOf, Records, is_before};
-ghost use Rattle.reuse_session.specs.Previews.{IsLookRefusal};
+ghost use Rattle.reuse_session.specs.Answer.{IsEarlyFailure};
 ghost use Rattle.reuse_session.specs.Reading.{tree_of, IsOfPlan, OnlyReads, RefusedAsRead};
 
 use crate::command::Command;
@@ -59,7 +59,7 @@ pub(crate) fn plan_fates<S: Store>(
     ensures fates { S.honest store.new → IfOk result (λ fates. fates ≡ fates_of command.now (tree_of (S.files store.old))) }
     ensures fails { RefusedAsRead S.Store store.old store.new result }
     ensures reads { OnlyReads S.Store store.old store.new }
-    ensures refusal { IfErr result IsLookRefusal }
+    ensures refusal { IfErr result IsEarlyFailure }
 {
     let plans = plan_command(alloc, store, command, Policy::Collect)?;
     Ok(with_limit(Planned::of(alloc, plans)?)?)

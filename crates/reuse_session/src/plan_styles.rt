@@ -6,6 +6,7 @@ ghost use Rattle.reuse_session.specs.Plan.{IsRefusalOf};
 ghost use Rattle.reuse_session.specs.Refused.{IsNoFault};
 ghost use Rattle.reuse_session.specs.TreeStyles.{styles_path, styles_where, styles_in, styles_refusal};
 
+use crate::failure::Failure;
 use crate::known_path::known_path;
 use crate::reply::Refusal;
 use reuse_header::{StyleTable, StylesRefusal};
@@ -47,7 +48,7 @@ fn of_styles(refusal: StylesRefusal) -> Refusal
     ensures { result ≡ styles_refusal refusal }
 {
     match refusal {
-        StylesRefusal::Memory(_) => Refusal::Memory,
+        StylesRefusal::Memory(_) => Refusal::Failed(Failure::Memory),
         refusal => Refusal::BadStyles(refusal),
     }
 }

@@ -14,9 +14,8 @@ ghost use Rattle.reuse_tree.specs.Listing.{ArePaths, is_among};
 ghost use Rattle.reuse_tree.specs.Tree.{is_of_tree, undo_folder_of, Sets};
 ghost use Rattle.reuse_tree.specs.declared.cause.Cause.{Cause};
 ghost use Rattle.reuse_tree.specs.declared.cause.Cause.TheVariants as causes;
-ghost use Rattle.reuse_tree.specs.declared.fault.StoreFault.{StoreFault};
 ghost use Rattle.reuse_tree.specs.declared.journal.head.PendingWay.{PendingWay};
-ghost use Rattle.reuse_session.specs.Answer.{HasCause, IsEarly, IsFailure, IsRollBackRefusal, IsNoClash, IsOpenRefusal, IsPutRefusal, IsTestRefusal, RefusedAsRead, TellsNoFault};
+ghost use Rattle.reuse_session.specs.Answer.{HasCause, IsEarly, IsFailure, IsRollBackRefusal, IsNoClash, IsOpenRefusal, IsTestRefusal, RefusedAsRead, TellsNoFault, IsEarlyFailure};
 ghost use Rattle.reuse_session.specs.Carried.{IsRolledBack, StopsBack};
 ghost use Rattle.reuse_session.specs.Journal.{Journal, Recorded, State};
 ghost use Rattle.reuse_session.specs.JournalFiles.{head_path};
@@ -26,6 +25,8 @@ ghost use Rattle.reuse_session.specs.Opening.{IsFirstBad, IsStuckAt, IsRead};
 ghost use Rattle.reuse_session.specs.Recovery.{ArePart, HasNonePending, RecoversFiles, StopsRecovering, RefusesRecovery, FindsNext, AreFound, changes_besides};
 ghost use Rattle.reuse_session.specs.Session.{IsSameBut};
 ghost use Rattle.reuse_session.specs.Standing.{IsStanding, InDoubt};
+ghost use Rattle.reuse_session.specs.declared.failure.Fault.{Fault};
+ghost use Rattle.reuse_session.specs.declared.failure.Failure.TheVariants as failures;
 
 use crate::history::History;
 use crate::journal_files::{HeadPath, put_head, read_entry};
@@ -62,12 +63,12 @@ pub fn recover<S: Store>(
 
     // It stops only where a step is pending: that is recovered, or each of its paths is as it was
     // or as recovering leaves it.
-    ensures interrupted { S.honest result.0 → (cause : Cause) → result.1 ≡ Err (Refusal.Interrupted cause) → StopsRecovering (S.files store) (S.files result.0) }
+    ensures interrupted { S.honest result.0 → (cause : Cause) → result.1 ≡ Err (Refusal.Failed (failures.Interrupted cause)) → StopsRecovering (S.files store) (S.files result.0) }
     // It is refused before it has put anything, and stops after that (but where it tells that a
     // file changed while it ran). Where no step is pending it only reads; and of the journal's
     // folder nothing but the head changes.
     ensures early { IfErr result.1 (λ refusal. IsEarly refusal → OnlyReads S.Store store result.0) }
-    ensures late { (cause : Cause) → result.1 ≡ Err (Refusal.Interrupted cause) → cause ≢ causes.Moved → S.moves store < S.moves result.0 }
+    ensures late { (cause : Cause) → result.1 ≡ Err (Refusal.Failed (failures.Interrupted cause)) → cause ≢ causes.Moved → S.moves store < S.moves result.0 }
     ensures quiet { S.honest result.0 → (journal : Journal) → HasNonePending journal (S.files store) → OnlyReads S.Store store result.0 }
     ensures folder { S.honest result.0 → IsSameBut head_path (undo_folder_of (S.files store)) (undo_folder_of (S.files result.0)) }
 
@@ -104,9 +105,9 @@ fn recover_journal<S: Store>(
     ensures recovered { S.honest store.new → IfOk result (RecoversFiles skip_moved (S.files store.old) (S.files store.new)) }
     ensures bad { S.honest store.new → (path : List ℕ) → result ≡ Err (Refusal.BadJournal path) → IsFirstBad (S.files store.old) path }
     ensures moved { S.honest store.new → (path : List ℕ) → result ≡ Err (Refusal.Moved path) → (skip_moved ≡ false) × IsStuckAt (S.files store.old) path }
-    ensures interrupted { S.honest store.new → (cause : Cause) → result ≡ Err (Refusal.Interrupted cause) → StopsRecovering (S.files store.old) (S.files store.new) }
+    ensures interrupted { S.honest store.new → (cause : Cause) → result ≡ Err (Refusal.Failed (failures.Interrupted cause)) → StopsRecovering (S.files store.old) (S.files store.new) }
     ensures early { IfErr result (λ refusal. IsEarly refusal → OnlyReads S.Store store.old store.new) }
-    ensures late { (cause : Cause) → result ≡ Err (Refusal.Interrupted cause) → cause ≢ causes.Moved → S.moves store.old < S.moves store.new }
+    ensures late { (cause : Cause) → result ≡ Err (Refusal.Failed (failures.Interrupted cause)) → cause ≢ causes.Moved → S.moves store.old < S.moves store.new }
     ensures quiet { S.honest store.new → (journal : Journal) → HasNonePending journal (S.files store.old) → OnlyReads S.Store store.old store.new }
     ensures folder { S.honest store.new → IsSameBut head_path (undo_folder_of (S.files store.old)) (undo_folder_of (S.files store.new)) }
     ensures survives { S.honest store.new → (earlier held next : State) → AreInDoubt S.Store earlier held next store.old
@@ -144,9 +145,9 @@ fn recover_step<S: Store>(
     ensures moved { S.honest store.new → (journal : Journal) → IsRead (S.files store.old) (Some pending) history.now journal
         → (path : List ℕ) → result ≡ Err (Refusal.Moved path) → (skip_moved ≡ false) × IsStuckAt (S.files store.old) path }
     ensures interrupted { S.honest store.new → (journal : Journal) → IsRead (S.files store.old) (Some pending) history.now journal
-        → (cause : Cause) → result ≡ Err (Refusal.Interrupted cause) → StopsRecovering (S.files store.old) (S.files store.new) }
+        → (cause : Cause) → result ≡ Err (Refusal.Failed (failures.Interrupted cause)) → StopsRecovering (S.files store.old) (S.files store.new) }
     ensures early { IfErr result (λ refusal. IsEarly refusal → OnlyReads S.Store store.old store.new) }
-    ensures late { (cause : Cause) → result ≡ Err (Refusal.Interrupted cause) → cause ≢ causes.Moved → S.moves store.old < S.moves store.new }
+    ensures late { (cause : Cause) → result ≡ Err (Refusal.Failed (failures.Interrupted cause)) → cause ≢ causes.Moved → S.moves store.old < S.moves store.new }
     ensures folder { S.honest store.new → (journal : Journal) → IsRead (S.files store.old) (Some pending) history.now journal
         → IsSameBut head_path (undo_folder_of (S.files store.old)) (undo_folder_of (S.files store.new)) }
     ensures lasting { S.honest store.new
@@ -190,7 +191,7 @@ fn roll_back_part<S: Store>(
     settled: &[u8],
 ) -> Result<(), Refusal>
     ensures done { S.honest store.new → ArePart changes.now → OnOk result (IsRolledBack way changes.now settled.now (S.files store.old) (S.files store.new)) }
-    ensures back { S.honest store.new → ArePart changes.now → (cause : Cause) → result ≡ Err (Refusal.Interrupted cause)
+    ensures back { S.honest store.new → ArePart changes.now → (cause : Cause) → result ≡ Err (Refusal.Failed (failures.Interrupted cause))
         → StopsBack way changes.now settled.now (S.files store.old) (S.files store.new) }
     // What a loss of power may leave, if each tree that might be left before is the start with some
     // of the changes made.
@@ -201,7 +202,7 @@ fn roll_back_part<S: Store>(
     ensures left { S.honest store.new → ArePart changes.now
         → (start : Files) → ArePartlyMade way changes.now start (tree_of (S.files store.old))
         → Leaves S.Store store.old (λ kept. SomeMade way changes.now start (tree_of kept))
-        → (cause : Cause) → result ≡ Err (Refusal.Interrupted cause)
+        → (cause : Cause) → result ≡ Err (Refusal.Failed (failures.Interrupted cause))
         → StopsBackWithDoubt S.Store way changes.now settled.now start (S.files store.old) store.new }
     ensures never_moved { S.honest store.new → ArePart changes.now → All (CanBeSetBack way (tree_of (S.files store.old))) changes.now
         → (path : List ℕ) → result ≢ Err (Refusal.Moved path) }
@@ -209,7 +210,7 @@ fn roll_back_part<S: Store>(
     ensures clash { S.honest store.new → ArePart changes.now → ¬ (Clashes (S.files store.old) head_path) → IfErr result IsNoClash }
     ensures folder { S.honest store.new → ArePart changes.now → IsSameBut head_path (undo_folder_of (S.files store.old)) (undo_folder_of (S.files store.new)) }
     ensures early { IfErr result (λ refusal. IsEarly refusal → OnlyReads S.Store store.old store.new) }
-    ensures late { (cause : Cause) → result ≡ Err (Refusal.Interrupted cause) → cause ≢ causes.Moved → S.moves store.old < S.moves store.new }
+    ensures late { (cause : Cause) → result ≡ Err (Refusal.Failed (failures.Interrupted cause)) → cause ≢ causes.Moved → S.moves store.old < S.moves store.new }
     ensures fault { IfErr result (HasCause (S.failures store.old < S.failures store.new)) }
     ensures later { IsLater S.Store store.old store.new }
 {
@@ -228,18 +229,18 @@ fn clear_head<S: Store>(
     settled: &[u8],
 ) -> Result<(), Refusal>
     ensures done { S.honest store.new → OnOk result (Sets head_path (Some settled.now) (S.files store.old) (S.files store.new)) }
-    ensures stopped { S.honest store.new → (cause : Cause) → result ≡ Err (Refusal.Interrupted cause)
+    ensures stopped { S.honest store.new → (cause : Cause) → result ≡ Err (Refusal.Failed (failures.Interrupted cause))
         → (S.files store.new ≡ S.files store.old) ⊎ Sets head_path (Some settled.now) (S.files store.old) (S.files store.new) }
     ensures lasting { S.honest store.new → HaveTree S.Store store.old (tree_of (S.files store.old))
         → OnOk result (IsSynced S.Store store.new) }
     ensures left { S.honest store.new → HaveTree S.Store store.old (tree_of (S.files store.old))
-        → (cause : Cause) → result ≡ Err (Refusal.Interrupted cause)
+        → (cause : Cause) → result ≡ Err (Refusal.Failed (failures.Interrupted cause))
         → MayHaveHead S.Store settled.now (S.files store.old) store.new }
     ensures refusal { IfErr result IsRollBackRefusal }
     ensures never_moved { (path : List ℕ) → result ≢ Err (Refusal.Moved path) }
     ensures clash { S.honest store.new → ¬ (Clashes (S.files store.old) head_path) → IfErr result IsNoClash }
     ensures early { IfErr result (λ refusal. IsEarly refusal → OnlyReads S.Store store.old store.new) }
-    ensures late { (cause : Cause) → result ≡ Err (Refusal.Interrupted cause) → cause ≢ causes.Moved → S.moves store.old < S.moves store.new }
+    ensures late { (cause : Cause) → result ≡ Err (Refusal.Failed (failures.Interrupted cause)) → cause ≢ causes.Moved → S.moves store.old < S.moves store.new }
     ensures fault { IfErr result (HasCause (S.failures store.old < S.failures store.new)) }
     ensures later { IsLater S.Store store.old store.new }
 {
@@ -266,7 +267,7 @@ fn find_each<S: Store>(
     way: Way,
 ) -> Result<Found, Refusal>
     ensures found { S.honest store.new → IsEntry changes.now → IfOk result (λ found. AreFound way (tree_of (S.files store.old)) changes.now found.changed.items found.skipped.items) }
-    ensures refusal { IfErr result IsPutRefusal }
+    ensures refusal { IfErr result IsEarlyFailure }
     ensures fails { RefusedAsRead S.Store store.old store.new result }
     ensures reads { OnlyReads S.Store store.old store.new }
 {
@@ -290,7 +291,7 @@ fn find_next<S: Store>(
 ) -> Result<(), Refusal>
     ensures adds { S.honest store.new → IsProper change.now → IsSmall change.now → is_of_tree (path_of change.now) ≡ true
         → OnOk result (FindsNext way (tree_of (S.files store.old)) change.now found.old.changed.items found.new.changed.items found.old.skipped.items found.new.skipped.items) }
-    ensures refusal { IfErr result IsPutRefusal }
+    ensures refusal { IfErr result IsEarlyFailure }
     ensures fails { RefusedAsRead S.Store store.old store.new result }
     ensures reads { OnlyReads S.Store store.old store.new }
 {
@@ -310,7 +311,7 @@ fn refuse_first(alloc: Global, skipped: &[PathText], skip_moved: bool) -> Result
     ensures none { skip_moved ≡ false → OnOk result (skipped.now ≡ []) }
     ensures moved { (path : List ℕ) → result ≡ Err (Refusal.Moved path) → (skip_moved ≡ false) × ((rest : List (List ℕ)) × (skipped.now ≡ path ∷ rest)) }
     ensures refusal { IfErr result IsTestRefusal }
-    ensures fault { (fault : StoreFault) → result ≢ Err (Refusal.Fault fault) }
+    ensures fault { (fault : Fault) → result ≢ Err (Refusal.Failed (failures.Fault fault)) }
 {
     match skipped.first() {
         Some(path) if !skip_moved => Err(Refusal::Moved(path.try_clone(alloc)?)),

@@ -10,16 +10,18 @@ ghost use Rattle.reuse_session.specs.Session.{IsSameBut};
 ghost use Rattle.reuse_tree.specs.Tree.{undo_folder_of};
 ghost use Rattle.reuse_session.specs.JournalFiles.{head_path};
 ghost use Rattle.reuse_tree.specs.declared.cause.Cause.{Cause};
+ghost use Rattle.reuse_session.specs.declared.failure.Failure.TheVariants as failures;
 ghost use Rattle.reuse_session.specs.declared.reply.Refusal.TheVariants as refusals;
 ghost use Rattle.reuse_tree.specs.Asked.{OnlyReads, IsLater, IsSynced, Leaves};
 ghost use Rattle.reuse_tree.specs.Lasting.{IsMidway};
 ghost use Rattle.reuse_session.specs.Losses.{StopsBackWithDoubt};
 
+use crate::failure::{Failure, Fault};
 use crate::journal_files::{HeadPath, put_head};
 use crate::prepare::{Aim, test_each};
 use crate::reply::Refusal;
 use reuse_tree::turn::set_back;
-use reuse_tree::{Cause, Change, Store, StoreFault, Way};
+use reuse_tree::{Cause, Change, Store, Way};
 use std::alloc::Global;
 
 /// Tests that each change of a step that is pending this way is made or not, and can be taken back
@@ -41,7 +43,7 @@ pub fn roll_back<S: Store>(
         → IsFirstWithout (CanBeSetBack way (tree_of (S.files store.old))) changes.now path }
     // From a tree on which some of the changes were made, it stops on the way back to that tree.
     ensures stopped { S.honest store.new → IsEntry changes.now → (start : Files) → ArePartlyMade way changes.now start (tree_of (S.files store.old))
-        → (cause : Cause) → result ≡ Err (refusals.Interrupted cause) → StopsRollingBack way changes.now settled.now start (S.files store.old) (S.files store.new) }
+        → (cause : Cause) → result ≡ Err (refusals.Failed (failures.Interrupted cause)) → StopsRollingBack way changes.now settled.now start (S.files store.old) (S.files store.new) }
     // It is never refused on the way from a tree.
     ensures settles { S.honest store.new → IsEntry changes.now → (start : Files) → AreFiles start → ArePartlyMade way changes.now start (tree_of (S.files store.old))
         → (path : List ℕ) → result ≢ Err (Refusal.Moved path) }
@@ -52,20 +54,20 @@ pub fn roll_back<S: Store>(
         → Leaves S.Store store.old (λ kept. SomeMade way changes.now start (tree_of kept)) → OnOk result (IsSynced S.Store store.new) }
     ensures left { S.honest store.new → IsEntry changes.now → (start : Files) → ArePartlyMade way changes.now start (tree_of (S.files store.old))
         → Leaves S.Store store.old (λ kept. SomeMade way changes.now start (tree_of kept))
-        → (cause : Cause) → result ≡ Err (refusals.Interrupted cause) → StopsBackWithDoubt S.Store way changes.now settled.now start (S.files store.old) store.new }
+        → (cause : Cause) → result ≡ Err (refusals.Failed (failures.Interrupted cause)) → StopsBackWithDoubt S.Store way changes.now settled.now start (S.files store.old) store.new }
     // Where it stops, each path is as it was or is set back.
-    ensures back { S.honest store.new → IsEntry changes.now → (cause : Cause) → result ≡ Err (refusals.Interrupted cause)
+    ensures back { S.honest store.new → IsEntry changes.now → (cause : Cause) → result ≡ Err (refusals.Failed (failures.Interrupted cause))
         → StopsBack way changes.now settled.now (S.files store.old) (S.files store.new) }
     ensures refusal { IfErr result IsRollBackRefusal }
     ensures clash { S.honest store.new → IsEntry changes.now → ¬ (Clashes (S.files store.old) head_path) → IfErr result IsNoClash }
     // It stops only where each change isn't made or can be taken back.
-    ensures tested { S.honest store.new → IsEntry changes.now → (cause : Cause) → result ≡ Err (refusals.Interrupted cause)
+    ensures tested { S.honest store.new → IsEntry changes.now → (cause : Cause) → result ≡ Err (refusals.Failed (failures.Interrupted cause))
         → All (CanBeSetBack way (tree_of (S.files store.old))) changes.now }
     ensures folder { S.honest store.new → IsEntry changes.now → IsSameBut head_path (undo_folder_of (S.files store.old)) (undo_folder_of (S.files store.new)) }
     // It is refused before it has moved anything, and stops after that; one that tells a file that
     // changed since it was tested may stop before.
     ensures early { IfErr result (λ refusal. IsEarly refusal → OnlyReads S.Store store.old store.new) }
-    ensures late { (cause : Cause) → result ≡ Err (refusals.Interrupted cause) → cause ≢ Cause.Moved → S.moves store.old < S.moves store.new }
+    ensures late { (cause : Cause) → result ≡ Err (refusals.Failed (failures.Interrupted cause)) → cause ≢ Cause.Moved → S.moves store.old < S.moves store.new }
     ensures fault { IfErr result (HasCause (S.failures store.old < S.failures store.new)) }
     ensures written { IsEntry changes.now → S.written store.new ≤ S.written store.old + length settled.now }
     ensures moves { S.moves store.new ≤ S.moves store.old + length changes.now + 1 }
@@ -84,12 +86,12 @@ pub fn roll_back<S: Store>(
 pub fn told(started: bool, cause: Cause) -> Refusal
     ensures { result ≡ told_of started cause }
 {
-    match (started, cause) {
-        (false, Cause::Device) => Refusal::Fault(StoreFault::Device),
-        (false, Cause::Clash) => Refusal::Fault(StoreFault::Clash),
-        (false, Cause::Memory) => Refusal::Memory,
-        (_, cause) => Refusal::Interrupted(cause),
-    }
+    Refusal::Failed(match (started, cause) {
+        (false, Cause::Device) => Failure::Fault(Fault::Device),
+        (false, Cause::Clash) => Failure::Fault(Fault::Clash),
+        (false, Cause::Memory) => Failure::Memory,
+        (_, cause) => Failure::Interrupted(cause),
+    })
 }
 
 // Takes back each change that is made, and behind a barrier puts the head. It notes that puts and

@@ -4,7 +4,7 @@ ghost use Rattle.reuse_tree.specs.Change.{path_of, IsProper};
 ghost use Rattle.reuse_tree.specs.Entry.{IsEntry, IsSmall};
 ghost use Rattle.reuse_tree.specs.Tree.{is_of_tree};
 ghost use Rattle.reuse_session.specs.Fates.{IsFateOf, AreFatesOf};
-ghost use Rattle.reuse_session.specs.Previews.{IsLookRefusal};
+ghost use Rattle.reuse_session.specs.Answer.{IsEarlyFailure};
 ghost use Rattle.reuse_session.specs.Reading.{tree_of, OnlyReads, ReadsAlone, RefusedAsRead};
 
 use crate::fate::{Fate, Fates};
@@ -24,7 +24,7 @@ pub(crate) fn travel_fates<S: Store>(
     ensures fates { S.honest store.new → IsEntry changes.now → IfOk result (AreFatesOf way (tree_of (S.files store.old)) changes.now) }
     ensures fails { RefusedAsRead S.Store store.old store.new result }
     ensures reads { OnlyReads S.Store store.old store.new }
-    ensures refusal { IfErr result IsLookRefusal }
+    ensures refusal { IfErr result IsEarlyFailure }
 {
     let mut fates = Vec::new(alloc);
     for change in changes {
@@ -42,7 +42,7 @@ fn change_fate<S: Store>(
 ) -> Result<Fate, Refusal>
     ensures fate { S.honest store.new → IsProper change.now → IsSmall change.now → is_of_tree (path_of change.now) ≡ true
         → IfOk result (IsFateOf way (tree_of (S.files store.old)) change.now) }
-    ensures asks { ReadsAlone S.Store IsLookRefusal store.old store.new result }
+    ensures asks { ReadsAlone S.Store IsEarlyFailure store.old store.new result }
 {
     let path = change.path().try_clone(alloc)?;
     if can_be_made(alloc, store, change, way)? {

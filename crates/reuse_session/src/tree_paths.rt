@@ -2,9 +2,10 @@
 ghost use Rattle.std.specs.Prelude.{◌≡◌, ◌++◌, ◌∷◌, IfErr, IfOk, OnOk};
 ghost use Rattle.reuse_tree.specs.Asked.{FailsAsRead};
 ghost use Rattle.reuse_tree.specs.Listing.{is_folder, listed_paths};
-ghost use Rattle.reuse_session.specs.Previews.{IsLookRefusal};
+ghost use Rattle.reuse_session.specs.Answer.{IsEarlyFailure};
 ghost use Rattle.reuse_session.specs.Reading.{tree_of, OnlyReads, ReadsAlone};
 ghost use Rattle.reuse_session.specs.Shown.{neighbours_of, with_neighbours, ShowsPair};
+ghost use Rattle.reuse_session.specs.declared.failure.Failure.TheVariants as failures;
 
 use crate::plan_place::neighbour_path;
 use crate::reply::Refusal;
@@ -50,7 +51,7 @@ pub(crate) fn pair_paths<S: Store>(
     path: &PathText,
 ) -> Result<Vec<PathText>, Refusal>
     ensures paths { S.honest store.new → IfOk result (λ paths. ShowsPair paths.items (tree_of (S.files store.old)) path.now) }
-    ensures asks { ReadsAlone S.Store IsLookRefusal store.old store.new result }
+    ensures asks { ReadsAlone S.Store IsEarlyFailure store.old store.new result }
 {
     let folders = with_neighbours(alloc, slice::from_ref(path))?;
     Ok(tree_paths(alloc, store, &folders, &NoPruning)?)
@@ -59,7 +60,7 @@ pub(crate) fn pair_paths<S: Store>(
 /// These paths, each with its neighbour behind it, unless that would be too long for a path.
 pub(crate) fn with_neighbours(alloc: Global, paths: &[PathText]) -> Result<Vec<PathText>, Refusal>
     ensures both { IfOk result (λ both. both.items ≡ with_neighbours paths.now) }
-    ensures memory { IfErr result (λ refusal. refusal ≡ Refusal.Memory) }
+    ensures memory { IfErr result (λ refusal. refusal ≡ Refusal.Failed failures.Memory) }
 {
     let mut both = Vec::new(alloc);
     for path in paths {
@@ -71,7 +72,7 @@ pub(crate) fn with_neighbours(alloc: Global, paths: &[PathText]) -> Result<Vec<P
 // Adds the path, and its neighbour behind it.
 fn push_both(alloc: Global, both: &mut Vec<PathText>, path: &PathText) -> Result<(), Refusal>
     ensures both { OnOk result (both.new.items ≡ both.old.items ++ path.now ∷ neighbours_of path.now) }
-    ensures memory { IfErr result (λ refusal. refusal ≡ Refusal.Memory) }
+    ensures memory { IfErr result (λ refusal. refusal ≡ Refusal.Failed failures.Memory) }
 {
     both.push(path.try_clone(alloc)?)?;
     if let Some(neighbour) = neighbour_path(alloc, path)? {

@@ -4,13 +4,13 @@ use Rattle.reuse_tree.specs.Files.{Files}
 use Rattle.reuse_tree.specs.declared.change.Change.{Change}
 use Rattle.reuse_tree.specs.declared.store.Store.{Ghosts}
 use Rattle.reuse_session.specs.Answer.{TellsNoFault}
-use Rattle.reuse_session.specs.Journal.{State, rows_in}
+use Rattle.reuse_session.specs.Journal.{State}
 use Rattle.reuse_session.specs.Machine.{Snapshots, step, as_reply}
-use Rattle.reuse_session.specs.RevertCalls.{Reverts, as_run, changed_later, touched_later}
+use Rattle.reuse_session.specs.RevertCalls.{as_run, changed_later}
 use Rattle.reuse_session.specs.Session.{HoldsSnapshots, StopsAfterRun}
-use Rattle.reuse_session.specs.Showing.{ShowsIn, LedTo}
+use Rattle.reuse_session.specs.Showing.{LedTo}
 use Rattle.reuse_session.specs.Standing.{IsStanding, InDoubt}
-use Rattle.reuse_session.specs.Stops.{Point, open_at, closed, IsReached, GoesOrStops, Lists, Foretells, Continues, HoldState, AreLeft}
+use Rattle.reuse_session.specs.Stops.{Point, open_at, closed, GoesOrStops, Lists, Foretells, Continues, HoldState, AreLeft}
 use Rattle.reuse_session.specs.declared.command.Command.TheVariants.{Revert}
 use Rattle.reuse_session.specs.declared.events.Event.{Event}
 use Rattle.reuse_session.specs.declared.events.Event.TheVariants as events
@@ -19,14 +19,14 @@ use Rattle.reuse_session.specs.declared.fate.Fate.{Fate}
 use Rattle.reuse_session.specs.declared.reply.Reply.{Reply}
 use Rattle.reuse_session.specs.declared.reply.Reverted.{Reverted}
 use Rattle.reuse_session.specs.declared.reply.Refusal.{Refusal}
-use Rattle.reuse_session.specs.declared.reply.Refusal.TheVariants.{Fault as StoreFailed, Memory, Interrupted, NoSuchStep}
+use Rattle.reuse_session.specs.declared.failure.Failure.TheVariants.{Fault as StoreFailed, Memory, Interrupted}
+use Rattle.reuse_session.specs.declared.reply.Refusal.TheVariants.{NoSuchStep, Failed}
 use Rattle.reuse_session.proofs.Driving.{run_left, stays_closed}
 use Rattle.reuse_session.proofs.LaterSteps.{later_as_machine}
 use Rattle.reuse_session.proofs.StepsByNumber.{led_to_tree}
-use Rattle.reuse_undo.specs.AfterStops.{at_rest, EndsEvent, EndsAsRun, EndsRevert, EndsRequest, AnswersAfterStop}
-use Rattle.reuse_undo.specs.CarriedOut.{CarriesOut}
+use Rattle.reuse_undo.specs.AfterStops.{at_rest, EndsAsRun, EndsRevert, EndsRequest, AnswersAfterStop}
 use Rattle.reuse_undo.specs.LinesInTurn.{CarriedLine, HoldsSame, AreInTurn, RunAsModel}
-use Rattle.reuse_undo.specs.RunLine.{Looks, Previews, StepLeaves, CallLeaves, RevertsOn, PreviewsRevert, AnswersOn, Meets, IsUnopened, IsMade, RequestLeaves, StepsBy, StepsBackBy, IsUnkept, TellsAnswer}
+use Rattle.reuse_undo.specs.RunLine.{Looks, Previews, StepLeaves, CallLeaves, RevertsOn, AnswersOn, Meets, IsUnopened, IsMade, RequestLeaves, StepsBy, StepsBackBy, IsUnkept, TellsAnswer}
 use Rattle.reuse_undo.specs.declared.fault.Fault.{Fault}
 use Rattle.reuse_undo.specs.declared.fault.Fault.TheVariants as faults
 use Rattle.reuse_undo.specs.declared.line.Telling.{Telling}
@@ -41,33 +41,31 @@ use Rattle.reuse_undo.proofs.MachineLemmas.{did, stopped_near, previews_as_machi
 went : (state : Snapshots) (event : Event) (answer : Result Reply Refusal) (after : Files) → TellsNoFault answer → StepsBy state event answer after
     → (left : Point) × GoesOrStops (step state event) answer (open_at state) left × AreLeft after left.state left.next
 went state event (Ok reply) after told by = (open_at (step state event).1, (by.0, refl), by.1)
-went state event (Err (StoreFailed fault)) after told by = absurd told
-went state event (Err Memory) after told by = absurd told
-went state event (Err (Interrupted cause)) after told by = absurd told
+went state event (Err (Failed failure)) after told by = absurd told
 went state event (Err refusal) after told by = (open_at (step state event).1, (by.0, refl), by.1)
 
 module _ (held : State) (state : Snapshots) (holds : HoldsSnapshots held state) (before after : Files) (standing : IsStanding before held) where
   stepped : (event : Event) (answer : Result Reply Refusal) → StepLeaves event held answer after
       → (left : Point) × GoesOrStops (step state event) answer (open_at state) left × AreLeft after left.state left.next
   stepped event (Ok reply) made = let d = did held state holds before after standing event (Ok reply) made in (open_at (step state event).1, (d.0, refl), d.1)
-  stepped event (Err (StoreFailed fault)) made = (open_at state, refl, (held, made, holds))
-  stepped event (Err Memory) made = (open_at state, refl, (held, made, holds))
-  stepped event (Err (Interrupted cause)) made =
+  stepped event (Err (Failed (StoreFailed fault))) made = (open_at state, refl, (held, made, holds))
+  stepped event (Err (Failed Memory)) made = (open_at state, refl, (held, made, holds))
+  stepped event (Err (Failed (Interrupted cause))) made =
       (record { is_open = false; state = state; next = Some (step state event).1 }, refl, stopped_near held state holds before after standing event made)
   stepped event (Err refusal) made = let d = did held state holds before after standing event (Err refusal) made in (open_at (step state event).1, (d.0, refl), d.1)
 
   listed : (answer : Result Reply Refusal) → CallLeaves events.Log held answer after
       → (left : Point) × Lists (step state events.Log) answer (open_at state) left × AreLeft after left.state left.next
   listed (Ok reply) made = let d = did held state holds before after standing events.Log (Ok reply) made in (open_at state, (d.0, refl), d.1)
-  listed (Err Memory) made = (open_at state, refl, (held, made, holds))
+  listed (Err (Failed Memory)) made = (open_at state, refl, (held, made, holds))
   listed (Err refusal) made = let d = did held state holds before after standing events.Log (Err refusal) made in (open_at state, (d.0, refl), d.1)
 
   foreseen : (call : Call) (fates : Result (List Fate) Refusal) → Looks (Previews call held) held fates after
       → (left : Point) × Foretells (step state (events.Preview call)) (as_reply fates) (open_at state) left × AreLeft after left.state left.next
   foreseen call (Ok fates) looks = (open_at state, (ap as_reply (previews_as_machine held state holds call (Ok fates) (looks.right tt)), refl), (held, looks.stands, holds))
-  foreseen call (Err (StoreFailed fault)) looks = (open_at state, refl, (held, looks.stands, holds))
-  foreseen call (Err Memory) looks = (open_at state, refl, (held, looks.stands, holds))
-  foreseen call (Err (Interrupted cause)) looks = absurd looks.unstopped
+  foreseen call (Err (Failed (StoreFailed fault))) looks = (open_at state, refl, (held, looks.stands, holds))
+  foreseen call (Err (Failed Memory)) looks = (open_at state, refl, (held, looks.stands, holds))
+  foreseen call (Err (Failed (Interrupted cause))) looks = absurd looks.unstopped
   foreseen call (Err refusal) looks = (open_at state, (ap as_reply (previews_as_machine held state holds call (Err refusal) (looks.right tt)), refl), (held, looks.stands, holds))
 
   called : (event : Event) (answer : Result Reply Refusal) → CallLeaves event held answer after → (left : Point) × Continues event answer (open_at state) left × AreLeft after left.state left.next
@@ -92,9 +90,9 @@ module _ (held : State) (state : Snapshots) (holds : HoldsSnapshots held state) 
       → (end : Point) × EndsRevert state number skip_moved when answer end × AreLeft after end.state end.next
   reverted number skip_moved when (Ok done) made =
       took_back number skip_moved when (Ok done) tt tt (ran_back held state holds before after standing number skip_moved when (Ok done) tt made)
-  reverted number skip_moved when (Err (StoreFailed fault)) made = (at_rest state, refl, (held, made, holds))
-  reverted number skip_moved when (Err Memory) made = (at_rest state, refl, (held, made, holds))
-  reverted number skip_moved when (Err (Interrupted cause)) made =
+  reverted number skip_moved when (Err (Failed (StoreFailed fault))) made = (at_rest state, refl, (held, made, holds))
+  reverted number skip_moved when (Err (Failed Memory)) made = (at_rest state, refl, (held, made, holds))
+  reverted number skip_moved when (Err (Failed (Interrupted cause))) made =
       let changes = (made.0).changes in
       let stops = subst (λ late. StopsAfterRun (Revert changes late skip_moved) when held after) (later_as_machine held state holds number changes) made.3 in
       let event = events.Run (Revert changes (changed_later number state.tree state.past changes) skip_moved) when in

@@ -4,7 +4,7 @@ use Rattle.std.specs.FinMap.{get}
 use Rattle.std.specs.List.{Contains}
 use Rattle.reuse_tree.specs.Asked.{OnlyReads}
 use Rattle.reuse_tree.specs.Files.{Files, Clashes}
-use Rattle.reuse_tree.specs.declared.fault.StoreFault.TheVariants as stores
+use Rattle.reuse_session.specs.declared.failure.Fault.TheVariants as stores
 use Rattle.reuse_tree.specs.declared.store.Store.{Ghosts}
 use Rattle.reuse_session.specs.Answer.{TellsNoFault, IsEarly, IsStop, HasClash, IsNoClash, IsBrokenOrMemory, RefusedAsRead}
 use Rattle.reuse_session.specs.Journal.{State, Recorded}
@@ -27,7 +27,8 @@ use Rattle.reuse_tree.specs.declared.cause.Cause.TheVariants as causes
 use Rattle.reuse_session.specs.declared.reply.Reply.{Reply}
 use Rattle.reuse_session.specs.declared.reply.Reverted.{Reverted}
 use Rattle.reuse_session.specs.declared.reply.Refusal.{Refusal}
-use Rattle.reuse_session.specs.declared.reply.Refusal.TheVariants.{Broken, Fault as StoreFailed, Memory, Interrupted, NoSuchStep}
+use Rattle.reuse_session.specs.declared.failure.Failure.TheVariants.{Fault as StoreFailed, Memory, Interrupted}
+use Rattle.reuse_session.specs.declared.reply.Refusal.TheVariants.{Broken, NoSuchStep, Failed}
 use Rattle.reuse_session.specs.declared.session.Session.{Session}
 use Rattle.reuse_session.proofs.Driving.{stays_open, stands_still}
 use Rattle.reuse_session.proofs.StepsByNumber.{done_step, says_step}
@@ -41,9 +42,9 @@ use Rattle.reuse_undo.proofs.LookLemmas.{refused, same_refusal, unclashed_read}
 -- ---- clashes
 
 no_clash_of : (entry head : Type 0) (refusal : Refusal) → IsNoClash refusal → HasClash entry head refusal
-no_clash_of entry head (StoreFailed stores.Clash) none = absurd none
-no_clash_of entry head (Interrupted causes.Clash) none = absurd none
-no_clash_of entry head (Interrupted causes.Moved) none = none
+no_clash_of entry head (Failed (StoreFailed stores.Clash)) none = absurd none
+no_clash_of entry head (Failed (Interrupted causes.Clash)) none = absurd none
+no_clash_of entry head (Failed (Interrupted causes.Moved)) none = none
 no_clash_of entry head refusal none = tt
 
 -- a refusal that tells no clash
@@ -56,7 +57,7 @@ unclashed request held files refusal none = none
 
 pub log_tells_none : (refusal : Refusal) → IsBrokenOrMemory refusal → IsNoClash refusal
 log_tells_none Broken is = tt
-log_tells_none Memory is = tt
+log_tells_none (Failed Memory) is = tt
 log_tells_none refusal is = absurd is
 
 -- ---- the call
@@ -66,9 +67,9 @@ pub calls_by : {S : Type 0} (files : S → Files) (event : Event) (held : State)
     → (TellsNoFault answer → (left : State) × StandsOn files new left × CallLeadsTo event held answer left) → IfErr answer (λ refusal. IsEarly refusal → StandsOn files new held)
     → IfErr answer (λ refusal. IsStop refusal → IsStopped event held (files (store_of new))) → StepLeaves event held answer (files (store_of new))
 calls_by files event held new (Ok reply) exact stands stops = let left = exact tt in (left.0, left.2, left.1.standing)
-calls_by files event held new (Err (StoreFailed fault)) exact stands stops = (stands tt).standing
-calls_by files event held new (Err Memory) exact stands stops = (stands tt).standing
-calls_by files event held new (Err (Interrupted cause)) exact stands stops = stops tt
+calls_by files event held new (Err (Failed (StoreFailed fault))) exact stands stops = (stands tt).standing
+calls_by files event held new (Err (Failed Memory)) exact stands stops = (stands tt).standing
+calls_by files event held new (Err (Failed (Interrupted cause))) exact stands stops = stops tt
 calls_by files event held new (Err refusal) exact stands stops = let left = exact tt in (left.0, left.2, left.1.standing)
 
 -- where nothing changed but what no head lists, the session stands
@@ -96,8 +97,8 @@ revert_stands store number skip_moved when held old new refusal early honest sta
     ⊎_elim (λ (read : ReadAlone store (Err refusal) old new). subst (λ f. IsStanding f held) (sym (read.3.files honest)) stands.standing)
     (λ (run : RunBack store number skip_moved when (Err refusal) old new). (run.4.stands honest held stands early).standing) leaves
 
-no_early_stop : (cause : Cause) (refusal : Refusal) → refused Reverted (Interrupted cause) ≡ refused Reverted refusal → IsEarly refusal → ⊥
-no_early_stop cause refusal is early = subst IsEarly (sym (same_refusal Reverted (Interrupted cause) refusal is)) early
+no_early_stop : (cause : Cause) (refusal : Refusal) → refused Reverted (Failed (Interrupted cause)) ≡ refused Reverted refusal → IsEarly refusal → ⊥
+no_early_stop cause refusal is early = subst IsEarly (sym (same_refusal Reverted (Failed (Interrupted cause)) refusal is)) early
 
 -- an answer that isn't that of an absent step is of a step that is done
 is_listed : {S : Type 0} (number : ℕ) (old : Session S) (answer : Result Reverted Refusal) → is_broken old ≡ false
@@ -116,7 +117,7 @@ listed_step files session held stands number listed entry says =
     let is = says_step (undo_folder_of (files (store_of session))) held.journal stands.standing.journal true at.0 number at.1 at.2 in
     (at.0, at.1, at.2, ap (λ (e : Entry). e.changes) (same_entry _ entry (entry_in at.0) says is))
 
-is_no_absence : (cause : Cause) (number : ℕ) → refused Reverted (Interrupted cause) ≡ refused Reverted (NoSuchStep number) → ⊥
+is_no_absence : (cause : Cause) (number : ℕ) → refused Reverted (Failed (Interrupted cause)) ≡ refused Reverted (NoSuchStep number) → ⊥
 is_no_absence cause number is = cc
 
 -- what a revert answers and leaves, by the clauses of that call
@@ -126,12 +127,12 @@ pub reverts_by : {S : Type 0} (store : Ghosts S) (number : ℕ) (skip_moved : Bo
     → (TellsNoFault answer → (left : State) × StandsOn store.files new left × Reverts number skip_moved when held answer left)
     → LeavesRevert store number skip_moved when answer old new → RevertsOn number skip_moved when held answer (store.files (store_of new))
 reverts_by store number skip_moved when held old new (Ok reverted) honest stands absent exact leaves = let left = exact tt in (left.0, left.2, left.1.standing)
-reverts_by store number skip_moved when held old new (Err (StoreFailed fault)) honest stands absent exact leaves = revert_stands store number skip_moved when held old new (StoreFailed fault) tt honest stands leaves
-reverts_by store number skip_moved when held old new (Err Memory) honest stands absent exact leaves = revert_stands store number skip_moved when held old new Memory tt honest stands leaves
-reverts_by store number skip_moved when held old new (Err (Interrupted cause)) honest stands absent exact leaves =
-    ⊎_elim (λ (read : ReadAlone store (Err (Interrupted cause)) old new). absurd (no_early_stop cause read.0 read.1 read.2))
-    (λ (run : RunBack store number skip_moved when (Err (Interrupted cause)) old new).
-    let listed = is_listed number old (Err (Interrupted cause)) stands.whole absent (is_no_absence cause number) in
+reverts_by store number skip_moved when held old new (Err (Failed (StoreFailed fault))) honest stands absent exact leaves = revert_stands store number skip_moved when held old new (Failed (StoreFailed fault)) tt honest stands leaves
+reverts_by store number skip_moved when held old new (Err (Failed Memory)) honest stands absent exact leaves = revert_stands store number skip_moved when held old new (Failed Memory) tt honest stands leaves
+reverts_by store number skip_moved when held old new (Err (Failed (Interrupted cause))) honest stands absent exact leaves =
+    ⊎_elim (λ (read : ReadAlone store (Err (Failed (Interrupted cause))) old new). absurd (no_early_stop cause read.0 read.1 read.2))
+    (λ (run : RunBack store number skip_moved when (Err (Failed (Interrupted cause))) old new).
+    let listed = is_listed number old (Err (Failed (Interrupted cause))) stands.whole absent (is_no_absence cause number) in
     let step = listed_step store.files old held stands number listed run.0 (run.1 honest) in
     let Stops = (λ (cs : List Change) (late : List (List ℕ)). StopsAfterRun (Revert cs late skip_moved) when held (store.files (store_of new))) in (
       step.0,

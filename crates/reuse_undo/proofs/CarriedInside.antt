@@ -44,7 +44,6 @@ undrawn_inside outer inner before after old new b a refusal is =
     record {
       device = λ e. let rose = is.device e in omega (arith, rose, b.failures, a.failures);
       clash = λ honest. is.clash (a.gives honest);
-      memory = is.memory;
       kind = λ honest. is.kind (a.gives honest);
     }
 

@@ -5,9 +5,8 @@ use Rattle.reuse_tree.specs.Asked.{OnlyReads, FailsAsRead}
 use Rattle.reuse_tree.specs.declared.fault.StoreFault.{StoreFault}
 use Rattle.reuse_tree.specs.declared.fault.StoreFault.TheVariants as stores
 use Rattle.reuse_tree.specs.declared.store.Store.{Ghosts}
-use Rattle.reuse_session.specs.Answer.{RefusedAsRead}
+use Rattle.reuse_session.specs.Answer.{RefusedAsRead, IsEarlyFailure}
 use Rattle.reuse_session.specs.Cause.{refusal_of}
-use Rattle.reuse_session.specs.Previews.{IsLookRefusal}
 use Rattle.reuse_session.specs.declared.reply.Refusal.{Refusal}
 use Rattle.reuse_session.specs.declared.reply.Reply.TheVariants as replies
 use Rattle.reuse_undo.specs.declared.fault.Fault.{Fault}
@@ -74,13 +73,12 @@ cut_short telling told old new text fault is tells front = subst (λ f. Finishes
 abbrev refused : (A : Type 0) → Refusal → Result A Refusal
 refused A refusal = Err refusal
 
-undrawn_refusal : {S A : Type 0} (store : Ghosts S) (old new : S) (refusal : Refusal) → RefusedAsRead {A = A} store old new (Err refusal) → (store.honest new → IsLookRefusal refusal)
+undrawn_refusal : {S A : Type 0} (store : Ghosts S) (old new : S) (refusal : Refusal) → RefusedAsRead {A = A} store old new (Err refusal) → (store.honest new → IsEarlyFailure refusal)
     → IsUndrawn store old new refusal
 undrawn_refusal {S} {A} store old new refusal fails kind =
     record {
       device = λ is. fails.device (ap (refused A) is);
       clash = λ honest is. fails.clash honest (ap (refused A) is);
-      memory = λ is. fails.memory (ap (refused A) is);
       kind = kind;
     }
 
@@ -90,7 +88,7 @@ handed P fault (Ok value) is holds = absurd is
 handed P fault (Err told) is holds = subst P (sym is) holds
 
 -- what looks is refused so
-pub undrawn_look : {S A : Type 0} (store : Ghosts S) (old new : S) (answer : Result A Refusal) → RefusedAsRead store old new answer → (store.honest new → IfErr answer IsLookRefusal)
+pub undrawn_look : {S A : Type 0} (store : Ghosts S) (old new : S) (answer : Result A Refusal) → RefusedAsRead store old new answer → (store.honest new → IfErr answer IsEarlyFailure)
     → IfErr answer (IsUndrawn store old new)
 undrawn_look store old new (Ok value) fails kind = tt
 undrawn_look store old new (Err refusal) fails kind = undrawn_refusal store old new refusal fails kind
@@ -98,7 +96,7 @@ undrawn_look store old new (Err refusal) fails kind = undrawn_refusal store old 
 pub refused_later : {S A : Type 0} (store : Ghosts S) (old mid new : S) (answer : Result A Refusal) → store.failures old ≤ store.failures mid → RefusedAsRead store mid new answer
     → RefusedAsRead store old new answer
 refused_later store old mid new answer few fails =
-    record { device = λ is. let rose = fails.device is in omega (arith, few, rose); clash = fails.clash; memory = fails.memory }
+    record { device = λ is. let rose = fails.device is in omega (arith, few, rose); clash = fails.clash }
 
 -- and so is what hands the refusal on
 pub handed_on : {T A : Type 0} (P : Refusal → Type 0) (answer : Result A Refusal) (refusal : Refusal) (result : Result T Refusal) → answer ≡ Err refusal → IsErrAnd result (λ told. told ≡ refusal)
@@ -107,18 +105,18 @@ handed_on P answer refusal result was is holds = handed P refusal result is (sub
 
 -- and a file that is read
 pub undrawn_read : {S A : Type 0} (store : Ghosts S) (old new : S) (fault : StoreFault) → FailsAsRead {A = A} store old new (Err fault) → IsUndrawn store old new (refusal_of fault)
-undrawn_read store old new stores.Device fails = record { device = λ e. fails.device refl; clash = λ honest e. (cc); memory = λ e. (cc); kind = λ honest. tt }
-undrawn_read store old new stores.Clash fails = record { device = λ e. absurd (cc); clash = λ honest e. fails.clash honest refl; memory = λ e. (cc); kind = λ honest. tt }
-undrawn_read store old new stores.Memory fails = record { device = λ e. absurd (cc); clash = λ honest e. (cc); memory = λ e. (cc); kind = λ honest. tt }
+undrawn_read store old new stores.Device fails = record { device = λ e. fails.device refl; clash = λ honest e. (cc); kind = λ honest. tt }
+undrawn_read store old new stores.Clash fails = record { device = λ e. absurd (cc); clash = λ honest e. fails.clash honest refl; kind = λ honest. tt }
+undrawn_read store old new stores.Memory fails = record { device = λ e. absurd (cc); clash = λ honest e. (cc); kind = λ honest. tt }
 
 -- what was asked before, and what is read behind, takes no cause away
 pub undrawn_after : {S : Type 0} (store : Ghosts S) (old mid new : S) (refusal : Refusal) → store.failures old ≤ store.failures mid → IsUndrawn store mid new refusal → IsUndrawn store old new refusal
 undrawn_after store old mid new refusal few is =
-    record { device = λ e. let rose = is.device e in omega (arith, few, rose); clash = is.clash; memory = is.memory; kind = is.kind }
+    record { device = λ e. let rose = is.device e in omega (arith, few, rose); clash = is.clash; kind = is.kind }
 
 pub undrawn_before : {S : Type 0} (store : Ghosts S) (old mid new : S) (refusal : Refusal) → IsUndrawn store old mid refusal → OnlyReads store mid new → IsUndrawn store old new refusal
 undrawn_before store old mid new refusal is reads =
-    record { device = λ e. let rose = is.device e in omega (arith, rose, reads.failures); clash = λ honest. is.clash (reads.was_honest honest); memory = is.memory; kind = λ honest. is.kind (reads.was_honest honest) }
+    record { device = λ e. let rose = is.device e in omega (arith, rose, reads.failures); clash = λ honest. is.clash (reads.was_honest honest); kind = λ honest. is.kind (reads.was_honest honest) }
 
 -- the same of a fault
 pub of_diff_after : {S : Type 0} (store : Ghosts S) (old mid new : S) (fault : Fault) → store.failures old ≤ store.failures mid → IsOfDiff store mid new fault → IsOfDiff store old new fault

@@ -1,24 +1,20 @@
 -- A diff of what a dry run accepts is refused for a fault of the store or want of memory alone.
-use Rattle.std.proofs.Common.{◌≡◌, ◌≢◌, ◌⊎◌, inl, inr, ◌∙◌, ◌-◌, ◌<◌, ℕ, Bool, true, false, cond, List, [], ◌∷◌, length, reverse, Some, Result, Ok, Err, IfErr, refl, sym, ap, subst, arith}
-use Rattle.std.specs.List.{All, Contains}
+use Rattle.std.proofs.Common.{◌≡◌, ◌⊎◌, inl, inr, ◌∙◌, ℕ, Bool, true, false, cond, List, [], ◌∷◌, length, Some, Result, Ok, Err, IfErr, refl, sym, ap, subst}
 use Rattle.std.specs.FinMap.{get}
 use Rattle.std.proofs.lemmas.Bool.{false≢true}
-use Rattle.std.proofs.lemmas.List.{get_or-reverse, length-reverse}
-use Rattle.std.proofs.lemmas.List.Elements.{All-append, All-contains, All-map}
 use Rattle.reuse_tree.specs.Asked.{OnlyReads}
 use Rattle.reuse_tree.specs.Files.{Files}
 use Rattle.reuse_tree.specs.declared.store.Store.{Ghosts}
-use Rattle.reuse_session.specs.Answer.{IsEarly, IsOfPlan, TellsNoFault}
+use Rattle.reuse_session.specs.Answer.{IsOfPlan, TellsNoFault, IsEarlyFailure}
 use Rattle.reuse_session.specs.Fates.{fates_of, first_refusal}
-use Rattle.reuse_session.specs.Journal.{Journal, Recorded, State, rows_in}
-use Rattle.reuse_session.specs.JournalFiles.{entry_in, entry_path, number_of}
-use Rattle.reuse_session.specs.Machine.{is_full, as_reply, row_of}
+use Rattle.reuse_session.specs.Journal.{State}
+use Rattle.reuse_session.specs.JournalFiles.{entry_in, entry_path}
+use Rattle.reuse_session.specs.Machine.{is_full, as_reply}
 use Rattle.reuse_session.specs.Outcome.{outcome_of}
 use Rattle.reuse_session.specs.Plan.{IsRefusalOf}
-use Rattle.reuse_session.specs.Previews.{run_fates_on, IsLookRefusal, IsPreviewRefusal}
+use Rattle.reuse_session.specs.Previews.{run_fates_on, IsPreviewRefusal}
 use Rattle.reuse_session.specs.RevertCalls.{GivesRevert, touched_later}
 use Rattle.reuse_session.specs.Session.{store_of, is_broken, memory_of, IsKept, StandsOn}
-use Rattle.reuse_session.specs.Showing.{IsUnused, ShowsIn}
 use Rattle.reuse_tree.specs.Tree.{undo_folder_of}
 use Rattle.reuse_session.specs.declared.command.Command.{Command}
 use Rattle.reuse_session.specs.declared.command.Command.TheVariants.{Revert}
@@ -27,10 +23,9 @@ use Rattle.reuse_session.specs.declared.fate.Fate.{Fate}
 use Rattle.reuse_session.specs.declared.fate.Fate.TheVariants as fate
 use Rattle.reuse_tree.specs.declared.journal.entry.Entry.{Entry}
 use Rattle.reuse_session.specs.declared.reply.Refusal.{Refusal}
-use Rattle.reuse_session.specs.declared.reply.Refusal.TheVariants.{Broken, JournalFull, Fault as StoreFailed, Memory, Interrupted}
+use Rattle.reuse_session.specs.declared.failure.Failure.TheVariants.{Fault as StoreFailed, Memory, Interrupted}
+use Rattle.reuse_session.specs.declared.reply.Refusal.TheVariants.{Broken, JournalFull, Failed}
 use Rattle.reuse_session.specs.declared.reply.Reply.TheVariants as replies
-use Rattle.reuse_session.specs.declared.reply.Row.{Row}
-use Rattle.reuse_session.specs.declared.reply.Shown.{Shown}
 use Rattle.reuse_session.specs.declared.session.Session.{Session}
 use Rattle.reuse_session.proofs.Driving.{stands_still}
 use Rattle.reuse_session.proofs.FateLaws.{refused_by_first}
@@ -121,16 +116,16 @@ not_refused : (command : Command) (held : State) (fates : List Fate) → fated f
 not_refused command held fates e none refusal is =
     none_refused fates refusal none (ap first_refusal (of_command command held fates e).1 ∙ (refused_by_first command held.tree refusal).0 is)
 
-of_plan : (outcome : Result Files Refusal) (refusal : Refusal) → IsOfPlan refusal → IsRefusalOf outcome refusal → (outcome ≡ Err refusal → ⊥) → IsLookRefusal refusal
-of_plan outcome Memory plan is none = tt
-of_plan outcome (StoreFailed fault) plan is none = tt
+of_plan : (outcome : Result Files Refusal) (refusal : Refusal) → IsOfPlan refusal → IsRefusalOf outcome refusal → (outcome ≡ Err refusal → ⊥) → IsEarlyFailure refusal
+of_plan outcome (Failed Memory) plan is none = tt
+of_plan outcome (Failed (StoreFailed fault)) plan is none = tt
 of_plan outcome refusal plan is none = absurd (none is)
 
 pub changes_kind : {S A : Type 0} (files : S → Files) (session : Session S) (held : State) (command : Command) (answer : Result A Refusal) → StandsOn files session held
     → (fates : List Fate) → fated fates ≡ run_fates_on held command → is_refused fates ≡ false → (answer ≡ Err Broken → is_broken session ≡ true)
     → (answer ≡ Err JournalFull → (is_broken session ≡ false) × (is_full (length (memory_of session).done) (memory_of session).used ≡ true))
     → IfErr answer (λ refusal. IsOfPlan refusal → IsRefusalOf (outcome_of command held.tree) refusal)
-    → IfErr answer (λ refusal. (refusal ≡ Broken) ⊎ (refusal ≡ JournalFull) ⊎ IsOfPlan refusal) → IfErr answer IsLookRefusal
+    → IfErr answer (λ refusal. (refusal ≡ Broken) ⊎ (refusal ≡ JournalFull) ⊎ IsOfPlan refusal) → IfErr answer IsEarlyFailure
 changes_kind files session held command (Ok changes) stands fates e none broken full right kinds = tt
 changes_kind {S} {A} files session held command (Err refusal) stands fates e none broken full right kinds =
     let room = sym (of_command command held fates e).0 ∙ full_alike files session held stands in
@@ -142,17 +137,17 @@ changes_kind {S} {A} files session held command (Err refusal) stands fates e non
 
 -- ---- the step that is next
 
-next_refusal : (A : Type 0) (refusal : Refusal) → IsPreviewRefusal refusal → (TellsNoFault (refused A refusal) → ⊥) → IsLookRefusal refusal
-next_refusal A Memory kind none = tt
-next_refusal A (StoreFailed fault) kind none = tt
-next_refusal A (Interrupted cause) kind none = absurd kind
+next_refusal : (A : Type 0) (refusal : Refusal) → IsPreviewRefusal refusal → (TellsNoFault (refused A refusal) → ⊥) → IsEarlyFailure refusal
+next_refusal A (Failed Memory) kind none = tt
+next_refusal A (Failed (StoreFailed fault)) kind none = tt
+next_refusal A (Failed (Interrupted cause)) kind none = absurd kind
 next_refusal A refusal kind none = absurd (none tt)
 
 no_value : (A : Type 0) (refusal : Refusal) (value : A) → refused A refusal ≡ Ok value → ⊥
 no_value A refusal value is = cc
 
 -- what is told without a fault is a value
-pub next_kind : {A : Type 0} (answer : Result A Refusal) (value : A) → (TellsNoFault answer → answer ≡ Ok value) → IfErr answer IsPreviewRefusal → IfErr answer IsLookRefusal
+pub next_kind : {A : Type 0} (answer : Result A Refusal) (value : A) → (TellsNoFault answer → answer ≡ Ok value) → IfErr answer IsPreviewRefusal → IfErr answer IsEarlyFailure
 next_kind (Ok given) value exact kind = tt
 next_kind {A} (Err refusal) value exact kind = next_refusal A refusal kind (λ told. no_value A refusal value (exact told))
 

@@ -1,7 +1,6 @@
 -- What forgetting leaves of files on which a session is opened.
-use Rattle.std.proofs.Common.{◌≡◌, ◌⊎◌, inr, ℕ, List, false, true, Some, Result, Ok, Err, IfErr, refl, sym, ap, subst, ◌∙◌}
+use Rattle.std.proofs.Common.{◌≡◌, ◌⊎◌, inr, ℕ, List, Result, Ok, Err, IfErr, refl, ap}
 use Rattle.std.specs.Prelude.{IfOk}
-use Rattle.std.proofs.lemmas.Bool.{false≢true}
 use Rattle.reuse_tree.specs.Files.{Files}
 use Rattle.reuse_session.specs.Answer.{IsEarly, IsStop, TellsNoFault}
 use Rattle.reuse_session.specs.Forgetting.{Forgets, IsForgetRefusal, state_besides}
@@ -10,7 +9,8 @@ use Rattle.reuse_session.specs.Opening.{OpensOn}
 use Rattle.reuse_session.specs.Session.{store_of, StandsOn}
 use Rattle.reuse_session.specs.Standing.{IsStanding}
 use Rattle.reuse_session.specs.declared.reply.Refusal.{Refusal}
-use Rattle.reuse_session.specs.declared.reply.Refusal.TheVariants.{Broken, NoSuchStep, Memory, Interrupted}
+use Rattle.reuse_session.specs.declared.failure.Failure.TheVariants.{Memory, Interrupted}
+use Rattle.reuse_session.specs.declared.reply.Refusal.TheVariants.{Broken, NoSuchStep, Failed}
 use Rattle.reuse_session.specs.declared.session.Session.{Session}
 use Rattle.reuse_undo.specs.Forgotten.{asked_numbers, HasForgotten, RefusesFrom, RefusesToForget}
 use Rattle.reuse_undo.specs.declared.line.Steps.{Steps}
@@ -29,8 +29,8 @@ pub refuses_exactly : {S : Type 0} (files : S → Files) (old new : Session S) (
 refuses_exactly files old new steps held (Ok forgotten) kinds whole exact stays doubt = tt
 refuses_exactly files old new steps held (Err Broken) kinds whole exact stays doubt = absurd (whole refl)
 refuses_exactly files old new steps held (Err (NoSuchStep number)) kinds whole exact stays doubt = ((exact tt).2.0, ap (λ s. files (store_of s)) (stays tt))
-refuses_exactly files old new steps held (Err Memory) kinds whole exact stays doubt = ap (λ s. files (store_of s)) (stays tt)
-refuses_exactly files old new steps held (Err (Interrupted cause)) kinds whole exact stays doubt = doubt tt
+refuses_exactly files old new steps held (Err (Failed Memory)) kinds whole exact stays doubt = ap (λ s. files (store_of s)) (stays tt)
+refuses_exactly files old new steps held (Err (Failed (Interrupted cause))) kinds whole exact stays doubt = doubt tt
 refuses_exactly files old new steps held (Err refusal) kinds whole exact stays doubt = absurd kinds
 
 -- from files on which a session was opened

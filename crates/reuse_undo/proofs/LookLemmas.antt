@@ -1,27 +1,20 @@
 -- Calls of a session that only look, and answers as they are told.
-use Rattle.std.proofs.Common.{◌≡◌, ◌≢◌, ◌∙◌, ◌<◌, ℕ, Bool, true, false, Result, Ok, Err, IfErr, refl, sym, ap, subst, arith}
-use Rattle.std.specs.List.{Contains}
+use Rattle.std.proofs.Common.{◌≡◌, ◌≢◌, ◌∙◌, ◌<◌, true, false, Result, Ok, Err, IfErr, refl, sym, ap, subst, arith}
 use Rattle.std.proofs.lemmas.Bool.{false≢true}
 use Rattle.reuse_tree.specs.Asked.{OnlyReads}
-use Rattle.reuse_tree.specs.Files.{Files}
 use Rattle.reuse_tree.proofs.AskedLemmas.{reads_more}
-use Rattle.reuse_tree.specs.declared.fault.StoreFault.{StoreFault}
-use Rattle.reuse_tree.specs.declared.fault.StoreFault.TheVariants as stores
+use Rattle.reuse_session.specs.declared.failure.Fault.TheVariants as stores
 use Rattle.reuse_tree.specs.declared.store.Store.{Ghosts}
 use Rattle.reuse_session.specs.Answer.{TellsNoFault, IsEarly, IsStop, HasCause, IsNoClash, RefusedAsRead}
 use Rattle.reuse_session.specs.Journal.{State}
 use Rattle.reuse_session.specs.Calls.{IsCall}
 use Rattle.reuse_session.specs.Previews.{OnlyLooks, IsPreviewRefusal}
 use Rattle.reuse_session.specs.Session.{store_of, is_broken, StandsOn, IsKept}
-use Rattle.reuse_session.specs.Showing.{Shows, steps_in}
-use Rattle.reuse_tree.specs.Tree.{undo_folder_of}
 use Rattle.reuse_session.specs.Standing.{IsStanding}
-use Rattle.reuse_session.specs.declared.command.Command.{Command}
-use Rattle.reuse_session.specs.declared.command.Command.TheVariants.{Revert}
 use Rattle.reuse_tree.specs.declared.cause.Cause.TheVariants as causes
-use Rattle.reuse_session.specs.declared.reply.Shown.{Shown}
 use Rattle.reuse_session.specs.declared.reply.Refusal.{Refusal}
-use Rattle.reuse_session.specs.declared.reply.Refusal.TheVariants.{Fault as StoreFailed, Memory, Interrupted, NoSuchStep}
+use Rattle.reuse_session.specs.declared.failure.Failure.TheVariants.{Fault as StoreFailed, Interrupted}
+use Rattle.reuse_session.specs.declared.reply.Refusal.TheVariants.{Failed}
 use Rattle.reuse_session.specs.declared.session.Session.{Session}
 use Rattle.reuse_session.proofs.Driving.{stands_still}
 use Rattle.reuse_undo.specs.declared.request.Told.{Told}
@@ -35,15 +28,11 @@ refused A refusal = Err refusal
 pub same_refusal : (A : Type 0) (one other : Refusal) → refused A one ≡ refused A other → one ≡ other
 same_refusal A one other is = cc
 
-no_step_is_no_fault : (A : Type 0) (number : ℕ) (fault : StoreFault) → refused A (NoSuchStep number) ≡ refused A (StoreFailed fault) → ⊥
-no_step_is_no_fault A number fault is = cc
-
 -- a fault that has one cause has the other that follows
 pub caused : {A : Type 0} (Rose Higher : Type 0) → (Rose → Higher) → (answer : Result A Refusal) → IfErr answer (HasCause Rose) → IfErr answer (HasCause Higher)
 caused Rose Higher on (Ok reply) h = tt
-caused Rose Higher on (Err (StoreFailed stores.Device)) h = on h
-caused Rose Higher on (Err (StoreFailed stores.Memory)) h = h
-caused Rose Higher on (Err (Interrupted causes.Device)) h = on h
+caused Rose Higher on (Err (Failed (StoreFailed stores.Device))) h = on h
+caused Rose Higher on (Err (Failed (Interrupted causes.Device))) h = on h
 caused Rose Higher on (Err refusal) h = tt
 
 -- ---- answers as they are told
@@ -59,9 +48,9 @@ peek_files : {S A : Type 0} (store : Ghosts S) (answer : Result A Refusal) (old 
     → store.files (store_of new) ≡ store.files (store_of old)
 peek_files store answer old new peeks honest = peeks.reads.files honest
 
-pub unclashed_read : (refusal : Refusal) → (refusal ≢ StoreFailed stores.Clash) → IsEarly refusal → IsNoClash refusal
-unclashed_read (StoreFailed stores.Clash) none early = absurd (none refl)
-unclashed_read (Interrupted cause) none early = absurd early
+pub unclashed_read : (refusal : Refusal) → (refusal ≢ Failed (StoreFailed stores.Clash)) → IsEarly refusal → IsNoClash refusal
+unclashed_read (Failed (StoreFailed stores.Clash)) none early = absurd (none refl)
+unclashed_read (Failed (Interrupted cause)) none early = absurd early
 unclashed_read refusal none early = tt
 
 -- what only looks tells no clash
@@ -96,7 +85,7 @@ show_peeks store answer old new reads kept fails call =
     never_stops : {S A : Type 0} (answer : Result A Refusal) (old new : Session S) → is_broken old ≡ false → IsKept old new → IfErr answer (λ refusal. IsStop refusal → is_broken new ≡ true)
         → IfErr answer IsEarly
     never_stops (Ok value) old new whole kept stops = tt
-    never_stops (Err (Interrupted cause)) old new whole kept stops = absurd (false≢true (sym whole ∙ sym kept.1 ∙ stops tt))
+    never_stops (Err (Failed (Interrupted cause))) old new whole kept stops = absurd (false≢true (sym whole ∙ sym kept.1 ∙ stops tt))
     never_stops (Err refusal) old new whole kept stops = tt
 
 -- the same of an answer that tells no fault, and of a refusal that is handed on
@@ -105,7 +94,7 @@ peeks_ok store first value old new peeks =
     record {
       reads = peeks.reads;
       kept = peeks.kept;
-      fails = record { device = λ is. absurd (ok_is_no_err value _ is); clash = λ honest is. ok_is_no_err value _ is; memory = λ is. ok_is_no_err value _ is };
+      fails = record { device = λ is. absurd (ok_is_no_err value _ is); clash = λ honest is. ok_is_no_err value _ is };
       unstopped = λ whole. tt;
       caused = tt;
     }
@@ -122,7 +111,6 @@ peeks_err {S} {A} {B} store refusal old new peeks =
           record {
             device = λ is. peeks.fails.device (ap (refused A) (same_refusal B refusal _ is));
             clash = λ honest is. peeks.fails.clash honest (ap (refused A) (same_refusal B refusal _ is));
-            memory = λ is. peeks.fails.memory (ap (refused A) (same_refusal B refusal _ is));
           };
       unstopped = peeks.unstopped;
       caused = peeks.caused;
@@ -146,22 +134,19 @@ preview_peeks store answer old new looks is =
   where
     unstopped : {A : Type 0} (answer : Result A Refusal) → IfErr answer IsPreviewRefusal → IfErr answer IsEarly
     unstopped (Ok value) is = tt
-    unstopped (Err (Interrupted cause)) is = absurd is
+    unstopped (Err (Failed (Interrupted cause))) is = absurd is
     unstopped (Err refusal) is = tt
 
     caused_by : {A S : Type 0} {store : Ghosts S} {old new : S} (answer : Result A Refusal) → RefusedAsRead store old new answer → IfErr answer IsPreviewRefusal
         → IfErr answer (HasCause (store.failures old < store.failures new))
     caused_by (Ok value) fails is = tt
-    caused_by (Err (StoreFailed stores.Device)) fails is = fails.device refl
-    caused_by (Err (StoreFailed stores.Memory)) fails is = absurd (fails.memory refl)
-    caused_by (Err (Interrupted cause)) fails is = absurd is
+    caused_by (Err (Failed (StoreFailed stores.Device))) fails is = fails.device refl
+    caused_by (Err (Failed (Interrupted cause))) fails is = absurd is
     caused_by (Err refusal) fails is = tt
 
 -- a refusal that tells no fault as one answer tells none as another
 pub told_again : (A B : Type 0) (refusal : Refusal) → TellsNoFault (refused A refusal) → TellsNoFault (refused B refusal)
-told_again A B (StoreFailed fault) told = absurd told
-told_again A B Memory told = absurd told
-told_again A B (Interrupted cause) told = absurd told
+told_again A B (Failed failure) told = absurd told
 told_again A B refusal told = tt
 
 -- what a look at an earlier one makes of it: one look, and then another
@@ -175,7 +160,6 @@ peeks_on store first second old mid new one two =
           record {
             device = λ is. let rise = two.fails.device is in omega (arith, rise, one.reads.failures);
             clash = two.fails.clash;
-            memory = two.fails.memory;
           };
       unstopped = λ whole. two.unstopped (one.kept.1 ∙ whole);
       caused = caused _ _ (λ rise. omega (arith, rise, one.reads.failures)) second two.caused;

@@ -28,7 +28,8 @@ use Rattle.reuse_session.specs.declared.reply.Reverted.{Reverted}
 use Rattle.reuse_session.specs.declared.reply.Row.{Row}
 use Rattle.reuse_session.specs.declared.reply.Shown.{Shown}
 use Rattle.reuse_session.specs.declared.reply.Refusal.{Refusal}
-use Rattle.reuse_session.specs.declared.reply.Refusal.TheVariants.{JournalFull, Fault as StoreFailed, Memory, Interrupted, NoSuchStep}
+use Rattle.reuse_session.specs.declared.failure.Failure.TheVariants.{Fault as StoreFailed, Memory, Interrupted}
+use Rattle.reuse_session.specs.declared.reply.Refusal.TheVariants.{JournalFull, NoSuchStep, Failed}
 use Rattle.reuse_session.proofs.Driving.{run_left, undo_next, redo_next, stays_closed}
 use Rattle.reuse_session.proofs.Following.{undo_follows, redo_follows, log_follows}
 use Rattle.reuse_session.proofs.RunFollowing.{runs_as_machine}
@@ -58,18 +59,14 @@ reverts_one number skip_moved when old (Err refusal) new back = inr back
 -- it tells no fault, and so doesn't the answer as that of a run
 told_as_run : (answer : Result Reverted Refusal) → TellsNoFault answer → TellsNoFault (as_run answer)
 told_as_run (Ok reverted) told = tt
-told_as_run (Err (StoreFailed fault)) told = absurd told
-told_as_run (Err Memory) told = absurd told
-told_as_run (Err (Interrupted cause)) told = absurd told
+told_as_run (Err (Failed failure)) told = absurd told
 told_as_run (Err refusal) told = tt
 
 -- the machine's answer, where no fault is told
 steps_told : (state : Snapshots) (event : Event) (answer : Result Reply Refusal) (after : Files) → TellsNoFault answer
     → (answer ≡ (step state event).0) × HoldState after (step state event).1 → StepsBy state event answer after
 steps_told state event (Ok reply) after told did = did
-steps_told state event (Err (StoreFailed fault)) after told did = absurd told
-steps_told state event (Err Memory) after told did = absurd told
-steps_told state event (Err (Interrupted cause)) after told did = absurd told
+steps_told state event (Err (Failed failure)) after told did = absurd told
 steps_told state event (Err refusal) after told did = did
 
 -- no step that leads on from the tree has the number
@@ -145,16 +142,16 @@ module _ (held : State) (state : Snapshots) (holds : HoldsSnapshots held state) 
 
   made : (event : Event) (answer : Result Reply Refusal) → StepLeaves event held answer after → StepsBy state event answer after
   made event (Ok reply) makes = did event (Ok reply) makes
-  made event (Err (StoreFailed fault)) makes = (held, makes, holds)
-  made event (Err Memory) makes = (held, makes, holds)
-  made event (Err (Interrupted cause)) makes = inr (stopped_near event makes)
+  made event (Err (Failed (StoreFailed fault))) makes = (held, makes, holds)
+  made event (Err (Failed Memory)) makes = (held, makes, holds)
+  made event (Err (Failed (Interrupted cause))) makes = inr (stopped_near event makes)
   made event (Err refusal) makes = did event (Err refusal) makes
 
   listed : (answer : Result Reply Refusal) → CallLeaves events.Log held answer after → StepsBy state events.Log answer after
   listed (Ok reply) calls = did events.Log (Ok reply) calls
-  listed (Err Memory) calls = (held, calls, holds)
-  listed (Err (StoreFailed fault)) calls = absurd (no_row (StoreFailed fault) (rows_in held.journal) calls.1.0)
-  listed (Err (Interrupted cause)) calls = absurd (no_row (Interrupted cause) (rows_in held.journal) calls.1.0)
+  listed (Err (Failed Memory)) calls = (held, calls, holds)
+  listed (Err (Failed (StoreFailed fault))) calls = absurd (no_row (Failed (StoreFailed fault)) (rows_in held.journal) calls.1.0)
+  listed (Err (Failed (Interrupted cause))) calls = absurd (no_row (Failed (Interrupted cause)) (rows_in held.journal) calls.1.0)
   listed (Err refusal) calls = did events.Log (Err refusal) calls
 
   -- a look leaves the state
@@ -164,9 +161,9 @@ module _ (held : State) (state : Snapshots) (holds : HoldsSnapshots held state) 
   -- a preview answers what the machine does
   previewed : (call : Call) (fates : Result (List Fate) Refusal) → Looks (Previews call held) held fates after → StepsBy state (events.Preview call) (as_reply fates) after
   previewed call (Ok fates) looks = (ap as_reply (previews_as_machine held state holds call (Ok fates) (looks.right tt)), looked (Previews call held) (Ok fates) looks)
-  previewed call (Err (StoreFailed fault)) looks = looked (Previews call held) (Err (StoreFailed fault)) looks
-  previewed call (Err Memory) looks = looked (Previews call held) (Err Memory) looks
-  previewed call (Err (Interrupted cause)) looks = absurd looks.unstopped
+  previewed call (Err (Failed (StoreFailed fault))) looks = looked (Previews call held) (Err (Failed (StoreFailed fault))) looks
+  previewed call (Err (Failed Memory)) looks = looked (Previews call held) (Err (Failed Memory)) looks
+  previewed call (Err (Failed (Interrupted cause))) looks = absurd looks.unstopped
   previewed call (Err refusal) looks = (ap as_reply (previews_as_machine held state holds call (Err refusal) (looks.right tt)), looked (Previews call held) (Err refusal) looks)
 
   called : (event : Event) (answer : Result Reply Refusal) → CallLeaves event held answer after → StepsBy state event answer after
@@ -195,9 +192,9 @@ module _ (held : State) (state : Snapshots) (holds : HoldsSnapshots held state) 
 
   reverted : (number : ℕ) (skip_moved : Bool) (when : ℕ) (answer : Result Reverted Refusal) → RevertsOn number skip_moved when held answer after → StepsBack state number skip_moved when answer after
   reverted number skip_moved when (Ok done) reverts = ran_back number skip_moved when (Ok done) tt reverts
-  reverted number skip_moved when (Err (StoreFailed fault)) reverts = (held, reverts, holds)
-  reverted number skip_moved when (Err Memory) reverts = (held, reverts, holds)
-  reverted number skip_moved when (Err (Interrupted cause)) reverts =
+  reverted number skip_moved when (Err (Failed (StoreFailed fault))) reverts = (held, reverts, holds)
+  reverted number skip_moved when (Err (Failed Memory)) reverts = (held, reverts, holds)
+  reverted number skip_moved when (Err (Failed (Interrupted cause))) reverts =
       let changes = (reverts.0).changes in
       let stops = subst (λ late. StopsAfterRun (Revert changes late skip_moved) when held after) (later_as_machine held state holds number changes) reverts.3 in
       inr (
@@ -217,9 +214,7 @@ module _ (held : State) (state : Snapshots) (holds : HoldsSnapshots held state) 
 
 -- an opening that fails changes nothing where no step is in doubt
 unopened : (refusal : Refusal) (state : Snapshots) (new : Point) → Reopens (Err refusal) (closed (open_at state)) new → new ≡ closed (open_at state)
-unopened (StoreFailed fault) state new h = h
-unopened Memory state new h = h
-unopened (Interrupted cause) state new h = h
+unopened (Failed failure) state new h = h
 unopened refusal state new h = absurd h
 
 still_held : (state : Snapshots) (before : Files) (refusal : Refusal) (after : Files) → HoldState before state → IsUnopened before refusal after → HoldState after state
@@ -228,22 +223,20 @@ still_held state before refusal after held refused =
     subst (λ (p : Point). AreLeft after p.state p.next) (unopened refusal state point.0 point.1) point.2.1
 
 failed_event : (state : Snapshots) (event : Event) (refusal : Refusal) (after : Files) → IsFailure refusal → HoldState after state → StepsBy state event (Err refusal) after
-failed_event state event (StoreFailed fault) after failure held = held
-failed_event state event Memory after failure held = held
-failed_event state event (Interrupted cause) after failure held = inl held
+failed_event state event (Failed (StoreFailed fault)) after failure held = held
+failed_event state event (Failed Memory) after failure held = held
+failed_event state event (Failed (Interrupted cause)) after failure held = inl held
 failed_event state event refusal after failure held = absurd failure
 
 untold_answer : (A : Type 0) (refusal : Refusal) → IsFailure refusal → TellsNoFault {A = A} (Err refusal) → ⊥
-untold_answer A (StoreFailed fault) failure told = told
-untold_answer A Memory failure told = told
-untold_answer A (Interrupted cause) failure told = told
+untold_answer A (Failed how) failure told = told
 untold_answer A refusal failure told = failure
 
 failed_back : (state : Snapshots) (number : ℕ) (skip_moved : Bool) (when : ℕ) (refusal : Refusal) (after : Files) → IsFailure refusal → HoldState after state
     → StepsBack state number skip_moved when (Err refusal) after
-failed_back state number skip_moved when (StoreFailed fault) after failure held = held
-failed_back state number skip_moved when Memory after failure held = held
-failed_back state number skip_moved when (Interrupted cause) after failure held = inl held
+failed_back state number skip_moved when (Failed (StoreFailed fault)) after failure held = held
+failed_back state number skip_moved when (Failed Memory) after failure held = held
+failed_back state number skip_moved when (Failed (Interrupted cause)) after failure held = inl held
 failed_back state number skip_moved when refusal after failure held = absurd failure
 
 failed : (state : Snapshots) (request : Request) (refusal : Refusal) (after : Files) → IsFailure refusal → HoldState after state → FollowsMachine state request (Err refusal) after

@@ -1,5 +1,5 @@
 -- What a request is answered where an earlier one may have stopped, and where it leaves the files: as in a run of the reference model with stops.
-use Rattle.std.specs.Prelude.{◌≡◌, ◌⊎◌, ℕ, Bool, List, Result, Ok, Err}
+use Rattle.std.specs.Prelude.{◌≡◌, ◌⊎◌, ℕ, Bool, List, Result, Err}
 use Rattle.reuse_tree.specs.declared.change.Change.{Change}
 use Rattle.reuse_session.specs.Answer.{TellsNoFault}
 use Rattle.reuse_session.specs.Machine.{Snapshots}
@@ -15,6 +15,7 @@ use Rattle.reuse_session.specs.declared.reply.Reply.TheVariants as replies
 use Rattle.reuse_session.specs.declared.reply.Reverted.{Reverted}
 use Rattle.reuse_session.specs.declared.reply.Shown.{Shown}
 use Rattle.reuse_session.specs.declared.reply.Refusal.{Refusal}
+use Rattle.reuse_session.specs.declared.failure.Failure.TheVariants as failures
 use Rattle.reuse_session.specs.declared.reply.Refusal.TheVariants as refusals
 use Rattle.reuse_undo.specs.RunLine.{as_told, IsUnkept, ShowsBy, ForetellsBack}
 use Rattle.reuse_undo.specs.declared.request.Request.{Request}
@@ -39,8 +40,8 @@ EndsAsRun state number skip_moved when answer end =
 
 -- one that a fault of the store or want of memory refused leaves the state
 abbrev pub EndsRevert : Snapshots → ℕ → Bool → ℕ → Result Reverted Refusal → Point → Type 0
-EndsRevert state number skip_moved when (Err (refusals.Fault fault)) end = end ≡ at_rest state
-EndsRevert state number skip_moved when (Err refusals.Memory) end = end ≡ at_rest state
+EndsRevert state number skip_moved when (Err (refusals.Failed (failures.Fault fault))) end = end ≡ at_rest state
+EndsRevert state number skip_moved when (Err (refusals.Failed failures.Memory)) end = end ≡ at_rest state
 EndsRevert state number skip_moved when answer end = EndsAsRun state number skip_moved when answer end
 
 -- a request of a session that opened at the state; what only looks leaves it

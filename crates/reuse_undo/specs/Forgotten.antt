@@ -8,6 +8,7 @@ use Rattle.reuse_session.specs.Journal.{Journal, State}
 use Rattle.reuse_session.specs.Opening.{OpensOn}
 use Rattle.reuse_session.specs.Standing.{IsStanding}
 use Rattle.reuse_session.specs.declared.reply.Refusal.{Refusal}
+use Rattle.reuse_session.specs.declared.failure.Failure.TheVariants as failures
 use Rattle.reuse_session.specs.declared.reply.Refusal.TheVariants as refusals
 use Rattle.reuse_undo.specs.Outputs.{Adds, AddsFront}
 use Rattle.reuse_undo.specs.RunLine.{IsUnopened}
@@ -47,8 +48,8 @@ HasForgotten steps before after forgotten =
 -- standing with the steps or without them
 abbrev pub RefusesFrom : Steps → State → (opened : Files) → Refusal → (after : Files) → Type 0
 RefusesFrom steps found opened (refusals.NoSuchStep number) after = (first_absent found.journal (asked_numbers steps found.journal) ≡ Some number) × (after ≡ opened)
-RefusesFrom steps found opened refusals.Memory after = after ≡ opened
-RefusesFrom steps found opened (refusals.Interrupted cause) after = IsStanding after found ⊎ IsStanding after (state_besides (asked_numbers steps found.journal) found)
+RefusesFrom steps found opened (refusals.Failed failures.Memory) after = after ≡ opened
+RefusesFrom steps found opened (refusals.Failed (failures.Interrupted cause)) after = IsStanding after found ⊎ IsStanding after (state_besides (asked_numbers steps found.journal) found)
 RefusesFrom steps found opened refusal after = ⊥
 
 -- no session was opened, or it refused

@@ -6,7 +6,8 @@ use Rattle.reuse_session.specs.Answer.{IsEarly, IsOpenRefusal, TellsNoFault}
 use Rattle.reuse_session.specs.Recovery.{RecoversFiles, RefusesRecovery, StopsRecovering}
 use Rattle.reuse_session.specs.declared.reply.Recovered.{Recovered}
 use Rattle.reuse_session.specs.declared.reply.Refusal.{Refusal}
-use Rattle.reuse_session.specs.declared.reply.Refusal.TheVariants.{Interrupted}
+use Rattle.reuse_session.specs.declared.failure.Failure.TheVariants.{Interrupted}
+use Rattle.reuse_session.specs.declared.reply.Refusal.TheVariants.{Failed}
 use Rattle.reuse_undo.specs.declared.fault.Fault.{Fault}
 use Rattle.reuse_undo.specs.declared.fault.Fault.TheVariants.{Refused, Write, Memory}
 use Rattle.reuse_undo.specs.declared.shown_name.Names.{Names}
@@ -29,7 +30,7 @@ pub record RefusesToRecover (skip_moved : Bool) (before : Files) (refusal : Refu
   pub exact : TellsNoFault {A = Recovered} (Err refusal) → RefusesRecovery skip_moved before (Err refusal)
   pub unchanged : IsEarly refusal → after ≡ before
   -- it stops only where a step is pending: that is recovered, or each of its paths is as it was or as recovering leaves it
-  pub stopped : (cause : Cause) → refusal ≡ Interrupted cause → StopsRecovering before after
+  pub stopped : (cause : Cause) → refusal ≡ Failed (Interrupted cause) → StopsRecovering before after
 
 -- The files are recovered, and of what became of them the output took the lines, or some front part of them if it failed, or nothing for want of
 -- memory. Or it is refused, and nothing is written.

@@ -1,5 +1,5 @@
 -- What a line asks a session for, and what comes of it.
-use Rattle.std.specs.Prelude.{◌≡◌, ◌⊎◌, ◌+◌, Bool, List, Some, ℕ, Result, Ok, Err, IfOk, IfErr, true, false}
+use Rattle.std.specs.Prelude.{◌≡◌, ◌⊎◌, ◌+◌, Bool, List, Some, ℕ, Result, Ok, Err, IfErr, true, false}
 use Rattle.std.specs.List.{All, Contains}
 use Rattle.reuse_tree.specs.Files.{Files, Clashes}
 use Rattle.reuse_tree.specs.declared.change.Change.{Change}
@@ -16,7 +16,6 @@ use Rattle.reuse_session.specs.Showing.{IsUnused, ShowsIn, ShowsAt, LedTo}
 use Rattle.reuse_session.specs.Standing.{IsStanding, InDoubt}
 use Rattle.reuse_session.specs.Stops.{HoldState, AreLeft}
 use Rattle.reuse_tree.specs.Tree.{undo_folder_of}
-use Rattle.reuse_session.specs.declared.command.Command.{Command}
 use Rattle.reuse_session.specs.declared.command.Command.TheVariants.{Revert}
 use Rattle.reuse_tree.specs.declared.way.Way.TheVariants as go
 use Rattle.reuse_session.specs.declared.events.Event.{Event}
@@ -31,6 +30,7 @@ use Rattle.reuse_session.specs.declared.reply.Reply.TheVariants as replies
 use Rattle.reuse_session.specs.declared.reply.Reverted.{Reverted}
 use Rattle.reuse_session.specs.declared.reply.Shown.{Shown}
 use Rattle.reuse_session.specs.declared.reply.Refusal.{Refusal}
+use Rattle.reuse_session.specs.declared.failure.Failure.TheVariants as failures
 use Rattle.reuse_session.specs.declared.reply.Refusal.TheVariants as refusals
 use Rattle.reuse_session.specs.declared.session.Session.{Session}
 use Rattle.reuse_undo.specs.declared.fault.Fault.{Fault}
@@ -74,17 +74,16 @@ IsStopped events.Undo old files = StopsAfter ways.Undo old files
 IsStopped events.Redo old files = StopsAfter ways.Redo old files
 IsStopped event old files = ⊥
 
--- What a call that makes a step answers and leaves from a standing. A fault of the store or want of memory leaves the standing.
+-- What a call that makes a step answers and leaves from a standing. One that failed early leaves the standing.
 abbrev pub StepLeaves : Event → State → Result Reply Refusal → Files → Type 0
-StepLeaves event old (Err (refusals.Fault fault)) files = IsStanding files old
-StepLeaves event old (Err refusals.Memory) files = IsStanding files old
-StepLeaves event old (Err (refusals.Interrupted cause)) files = IsStopped event old files
+StepLeaves event old (Err (refusals.Failed (failures.Interrupted cause))) files = IsStopped event old files
+StepLeaves event old (Err (refusals.Failed failure)) files = IsStanding files old
 StepLeaves event old answer files = (new : State) × CallLeadsTo event old answer new × IsStanding files new
 
 -- what a call answers and leaves from a standing; a log answers its rows, or memory ran out
 abbrev pub CallLeaves : Event → State → Result Reply Refusal → Files → Type 0
 CallLeaves (events.Preview call) old answer files = (fates : Result (List Fate) Refusal) × (answer ≡ as_reply fates) × Looks (Previews call old) old fates files
-CallLeaves events.Log old (Err refusals.Memory) files = IsStanding files old
+CallLeaves events.Log old (Err (refusals.Failed failures.Memory)) files = IsStanding files old
 CallLeaves events.Log old answer files = (new : State) × CallLeadsTo events.Log old answer new × IsStanding files new
 CallLeaves event old answer files = StepLeaves event old answer files
 
@@ -95,13 +94,12 @@ abbrev pub as_told : {A : Type 0} → (A → Told) → Result A Refusal → Resu
 as_told tell (Ok value) = Ok (tell value)
 as_told tell (Err refusal) = Err refusal
 
--- what a revert answers and leaves: a fault of the store or want of memory leaves the standing, and a stop files in doubt between it and
+-- what a revert answers and leaves: an early failure leaves the standing, and a stop files in doubt between it and
 -- that after a run that takes the changes of the step back
 abbrev pub RevertsOn : ℕ → Bool → ℕ → State → Result Reverted Refusal → Files → Type 0
-RevertsOn number skip_moved when old (Err (refusals.Fault fault)) files = IsStanding files old
-RevertsOn number skip_moved when old (Err refusals.Memory) files = IsStanding files old
-RevertsOn number skip_moved when old (Err (refusals.Interrupted cause)) files =
+RevertsOn number skip_moved when old (Err (refusals.Failed (failures.Interrupted cause))) files =
     (step : Recorded) × Contains old.journal.done step × (number_of step ≡ number) × StopsAfterRun (Revert step.changes (touched_later number old.journal.done step.changes) skip_moved) when old files
+RevertsOn number skip_moved when old (Err (refusals.Failed failure)) files = IsStanding files old
 RevertsOn number skip_moved when old answer files = (new : State) × Reverts number skip_moved when old answer new × IsStanding files new
 
 -- what a dry run of a revert answers: what a run would do that takes the changes of the step back, or that no such step is done
@@ -145,7 +143,7 @@ pub record IsUnopened (before : Files) (refusal : Refusal) (after : Files) : Typ
   pub no_clash : IsNoClash refusal
   pub unchanged : IsEarly refusal → after ≡ before
   -- it stops only where a step was under way
-  pub stopped : (cause : Cause) → refusal ≡ refusals.Interrupted cause → StopsOpening before after
+  pub stopped : (cause : Cause) → refusal ≡ refusals.Failed (failures.Interrupted cause) → StopsOpening before after
   -- files in doubt stay in doubt between the same two
   pub settles : (first second : State) → InDoubt first second before → IsFailure refusal × InDoubt first second after
   -- of the journal's files none but the head holds something else
@@ -169,12 +167,11 @@ RequestLeaves before request answer after = ((refusal : Refusal) × (answer ≡ 
 
 -- ---- from a state of the machine
 
--- The answer to an event and the files are those of the machine that keeps whole copies. A fault of the store or want of memory leaves the
+-- The answer to an event and the files are those of the machine that keeps whole copies. An early failure leaves the
 -- state, and a stop leaves it, or files in doubt between it and the next.
 abbrev pub StepsBy : Snapshots → Event → Result Reply Refusal → Files → Type 0
-StepsBy state event (Err (refusals.Fault fault)) files = HoldState files state
-StepsBy state event (Err refusals.Memory) files = HoldState files state
-StepsBy state event (Err (refusals.Interrupted cause)) files = HoldState files state ⊎ AreLeft files state (Some (step state event).1)
+StepsBy state event (Err (refusals.Failed (failures.Interrupted cause))) files = HoldState files state ⊎ AreLeft files state (Some (step state event).1)
+StepsBy state event (Err (refusals.Failed failure)) files = HoldState files state
 StepsBy state event answer files = (answer ≡ (step state event).0) × HoldState files (step state event).1
 
 -- no step has the number, of those that led to the tree or of those that lead on from it
@@ -193,14 +190,13 @@ StepsBackBy state number skip_moved when answer files =
     ((answer ≡ Err (refusals.NoSuchStep number)) × IsUnkept number state.past × HoldState files state)
     ⊎ ((changes : List Change) × LedTo number changes state.tree state.past × StepsBy state (events.Run (Revert changes (changed_later number state.tree state.past changes) skip_moved) when) (as_run answer) files)
 
--- The answer to a revert and the files are those of the machine. A fault of the store or want of memory leaves the state, and a stop leaves it, or files
+-- The answer to a revert and the files are those of the machine. An early failure leaves the state, and a stop leaves it, or files
 -- in doubt between it and the one that the run leads to.
 abbrev pub StepsBack : Snapshots → ℕ → Bool → ℕ → Result Reverted Refusal → Files → Type 0
-StepsBack state number skip_moved when (Err (refusals.Fault fault)) files = HoldState files state
-StepsBack state number skip_moved when (Err refusals.Memory) files = HoldState files state
-StepsBack state number skip_moved when (Err (refusals.Interrupted cause)) files =
+StepsBack state number skip_moved when (Err (refusals.Failed (failures.Interrupted cause))) files =
     HoldState files state
     ⊎ ((changes : List Change) × LedTo number changes state.tree state.past × AreLeft files state (Some (step state (events.Run (Revert changes (changed_later number state.tree state.past changes) skip_moved) when)).1))
+StepsBack state number skip_moved when (Err (refusals.Failed failure)) files = HoldState files state
 StepsBack state number skip_moved when answer files = StepsBackBy state number skip_moved when answer files
 
 -- a dry run of a revert answers what the machine says of such a run, or no step that is done has the number

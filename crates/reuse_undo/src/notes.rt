@@ -7,7 +7,7 @@ use crate::findings::{Findings, Task, unrecognised_among};
 use crate::line::LineFault;
 use reuse_dep5::{Dep5Cause, Dep5Refusal};
 use reuse_notice::NoticeRefusal;
-use reuse_session::{AmendFault, Fate, Refusal};
+use reuse_session::{AmendFault, Failure, Fate, Refusal};
 use std::fmt::Display;
 
 /// Tells a note. Where standard error can't be written, there is nobody to tell.
@@ -49,7 +49,7 @@ fn advice(refusal: &Refusal, is_begun: bool, findings: &Findings) -> Option<&'st
         Refusal::Moved(_) if findings.is_gone => Some(gone_advice(findings.task)),
         Refusal::Moved(_) => Some(moved_advice(findings.task)),
         Refusal::NoSuchStep(_) => Some("reuse-undo log tells the numbers of the steps"),
-        Refusal::Interrupted(_) => {
+        Refusal::Failed(Failure::Interrupted(_)) => {
             Some("the next call on this tree, log too, takes back what was begun")
         }
         Refusal::BadJournal(_) => Some(BAD_JOURNAL),
@@ -153,13 +153,13 @@ fn amend_advice(fault: AmendFault) -> &'static str {
 
 /// Tells what a refusal is about.
 fn note_refusal(rt: &impl Eprint, findings: &Findings, refusal: &Refusal) {
-    if let (Refusal::Fault(_) | Refusal::Interrupted(_), Some(failure)) = (
+    if let (Refusal::Failed(Failure::Fault(_) | Failure::Interrupted(_)), Some(failure)) = (
         refusal,
         &findings.failure,
     ) {
         note(rt, failure);
     }
-    if let (Refusal::Fault(_), Some(root)) = (refusal, &findings.missing_root) {
+    if let (Refusal::Failed(Failure::Fault(_)), Some(root)) = (refusal, &findings.missing_root) {
         let _ = eprintln!(rt; "reuse-undo: note: there is no folder {root}");
     }
     if let (Refusal::NoText(id), Some(folder)) = (refusal, &findings.texts) {

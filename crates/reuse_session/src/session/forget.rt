@@ -15,6 +15,7 @@ ghost use Rattle.reuse_tree.specs.Head.{head_text, IsGoodHead, IsSoundHead};
 ghost use Rattle.reuse_session.specs.JournalFiles.{head_path, entry_path};
 ghost use Rattle.reuse_session.specs.Losses.{HaveTree};
 
+use crate::failure::Failure;
 use crate::history::History;
 use crate::journal_files::{HeadPath, entry_path, put_head};
 use crate::reply::Refusal;
@@ -128,7 +129,7 @@ impl<S: Store + Drop> Session<S> {
             }
             Err(cause) => {
                 self.broken = true;
-                Err(Refusal::Interrupted(cause))
+                Err(Refusal::Failed(Failure::Interrupted(cause)))
             }
         }
     }

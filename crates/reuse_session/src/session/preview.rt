@@ -1,13 +1,13 @@
 //! Previews: what a call would do, and the changes that a run would record. They only read.
 ghost use Rattle.std.specs.Prelude.{◌≡◌, ◌⊎◌, ◌↔◌, ◌++◌, ◌∷◌, [], List, true, false, length, IfOk, IfErr, IfSome};
-ghost use Rattle.reuse_session.specs.Answer.{IsOfPlan, TellsNoFault};
+ghost use Rattle.reuse_session.specs.Answer.{IsOfPlan, TellsNoFault, IsReadRefusal};
 ghost use Rattle.reuse_session.specs.Fates.{fates_of};
 ghost use Rattle.reuse_session.specs.History.{entries_ahead};
 ghost use Rattle.reuse_session.specs.Journal.{State, ahead, changes_ahead, end_of};
 ghost use Rattle.reuse_session.specs.Machine.{Snapshots, is_full, run_fates, undo_fates, redo_fates};
 ghost use Rattle.reuse_session.specs.Outcome.{outcome_of, edits_of};
 ghost use Rattle.reuse_session.specs.Plan.{IsPlan, IsRefusalOf, Records};
-ghost use Rattle.reuse_session.specs.Previews.{run_fates_on, Foresees, OnlyLooks, IsPreviewRefusal, IsListedPreviewRefusal};
+ghost use Rattle.reuse_session.specs.Previews.{run_fates_on, Foresees, OnlyLooks, IsPreviewRefusal};
 ghost use Rattle.reuse_session.specs.Session.{store_of, is_broken, memory_of, StandsOn, StandsAt};
 ghost use Rattle.reuse_tree.specs.Entry.{IsEntry};
 ghost use Rattle.reuse_tree.specs.declared.way.Way.TheVariants as go;
@@ -166,7 +166,7 @@ impl<S: Store + Drop> Session<S> {
         ensures exact { S.honest (store_of self.new) → (held : State) → StandsOn S.files self.old held
             → TellsNoFault result → Foresees way (ahead way held.journal) held.tree result }
         ensures looks { OnlyLooks S.Store result self.old self.new }
-        ensures refusal { IfErr result IsListedPreviewRefusal }
+        ensures refusal { IfErr result IsReadRefusal }
     {
         let entry = read_entry(alloc, &mut self.store, listed.number())?;
         travel_fates(alloc, &mut self.store, entry.changes.as_slice(), way)

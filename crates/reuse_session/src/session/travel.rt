@@ -2,7 +2,7 @@
 ghost use Rattle.std.specs.Prelude.{◌≡◌, ◌↔◌, ◌⊎◌, ◌++◌, ◌∷◌, [], List, true, false, IfErr};
 ghost use Rattle.reuse_tree.specs.Head.{listed_way};
 ghost use Rattle.reuse_tree.specs.declared.way.Way.TheVariants as go;
-ghost use Rattle.reuse_session.specs.Answer.{TellsNoFault, IsGoRefusal};
+ghost use Rattle.reuse_session.specs.Answer.{TellsNoFault, IsOpenRefusal};
 ghost use Rattle.reuse_session.specs.Calls.{IsCall, LeavesTravel};
 ghost use Rattle.reuse_session.specs.History.{entries_ahead};
 ghost use Rattle.reuse_session.specs.Journal.{State, Travels, Undoes, Redoes, ahead, end_of, reply_of};
@@ -107,7 +107,7 @@ impl<S: Store + Drop> Session<S> {
         ensures survives { SurvivesCall S.Store (IsNextBy (listed_way way)) result self.old self.new }
         ensures call { IsCall S.Store result self.old self.new }
         ensures leaves { LeavesTravel S.Store way result self.old self.new }
-        ensures kinds { IfErr result IsGoRefusal }
+        ensures kinds { IfErr result IsOpenRefusal }
     {
         let moved = self.history.after(alloc, listed, way)?;
         let number = listed.number();

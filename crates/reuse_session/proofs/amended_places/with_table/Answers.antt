@@ -1,9 +1,8 @@
-use Rattle.std.proofs.Common.{◌∙◌, ◌∷◌, cond, Ok, Err, ap}
-use Rattle.std.proofs.lemmas.Result.{err_from_is_err_and}
+use Rattle.std.proofs.Common.{◌∙◌, ◌∷◌, cond, Ok, ap}
 use Rattle.reuse_session.specs.Conversion.{toml_path}
-use Rattle.reuse_session.specs.Previews.{IsLookRefusal}
+use Rattle.reuse_session.specs.Answer.{IsEarlyFailure}
 use Rattle.reuse_session.specs.declared.command.Place.TheVariants.{Path}
-use Rattle.reuse_session.proofs.Asking.{told, short, failed, look_faults}
+use Rattle.reuse_session.proofs.Asking.{told}
 use Rattle.reuse_session.proofs.amended_places.with_table.Goals as goal
 
 pub returns-clause-places : goal.returns-clause-places
@@ -11,4 +10,4 @@ returns-clause-places g c honest =
     c.in_ok-places_if.ensures ∙ ap (λ b. cond b (Path toml_path ∷ c.args.places.now) c.args.places.now) (c.in_ok-is_chosen.ensures.chosen honest)
 
 pub returns-clause-asks : goal.returns-clause-asks
-returns-clause-asks g c = told g.S.Store IsLookRefusal _ _ (Ok _) tt tt c.is_table_chosen.ensures.reads
+returns-clause-asks g c = told g.S.Store IsEarlyFailure _ _ (Ok _) tt tt c.is_table_chosen.ensures.reads

@@ -6,7 +6,8 @@ use Rattle.reuse_session.specs.Opening.{IsRead, IsSettled, IsStuckAt, MovesToOpe
 use Rattle.reuse_session.specs.Session.{head_room, HasHeadText, IsSameBut, Remembers}
 use Rattle.reuse_session.specs.JournalFiles.{head_of, head_path, entry_path, HeadSays, EntrySays}
 use Rattle.reuse_session.specs.declared.reply.Refusal.{Refusal}
-use Rattle.reuse_session.specs.declared.reply.Refusal.TheVariants.{BadJournal, Moved, Interrupted}
+use Rattle.reuse_session.specs.declared.failure.Failure.TheVariants.{Interrupted}
+use Rattle.reuse_session.specs.declared.reply.Refusal.TheVariants.{BadJournal, Moved, Failed}
 use Rattle.reuse_session.specs.Losses.{AreSafeOn, AreInDoubt}
 use Rattle.reuse_tree.specs.declared.store.Store.{Ghosts}
 use Rattle.reuse_tree.specs.Asked.{OnlyReads}
@@ -89,14 +90,14 @@ returns-in-None g c =
       opened = λ h. read_opens (store.files old) (store.files new) memory (read h).0 (read h).1 (reads.files h) (g.met.S.Store.are_files old (reads.was_honest h));
       bad = λ h path e. absurd (no_refusal memory (BadJournal path) e);
       moved = λ h path e. absurd (no_refusal memory (Moved path) e);
-      interrupted = λ h cause e. absurd (no_refusal memory (Interrupted cause) e);
+      interrupted = λ h cause e. absurd (no_refusal memory (Failed (Interrupted cause)) e);
       settles = λ h first second doubt. read_settles (store.files old) (store.files new) memory (read h).0 (read h).1 (reads.files h) first second doubt;
       survives = λ h earlier held next doubt. reads_standing store earlier held next old new reads h memory (read h).0 (read h).1 doubt;
       texts = λ h. inl (reads.files h);
       written = λ h head says. omega (arith, reads.written);
       moves = λ h. inl reads.moves;
       early = tt;
-      late = λ cause e other. absurd (no_refusal memory (Interrupted cause) e);
+      late = λ cause e other. absurd (no_refusal memory (Failed (Interrupted cause)) e);
       quiet = λ h held standing. reads;
       folder = λ h other ne. ap (λ f. map.get (undo_folder_of f) other) (reads.files h);
       refusal = tt;
@@ -223,7 +224,7 @@ returns-in_ok-settle-in-Some g c =
           (subst (λ files. IsSettled c.in-Some.pending read.0 files (store.files new)) (same_files g s h) (done.done h read.0 (read_after g s h)));
       bad = λ h path e. absurd (no_refusal memory (BadJournal path) e);
       moved = λ h path e. absurd (no_refusal memory (Moved path) e);
-      interrupted = λ h cause e. absurd (no_refusal memory (Interrupted cause) e);
+      interrupted = λ h cause e. absurd (no_refusal memory (Failed (Interrupted cause)) e);
       settles = λ h first second doubt.
           let step = pending_in_doubt g s h first second doubt in
           inl (done.settles h _ (read_after g s h) step.step first step.number step.under, step.remembers);
@@ -235,7 +236,7 @@ returns-in_ok-settle-in-Some g c =
       written = head_written g s;
       moves = moves_to_open g s;
       early = tt;
-      late = λ cause e other. absurd (no_refusal memory (Interrupted cause) e);
+      late = λ cause e other. absurd (no_refusal memory (Failed (Interrupted cause)) e);
       quiet = λ h held standing. absurd (never_standing g s h held standing);
       folder = folder_kept g s;
       refusal = tt;

@@ -18,7 +18,8 @@ use Rattle.reuse_session.specs.Standing.{IsStanding, IsUnderWay}
 use Rattle.reuse_tree.specs.Tree.{undo_folder_of}
 use Rattle.reuse_tree.specs.declared.change.Change.{Change}
 use Rattle.reuse_tree.specs.declared.way.Way.{Way}
-use Rattle.reuse_session.specs.declared.reply.Refusal.TheVariants.{Memory}
+use Rattle.reuse_session.specs.declared.failure.Failure.TheVariants.{Memory}
+use Rattle.reuse_session.specs.declared.reply.Refusal.TheVariants.{Failed}
 use Rattle.reuse_session.specs.Journal.{Journal, Recorded, State}
 use Rattle.reuse_session.proofs.Settling.{is_entry, is_settled, is_stuck, of_step as its_changes, partly_made, settles, stands, settled_good, settled_sound, head_fits, at_same, pending_readable, stays_under_way, read_failure}
 use Rattle.reuse_session.proofs.FilesInDoubt.{read_pending}
@@ -59,7 +60,7 @@ pub returns-in_err-settled-clause-settles : goal.returns-in_err-settled-clause-s
 returns-in_err-settled-clause-settles g c honest journal read step first number under =
     let files = g.S.Store.files in
     let p = err_from_is_err_and c.from_residual-in_err-settled.result c.from_residual-in_err-settled.ensures.1 in
-    stays_under_way c.from_residual-in_err-settled.result p.0 Memory c.args.pending.way step first (files c.args.store.now) (files c.read_entry.new.store) p.1 p.2 tt (c.read_entry.ensures.reads.files honest) under
+    stays_under_way c.from_residual-in_err-settled.result p.0 (Failed Memory) c.args.pending.way step first (files c.args.store.now) (files c.read_entry.new.store) p.1 p.2 tt (c.read_entry.ensures.reads.files honest) under
 
 pub returns-in_err-head-clause-survives : goal.returns-in_err-head-clause-survives
 returns-in_err-head-clause-survives g c honest journal read earlier held next doubt =
@@ -70,7 +71,7 @@ pub returns-in_err-head-clause-settles : goal.returns-in_err-head-clause-settles
 returns-in_err-head-clause-settles g c honest journal read step first number under =
     let files = g.S.Store.files in
     let p = err_from_is_err_and c.from_residual-in_err-head.result c.from_residual-in_err-head.ensures.1 in
-    stays_under_way c.from_residual-in_err-head.result p.0 Memory c.args.pending.way step first (files c.args.store.now) (files c.read_entry.new.store) p.1 p.2 tt (c.read_entry.ensures.reads.files honest) under
+    stays_under_way c.from_residual-in_err-head.result p.0 (Failed Memory) c.args.pending.way step first (files c.args.store.now) (files c.read_entry.new.store) p.1 p.2 tt (c.read_entry.ensures.reads.files honest) under
 
 -- what is known once the pending step is rolled back, or isn't
 module _ (g : Over) (c : After-roll_back g) (honest : g.S.Store.honest c.roll_back.new.store) (journal : Journal) (read : IsRead (g.S.Store.files c.args.store.now) (Some c.args.pending) c.args.history.now journal) where

@@ -11,7 +11,7 @@ use Rattle.reuse_session.specs.Worked.{expanded}
 use Rattle.reuse_session.specs.declared.places.Listing.TheVariants.{Listed}
 use Rattle.std.proofs.lemmas.Result.{err_from_is_err_and}
 use Rattle.reuse_tree.proofs.AskedLemmas.{reads_more}
-use Rattle.reuse_session.specs.Previews.{IsLookRefusal}
+use Rattle.reuse_session.specs.Answer.{IsEarlyFailure}
 use Rattle.reuse_session.proofs.Asking.{told, failed, later, look_faults}
 use Rattle.reuse_session.proofs.SelectedLemmas.{listed, listed_ascend, shows_each_place, shows_worked}
 use Rattle.reuse_session.proofs.places.find_beneath.Given.{Over}
@@ -55,10 +55,10 @@ returns-clause-shown g c honest =
     (shows_worked scope places tree (tree_are_files files (g.met.S.Store.are_files c.args.store.now start))))
 
 pub returns-clause-asks : goal.returns-clause-asks
-returns-clause-asks g c = told g.S.Store IsLookRefusal _ _ (Ok _) tt tt (reads_more g.S.Store _ _ _ c.list_selected.ensures.asks.reads c.expanded.ensures.reads)
+returns-clause-asks g c = told g.S.Store IsEarlyFailure _ _ (Ok _) tt tt (reads_more g.S.Store _ _ _ c.list_selected.ensures.asks.reads c.expanded.ensures.reads)
 
 pub returns-in_err-expanded-clause-asks : goal.returns-in_err-expanded-clause-asks
 returns-in_err-expanded-clause-asks g c =
     let p = err_from_is_err_and c.from_residual-in_err-expanded.result c.from_residual-in_err-expanded.ensures.1 in
-    later g.S.Store IsLookRefusal _ _ _ _ c.list_selected.ensures.asks.reads
-    (failed g.S.Store IsLookRefusal _ _ c.in_err-expanded.field-0.0 _ (p.1 ∙ ap (λ r. Err r) p.2) (look_faults c.in_err-expanded.field-0.0) c.in_err-expanded.ensures.fails c.in_err-expanded.ensures.reads)
+    later g.S.Store IsEarlyFailure _ _ _ _ c.list_selected.ensures.asks.reads
+    (failed g.S.Store IsEarlyFailure _ _ c.in_err-expanded.field-0.0 _ (p.1 ∙ ap (λ r. Err r) p.2) (look_faults c.in_err-expanded.field-0.0) c.in_err-expanded.ensures.fails c.in_err-expanded.ensures.reads)

@@ -7,7 +7,7 @@ use Rattle.reuse_text.specs.declared.TheConstants.{LONGEST_FILE}
 use Rattle.reuse_tree.proofs.AskedLemmas.{reads_more}
 use Rattle.reuse_tree.proofs.OfTree.{tree_at}
 use Rattle.reuse_session.specs.Plan.{MakesEdit}
-use Rattle.reuse_session.specs.Previews.{IsLookRefusal}
+use Rattle.reuse_session.specs.Answer.{IsEarlyFailure}
 use Rattle.reuse_session.proofs.Asking.{told}
 use Rattle.reuse_session.proofs.RevertPlanning.{found, stuck_by_clash, where_free}
 use Rattle.reuse_session.proofs.plan_revert.take_back.Goals as goal
@@ -30,7 +30,7 @@ returns-clause-edit g c honest proper small of_tree =
     (c.in_ok-change_back.ensures tree proper small reading)
 
 pub returns-then-branch-clause-asks : goal.returns-then-branch-clause-asks
-returns-then-branch-clause-asks g c = told g.S.Store IsLookRefusal _ _ (Ok _) tt tt c.makes_at_clash.ensures.reads
+returns-then-branch-clause-asks g c = told g.S.Store IsEarlyFailure _ _ (Ok _) tt tt c.makes_at_clash.ensures.reads
 
 pub returns-clause-asks : goal.returns-clause-asks
-returns-clause-asks g c = told g.S.Store IsLookRefusal _ _ (Ok _) tt tt (reads_more g.S.Store _ _ _ c.makes_at_clash.ensures.reads c.read.ensures.reads)
+returns-clause-asks g c = told g.S.Store IsEarlyFailure _ _ (Ok _) tt tt (reads_more g.S.Store _ _ _ c.makes_at_clash.ensures.reads c.read.ensures.reads)

@@ -23,7 +23,8 @@ use Rattle.reuse_session.specs.Opening.{IsRead}
 use Rattle.reuse_session.specs.Recovery.{AreFound, ArePart, changes_besides}
 use Rattle.reuse_session.specs.Session.{IsSameBut}
 use Rattle.reuse_session.specs.Standing.{IsStanding}
-use Rattle.reuse_session.specs.declared.reply.Refusal.TheVariants.{Interrupted, Memory}
+use Rattle.reuse_session.specs.declared.failure.Failure.TheVariants.{Interrupted, Memory}
+use Rattle.reuse_session.specs.declared.reply.Refusal.TheVariants.{Failed}
 use Rattle.reuse_session.proofs.OnlyReading.{is_refused, passed_on, put_early, read_early, tested_early}
 use Rattle.reuse_session.proofs.OpeningLemmas.{recorded}
 use Rattle.reuse_session.proofs.RecoveredFiles.{can_all, has_pending, is_part, is_recovered, skipped_ascend, stops_recovering, stuck_first, tells}
@@ -211,7 +212,7 @@ pub returns-in_err-settled-clause-lasting : goal.returns-in_err-settled-clause-l
 returns-in_err-settled-clause-lasting g c honest journal read way step held awaits =
     let at = (goal.at.returns-in_err-settled-clause-lasting g c).After-find_each in
     refused_on_the_way way step held g.S.Store c.args.store.now c.find_each.new.store
-    c.from_residual-in_err-settled.result Memory
+    c.from_residual-in_err-settled.result (Failed Memory)
     (is_refused c.from_residual-in_err-settled.result c.from_residual-in_err-settled.ensures.1) tt
     (looked_at g at) honest awaits
 
@@ -219,7 +220,7 @@ pub returns-in_err-head-clause-lasting : goal.returns-in_err-head-clause-lasting
 returns-in_err-head-clause-lasting g c honest journal read way step held awaits =
     let at = (goal.at.returns-in_err-head-clause-lasting g c).After-find_each in
     refused_on_the_way way step held g.S.Store c.args.store.now c.find_each.new.store c.from_residual-in_err-head.result
-    Memory
+    (Failed Memory)
     (is_refused c.from_residual-in_err-head.result c.from_residual-in_err-head.ensures.1) tt
     (looked_at g at) honest awaits
 
@@ -271,7 +272,7 @@ module _ (g : Over) (c : After-roll_back_part g) (at : In_ok-found g)
         (g.S.Store.files c.roll_back_part.new.store)) rolled))
         (c.roll_back_part.ensures.done honest (part g c at honest journal read its_says its_found))
 
-    stops_there : (cause : Cause) → c.roll_back_part.result ≡ Err (Interrupted cause)
+    stops_there : (cause : Cause) → c.roll_back_part.result ≡ Err (Failed (Interrupted cause))
         → AwaitsOrIs g.S.Store way step held c.roll_back_part.new.store × Leaves g.S.Store c.roll_back_part.new.store
         (IsOrRecoversTo way step held)
     stops_there cause e =

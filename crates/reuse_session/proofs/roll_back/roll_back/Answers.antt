@@ -14,7 +14,8 @@ use Rattle.reuse_session.specs.JournalFiles.{head_path}
 use Rattle.reuse_tree.specs.declared.cause.Cause.{Cause}
 use Rattle.reuse_tree.specs.declared.cause.Cause.TheVariants as causes
 use Rattle.reuse_session.specs.declared.reply.Refusal.{Refusal}
-use Rattle.reuse_session.specs.declared.reply.Refusal.TheVariants.{Moved, Interrupted}
+use Rattle.reuse_session.specs.declared.failure.Failure.TheVariants.{Interrupted}
+use Rattle.reuse_session.specs.declared.reply.Refusal.TheVariants.{Moved, Failed}
 use Rattle.reuse_tree.proofs.Walk.{none_without}
 use Rattle.reuse_tree.proofs.MadeLemmas.{settles_from}
 use Rattle.reuse_session.proofs.LeftByRollBacks.{certain_midway}
@@ -61,7 +62,7 @@ never_moved false causes.Clash path is e = cc
 never_moved false causes.Device path is e = cc
 never_moved false causes.Memory path is e = cc
 
-told_late : (started : Bool) (cause stop : Cause) {answer : Result (Unit {0}) Refusal} → answer ≡ Err (told_of started cause) → answer ≡ Err (Interrupted stop) → stop ≢ causes.Moved → started ≡ true
+told_late : (started : Bool) (cause stop : Cause) {answer : Result (Unit {0}) Refusal} → answer ≡ Err (told_of started cause) → answer ≡ Err (Failed (Interrupted stop)) → stop ≢ causes.Moved → started ≡ true
 told_late true cause stop is e other = refl
 told_late false causes.Moved stop is e other = absurd (other (cc))
 told_late false causes.Clash stop is e other = absurd (cc)

@@ -4,7 +4,7 @@ use Rattle.reuse_tree.specs.Files.{tree_of}
 use Rattle.reuse_tree.specs.Listing.{listed_paths}
 use Rattle.reuse_tree.proofs.AskedLemmas.{reads_none}
 use Rattle.reuse_tree.proofs.TreeLemmas.{tree_are_files}
-use Rattle.reuse_session.specs.Previews.{IsLookRefusal}
+use Rattle.reuse_session.specs.Answer.{IsEarlyFailure}
 use Rattle.reuse_session.specs.Shown.{with_neighbours, ShowsPair}
 use Rattle.reuse_session.proofs.Asking.{told, short, failed, look_faults}
 use Rattle.reuse_session.proofs.ShownLemmas.{shows_alone}
@@ -20,14 +20,14 @@ returns-clause-paths g c honest =
     (shows_alone (tree_of files) (tree_are_files files (g.met.S.Store.are_files c.args.store.now before)) c.args.path.now)
 
 pub returns-clause-asks : goal.returns-clause-asks
-returns-clause-asks g c = told g.S.Store IsLookRefusal _ _ _ tt tt c.tree_paths.ensures.reads
+returns-clause-asks g c = told g.S.Store IsEarlyFailure _ _ _ tt tt c.tree_paths.ensures.reads
 
 pub returns-in_err-folders-clause-asks : goal.returns-in_err-folders-clause-asks
 returns-in_err-folders-clause-asks g c =
     let p = err_from_is_err_and c.from_residual.result c.from_residual.ensures.1 in
-    short g.S.Store IsLookRefusal _ _ _ (p.1 ∙ ap (λ r. Err r) (p.2 ∙ c.in_err-folders.ensures.memory)) tt (reads_none g.S.Store _)
+    short g.S.Store IsEarlyFailure _ _ _ (p.1 ∙ ap (λ r. Err r) (p.2 ∙ c.in_err-folders.ensures.memory)) tt (reads_none g.S.Store _)
 
 pub returns-in_err-tree_paths-clause-asks : goal.returns-in_err-tree_paths-clause-asks
 returns-in_err-tree_paths-clause-asks g c =
     let p = err_from_is_err_and c.from_residual-in_err-tree_paths.result c.from_residual-in_err-tree_paths.ensures.1 in
-    failed g.S.Store IsLookRefusal _ _ c.in_err-tree_paths.field-0.0 _ (p.1 ∙ ap (λ r. Err r) p.2) (look_faults c.in_err-tree_paths.field-0.0) c.in_err-tree_paths.ensures.fails c.in_err-tree_paths.ensures.reads
+    failed g.S.Store IsEarlyFailure _ _ c.in_err-tree_paths.field-0.0 _ (p.1 ∙ ap (λ r. Err r) p.2) (look_faults c.in_err-tree_paths.field-0.0) c.in_err-tree_paths.ensures.fails c.in_err-tree_paths.ensures.reads

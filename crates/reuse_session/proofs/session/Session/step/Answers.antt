@@ -21,7 +21,8 @@ use Rattle.reuse_session.specs.Session.{store_of, memory_of, head_room, listed_c
 use Rattle.reuse_tree.specs.declared.cause.Cause.{Cause}
 use Rattle.reuse_tree.specs.declared.cause.Cause.TheVariants as causes
 use Rattle.reuse_session.specs.declared.reply.Refusal.{Refusal}
-use Rattle.reuse_session.specs.declared.reply.Refusal.TheVariants.{Memory, Interrupted}
+use Rattle.reuse_session.specs.declared.failure.Failure.TheVariants.{Memory, Interrupted}
+use Rattle.reuse_session.specs.declared.reply.Refusal.TheVariants.{Failed}
 use Rattle.reuse_tree.specs.declared.way.Way.{Way}
 use Rattle.reuse_session.proofs.FolderLemmas.{some_text}
 use Rattle.reuse_session.proofs.JournalReading.{file_in_folder}
@@ -29,7 +30,7 @@ use Rattle.reuse_session.proofs.Standings.{carried, stopped}
 use Rattle.reuse_session.proofs.Stepping.{good_between, good_second, stop_clash}
 use Rattle.reuse_session.proofs.session.Session.step.Goals as goal
 
-stop_cause : (Rose : Type 0) (cause : Cause) → (cause ≡ causes.Device → Rose) → HasCause Rose (Interrupted cause)
+stop_cause : (Rose : Type 0) (cause : Cause) → (cause ≡ causes.Device → Rose) → HasCause Rose (Failed (Interrupted cause))
 stop_cause Rose causes.Moved rose = tt
 stop_cause Rose causes.Clash rose = tt
 stop_cause Rose causes.Device rose = rose refl
@@ -39,7 +40,7 @@ within : (old new first second one two : ℕ) → new ≤ old + first + second �
 within old new first second one two a b c = omega arith
 
 -- a call that is refused for want of memory has done nothing
-call_none : {S : Type 0} (store : Ghosts S) (session : Session S) (answer : Result (Unit {0}) Refusal) → answer ≡ Err Memory → IsCall store answer session session
+call_none : {S : Type 0} (store : Ghosts S) (session : Session S) (answer : Result (Unit {0}) Refusal) → answer ≡ Err (Failed Memory) → IsCall store answer session session
 call_none store session answer e =
     subst (λ r. IsCall store r session session) (sym e) (record { refused = λ early. (refl, refl); interrupted = λ stop. absurd stop; fault = tt; later = later_none store (store_of session) })
 
