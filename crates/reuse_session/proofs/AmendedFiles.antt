@@ -28,14 +28,13 @@ use Rattle.reuse_session.specs.Amend.{style_or_named, style_for, amendment_edit,
 use Rattle.reuse_session.specs.Amended.{KeepsOutsideBlock, IsNeighbourAmended, IsFileAmended, HasNoPlace, IsTableAmended, IsAmended}
 use Rattle.reuse_session.specs.AmendmentPlan.{Due}
 use Rattle.reuse_session.specs.Annotate.{neighbour_of}
-use Rattle.reuse_session.specs.Annotated.{IsSameAround, IsStyleOf, HasKind, pair_at, Pair}
+use Rattle.reuse_session.specs.Annotated.{IsSameAround, IsStyleOf, HasKind, pair_at}
 use Rattle.reuse_session.specs.Conversion.{toml_path}
 use Rattle.reuse_session.specs.Covered.{is_covered}
 use Rattle.reuse_session.specs.Edit.{Edit}
 use Rattle.reuse_session.specs.TreeStyles.{OwnNames}
 use Rattle.reuse_session.specs.declared.command.Place.TheVariants as place
 use Rattle.reuse_session.specs.declared.command.Scope.{Scope}
-use Rattle.reuse_session.specs.declared.reply.Refusal.{Refusal}
 use Rattle.reuse_session.specs.declared.reply.Refusal.TheVariants as refusals
 use Rattle.reuse_session.proofs.AnnotatedFiles.{pair_then, pair, IsEditTo, makes_by, then_here, then_other, apart}
 use Rattle.reuse_session.proofs.Annotating.{both_err}

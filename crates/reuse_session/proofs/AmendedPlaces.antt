@@ -1,11 +1,11 @@
 -- Which paths amend goes through.
-use Rattle.std.proofs.Common.{◌≡◌, ◌↔◌, ◌⊎◌, inl, inr, ℕ, Bool, true, false, not, ◌&&◌, ◌||◌, cond, List, ◌∷◌, ◌++◌, Option, Some, IsSome, is_some, refl, sym, ap, subst, ◌∙◌}
+use Rattle.std.proofs.Common.{◌≡◌, ◌↔◌, ◌⊎◌, inl, inr, ℕ, Bool, true, false, not, ◌&&◌, ◌||◌, cond, List, ◌∷◌, Some, IsSome, is_some, refl, sym, ap, subst, ◌∙◌}
 use Rattle.std.specs.List.{Contains, list_any}
 use Rattle.std.specs.Str.{bytes_eq}
 use Rattle.std.specs.FinMap.{get, keys}
 use Rattle.std.proofs.lemmas.Bool.{false≢true, false_from_ne_true, and_from, and_parts}
 use Rattle.std.proofs.lemmas.Slice.Eq.{bytes_eq-Decides}
-use Rattle.reuse_notice.proofs.SetLemmas.{In, In-from_contains, Contains-from_in}
+use Rattle.reuse_notice.proofs.SetLemmas.{In-from_contains, Contains-from_in}
 use Rattle.reuse_tree.specs.Files.{Files, AreFiles}
 use Rattle.reuse_tree.specs.Listing.{ArePaths, is_folder}
 use Rattle.reuse_tree.specs.Path.{lies_under}
@@ -15,8 +15,7 @@ use Rattle.reuse_session.specs.Choice.{is_listed, matches_one}
 use Rattle.reuse_session.specs.Chosen.{IsNamed, StandsBeneath, IsListed, MatchesNone, IsAskedFor, IsAskedToAmend}
 use Rattle.reuse_session.specs.Command.{has_root, paths_among}
 use Rattle.reuse_session.specs.Conversion.{toml_path}
-use Rattle.reuse_session.specs.Covered.{is_covered}
-use Rattle.reuse_session.specs.Worked.{asks_for_table, with_table, amended_paths, worked_paths}
+use Rattle.reuse_session.specs.Worked.{asks_for_table, with_table, amended_paths}
 use Rattle.reuse_session.specs.declared.command.Place.{Place}
 use Rattle.reuse_session.specs.declared.command.Place.TheVariants.{Path}
 use Rattle.reuse_session.specs.declared.command.Scope.{Scope}

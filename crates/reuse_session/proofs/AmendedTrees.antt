@@ -1,20 +1,19 @@
 -- Where an amend isn't refused, each file that is gone through is amended, and all else stays; that is one tree, with the files of the old.
-use Rattle.std.proofs.Common.{◌≡◌, ◌≢◌, ◌⊎◌, inl, inr, ℕ, true, not, ◌&&◌, List, Option, Some, is_some, Result, Ok, Err, refl, sym, ap, ap₂, subst, ◌∙◌}
+use Rattle.std.proofs.Common.{◌≡◌, ◌≢◌, ◌⊎◌, inl, inr, ℕ, not, ◌&&◌, List, Option, Some, is_some, Result, Ok, Err, refl, sym, ap, ap₂, subst, ◌∙◌}
 use Rattle.std.specs.List.{Contains}
 use Rattle.std.specs.FinMap.{get}
 use Rattle.reuse_notice.specs.declared.amendments.Amendments.{Amendments}
 use Rattle.reuse_notice.proofs.SetLemmas.{In, In-from_contains, Contains-from_in}
 use Rattle.reuse_tree.specs.Files.{Files}
 use Rattle.reuse_session.specs.Amend.{amended_at}
-use Rattle.reuse_session.specs.Amended.{IsAmended, Amends, HaveSamePaths, IsNeighbourAmended, IsFileAmended, HasNoPlace, IsTableAmended, IsCoveredAmended}
+use Rattle.reuse_session.specs.Amended.{IsAmended, Amends, HaveSamePaths, IsTableAmended, IsCoveredAmended}
 use Rattle.reuse_session.specs.Annotate.{neighbour_of}
 use Rattle.reuse_session.specs.Annotated.{Pair, pair_at}
 use Rattle.reuse_session.specs.Command.{has_root}
-use Rattle.reuse_session.specs.Conversion.{toml_path}
 use Rattle.reuse_session.specs.Edit.{Edit}
 use Rattle.reuse_session.specs.Outcome.{edited, outcome_of, edits_of}
 use Rattle.reuse_session.specs.TreeStyles.{OwnNames, styles_in}
-use Rattle.reuse_session.specs.Worked.{amended_paths, with_table, worked_paths}
+use Rattle.reuse_session.specs.Worked.{amended_paths, with_table}
 use Rattle.reuse_session.specs.declared.command.Command.TheVariants.{Amend}
 use Rattle.reuse_session.specs.declared.command.Place.{Place}
 use Rattle.reuse_session.specs.declared.command.Place.TheVariants as place

@@ -1,5 +1,5 @@
 -- The edit of an amendment: it is of a covered file that is there, or of its neighbour that is, or of the `REUSE.toml`.
-use Rattle.std.proofs.Common.{◌≡◌, ◌⊎◌, inl, inr, ℕ, ◌≤◌, Bool, true, false, not, nat_lt, List, length, Option, Some, None, IsSome, is_some, Result, Ok, Err, refl, sym, ap, cond, ◌++◌, codes, subst, ◌∙◌}
+use Rattle.std.proofs.Common.{◌≡◌, ◌⊎◌, inl, inr, ℕ, ◌≤◌, Bool, true, false, not, nat_lt, List, length, Option, Some, None, IsSome, is_some, Result, Ok, Err, refl, sym, ap, cond, ◌∙◌}
 use Rattle.std.specs.Str.{bytes_eq}
 use Rattle.std.specs.FinMap.{get}
 use Rattle.std.proofs.lemmas.Bool.{false≢true, ltb-false}

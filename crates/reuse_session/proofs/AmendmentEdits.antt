@@ -14,9 +14,9 @@ use Rattle.reuse_header.specs.Annotation as header
 use Rattle.reuse_header.specs.Neighbour.{is_text}
 use Rattle.reuse_text.specs.declared.TheConstants.{LONGEST_FILE}
 use Rattle.reuse_tree.specs.Files.{Files}
-use Rattle.reuse_session.specs.Amend.{amend_refused_by, amendment_edit, amend_covered, amended_where, style_for, amend_table, table_amendment, amended_at}
+use Rattle.reuse_session.specs.Amend.{amend_refused_by, amendment_edit, amend_covered, amended_where, amend_table, table_amendment}
 use Rattle.reuse_session.specs.AmendmentPlan.{Due, Fits, names_of, amended_by, style_by, beside_by, inside_by, table_by}
-use Rattle.reuse_session.specs.Annotate.{neighbour_of, edit_by}
+use Rattle.reuse_session.specs.Annotate.{neighbour_of}
 use Rattle.reuse_session.specs.Conversion.{toml_path}
 use Rattle.reuse_session.specs.Covered.{is_covered}
 use Rattle.reuse_session.specs.Edit.{Edit}

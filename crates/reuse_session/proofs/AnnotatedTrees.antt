@@ -1,5 +1,5 @@
 -- Where an annotate isn't refused, each file that is gone through is annotated, and all else stays.
-use Rattle.std.proofs.Common.{◌≡◌, inl, inr, ℕ, true, not, ◌&&◌, List, Option, Some, Result, Ok, Err, refl, sym, ap₂, subst, ◌∙◌}
+use Rattle.std.proofs.Common.{◌≡◌, inl, inr, ℕ, not, ◌&&◌, List, Option, Some, Result, Ok, Err, refl, sym, ap₂, subst, ◌∙◌}
 use Rattle.reuse_notice.specs.declared.adding.Additions.{Additions}
 use Rattle.reuse_notice.proofs.SetLemmas.{In, In-from_contains, Contains-from_in}
 use Rattle.reuse_header.specs.declared.annotation.How.{How}

@@ -17,13 +17,9 @@ use Rattle.reuse_session.specs.Edit.{Edit, made, dropped}
 use Rattle.reuse_session.specs.Fates.{fate_by, fate_of, limit_fates, fates_of}
 use Rattle.reuse_session.specs.PathEdits.{PathEdit, edits_in}
 use Rattle.reuse_tree.specs.Listing.{is_among}
-use Rattle.reuse_session.specs.declared.command.Place.TheVariants as place
 use Rattle.reuse_session.specs.Outcome.{with_file, edited, path_edits_of, edits_of, outcome_of}
 use Rattle.reuse_session.specs.declared.command.Command.{Command}
 use Rattle.reuse_session.specs.declared.command.Command.TheVariants.{Annotate, Amend, ConvertDep5, Download, Revert}
-use Rattle.reuse_session.specs.TreeStyles.{OwnNames, styles_in}
-use Rattle.reuse_session.specs.Worked.{with_table, worked_paths}
-use Rattle.reuse_session.specs.declared.command.Place.{Place}
 use Rattle.reuse_session.specs.declared.fate.Fate.{Fate}
 use Rattle.reuse_session.specs.declared.fate.Fate.TheVariants as fate
 use Rattle.reuse_session.specs.declared.reply.Refusal.TheVariants as refusals

@@ -1,5 +1,5 @@
 -- Previews: what they tell is what the machine tells, and they leave all as it was.
-use Rattle.std.proofs.Common.{◌≡◌, ℕ, ◌<◌, Bool, true, false, cond, List, [], ◌∷◌, ◌++◌, length, map, Result, Ok, Err, IfOk, IfErr, refl, sym, ap, subst, ◌∙◌}
+use Rattle.std.proofs.Common.{◌≡◌, ◌↔◌, ℕ, ◌<◌, Bool, true, false, cond, List, [], ◌∷◌, ◌++◌, length, map, Result, Ok, Err, IfOk, IfErr, refl, sym, ap, subst, ◌∙◌}
 use Rattle.std.specs.List.{All}
 use Rattle.std.proofs.lemmas.List.Elements.{All-head, All-tail}
 use Rattle.reuse_tree.specs.Files.{Files}
@@ -10,15 +10,16 @@ use Rattle.reuse_tree.specs.declared.store.Store.{Ghosts}
 use Rattle.reuse_session.specs.Answer.{IsEarly, IsNoClash, HasCause, RefusedAsRead, TellsNoFault, IsEarlyFailure}
 use Rattle.reuse_tree.specs.Entry.{paths_of, CanBeMade}
 use Rattle.reuse_session.specs.Fates.{fates_of, IsFateOf, AreFatesOf}
-use Rattle.reuse_session.specs.Journal.{Recorded, State}
-use Rattle.reuse_session.specs.Machine.{Kept, Snapshots, is_full, run_fates, undo_fates, redo_fates}
-use Rattle.reuse_session.specs.Previews.{Foresees, OnlyLooks, IsPreviewRefusal, run_fates_on}
+use Rattle.reuse_session.specs.Journal.{Recorded, State, ahead}
+use Rattle.reuse_session.specs.Machine.{Kept, Snapshots, is_full, run_fates, undo_fates, redo_fates, step_fates}
+use Rattle.reuse_session.specs.Previews.{fates_alone, Foresees, OnlyLooks, IsPreviewRefusal, run_fates_on}
 use Rattle.reuse_session.specs.Session.{store_of, LeadUpTo, LeadOn, HoldsSnapshots, StandsAt}
 use Rattle.reuse_session.specs.declared.command.Command.{Command}
 use Rattle.reuse_tree.specs.declared.way.Way.{Way}
 use Rattle.reuse_tree.specs.declared.way.Way.TheVariants as way
 use Rattle.reuse_session.specs.declared.fate.Fate.{Fate}
 use Rattle.reuse_session.specs.declared.fate.Fate.TheVariants as fate
+use Rattle.reuse_session.specs.declared.fate.Previewed.{Previewed}
 use Rattle.reuse_tree.specs.declared.cause.Cause.{Cause}
 use Rattle.reuse_session.specs.declared.reply.Refusal.{Refusal}
 use Rattle.reuse_session.specs.declared.failure.Failure.TheVariants as failures
@@ -109,6 +110,68 @@ pub travel_foretold : (way : Way) (step : Recorded) (steps : List Recorded) (mad
     → IfOk answer (AreFatesOf way now made) → IfErr answer IsEarlyFailure → TellsNoFault answer → Foresees way (step ∷ steps) tree answer
 travel_foretold way step steps made tree now (Ok fates) changes same are kind told = subst (λ t. AreFatesOf way t step.changes fates) same (subst (λ cs. AreFatesOf way now cs fates) (sym changes) are)
 travel_foretold way step steps made tree now (Err refusal) changes same are kind told = absurd (look_told (List Fate) refusal kind told)
+
+-- what going one step this way tells
+pub step_foretold : (go : Way) (held : State) (state : Snapshots) → HoldsSnapshots held state → (answer : Result (List Fate) Refusal) → Foresees go (ahead go held.journal) held.tree answer
+    → answer ≡ step_fates go state
+step_foretold way.Undo held state holds answer told = undo_foretold held state holds answer told
+step_foretold way.Do held state holds answer told = redo_foretold held state holds answer told
+
+-- ---- fates with their changes, and without
+
+pub alone_fates : (answer : Result Previewed Refusal) (P : List Fate → Type 0) → IfOk answer (λ previewed. P previewed.fates) → IfOk (fates_alone answer) P
+alone_fates (Ok previewed) P h = h
+alone_fates (Err refusal) P h = tt
+
+pub alone_refusal : (answer : Result Previewed Refusal) (P : Refusal → Type 0) → IfErr answer P → IfErr (fates_alone answer) P
+alone_refusal (Ok previewed) P h = tt
+alone_refusal (Err refusal) P h = h
+
+pub alone_told : (answer : Result Previewed Refusal) → TellsNoFault answer → TellsNoFault (fates_alone answer)
+alone_told (Ok previewed) told = tt
+alone_told (Err refusal) told = any_told Previewed (List Fate) refusal told
+
+with_told : (answer : Result Previewed Refusal) → TellsNoFault (fates_alone answer) → TellsNoFault answer
+with_told (Ok previewed) told = tt
+with_told (Err refusal) told = any_told (List Fate) Previewed refusal told
+
+-- a refusal, as an answer
+abbrev refused : (A : Type 0) → Refusal → Result A Refusal
+refused A refusal = Err refusal
+
+alone_refused : (answer : Result Previewed Refusal) (refusal : Refusal) → fates_alone answer ≡ Err refusal → answer ≡ Err refusal
+alone_refused (Ok previewed) refusal is = absurd (cc)
+alone_refused (Err other) refusal is = ap (refused Previewed) (same_refusal other refusal is)
+  where
+    same_refusal : (one two : Refusal) → refused (List Fate) one ≡ refused (List Fate) two → one ≡ two
+    same_refusal one two is = cc
+
+alone_fails : {S : Type 0} (store : Ghosts S) (old new : S) (answer : Result Previewed Refusal) → RefusedAsRead store old new answer → RefusedAsRead store old new (fates_alone answer)
+alone_fails store old new answer fails = record {
+  device = λ is. fails.device (alone_refused answer _ is);
+  clash = λ honest is. fails.clash honest (alone_refused answer _ is);
+}
+
+-- what is told without the changes
+module _ (answer : Result Previewed Refusal) (alone : Result (List Fate) Refusal) (is : alone ≡ fates_alone answer) where
+  pub alone_where : (refusal : Refusal) (P : Type 0) → (answer ≡ Err refusal ↔ P) → (alone ≡ Err refusal ↔ P)
+  alone_where refusal P h = (λ e. h.0 (alone_refused answer refusal (sym is ∙ e)), λ p. is ∙ ap fates_alone (h.1 p))
+
+  pub alone_ok : (P : List Fate → Type 0) → IfOk answer (λ previewed. P previewed.fates) → IfOk alone P
+  alone_ok P h = subst (λ a. IfOk a P) (sym is) (alone_fates answer P h)
+
+  pub alone_err : (P : Refusal → Type 0) → IfErr answer P → IfErr alone P
+  alone_err P h = subst (λ a. IfErr a P) (sym is) (alone_refusal answer P h)
+
+  pub told_alone : TellsNoFault alone → TellsNoFault answer
+  told_alone told = with_told answer (subst TellsNoFault is told)
+
+  pub alone_looks : {S : Type 0} (store : Ghosts S) (old new : Session S) → OnlyLooks store answer old new → OnlyLooks store alone old new
+  alone_looks store old new looks = record {
+    reads = looks.reads;
+    kept = looks.kept;
+    fails = subst (λ a. RefusedAsRead store (store_of old) (store_of new) a) (sym is) (alone_fails store (store_of old) (store_of new) answer looks.fails);
+  }
 
 -- ---- what they leave
 

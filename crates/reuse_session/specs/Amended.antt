@@ -1,6 +1,6 @@
 -- What amend makes of a tree, in other words: each file that is gone through, or its neighbour where that is there, becomes what the rules
 -- say of these bytes alone, the `REUSE.toml` what they say of its values, and all else stays.
-use Rattle.std.specs.Prelude.{◌≡◌, ◌≢◌, ◌⊎◌, ℕ, true, false, List, Some, None, is_some, Ok, Option}
+use Rattle.std.specs.Prelude.{◌≡◌, ◌≢◌, ◌⊎◌, ℕ, true, false, List, Some, None, is_some, Ok}
 use Rattle.std.specs.List.{Contains}
 use Rattle.std.specs.Option.{option_map}
 use Rattle.std.specs.FinMap.{get}

@@ -11,6 +11,7 @@ use Rattle.reuse_session.specs.Session.{store_of, IsKept}
 use Rattle.reuse_session.specs.declared.command.Command.{Command}
 use Rattle.reuse_tree.specs.declared.way.Way.{Way}
 use Rattle.reuse_session.specs.declared.fate.Fate.{Fate}
+use Rattle.reuse_session.specs.declared.fate.Previewed.{Previewed}
 use Rattle.reuse_session.specs.declared.reply.Refusal.{Refusal}
 use Rattle.reuse_session.specs.declared.reply.Refusal.TheVariants.{Broken, JournalFull, NothingToUndo, NothingToRedo, Failed}
 use Rattle.reuse_session.specs.declared.session.Session.{Session}
@@ -20,6 +21,11 @@ abbrev pub Foresees : Way → List Recorded → Files → Result (List Fate) Ref
 Foresees way [] tree answer = answer ≡ Err (end_of way)
 Foresees way (step ∷ steps) tree (Ok fates) = AreFatesOf way tree step.changes fates
 Foresees way (step ∷ steps) tree (Err refusal) = ⊥
+
+-- the fates of what is previewed with its changes, as an answer
+abbrev pub fates_alone : Result Previewed Refusal → Result (List Fate) Refusal
+fates_alone (Ok previewed) = Ok previewed.fates
+fates_alone (Err refusal) = Err refusal
 
 -- the store is read alone, and what is remembered stays
 pub record OnlyLooks {S A : Type 0} (store : Ghosts S) (answer : Result A Refusal) (old new : Session S) : Type 0 where

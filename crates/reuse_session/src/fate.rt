@@ -5,7 +5,7 @@ ghost use Rattle.reuse_session.specs.Previews.{IsTold};
 
 use crate::command::Command;
 use crate::reply::Refusal;
-use reuse_tree::{Items, PathText};
+use reuse_tree::{Changes, Items, PathText};
 
 /// What a call would do at a path.
 #[derive(Debug, Drop)]
@@ -22,6 +22,15 @@ pub enum Fate {
 
 /// The fates of the paths that a call goes through, in their order.
 pub type Fates = Items<Fate>;
+
+/// What a call would do, and the changes that this comes of: both are of one plan.
+#[derive(Debug, Drop)]
+pub struct Previewed {
+    /// The fates of the paths that the call goes through.
+    pub fates: Fates,
+    /// The changes that it would make; of an undo those that it would take back.
+    pub changes: Changes,
+}
 
 /// A call that can be looked at before it is made.
 #[derive(Debug, Drop)]

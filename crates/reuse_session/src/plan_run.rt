@@ -1,7 +1,7 @@
 //! The changes of a run, and what a preview tells: both are made of the plans of one walk.
-ghost use Rattle.std.specs.Prelude.{◌≡◌, ◌++◌, IfOk, IfErr};
+ghost use Rattle.std.specs.Prelude.{◌≡◌, ◌++◌, None, IfOk, IfErr};
 ghost use Rattle.std.specs.List.Sorted.{IsPermutation, IsSortedBy};
-ghost use Rattle.reuse_session.specs.Fates.{fates_of};
+ghost use Rattle.reuse_session.specs.Fates.{fates_of, first_refusal};
 ghost use Rattle.reuse_session.specs.Outcome.{outcome_of, edits_of};
 ghost use Rattle.reuse_session.specs.PathPlans.{limit_planned};
 ghost use Rattle.reuse_session.specs.Plan.{IsPlan, IsRefusalOf, Records, is_before};
@@ -9,12 +9,12 @@ ghost use Rattle.reuse_session.specs.Answer.{IsEarlyFailure};
 ghost use Rattle.reuse_session.specs.Reading.{tree_of, IsOfPlan, OnlyReads, RefusedAsRead};
 
 use crate::command::Command;
-use crate::fate::{Fate, Fates};
+use crate::fate::{Fate, Fates, Previewed};
 use crate::path_plan::Policy;
 use crate::plan::plan_command;
 use crate::planned::{Planned, changes_planned};
 use crate::reply::Refusal;
-use reuse_tree::{Change, Store, is_too_many};
+use reuse_tree::{Change, Changes, Store, is_too_many};
 use std::alloc::{AllocError, Global};
 
 /// The changes of a command on the tree that the store has, in byte order of their paths, or the
@@ -50,13 +50,19 @@ fn sorted(changes: Vec<Change>) -> Vec<Change>
     changes
 }
 
-/// The fates of the paths that a run of the command goes through, on the tree that the store has.
-pub(crate) fn plan_fates<S: Store>(
+/// What a run of the command would do on the tree that the store has: the fates of its paths, and
+/// its changes in byte order of their paths.
+pub(crate) fn plan_preview<S: Store>(
     alloc: Global,
     store: &mut S,
     command: &Command,
-) -> Result<Fates, Refusal>
-    ensures fates { S.honest store.new → IfOk result (λ fates. fates ≡ fates_of command.now (tree_of (S.files store.old))) }
+) -> Result<Previewed, Refusal>
+    ensures fates { S.honest store.new → IfOk result (λ previewed. previewed.fates ≡ fates_of command.now (tree_of (S.files store.old))) }
+    // Where none of the fates is a refusal, the changes are those of a run.
+    ensures changes { S.honest store.new → IfOk result (λ previewed. first_refusal previewed.fates ≡ None
+        → IsPlan (outcome_of command.now (tree_of (S.files store.old))) (tree_of (S.files store.old)) previewed.changes) }
+    ensures recorded { S.honest store.new → IfOk result (λ previewed. first_refusal previewed.fates ≡ None
+        → Records (tree_of (S.files store.old)) (edits_of command.now (tree_of (S.files store.old))) previewed.changes) }
     ensures fails { RefusedAsRead S.Store store.old store.new result }
     ensures reads { OnlyReads S.Store store.old store.new }
     ensures refusal { IfErr result IsEarlyFailure }
@@ -65,14 +71,24 @@ pub(crate) fn plan_fates<S: Store>(
     Ok(with_limit(Planned::of(alloc, plans)?)?)
 }
 
-// The fates, and behind them, where none is a refusal, that the changes are too many together.
-fn with_limit(planned: Planned) -> Result<Fates, AllocError>
-    ensures { IfOk result (λ fates. fates ≡ planned.fates.items ++ limit_planned planned.is_refused planned.changes.items) }
+// What is planned. Behind the fates stands, where none is a refusal, that the changes are too many
+// together.
+fn with_limit(planned: Planned) -> Result<Previewed, AllocError>
+    ensures fates { IfOk result (λ previewed. previewed.fates ≡ planned.fates.items ++ limit_planned planned.is_refused planned.changes.items) }
+    ensures moved { IfOk result (λ previewed. IsPermutation planned.changes.items previewed.changes) }
+    ensures sorted { IfOk result (λ previewed. IsSortedBy is_before previewed.changes) }
 {
     let over = !planned.is_refused && is_too_many(&planned.changes);
-    let mut fates = planned.fates;
+    let Planned {
+        mut fates,
+        changes,
+        is_refused: _,
+    } = planned;
     if over {
         fates.push(Fate::Refused(Refusal::TooMany))?;
     }
-    Ok(Fates::new(fates))
+    Ok(Previewed {
+        fates: Fates::new(fates),
+        changes: Changes::new(sorted(changes)),
+    })
 }

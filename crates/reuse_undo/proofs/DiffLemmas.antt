@@ -1,11 +1,11 @@
 -- The diff that stands behind an answer's lines.
-use Rattle.std.proofs.Common.{◌≡◌, ◌≤◌, inl, inr, ℕ, List, [], Bool, true, false, Result, Ok, Err, IfOk, IfErr, IsErrAnd, refl, sym, ap, subst, arith}
+use Rattle.std.proofs.Common.{◌≡◌, ◌≤◌, inl, inr, ℕ, List, [], Bool, true, false, is_some, Option, Some, None, IfSome, Result, Ok, Err, IfOk, IfErr, IsErrAnd, refl, sym, subst, arith}
+use Rattle.std.proofs.lemmas.Bool.{false≢true}
 use Rattle.std.specs.declared.vec.Vec.{Vec}
 use Rattle.reuse_tree.specs.Asked.{OnlyReads, FailsAsRead}
 use Rattle.reuse_tree.specs.declared.fault.StoreFault.{StoreFault}
 use Rattle.reuse_tree.specs.declared.fault.StoreFault.TheVariants as stores
 use Rattle.reuse_tree.specs.declared.store.Store.{Ghosts}
-use Rattle.reuse_session.specs.Answer.{RefusedAsRead, IsEarlyFailure}
 use Rattle.reuse_session.specs.Cause.{refusal_of}
 use Rattle.reuse_session.specs.declared.reply.Refusal.{Refusal}
 use Rattle.reuse_session.specs.declared.reply.Reply.TheVariants as replies
@@ -15,7 +15,7 @@ use Rattle.reuse_undo.specs.declared.line.OutputFormat.TheVariants.{Diff}
 use Rattle.reuse_undo.specs.declared.line.Telling.{Telling}
 use Rattle.reuse_undo.specs.declared.request.Told.{Told}
 use Rattle.reuse_undo.specs.declared.request.Told.TheVariants as tells
-use Rattle.reuse_undo.specs.Told.{Finishes, IsBehind, IsDiffBehind, IsDiffOf, IsForeseen, IsNoDiff, IsNoRecord, IsToldText, IsWanted}
+use Rattle.reuse_undo.specs.Told.{Finishes, IsAccepted, IsBehind, IsDiffBehind, IsDiffOf, IsForeseen, IsNoDiff, IsNoRecord, IsToldText, IsWanted}
 use Rattle.reuse_undo.specs.Outputs.{AddsFront}
 use Rattle.reuse_undo.specs.RunLine.{IfNoDiff}
 use Rattle.reuse_undo.specs.WriterFaults.{IsOfDiff, IsUndrawn}
@@ -37,6 +37,28 @@ pub diff_for : {A S : Type 0} (store : Ghosts S) (old new : S) (telling : Tellin
 diff_for store old new telling (Err refusal) diff b is none fault = tt
 diff_for store old new telling (Ok told) diff true is none fault = wanted store old new telling told diff (is refl) fault
 diff_for store old new telling (Ok told) diff false is none fault = unwanted telling told diff (none refl)
+
+-- what is there of what may be there
+pub held_of : {A : Type 0} (found : Option A) (P : Type 0) → IfSome found (λ value. P) → is_some found ≡ true → P
+held_of (Some value) P holds is = holds
+held_of None P holds is = absurd (false≢true is)
+
+pub is_none_of : {A : Type 0} (found : Option A) → is_some found ≡ false → found ≡ None
+is_none_of (Some value) is = absurd (false≢true (sym is))
+is_none_of None is = refl
+
+-- a diff is wanted of a dry run that is accepted, in the format of one
+pub wanted_where : (telling : Telling) (answer : Result Told Refusal) → (telling.format ≡ Diff) × IsAccepted answer → IsWanted telling answer
+wanted_where telling (Ok told) is = (is.0, is.1.0, is.1.1, is.1.2)
+wanted_where telling (Err refusal) is = is.1
+
+pub format_where : (telling : Telling) (answer : Result Told Refusal) → IsWanted telling answer → telling.format ≡ Diff
+format_where telling (Ok told) is = is.0
+format_where telling (Err refusal) is = absurd is
+
+pub accepted_where : (telling : Telling) (answer : Result Told Refusal) → IsWanted telling answer → IsAccepted answer
+accepted_where telling (Ok told) is = (is.1, is.2, is.3)
+accepted_where telling (Err refusal) is = absurd is
 
 -- no diff stands behind an answer that has none
 none_behind : (told : Told) (diff : List ℕ) → IsNoRecord told → diff ≡ [] → IsDiffBehind told diff
@@ -69,39 +91,10 @@ cut_short telling told old new text fault is tells front = subst (λ f. Finishes
 
 -- ---- what can't be drawn has its cause
 
--- a refusal as an answer
-abbrev refused : (A : Type 0) → Refusal → Result A Refusal
-refused A refusal = Err refusal
-
-undrawn_refusal : {S A : Type 0} (store : Ghosts S) (old new : S) (refusal : Refusal) → RefusedAsRead {A = A} store old new (Err refusal) → (store.honest new → IsEarlyFailure refusal)
-    → IsUndrawn store old new refusal
-undrawn_refusal {S} {A} store old new refusal fails kind =
-    record {
-      device = λ is. fails.device (ap (refused A) is);
-      clash = λ honest is. fails.clash honest (ap (refused A) is);
-      kind = kind;
-    }
-
 -- what holds of a fault holds of it as it is handed on
 pub handed : {T E : Type 0} (P : E → Type 0) (fault : E) (result : Result T E) → IsErrAnd result (λ told. told ≡ fault) → P fault → IfErr result P
 handed P fault (Ok value) is holds = absurd is
 handed P fault (Err told) is holds = subst P (sym is) holds
-
--- what looks is refused so
-pub undrawn_look : {S A : Type 0} (store : Ghosts S) (old new : S) (answer : Result A Refusal) → RefusedAsRead store old new answer → (store.honest new → IfErr answer IsEarlyFailure)
-    → IfErr answer (IsUndrawn store old new)
-undrawn_look store old new (Ok value) fails kind = tt
-undrawn_look store old new (Err refusal) fails kind = undrawn_refusal store old new refusal fails kind
-
-pub refused_later : {S A : Type 0} (store : Ghosts S) (old mid new : S) (answer : Result A Refusal) → store.failures old ≤ store.failures mid → RefusedAsRead store mid new answer
-    → RefusedAsRead store old new answer
-refused_later store old mid new answer few fails =
-    record { device = λ is. let rose = fails.device is in omega (arith, few, rose); clash = fails.clash }
-
--- and so is what hands the refusal on
-pub handed_on : {T A : Type 0} (P : Refusal → Type 0) (answer : Result A Refusal) (refusal : Refusal) (result : Result T Refusal) → answer ≡ Err refusal → IsErrAnd result (λ told. told ≡ refusal)
-    → IfErr answer P → IfErr result P
-handed_on P answer refusal result was is holds = handed P refusal result is (subst (λ a. IfErr a P) was holds)
 
 -- and a file that is read
 pub undrawn_read : {S A : Type 0} (store : Ghosts S) (old new : S) (fault : StoreFault) → FailsAsRead {A = A} store old new (Err fault) → IsUndrawn store old new (refusal_of fault)

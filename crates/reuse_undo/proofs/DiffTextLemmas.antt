@@ -1,5 +1,5 @@
 -- A diff that is written part by part.
-use Rattle.std.proofs.Common.{◌≡◌, ℕ, false, List, [], ◌++◌, Option, Some, None, refl, sym, subst, ◌∙◌, append-nil}
+use Rattle.std.proofs.Common.{◌≡◌, ℕ, false, List, [], ◌++◌, Option, Some, None, refl, sym, subst, ◌∙◌}
 use Rattle.std.specs.List.{flat_map}
 use Rattle.std.specs.Prelude.{IsNone, IfSome, ◌↔◌}
 use Rattle.std.proofs.KnownBytes.{Appends-trans}

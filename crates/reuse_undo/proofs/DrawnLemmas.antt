@@ -1,11 +1,11 @@
 -- What is drawn of changes.
-use Rattle.std.proofs.Common.{◌≡◌, ◌⊎◌, ◌∙◌, ◌+◌, ◌<◌, ◌≤◌, ℕ, List, [], ◌∷◌, ◌++◌, length, take, get_or, Option, Some, None, refl, sym, ap, subst, arith, length-append}
+use Rattle.std.proofs.Common.{◌≡◌, ◌∙◌, ◌+◌, ◌<◌, ◌≤◌, ℕ, List, [], ◌++◌, length, take, get_or, Option, Some, refl, sym, ap, subst, arith, length-append}
 use Rattle.std.specs.FinMap.{get}
 use Rattle.std.specs.Option.{option_map}
 use Rattle.std.specs.Prelude.{unwrap_or}
 use Rattle.reuse_text.specs.Text.{spliced}
 use Rattle.reuse_text.specs.declared.TheConstants.{LONGEST_FILE}
-use Rattle.reuse_tree.specs.Change.{path_of, HoldsBetween, TurnsByRange}
+use Rattle.reuse_tree.specs.Change.{path_of, TurnsByRange}
 use Rattle.reuse_tree.specs.Digest.{swapped}
 use Rattle.reuse_tree.specs.Entry.{IsSmall, TurnsBy}
 use Rattle.reuse_tree.specs.Files.{Files, tree_of}
@@ -22,7 +22,7 @@ use Rattle.reuse_tree.proofs.TreeLemmas.{read_there}
 use Rattle.reuse_tree.proofs.Turning.{turns_back_by_range, turns_once_by_range}
 use Rattle.reuse_undo.specs.DiffText.{part_before, part_after, IsDiff}
 use Rattle.reuse_undo.specs.Drawn.{gone, AreDiffs, AreSmallSteps, IsPathDiff, IsRangeWithin}
-use Rattle.reuse_undo.specs.RowLines.{AppendsSome, AreJoined}
+use Rattle.reuse_undo.specs.RowLines.{AppendsSome}
 use Rattle.reuse_undo.proofs.RowLemmas.{AppendsSome-row}
 
 -- ---- one change

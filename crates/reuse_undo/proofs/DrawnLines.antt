@@ -1,5 +1,5 @@
 -- Behind the lines of a dry run stands the diff of two trees.
-use Rattle.std.proofs.Common.{◌≡◌, inl, inr, ℕ, List, Result, Ok, Err, IfOk, IsOkAnd, refl, sym, subst}
+use Rattle.std.proofs.Common.{◌≡◌, inl, inr, ℕ, List, Result, Ok, Err, IfOk, IsOkAnd, subst}
 use Rattle.std.specs.declared.vec.Vec.{Vec}
 use Rattle.reuse_tree.specs.Files.{Files}
 use Rattle.reuse_session.specs.Journal.{State}
@@ -12,7 +12,7 @@ use Rattle.reuse_undo.specs.Drawn.{IsDiffOfCall, IsDrawnText, IsTreeDiff, WouldL
 use Rattle.reuse_undo.specs.Outputs.{AddsSome}
 use Rattle.reuse_undo.specs.Requests.{IsLook}
 use Rattle.reuse_undo.specs.RunLine.{as_told, Meets, RequestLeaves}
-use Rattle.reuse_undo.specs.Told.{Finishes, HasBehind, is_refused, IsForeseen, IsWanted, WouldBeMade}
+use Rattle.reuse_undo.specs.Told.{Finishes, HasBehind, IsForeseen, IsWanted, WouldBeMade}
 use Rattle.reuse_undo.specs.declared.fault.Fault.{Fault}
 use Rattle.reuse_undo.specs.declared.line.OutputFormat.TheVariants.{Diff}
 use Rattle.reuse_undo.specs.declared.line.Telling.{Telling}

@@ -1,5 +1,5 @@
 -- Calls of a session that only look, and answers as they are told.
-use Rattle.std.proofs.Common.{◌≡◌, ◌≢◌, ◌∙◌, ◌<◌, true, false, Result, Ok, Err, IfErr, refl, sym, ap, subst, arith}
+use Rattle.std.proofs.Common.{◌≡◌, ◌≢◌, ◌∙◌, ◌<◌, ℕ, true, false, Result, Ok, Err, IfErr, refl, sym, ap, subst, arith}
 use Rattle.std.proofs.lemmas.Bool.{false≢true}
 use Rattle.reuse_tree.specs.Asked.{OnlyReads}
 use Rattle.reuse_tree.proofs.AskedLemmas.{reads_more}

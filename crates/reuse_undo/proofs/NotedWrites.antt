@@ -1,7 +1,7 @@
 -- Writes that a store notes whose members are read off its record of calls.
 use Rattle.std.specs.Prelude.{◌==◌}
-use Rattle.std.proofs.Common.{◌≡◌, inl, inr, ℕ, true, false, List, [], ◌∷◌, length, Option, Some, None, Result, Ok, subst}
-use Rattle.reuse_tree.specs.Asked.{IsLater, IsWrite, AreWrites}
+use Rattle.std.proofs.Common.{◌≡◌, inl, inr, ℕ, false, List, [], ◌∷◌, length, Option, Some, None, Result, Ok, subst}
+use Rattle.reuse_tree.specs.Asked.{IsWrite, AreWrites}
 use Rattle.reuse_tree.specs.Calls.{failures_of, written_of, moves_of}
 use Rattle.reuse_tree.specs.declared.fault.StoreFault.{StoreFault}
 use Rattle.reuse_tree.specs.declared.file_write.FileWrite.{FileWrite}

@@ -1,6 +1,6 @@
 -- The folders of a tree that a listing is to pass over, as a list: it passes over the same files.
 use Rattle.std.specs.Prelude.{filter}
-use Rattle.std.proofs.Common.{◌≡◌, ◌≢◌, ℕ, zero, suc, ◌+◌, ◌<◌, Bool, true, false, not, cond, ◌||◌, List, [], ◌∷◌, ◌++◌, length, get_or, Result, Ok, Err, IfOk, refl, sym, ap, subst, ◌∙◌, arith}
+use Rattle.std.proofs.Common.{◌≡◌, ◌≢◌, ℕ, zero, suc, ◌<◌, Bool, true, false, cond, ◌||◌, List, [], ◌∷◌, ◌++◌, length, get_or, Result, Ok, Err, IfOk, refl, sym, ap, ◌∙◌, arith}
 use Rattle.std.specs.FinMap.{keys}
 use Rattle.std.specs.List.{All, list_any}
 use Rattle.std.specs.Str.{bytes_eq}
@@ -15,7 +15,7 @@ use Rattle.reuse_tree.specs.declared.fault.StoreFault.{StoreFault}
 use Rattle.reuse_tree.specs.declared.fault.StoreFault.TheVariants.{Clash}
 use Rattle.reuse_undo.specs.Honesty.{files_of, IsHonest}
 use Rattle.reuse_tree.specs.Files.{Files}
-use Rattle.reuse_tree.specs.Listing.{is_among, is_asked, is_pruned, is_wanted, listed_paths}
+use Rattle.reuse_tree.specs.Listing.{is_among, is_pruned, is_wanted, listed_paths}
 use Rattle.reuse_tree.specs.Path.{folders_above}
 use Rattle.reuse_tree.proofs.NeedLemmas.{above_from, above_some, listed_by_need}
 

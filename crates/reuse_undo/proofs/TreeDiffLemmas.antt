@@ -1,5 +1,5 @@
 -- What is drawn of a call is the diff of the tree as it is and of that which the call would leave.
-use Rattle.std.proofs.Common.{◌≡◌, ◌↔◌, ◌⊎◌, inl, inr, ◌∙◌, ◌<◌, ℕ, Bool, true, false, not, List, [], ◌∷◌, ◌++◌, is_some, Option, Some, None, Result, Ok, Err, IfOk, refl, sym, ap, subst, arith}
+use Rattle.std.proofs.Common.{◌≡◌, ◌↔◌, inl, inr, ◌∙◌, ℕ, Bool, true, false, not, List, [], ◌∷◌, ◌++◌, Option, Some, None, Result, Ok, Err, IfOk, refl, sym, ap, subst, arith}
 use Rattle.std.specs.Cmp.Lexicographic.{slice_cmp}
 use Rattle.std.specs.FinMap.{get, keys, entries, from_entries, retain_keys, contains_key-keys}
 use Rattle.std.specs.Ordering.{nat_cmp}
@@ -22,7 +22,7 @@ use Rattle.reuse_session.specs.Journal.{Recorded, State, changes_ahead, Travels}
 use Rattle.reuse_session.specs.JournalFiles.{entry_in, entry_path}
 use Rattle.reuse_session.specs.Outcome.{outcome_of}
 use Rattle.reuse_session.specs.Plan.{IsPlan}
-use Rattle.reuse_session.specs.RevertCalls.{as_run, touched_later, GivesRevert, Reverts}
+use Rattle.reuse_session.specs.RevertCalls.{touched_later, GivesRevert, Reverts}
 use Rattle.reuse_session.specs.Session.{store_of, Runs, StandsOn}
 use Rattle.reuse_session.specs.declared.command.Command.{Command}
 use Rattle.reuse_session.specs.declared.command.Command.TheVariants.{Revert}
@@ -35,7 +35,7 @@ use Rattle.reuse_session.proofs.JournalLemmas.{same_entry}
 use Rattle.reuse_session.proofs.StepsByNumber.{says_step}
 use Rattle.reuse_undo.specs.Drawn.{AreDiffs, Foretells, IsPathDiff, IsTreeDiff}
 use Rattle.reuse_undo.specs.RowLines.{AreJoined}
-use Rattle.reuse_undo.specs.declared.run_line.drawn.Foreseen.TheVariants.{Run, Step}
+use Rattle.reuse_undo.specs.declared.run_line.foreseen.Foreseen.{Foreseen}
 
 -- ---- the paths at which two trees differ, either way
 
@@ -97,8 +97,12 @@ outcome_is tree = Ok tree
 one_outcome : (one other : Files) → outcome_is one ≡ outcome_is other → one ≡ other
 one_outcome one other is = cc
 
+-- changes that are gone through this way
+abbrev pub going : Way → List Change → Foreseen
+going way changes = record { changes = changes; way = way }
+
 -- and the changes that were planned lead there
-pub plan_foretells : (outcome : Result Files Refusal) (before after : Files) (changes : List Change) → IsPlan outcome before changes → outcome ≡ Ok after → Foretells (Run changes) before after
+pub plan_foretells : (outcome : Result Files Refusal) (before after : Files) (changes : List Change) → IsPlan outcome before changes → outcome ≡ Ok after → Foretells (going go.Do changes) before after
 plan_foretells outcome before after changes plan is =
     let leads = subst (LeadsAll changes before) (one_outcome plan.after after (sym plan.outcome ∙ is)) plan.leads in
     elim plan.good [
@@ -106,7 +110,7 @@ plan_foretells outcome before after changes plan is =
       | inr entry ↦ record { leads = record { small = entry.small; leads = leads }; paths = changed_by_entry changes before after entry leads }
     ]
   where
-    none_foretells : (changes : List Change) → changes ≡ [] → LeadsAll changes before after → Foretells (Run changes) before after
+    none_foretells : (changes : List Change) → changes ≡ [] → LeadsAll changes before after → Foretells (going go.Do changes) before after
     none_foretells [] none leads = record { leads = record { small = λ k d low. absurd (omega (arith, low)); leads = leads }; paths = changed_by_none before after leads }
     none_foretells (change ∷ rest) none leads = absurd (cc)
 
@@ -119,16 +123,9 @@ step_paths : (way : Way) (changes : List Change) (before after : Files) → IsEn
 step_paths go.Do changes before after entry leads = changed_by_entry changes before after entry leads
 step_paths go.Undo changes before after entry leads = changed_back before after ∙ changed_by_entry changes after before entry (back_leads changes before after leads)
 
--- what comes next, as an answer
-abbrev next_answer : Option (List Change) → Result (Option (List Change)) Refusal
-next_answer next = Ok next
-
-pub next_is : (one other : Option (List Change)) → next_answer one ≡ next_answer other → one ≡ other
-next_is one other is = cc
-
 -- an undo or a redo that is accepted has a step to go on with, and its changes lead there
 pub travel_foretells : (way : Way) (steps : List Recorded) (held : State) (reply : Reply) (new : State) (changes : List Change) → Travels way steps held (Ok reply) new
-    → changes_ahead steps ≡ Some changes → IsEntry changes → Foretells (Step way changes) held.tree new.tree
+    → changes_ahead steps ≡ Some changes → IsEntry changes → Foretells (going way changes) held.tree new.tree
 travel_foretells way [] held reply new changes travels next entry = absurd (cc)
 travel_foretells way (step ∷ steps) held reply new changes travels next entry =
     let leads = subst (λ made. LeadsBy way made held.tree new.tree) (some_changes step.changes changes next) travels.2 in
@@ -136,10 +133,6 @@ travel_foretells way (step ∷ steps) held reply new changes travels next entry 
   where
     some_changes : (one other : List Change) → Some one ≡ Some other → one ≡ other
     some_changes one other is = cc
-
-pub travel_none : (way : Way) (steps : List Recorded) (held : State) (reply : Reply) (new : State) → Travels way steps held (Ok reply) new → changes_ahead steps ≡ None → ⊥
-travel_none way [] held reply new travels next = let refused = travels.0 in cc
-travel_none way (step ∷ steps) held reply new travels next = cc
 
 -- ---- a revert
 

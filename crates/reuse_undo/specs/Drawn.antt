@@ -1,5 +1,5 @@
 -- The diff of a dry run: of each path that would change, its file as it is and as the call would leave it.
-use Rattle.std.specs.Prelude.{◌≡◌, ◌+◌, ◌≤◌, ℕ, Bool, List, [], ◌++◌, length, Ok}
+use Rattle.std.specs.Prelude.{◌≡◌, ◌+◌, ◌≤◌, ℕ, Bool, true, false, List, ◌++◌, length, Option, Some, None, IfSome, IsSomeAnd, Result, Ok, Err}
 use Rattle.std.specs.FinMap.{get}
 use Rattle.std.specs.List.{All}
 use Rattle.reuse_text.specs.declared.TheConstants.{LONGEST_FILE}
@@ -8,28 +8,33 @@ use Rattle.reuse_tree.specs.Entry.{paths_of, IsSmall, LeadsBy}
 use Rattle.reuse_tree.specs.Files.{Files}
 use Rattle.reuse_tree.specs.Tree.{changed_paths}
 use Rattle.reuse_tree.specs.declared.change.Change.{Change}
+use Rattle.reuse_tree.specs.declared.store.Store.{Ghosts}
 use Rattle.reuse_tree.specs.declared.way.Way.{Way}
 use Rattle.reuse_tree.specs.declared.way.Way.TheVariants as go
 use Rattle.reuse_session.specs.Journal.{State}
 use Rattle.reuse_session.specs.RevertCalls.{Reverts}
+use Rattle.reuse_session.specs.Session.{store_of, StandsOn}
 use Rattle.reuse_session.specs.declared.events.Event.{Event}
 use Rattle.reuse_session.specs.declared.events.Event.TheVariants as events
 use Rattle.reuse_session.specs.declared.fate.Call.{Call}
 use Rattle.reuse_session.specs.declared.fate.Call.TheVariants as calls
 use Rattle.reuse_session.specs.declared.fate.Fate.{Fate}
+use Rattle.reuse_session.specs.declared.fate.Previewed.{Previewed}
+use Rattle.reuse_session.specs.declared.reply.Refusal.{Refusal}
 use Rattle.reuse_session.specs.declared.reply.Reply.{Reply as SessionReply}
 use Rattle.reuse_session.specs.declared.reply.Reply.TheVariants.{Preview}
 use Rattle.reuse_session.specs.declared.reply.Reverted.{Reverted}
+use Rattle.reuse_session.specs.declared.session.Session.{Session}
 use Rattle.reuse_undo.specs.DiffText.{IsDiff}
 use Rattle.reuse_undo.specs.RowLines.{AreJoined}
-use Rattle.reuse_undo.specs.RunLine.{CallLeadsTo}
-use Rattle.reuse_undo.specs.Told.{IsLinesText}
+use Rattle.reuse_undo.specs.RunLine.{CallLeadsTo, IsAnswered}
+use Rattle.reuse_undo.specs.Told.{is_refused, IsAccepted, IsLinesText}
 use Rattle.reuse_undo.specs.declared.request.Request.{Request}
 use Rattle.reuse_undo.specs.declared.request.Request.TheVariants as requests
+use Rattle.reuse_undo.specs.declared.request.Told.{Told}
 use Rattle.reuse_undo.specs.declared.request.Told.TheVariants.{Reply}
 use Rattle.reuse_undo.specs.declared.shown_name.Names.{Names}
-use Rattle.reuse_undo.specs.declared.run_line.drawn.Foreseen.{Foreseen}
-use Rattle.reuse_undo.specs.declared.run_line.drawn.Foreseen.TheVariants.{Nothing, Run, Step}
+use Rattle.reuse_undo.specs.declared.run_line.foreseen.Foreseen.{Foreseen}
 
 -- the diff of what a path holds in the one tree and in the other
 abbrev pub IsPathDiff : Files → Files → List ℕ → List ℕ → Type 0
@@ -44,19 +49,9 @@ pub record AreSmallSteps (way : Way) (changes : List Change) (before after : Fil
   pub small : All IsSmall changes
   pub leads : LeadsBy way changes before after
 
--- the changes that are foreseen, and the way that they are gone through
-abbrev pub changes_in : Foreseen → List Change
-changes_in Nothing = []
-changes_in (Run changes) = changes
-changes_in (Step way changes) = changes
-
-abbrev pub way_in : Foreseen → Way
-way_in (Step way changes) = way
-way_in foreseen = go.Do
-
 -- what is foreseen leads from the one tree to the other
 abbrev pub WouldLead : Foreseen → Files → Files → Type 0
-WouldLead foreseen before after = AreSmallSteps (way_in foreseen) (changes_in foreseen) before after
+WouldLead foreseen before after = AreSmallSteps foreseen.way foreseen.changes before after
 
 -- ---- the two trees
 
@@ -92,11 +87,33 @@ pub record IsDrawnText (names : Names) (before after : Files) (text : List ℕ) 
 -- what is foreseen leads from the one tree to the other, by changes of the paths at which they differ
 pub record Foretells (foreseen : Foreseen) (before after : Files) : Type 0 where
   pub leads : WouldLead foreseen before after
-  pub paths : changed_paths before after ≡ paths_of (changes_in foreseen)
+  pub paths : changed_paths before after ≡ paths_of foreseen.changes
 
 -- whatever tree the call would leave, this is the diff of the tree that stands and of that one
 abbrev pub IsDiffOfCall : Request → State → List ℕ → Type 0
 IsDiffOfCall request held text = (after : Files) → WouldLeave request held after → IsTreeDiff held.tree after text
+
+-- what would change, gone through this way, unless that is refused
+abbrev pub foreseen_unless : Bool → List Change → Way → Option Foreseen
+foreseen_unless true changes way = None
+foreseen_unless false changes way = Some (record { changes = changes; way = way })
+
+-- the same of what is previewed, where none of the fates is a refusal
+abbrev pub foreseen_in : Way → Result Previewed Refusal → Option Foreseen
+foreseen_in way (Ok previewed) = foreseen_unless (is_refused previewed.fates) previewed.changes way
+foreseen_in way (Err refusal) = None
+
+-- where a dry run was answered without a refusal, what would change is there, and leads to whatever tree the call would leave
+abbrev pub ForetellsAccepted : {S : Type 0} → Ghosts S → Request → Result Told Refusal → Option Foreseen → Session S → Session S → Type 0
+ForetellsAccepted store request answer foreseen old new =
+    store.honest (store_of new) → (held : State) → StandsOn store.files old held → (after : Files) → WouldLeave request held after → IsAccepted answer
+    → IsSomeAnd foreseen (λ foreseen. Foretells foreseen held.tree after)
+
+-- the request is answered, and of a dry run without a refusal what would change is there, and of nothing else
+pub record IsAnsweredWith {S : Type 0} (store : Ghosts S) (request : Request) (answer : Result Told Refusal) (foreseen : Option Foreseen) (old new : Session S) : Type 0 where
+  pub answered : IsAnswered store request answer old new
+  pub accepted : IfSome foreseen (λ foreseen. IsAccepted answer)
+  pub foretells : ForetellsAccepted store request answer foreseen old new
 
 -- the change that is made where a change is gone through this way
 abbrev pub gone : Way → Change → Change

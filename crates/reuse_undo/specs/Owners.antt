@@ -1,5 +1,5 @@
 -- Whose files are, who may do what with them, and when a file that is written anew can't keep its owner.
-use Rattle.std.specs.Prelude.{ℕ, Bool, true, false, not, if◌then◌else◌, ◌||◌, ◌&&◌, ◌==◌, ◌/◌, ◌%◌, Option, Some, None, bit_and}
+use Rattle.std.specs.Prelude.{ℕ, Bool, false, not, if◌then◌else◌, ◌||◌, ◌&&◌, ◌==◌, ◌/◌, ◌%◌, Option, Some, None, bit_and}
 use Rattle.std.specs.List.{list_any}
 use Rattle.reuse_undo.specs.declared.disk.journal_owner.JournalOwners.{JournalOwners}
 use Rattle.reuse_undo.specs.declared.disk.owner.Owner.{Owner}

@@ -1,10 +1,11 @@
 -- What a line asks a session for, and what comes of it.
-use Rattle.std.specs.Prelude.{◌≡◌, ◌⊎◌, ◌+◌, Bool, List, Some, ℕ, Result, Ok, Err, IfErr, true, false}
+use Rattle.std.specs.Prelude.{◌≡◌, ◌⊎◌, ◌+◌, ◌<◌, ◌≤◌, Bool, List, Some, ℕ, Result, Ok, Err, IfErr, true}
 use Rattle.std.specs.List.{All, Contains}
+use Rattle.reuse_tree.specs.Asked.{OnlyReads}
 use Rattle.reuse_tree.specs.Files.{Files, Clashes}
 use Rattle.reuse_tree.specs.declared.change.Change.{Change}
 use Rattle.reuse_tree.specs.declared.store.Store.{Ghosts}
-use Rattle.reuse_session.specs.Answer.{IsEarly, IsFailure, HasClash, IsNoClash, IsOpenRefusal, TellsNoFault}
+use Rattle.reuse_session.specs.Answer.{IsEarly, IsFailure, HasCause, HasClash, IsNoClash, IsOpenRefusal, TellsNoFault}
 use Rattle.reuse_session.specs.Journal.{State, Recorded, Undoes, Redoes, rows_in}
 use Rattle.reuse_session.specs.JournalFiles.{head_path, entry_path, number_of}
 use Rattle.reuse_session.specs.Machine.{Kept, Snapshots, step, run_fates, as_reply}
@@ -244,12 +245,13 @@ IfNoDiff result Claim = Unit {0}
 
 -- ---- for private clauses
 
--- a dry run tells fates from a standing, none of them a refusal
-abbrev pub IsAccepted : Request → State → Type 0
-IsAccepted (requests.Call (events.Preview call)) old = (fates : List Fate) × Previews call old (Ok fates) × (is_refused fates ≡ false)
-IsAccepted (requests.PreviewRevert number skip_moved) old = (fates : List Fate) × PreviewsRevert number skip_moved old (Ok fates) × (is_refused fates ≡ false)
-IsAccepted request old = Unit {0}
-
--- where the request only asks and the store is honest, the session stands where a dry run is accepted
-abbrev pub StandsAccepted : {S : Type 0} → Ghosts S → Request → Session S → Type 0
-StandsAccepted store request session = IsLook request → store.honest (store_of session) → (held : State) × StandsOn store.files session held × IsAccepted request held
+-- what asking an open session answers and leaves
+pub record IsAnswered {S : Type 0} (store : Ghosts S) (request : Request) (answer : Result Told Refusal) (old new : Session S) : Type 0 where
+  pub meets : store.honest (store_of new) → (held : State) → StandsOn store.files old held → Meets request held answer (store.files (store_of new))
+  pub looks : IsLook request → OnlyReads store (store_of old) (store_of new)
+  pub fault : IfErr answer (HasCause (store.failures (store_of old) < store.failures (store_of new)))
+  pub clash : store.honest (store_of new) → (held : State) → StandsOn store.files old held → IfErr answer (HasCallClash request held (store.files (store_of old)))
+  pub folder : store.honest (store_of new) → (held : State) → StandsOn store.files old held
+      → KeepsFolder request held (store.files (store_of old)) (store.files (store_of new))
+  pub failures : store.failures (store_of old) ≤ store.failures (store_of new)
+  pub was_honest : store.honest (store_of new) → store.honest (store_of old)

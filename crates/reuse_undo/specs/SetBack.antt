@@ -1,5 +1,5 @@
 -- How many files a run sets back.
-use Rattle.std.specs.Prelude.{ℕ, Bool, true, false, Option, Some, None, ◌+◌, ◌-◌, ◌^◌, if◌then◌else◌, min}
+use Rattle.std.specs.Prelude.{ℕ, Bool, true, Option, Some, None, ◌+◌, ◌-◌, ◌^◌, if◌then◌else◌, min}
 use Rattle.reuse_undo.specs.declared.disk.set_back.SetBack.{SetBack}
 
 -- after a file of the journal was written, or another one was written or removed

@@ -100,6 +100,11 @@ IsBehind telling told (Ok diff) = telling.format ≡ Diff → IsDiffBehind told 
 IsBehind telling told (Err (NoDiff refusal)) = IsForeseen telling told
 IsBehind telling told (Err fault) = fault ≡ Memory
 
+-- a dry run is answered, and none of its fates is a refusal
+abbrev pub IsAccepted : Result Told Refusal → Type 0
+IsAccepted (Ok told) = (fates : List Fate) × (told ≡ Reply (Preview fates)) × (is_refused fates ≡ false)
+IsAccepted (Err refusal) = ⊥
+
 -- a diff is wanted of what the answer tells
 abbrev pub IsWanted : Telling → Result Told Refusal → Type 0
 IsWanted telling (Ok told) = IsForeseen telling told

@@ -1,20 +1,20 @@
 //! Carries out on a store what a line asks for.
-ghost use Rattle.std.specs.Prelude.{◌≡◌, ◌↔◌, ◌≤◌, ◌<◌, IfOk, IfErr, true, false};
+ghost use Rattle.std.specs.Prelude.{◌≡◌, ◌≤◌, ◌<◌, None, IfOk, IfErr, IfSome, IsSomeAnd};
 ghost use Rattle.reuse_tree.specs.Asked.{OnlyReads};
 ghost use Rattle.reuse_tree.specs.Files.{Files, tree_of};
 ghost use Rattle.reuse_session.specs.Answer.{HasCause};
 ghost use Rattle.reuse_session.specs.Journal.{State};
-ghost use Rattle.reuse_session.specs.Session.{store_of, StandsOn};
 ghost use Rattle.reuse_session.specs.Standing.{IsStanding};
 ghost use Rattle.reuse_undo.specs.CarriedOut.{CarriesOut};
-ghost use Rattle.reuse_undo.specs.Drawn.{Foretells, IsDiffOfCall, IsTreeDiff};
+ghost use Rattle.reuse_undo.specs.Drawn.{Foretells, ForetellsAccepted, IsDiffOfCall, IsTreeDiff};
 ghost use Rattle.reuse_undo.specs.Requests.{IsLook};
-ghost use Rattle.reuse_undo.specs.RunLine.{HasCallClash, RequestLeaves, IfNoDiff, StandsAccepted};
-ghost use Rattle.reuse_undo.specs.Told.{IsDiffOf, IsForeseen, IsNoDiff, IsWanted};
+ghost use Rattle.reuse_undo.specs.RunLine.{HasCallClash, IfNoDiff, IsAnswered, RequestLeaves};
+ghost use Rattle.reuse_undo.specs.Told.{IsAccepted, IsDiffOf, IsForeseen, IsNoDiff};
 ghost use Rattle.reuse_undo.specs.WriterFaults.{IsOfDiff, IsUndrawn};
 
 mod calls;
 mod drawn;
+mod foreseen;
 mod printed;
 
 use crate::fault::Fault;
@@ -23,10 +23,11 @@ use crate::output::Sink;
 use crate::request::{Request, Told};
 use calls::ask;
 pub use calls::preview_revert;
-use drawn::{Foreseen, draw, foresee};
+use drawn::draw;
+use foreseen::{Foreseen, ask_with_changes};
 use printed::finish;
 pub use printed::is_refused;
-use reuse_session::{Refusal, Reply, Session};
+use reuse_session::{Refusal, Session};
 use reuse_tree::Store;
 use std::alloc::Global;
 
@@ -74,61 +75,47 @@ fn call<S: Store + Drop>(
     match Session::open(alloc, store) {
         Ok(opened) => {
             let mut session = opened;
-            let answer = ask(alloc, &mut session, request);
-            let (store, diff) = close(alloc, session, request, wants_diff(telling, &answer));
+            let (answer, foreseen) = ask_for(alloc, &mut session, request, telling.format);
+            let (store, diff) = draw_foreseen(alloc, session.into_store(), foreseen);
             (store, answer, diff)
         }
         Err((refusal, store)) => (store, Err(refusal), Ok(Vec::new(alloc))),
     }
 }
 
-// Whether a diff is wanted, of a preview without a refusal.
-fn wants_diff(telling: Telling, answer: &Result<Told, Refusal>) -> bool
-    ensures { (result ≡ true) ↔ IsWanted telling answer.now }
+// Makes the call. In the format of a diff, of a dry run without a refusal what would change is
+// answered too.
+fn ask_for<S: Store + Drop>(
+    alloc: Global,
+    session: &mut Session<S>,
+    request: &Request,
+    format: OutputFormat,
+) -> (Result<Told, Refusal>, Option<Foreseen>)
+    ensures answered { IsAnswered S.Store request.now result.0 session.old session.new }
+    ensures wanted { IfSome result.1 (λ foreseen. (format ≡ OutputFormat.Diff) × IsAccepted result.0) }
+    ensures foretells { format ≡ OutputFormat.Diff → ForetellsAccepted S.Store request.now result.0 result.1 session.old session.new }
 {
-    match (telling.format, answer) {
-        (OutputFormat::Diff, Ok(Told::Reply(Reply::Preview(fates)))) => !is_refused(
-            fates.as_slice(),
-        ),
-        _ => false,
+    match format {
+        OutputFormat::Diff => ask_with_changes(alloc, session, request),
+        _ => (ask(alloc, session, request), None),
     }
 }
 
-// Gives the store back, and the diff of what a previewed call would change, where one is wanted. It
-// only reads.
-fn close<S: Store + Drop>(
+// The diff of what would change, or none. It only reads.
+fn draw_foreseen<S: Store + Drop>(
     alloc: Global,
-    session: Session<S>,
-    request: &Request,
-    wants_diff: bool,
+    store: S,
+    foreseen: Option<Foreseen>,
 ) -> (S, Result<Vec<u8>, Fault>)
-    requires { wants_diff ≡ true → StandsAccepted S.Store request.now session }
-    ensures drawn { wants_diff ≡ true → S.honest result.0 → (held : State) → StandsOn S.files session held → IfOk result.1 (λ text. IsDiffOfCall request.now held text.items) }
-    ensures reads { OnlyReads S.Store (store_of session) result.0 }
-    ensures none { wants_diff ≡ false → IsNoDiff result.1 }
-    ensures diff { IfErr result.1 (IsOfDiff S.Store (store_of session) result.0) }
+    ensures drawn { S.honest result.0 → (before : Files) → (after : Files) → tree_of (S.files store) ≡ before → IsSomeAnd foreseen (λ foreseen. Foretells foreseen before after)
+        → IfOk result.1 (λ text. IsTreeDiff before after text.items) }
+    ensures none { foreseen ≡ None → IsNoDiff result.1 }
+    ensures reads { OnlyReads S.Store store result.0 }
+    ensures diff { IfErr result.1 (IsOfDiff S.Store store result.0) }
 {
-    if wants_diff {
-        look(alloc, session, request)
-    } else {
-        (session.into_store(), Ok(Vec::new(alloc)))
-    }
-}
-
-fn look<S: Store + Drop>(
-    alloc: Global,
-    session: Session<S>,
-    request: &Request,
-) -> (S, Result<Vec<u8>, Fault>)
-    requires { StandsAccepted S.Store request.now session }
-    ensures drawn { S.honest result.0 → (held : State) → StandsOn S.files session held → IfOk result.1 (λ text. IsDiffOfCall request.now held text.items) }
-    ensures reads { OnlyReads S.Store (store_of session) result.0 }
-    ensures diff { IfErr result.1 (IsOfDiff S.Store (store_of session) result.0) }
-{
-    let mut session = session;
-    match foresee(alloc, &mut session, request) {
-        Ok(foreseen) => draw_from(alloc, session.into_store(), &foreseen),
-        Err(refusal) => (session.into_store(), Err(Fault::NoDiff(refusal))),
+    match foreseen {
+        Some(foreseen) => draw_from(alloc, store, &foreseen),
+        None => (store, Ok(Vec::new(alloc))),
     }
 }
 

@@ -1,5 +1,5 @@
 //! The diff of what a call would change.
-ghost use Rattle.std.specs.Prelude.{◌≡◌, ◌+◌, ◌≤◌, ℕ, List, [], Some, Ok, IfErr, IfOk, OnOk, length, unwrap_or};
+ghost use Rattle.std.specs.Prelude.{◌≡◌, ◌+◌, ◌≤◌, ℕ, List, [], Some, IfErr, IfOk, OnOk, length, unwrap_or};
 ghost use Rattle.std.specs.FinMap.{get};
 ghost use Rattle.std.specs.Option.{option_copied};
 ghost use Rattle.reuse_text.specs.Text.{spliced};
@@ -7,110 +7,29 @@ ghost use Rattle.reuse_tree.specs.Asked.{OnlyReads};
 ghost use Rattle.reuse_tree.specs.Change.{path_of};
 ghost use Rattle.reuse_tree.specs.Entry.{IsSmall, TurnsBy};
 ghost use Rattle.reuse_tree.specs.Files.{Files, tree_of};
-ghost use Rattle.reuse_session.specs.Journal.{State, ahead, Travels};
-ghost use Rattle.reuse_session.specs.Session.{store_of, StandsOn};
 ghost use Rattle.reuse_undo.specs.DiffText.{part_before, part_after, IsDiff};
-ghost use Rattle.reuse_undo.specs.Drawn.{changes_in, gone, AreDiffs, AreSmallSteps, Foretells, IsPathDiff, IsRangeWithin, WouldLead, WouldLeave};
+ghost use Rattle.reuse_undo.specs.Drawn.{gone, AreDiffs, AreSmallSteps, IsPathDiff, IsRangeWithin, WouldLead};
 ghost use Rattle.reuse_undo.specs.RowLines.{AppendsSome};
-ghost use Rattle.reuse_undo.specs.RunLine.{StandsAccepted};
-ghost use Rattle.reuse_undo.specs.WriterFaults.{IsOfDiff, IsUndrawn};
-ghost use Rattle.reuse_session.specs.declared.reply.Reply.{Reply};
+ghost use Rattle.reuse_undo.specs.WriterFaults.{IsOfDiff};
 ghost use Rattle.reuse_undo.specs.declared.fault.Fault.TheVariants as faults;
 
+use super::foreseen::Foreseen;
 use crate::diff::{Turn, bytes_of, print_diff};
 use crate::fault::{Fault, in_memory};
-use crate::request::Request;
-use reuse_session::{Call, Changes, EntryChanges, Event, Refusal, Session};
+use reuse_session::Refusal;
 use reuse_text::{LONGEST_FILE, splice};
 use reuse_tree::{Change, PathText, Reading, Store, Way};
 use std::alloc::Global;
-
-/// What a call would change.
-#[derive(Drop)]
-pub enum Foreseen {
-    /// Nothing.
-    Nothing,
-    /// The changes of a run.
-    Run(Changes),
-    /// Those of a step, which is gone through this way.
-    Step(Way, EntryChanges),
-}
-
-/// What a previewed call would change. On an honest store it would go through.
-pub fn foresee<S: Store + Drop>(
-    alloc: Global,
-    session: &mut Session<S>,
-    request: &Request,
-) -> Result<Foreseen, Refusal>
-    requires { StandsAccepted S.Store request.now session.now }
-    ensures foretells { S.honest (store_of session.new) → (held : State) → StandsOn S.files session.old held
-        → (after : Files) → WouldLeave request.now held after → IfOk result (λ foreseen. Foretells foreseen held.tree after) }
-    ensures reads { OnlyReads S.Store (store_of session.old) (store_of session.new) }
-    ensures fault { IfErr result (IsUndrawn S.Store (store_of session.old) (store_of session.new)) }
-{
-    match request {
-        Request::Call(Event::Preview(Call::Run(command))) => {
-            Ok(Foreseen::Run(session.changes(alloc, command)?))
-        }
-        Request::Call(Event::Preview(Call::Undo)) => foresee_step(alloc, session, Way::Undo),
-        Request::Call(Event::Preview(Call::Redo)) => foresee_step(alloc, session, Way::Do),
-        Request::PreviewRevert { number, skip_moved } => {
-            foresee_revert(alloc, session, *number, *skip_moved)
-        }
-        _ => Ok(Foreseen::Nothing),
-    }
-}
-
-// What taking a step back would change.
-fn foresee_revert<S: Store + Drop>(
-    alloc: Global,
-    session: &mut Session<S>,
-    number: u32,
-    skip_moved: bool,
-) -> Result<Foreseen, Refusal>
-    requires { StandsAccepted S.Store (Request.PreviewRevert number skip_moved) session.now }
-    ensures foretells { S.honest (store_of session.new) → (held : State) → StandsOn S.files session.old held
-        → (after : Files) → WouldLeave (Request.PreviewRevert number skip_moved) held after → IfOk result (λ foreseen. Foretells foreseen held.tree after) }
-    ensures reads { OnlyReads S.Store (store_of session.old) (store_of session.new) }
-    ensures fault { IfErr result (IsUndrawn S.Store (store_of session.old) (store_of session.new)) }
-{
-    let command = session.revert_command(alloc, number, skip_moved)?;
-    let changes = session.changes(alloc, &command);
-    drop(command);
-    Ok(Foreseen::Run(changes?))
-}
-
-// The step that an undo takes back, or that a redo makes again.
-fn foresee_step<S: Store + Drop>(
-    alloc: Global,
-    session: &mut Session<S>,
-    way: Way,
-) -> Result<Foreseen, Refusal>
-    requires { S.honest (store_of session.now) → (held : State) × StandsOn S.files session.now held }
-    ensures foretells { S.honest (store_of session.new) → (held : State) → StandsOn S.files session.old held
-        → (reply : Reply) → (new : State) → Travels way (ahead way held.journal) held (Ok reply) new → IfOk result (λ foreseen. Foretells foreseen held.tree new.tree) }
-    ensures reads { OnlyReads S.Store (store_of session.old) (store_of session.new) }
-    ensures fault { IfErr result (IsUndrawn S.Store (store_of session.old) (store_of session.new)) }
-{
-    match session.next_changes(alloc, way)? {
-        Some(changes) => Ok(Foreseen::Step(way, changes)),
-        None => Ok(Foreseen::Nothing),
-    }
-}
 
 /// The diff of what would change: of each path that the file as it is and as the call leaves it, in
 /// the order of the changes. It only reads.
 pub fn draw<S: Store>(alloc: Global, store: &mut S, foreseen: &Foreseen) -> Result<Vec<u8>, Fault>
     ensures drawn { S.honest store.new → (before : Files) → (after : Files) → tree_of (S.files store.old) ≡ before → WouldLead foreseen.now before after
-        → IfOk result (λ text. AreDiffs before after (changes_in foreseen.now) text.items) }
+        → IfOk result (λ text. AreDiffs before after foreseen.now.changes text.items) }
     ensures reads { OnlyReads S.Store store.old store.new }
     ensures fault { IfErr result (IsOfDiff S.Store store.old store.new) }
 {
-    match foreseen {
-        Foreseen::Nothing => Ok(Vec::new(alloc)),
-        Foreseen::Run(changes) => draw_all(alloc, store, changes.as_slice(), Way::Do),
-        Foreseen::Step(way, changes) => draw_all(alloc, store, changes.as_slice(), *way),
-    }
+    draw_all(alloc, store, foreseen.changes.as_slice(), foreseen.way)
 }
 
 // The diff of changes that are gone through this way.
@@ -179,12 +98,8 @@ fn draw_range<S: Store>(
     ensures reads { OnlyReads S.Store store.old store.new }
     ensures fault { IfErr result (IsOfDiff S.Store store.old store.new) }
 {
-    let old_len = bytes_of(range.before).len();
-    let new = bytes_of(range.after);
     match store.read(alloc, range.path, LONGEST_FILE) {
-        Ok(Reading::Found(file)) => {
-            draw_within(text, alloc, range.path, file.as_slice(), at, old_len, new)
-        }
+        Ok(Reading::Found(file)) => draw_within(text, alloc, range, file.as_slice(), at),
         Ok(Reading::Absent) => Ok(()),
         Ok(Reading::TooLong) => Ok(()),
         Err(fault) => Err(Fault::NoDiff(Refusal::from(fault))),
@@ -196,22 +111,23 @@ fn draw_range<S: Store>(
 fn draw_within<'a>(
     text: &mut Vec<u8>,
     alloc: Global,
-    path: &'a PathText,
+    range: Turn<'a>,
     file: &'a [u8],
     at: usize,
-    old_len: usize,
-    new: &[u8],
 ) -> Result<(), Fault>
-    ensures drawn { at + old_len ≤ length file.now → length new.now ≤ LONGEST_FILE
-        → OnOk result (AppendsSome (Some text.old.items) (Some text.new.items) (IsDiff path.now (Some file.now) (Some (spliced file.now at old_len new.now)))) }
+    ensures drawn { IsRangeWithin file.now at (unwrap_or (option_copied range.entry.before) []) (unwrap_or (option_copied range.entry.after) [])
+        → OnOk result (AppendsSome (Some text.old.items) (Some text.new.items)
+        (IsDiff range.entry.path.now (Some file.now) (Some (spliced file.now at (length (unwrap_or (option_copied range.entry.before) [])) (unwrap_or (option_copied range.entry.after) []))))) }
     ensures fault { IfErr result (λ fault. fault ≡ faults.Memory) }
 {
+    let old_len = bytes_of(range.before).len();
+    let new = bytes_of(range.after);
     if at > file.len() || old_len > file.len() - at || new.len() > LONGEST_FILE {
         return Ok(());
     }
     let after = splice(alloc, file, at, old_len, new)?;
     let turn = Turn {
-        path,
+        path: range.path,
         before: Some(file),
         after: Some(after.as_slice()),
     };

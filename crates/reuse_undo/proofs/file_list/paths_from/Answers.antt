@@ -1,4 +1,4 @@
-use Rattle.std.proofs.Common.{◌∙◌, List, ℕ, ap, arith}
+use Rattle.std.proofs.Common.{◌∙◌, ap, arith}
 use Rattle.reuse_notice.specs.Sets.{set_of}
 use Rattle.reuse_undo.specs.FileLists.{listed_paths}
 use Rattle.reuse_undo.specs.declared.file_list.TheConstants.{LONGEST_LIST}

@@ -1,4 +1,4 @@
-use Rattle.std.proofs.Common.{◌≡◌, inl, IfErr, refl, sym, ap, subst, ◌∙◌}
+use Rattle.std.proofs.Common.{inl, IfErr, sym, subst}
 use Rattle.std.specs.Prelude.{IfOk}
 use Rattle.reuse_session.specs.Session.{store_of}
 use Rattle.reuse_undo.specs.Forgotten.{HasForgotten, RefusesToForget}

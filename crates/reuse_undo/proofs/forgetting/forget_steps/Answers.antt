@@ -1,8 +1,8 @@
-use Rattle.std.proofs.Common.{◌≡◌, ◌⊎◌, List, ℕ, Ok, Err, IfErr, refl, sym, ap, subst, ◌∙◌}
+use Rattle.std.proofs.Common.{◌⊎◌, Ok, IfErr, sym, subst, ◌∙◌}
 use Rattle.std.specs.Prelude.{IfOk}
 use Rattle.std.proofs.lemmas.Bool.{false≢true}
-use Rattle.reuse_session.specs.Answer.{IsStop, TellsNoFault}
-use Rattle.reuse_session.specs.Forgetting.{Forgets, all_numbers, numbers_in, state_besides}
+use Rattle.reuse_session.specs.Answer.{IsStop}
+use Rattle.reuse_session.specs.Forgetting.{Forgets, numbers_in, state_besides}
 use Rattle.reuse_session.specs.Journal.{State}
 use Rattle.reuse_session.specs.Session.{store_of, memory_of, StandsOn}
 use Rattle.reuse_session.specs.Standing.{IsStanding}

@@ -1,12 +1,13 @@
-use Rattle.std.proofs.Common.{◌<◌, inl, IfErr, refl, sym, subst, arith}
+use Rattle.std.proofs.Common.{◌<◌, ◌≤◌, ◌∙◌, inl, is_some, IfErr, refl, sym, ap, subst, arith}
+use Rattle.reuse_tree.specs.Asked.{OnlyReads}
+use Rattle.reuse_tree.specs.Files.{tree_of}
 use Rattle.reuse_session.specs.Session.{store_of}
 use Rattle.reuse_undo.specs.RunLine.{RequestLeaves, HasCallClash}
 use Rattle.reuse_tree.proofs.AskedLemmas.{reads_more}
 use Rattle.reuse_undo.proofs.LookLemmas.{caused}
-use Rattle.reuse_session.proofs.Driving.{stands_still}
 use Rattle.reuse_undo.proofs.CallLemmas.{carried, found_again, unclashed}
-use Rattle.reuse_undo.proofs.DrawnLines.{drawn_where_wanted}
-use Rattle.reuse_undo.proofs.ForeseenLemmas.{stands_accepted}
+use Rattle.reuse_undo.proofs.DiffLemmas.{accepted_where, diff_after, diff_for, format_where, held_of, is_none_of, undrawn_by, wanted_where}
+use Rattle.reuse_undo.proofs.DrawnLines.{diff_of_call, drawn_where_wanted}
 use Rattle.reuse_undo.proofs.run_line.call.Goals as goal
 
 pub returns-in-Ok-clause-carries : goal.returns-in-Ok-clause-carries
@@ -14,45 +15,45 @@ returns-in-Ok-clause-carries g c honest =
     let files = g.S.Store.files in
     let before = files c.args.store in
     let request = c.args.request.now in
-    let answer = c.ask-answer.result in
-    let is_honest = c.close-store.ensures.reads.was_honest honest in
-    let was_honest = c.ask-answer.ensures.was_honest is_honest in
-    subst (λ f. RequestLeaves before request answer f) (sym (c.close-store.ensures.reads.files honest))
-    (carried files before request c.in-Ok.opened answer (files (store_of c.ask-answer.new.session)) (c.in-Ok.ensures.opened was_honest)
-    (λ first second doubt. c.in-Ok.ensures.settles first second doubt was_honest) (c.ask-answer.ensures.meets is_honest) (c.ask-answer.ensures.clash is_honest)
-    (c.in-Ok.ensures.folder was_honest) (c.ask-answer.ensures.folder is_honest))
+    let answer = c.ask_for-answer.result.0 in
+    let is_honest = subst g.S.Store.honest c.into_store.ensures (c.draw_foreseen-store.ensures.reads.was_honest honest) in
+    let was_honest = c.ask_for-answer.ensures.answered.was_honest is_honest in
+    subst (λ f. RequestLeaves before request answer f) (sym (c.draw_foreseen-store.ensures.reads.files honest ∙ ap files c.into_store.ensures))
+    (carried files before request c.in-Ok.opened answer (files (store_of c.ask_for-answer.new.session)) (c.in-Ok.ensures.opened was_honest)
+    (λ first second doubt. c.in-Ok.ensures.settles first second doubt was_honest) (c.ask_for-answer.ensures.answered.meets is_honest) (c.ask_for-answer.ensures.answered.clash is_honest)
+    (c.in-Ok.ensures.folder was_honest) (c.ask_for-answer.ensures.answered.folder is_honest))
 
 pub returns-in-Ok-clause-looks : goal.returns-in-Ok-clause-looks
 returns-in-Ok-clause-looks g c honest look held standing =
-    let is_honest = c.close-store.ensures.reads.was_honest honest in
+    let is_honest = subst g.S.Store.honest c.into_store.ensures (c.draw_foreseen-store.ensures.reads.was_honest honest) in
     let opened = store_of c.in-Ok.opened in
-    let asked = store_of c.ask-answer.new.session in
-    let found = c.in-Ok.ensures.quiet (c.ask-answer.ensures.was_honest is_honest) held standing in
-    reads_more g.S.Store c.args.store asked c.close-store.result.0 (reads_more g.S.Store c.args.store opened asked found (c.ask-answer.ensures.looks look)) c.close-store.ensures.reads
+    let asked = store_of c.ask_for-answer.new.session in
+    let found = c.in-Ok.ensures.quiet (c.ask_for-answer.ensures.answered.was_honest is_honest) held standing in
+    reads_more g.S.Store c.args.store asked c.draw_foreseen-store.result.0 (reads_more g.S.Store c.args.store opened asked found (c.ask_for-answer.ensures.answered.looks look)) (subst (λ s. OnlyReads g.S.Store s c.draw_foreseen-store.result.0) c.into_store.ensures c.draw_foreseen-store.ensures.reads)
 
 pub returns-in-Ok-clause-clash : goal.returns-in-Ok-clause-clash
 returns-in-Ok-clause-clash g c honest held standing =
     let files = g.S.Store.files in
-    let is_honest = c.close-store.ensures.reads.was_honest honest in
-    let was_honest = c.ask-answer.ensures.was_honest is_honest in
+    let is_honest = subst g.S.Store.honest c.into_store.ensures (c.draw_foreseen-store.ensures.reads.was_honest honest) in
+    let was_honest = c.ask_for-answer.ensures.answered.was_honest is_honest in
     let found =
     found_again files (files c.args.store) c.in-Ok.opened held standing (c.in-Ok.ensures.opened was_honest) (λ first second doubt. c.in-Ok.ensures.settles first second doubt was_honest) in
-    subst (λ f. IfErr c.ask-answer.result (HasCallClash c.args.request.now held f)) found.1 (c.ask-answer.ensures.clash is_honest held found.0)
+    subst (λ f. IfErr c.ask_for-answer.result.0 (HasCallClash c.args.request.now held f)) found.1 (c.ask_for-answer.ensures.answered.clash is_honest held found.0)
 
 pub returns-in-Ok-clause-fault : goal.returns-in-Ok-clause-fault
 returns-in-Ok-clause-fault g c =
     let failures = g.S.Store.failures in
     let opened = failures (store_of c.in-Ok.opened) in
-    let left = failures (store_of c.ask-answer.new.session) in
+    let left = failures (store_of c.ask_for-answer.new.session) in
     let first = failures c.args.store in
-    let last = failures c.close-store.result.0 in
-    caused (opened < left) (first < last) (λ rose. omega (arith, rose, c.in-Ok.ensures.later.failures, c.close-store.ensures.reads.failures)) c.ask-answer.result c.ask-answer.ensures.fault
+    let last = failures c.draw_foreseen-store.result.0 in
+    caused (opened < left) (first < last) (λ rose. omega (arith, rose, c.in-Ok.ensures.later.failures, (subst (λ s. OnlyReads g.S.Store s c.draw_foreseen-store.result.0) c.into_store.ensures c.draw_foreseen-store.ensures.reads).failures)) c.ask_for-answer.result.0 c.ask_for-answer.ensures.answered.fault
 
 pub returns-in-Ok-clause-failures : goal.returns-in-Ok-clause-failures
-returns-in-Ok-clause-failures g c = omega (arith, c.in-Ok.ensures.later.failures, c.ask-answer.ensures.failures, c.close-store.ensures.reads.failures)
+returns-in-Ok-clause-failures g c = omega (arith, c.in-Ok.ensures.later.failures, c.ask_for-answer.ensures.answered.failures, (subst (λ s. OnlyReads g.S.Store s c.draw_foreseen-store.result.0) c.into_store.ensures c.draw_foreseen-store.ensures.reads).failures)
 
 pub returns-in-Ok-clause-was_honest : goal.returns-in-Ok-clause-was_honest
-returns-in-Ok-clause-was_honest g c honest = c.in-Ok.ensures.later.was_honest (c.ask-answer.ensures.was_honest (c.close-store.ensures.reads.was_honest honest))
+returns-in-Ok-clause-was_honest g c honest = c.in-Ok.ensures.later.was_honest (c.ask_for-answer.ensures.answered.was_honest (subst g.S.Store.honest c.into_store.ensures (c.draw_foreseen-store.ensures.reads.was_honest honest)))
 
 pub returns-in-Err-clause-carries : goal.returns-in-Err-clause-carries
 returns-in-Err-clause-carries g c honest =
@@ -77,21 +78,32 @@ returns-in-Err-clause-looks g c honest look held standing = c.in-Err.ensures.qui
 pub returns-in-Err-clause-clash : goal.returns-in-Err-clause-clash
 returns-in-Err-clause-clash g c honest held standing = unclashed c.args.request.now held (g.S.Store.files c.args.store) c.in-Err.refusal (c.in-Err.ensures.clash honest)
 
-pub close-store-requires : goal.close-store-requires
-close-store-requires g c wants =
-    let ask = c.ask-answer in
-    stands_accepted g.S.Store c.args.request.now c.args.telling ask.result c.in-Ok.opened ask.new.session (λ honest. let found = c.in-Ok.ensures.opened honest in (found.0, found.1)) ask.ensures.meets
-    ask.ensures.looks ask.ensures.kept (c.wants_diff.ensures.0 wants)
+pub returns-in-Ok-clause-diff : goal.returns-in-Ok-clause-diff
+returns-in-Ok-clause-diff g c =
+    let asked = c.ask_for-answer in
+    let drawn = c.draw_foreseen-store in
+    diff_for g.S.Store c.into_store.result drawn.result.0 c.args.telling asked.result.0 drawn.result.1 (is_some asked.result.1)
+    (λ some. wanted_where c.args.telling asked.result.0 (held_of asked.result.1 _ asked.ensures.wanted some)) (λ none. drawn.ensures.none (is_none_of asked.result.1 none)) drawn.ensures.diff
+
+pub returns-in-Ok-clause-undrawn : goal.returns-in-Ok-clause-undrawn
+returns-in-Ok-clause-undrawn g c =
+    let drawn = c.draw_foreseen-store in
+    undrawn_by g.S.Store c.args.store drawn.result.0 drawn.result.1
+    (diff_after g.S.Store c.args.store c.into_store.result drawn.result.0 drawn.result.1
+    (subst (λ s. g.S.Store.failures c.args.store ≤ g.S.Store.failures s) (sym c.into_store.ensures) (omega (arith, c.in-Ok.ensures.later.failures, c.ask_for-answer.ensures.answered.failures)))
+    drawn.ensures.diff)
 
 pub returns-in-Ok-clause-drawn : goal.returns-in-Ok-clause-drawn
 returns-in-Ok-clause-drawn g c honest held standing =
     let files = g.S.Store.files in
-    let ask = c.ask-answer in
-    let close = c.close-store in
-    let is_honest = close.ensures.reads.was_honest honest in
-    let was_honest = ask.ensures.was_honest is_honest in
+    let asked = c.ask_for-answer in
+    let drawn = c.draw_foreseen-store in
+    let request = c.args.request.now in
+    let is_honest = subst g.S.Store.honest c.into_store.ensures (drawn.ensures.reads.was_honest honest) in
+    let was_honest = asked.ensures.answered.was_honest is_honest in
     let found =
     found_again files (files c.args.store) c.in-Ok.opened held standing (c.in-Ok.ensures.opened was_honest) (λ first second doubt. c.in-Ok.ensures.settles first second doubt was_honest) in
-    drawn_where_wanted c.args.telling c.args.request.now held ask.result close.result.1 (λ wanted look.
-    close.ensures.drawn (c.wants_diff.ensures.1 wanted) honest held
-    (stands_still files c.in-Ok.opened ask.new.session held found.0 (ask.ensures.kept look) ((ask.ensures.looks look).files is_honest)))
+    drawn_where_wanted c.args.telling request held asked.result.0 drawn.result.1 (λ wanted look.
+    let same = ap tree_of (ap files c.into_store.ensures ∙ (asked.ensures.answered.looks look).files is_honest) ∙ found.0.standing.tree in
+    diff_of_call request held drawn.result.1 (λ after would.
+    drawn.ensures.drawn honest held.tree after same (asked.ensures.foretells (format_where c.args.telling asked.result.0 wanted) is_honest held found.0 after would (accepted_where c.args.telling asked.result.0 wanted))))

@@ -1,7 +1,6 @@
-use Rattle.reuse_undo.specs.Drawn.{changes_in}
 use Rattle.reuse_undo.proofs.TreeDiffLemmas.{drawn_trees}
 use Rattle.reuse_undo.proofs.run_line.draw_from.Goals as goal
 
 pub returns-clause-drawn : goal.returns-clause-drawn
 returns-clause-drawn g c honest before after is foretells =
-    drawn_trees before after (changes_in c.args.foreseen.now) c.draw-diff.result foretells.paths (c.draw-diff.ensures.drawn honest before after is foretells.leads)
+    drawn_trees before after c.args.foreseen.now.changes c.draw-diff.result foretells.paths (c.draw-diff.ensures.drawn honest before after is foretells.leads)

@@ -1,31 +1,29 @@
-use Rattle.std.proofs.Common.{◌≡◌, ◌∙◌, true, false, Err, IfOk, refl, sym, subst}
+use Rattle.std.proofs.Common.{◌≡◌, ◌∙◌}
 use Rattle.reuse_session.specs.Fates.{fates_of}
-use Rattle.reuse_session.specs.declared.reply.Refusal.TheVariants.{JournalFull}
-use Rattle.reuse_session.proofs.Following.{is_full_alike}
-use Rattle.reuse_session.proofs.Previewing.{run_foretold, run_foretold_on}
-use Rattle.reuse_session.proofs.Running.{full_alike}
+use Rattle.reuse_session.proofs.Previewing.{alone_err, alone_looks, alone_ok, alone_where, told_alone}
 use Rattle.reuse_session.proofs.session.Session.preview.Goals as goal
 
-pub returns-then-is_full-clause-machine : goal.returns-then-is_full-clause-machine
-returns-then-is_full-clause-machine g c honest state stands_at told =
-    run_foretold c.args.command.now stands_at.held.tree state true (Err JournalFull) stands_at.holds.tree
-    (is_full_alike stands_at.held state stands_at.holds ∙ full_alike g.S.Store.files c.args.self.now stands_at.held stands_at.stands ∙ sym c.is_full.ensures ∙ c.if-is_full.true) refl told
+pub returns-clause-broken : goal.returns-clause-broken
+returns-clause-broken g c = alone_where c.preview_changes.result c.fates_alone.result c.fates_alone.ensures _ _ c.preview_changes.ensures.broken
+
+pub returns-clause-full : goal.returns-clause-full
+returns-clause-full g c = alone_where c.preview_changes.result c.fates_alone.result c.fates_alone.ensures _ _ c.preview_changes.ensures.full
 
 pub returns-clause-exact : goal.returns-clause-exact
 returns-clause-exact g c honest held stands =
-    subst (λ t. IfOk c.plan_fates.result (λ fates. fates ≡ fates_of c.args.command.now t)) stands.standing.tree (c.plan_fates.ensures.fates honest)
-
-pub returns-clause-machine : goal.returns-clause-machine
-returns-clause-machine g c honest state stands_at told =
-    run_foretold c.args.command.now stands_at.held.tree state false c.plan_fates.result stands_at.holds.tree
-    (is_full_alike stands_at.held state stands_at.holds ∙ full_alike g.S.Store.files c.args.self.now stands_at.held stands_at.stands ∙ sym c.is_full.ensures ∙ c.if-is_full.false)
-    (returns-clause-exact g c honest stands_at.held stands_at.stands, c.plan_fates.ensures.refusal) told
-
-pub returns-then-is_full-clause-answers : goal.returns-then-is_full-clause-answers
-returns-then-is_full-clause-answers g c honest held stands told =
-    run_foretold_on c.args.command.now held true (Err JournalFull) (full_alike g.S.Store.files c.args.self.now held stands ∙ sym c.is_full.ensures ∙ c.if-is_full.true) refl told
+    alone_ok c.preview_changes.result c.fates_alone.result c.fates_alone.ensures (λ fates. fates ≡ fates_of c.args.command.now held.tree) (c.preview_changes.ensures.exact honest held stands)
 
 pub returns-clause-answers : goal.returns-clause-answers
 returns-clause-answers g c honest held stands told =
-    run_foretold_on c.args.command.now held false c.plan_fates.result (full_alike g.S.Store.files c.args.self.now held stands ∙ sym c.is_full.ensures ∙ c.if-is_full.false)
-    (returns-clause-exact g c honest held stands, c.plan_fates.ensures.refusal) told
+    c.fates_alone.ensures ∙ c.preview_changes.ensures.answers honest held stands (told_alone c.preview_changes.result c.fates_alone.result c.fates_alone.ensures told)
+
+pub returns-clause-machine : goal.returns-clause-machine
+returns-clause-machine g c honest state stands_at told =
+    c.fates_alone.ensures ∙ c.preview_changes.ensures.machine honest state stands_at (told_alone c.preview_changes.result c.fates_alone.result c.fates_alone.ensures told)
+
+pub returns-clause-looks : goal.returns-clause-looks
+returns-clause-looks g c =
+    alone_looks c.preview_changes.result c.fates_alone.result c.fates_alone.ensures g.S.Store c.args.self.now c.preview_changes.new.self c.preview_changes.ensures.looks
+
+pub returns-clause-refusal : goal.returns-clause-refusal
+returns-clause-refusal g c = alone_err c.preview_changes.result c.fates_alone.result c.fates_alone.ensures _ c.preview_changes.ensures.refusal

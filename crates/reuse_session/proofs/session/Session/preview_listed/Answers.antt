@@ -1,12 +1,14 @@
-use Rattle.std.proofs.Common.{◌≡◌, ◌∙◌, List, Err, ap, refl, sym, subst}
+use Rattle.std.proofs.Common.{◌≡◌, ◌∙◌, List, Some, Ok, Err, ap, refl, sym, subst}
 use Rattle.reuse_tree.specs.Files.{tree_of}
+use Rattle.reuse_tree.specs.declared.change.Change.{Change}
 use Rattle.reuse_session.specs.Answer.{TellsNoFault}
 use Rattle.reuse_tree.specs.Entry.{IsEntry}
 use Rattle.reuse_session.specs.History.{remember_moved}
+use Rattle.reuse_session.specs.Journal.{Recorded, changes_ahead}
 use Rattle.reuse_session.specs.JournalFiles.{entry_in}
 use Rattle.reuse_session.specs.Previews.{Foresees}
 use Rattle.reuse_session.specs.Session.{memory_of}
-use Rattle.reuse_session.specs.declared.fate.Fate.{Fate}
+use Rattle.reuse_session.specs.declared.fate.Previewed.{Previewed}
 use Rattle.reuse_session.specs.declared.reply.Reply.{Reply}
 use Rattle.reuse_session.proofs.OnlyReading.{is_refused}
 use Rattle.reuse_session.proofs.Previewing.{any_told, travel_foretold}
@@ -20,9 +22,10 @@ returns-in_err-entry-clause-exact g c honest held stands told =
     let way = c.args.way in
     let next = next_of way g.S.Store.files c.args.self.now held c.args.listed c.requires.0 (remember_moved way c.requires.0 c.args.listed (memory_of c.args.self.now)) stands c.requires.1 refl in
     let is = is_refused c.from_residual.result c.from_residual.ensures.1 in
-    absurd (read_told c.in_err-entry.field-0.0 c.in_err-entry.ensures.refusal (any_told (List Fate) Reply c.in_err-entry.field-0.0 (subst TellsNoFault is told))
+    absurd (read_told c.in_err-entry.field-0.0 c.in_err-entry.ensures.refusal (any_told Previewed Reply c.in_err-entry.field-0.0 (subst TellsNoFault is told))
     (λ path e. (c.read_entry.ensures.bad honest path (c.in_err-entry.was ∙ ap (λ x. Err x) e)).1 (entry_in next.step) (next_says next c.number.result c.number.ensures)))
 
+-- it is read
 pub returns-clause-exact : goal.returns-clause-exact
 returns-clause-exact g c honest held stands told =
     let store = g.S.Store in
@@ -33,6 +36,13 @@ returns-clause-exact g c honest held stands told =
     let made = c.as_slice.result.now in
     let changes : next.step.changes ≡ made = next_changes next c.number.result c.number.ensures c.in_ok-entry.entry (c.in_ok-entry.ensures.ok read) ∙ sym c.as_slice.ensures in
     let good : IsEntry made = subst IsEntry (sym c.as_slice.ensures) c.in_ok-entry.ensures.good in
-    subst (λ steps. Foresees way steps held.tree c.travel_fates.result) (sym next.list)
-    (travel_foretold way next.step next.steps made held.tree (tree_of (store.files c.read_entry.new.store)) c.travel_fates.result changes (ap tree_of unread ∙ stands.standing.tree)
-    (c.travel_fates.ensures.fates honest good) c.travel_fates.ensures.refusal told)
+    subst (λ steps. Foresees way steps held.tree (Ok c.in_ok-fates.fates)) (sym next.list)
+    (travel_foretold way next.step next.steps made held.tree (tree_of (store.files c.read_entry.new.store)) (Ok c.in_ok-fates.fates) changes (ap tree_of unread ∙ stands.standing.tree)
+    (c.in_ok-fates.ensures.fates honest good) tt told)
+
+pub returns-clause-changes : goal.returns-clause-changes
+returns-clause-changes g c honest held stands =
+    let way = c.args.way in
+    let read = c.travel_fates.ensures.reads.was_honest honest in
+    let next = next_of way g.S.Store.files c.args.self.now held c.args.listed c.requires.0 (remember_moved way c.requires.0 c.args.listed (memory_of c.args.self.now)) stands c.requires.1 refl in
+    ap (λ (steps : List Recorded). changes_ahead steps) next.list ∙ ap (λ (made : List Change). Some made) (next_changes next c.number.result c.number.ensures c.in_ok-entry.entry (c.in_ok-entry.ensures.ok read))

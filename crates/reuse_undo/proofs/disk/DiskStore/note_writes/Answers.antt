@@ -1,4 +1,4 @@
-use Rattle.std.proofs.Common.{◌≡◌, ◌<◌, Err, IfErr, length, sym, subst}
+use Rattle.std.proofs.Common.{◌<◌, IfErr, length, sym, subst}
 use Rattle.reuse_tree.specs.Asked.{IsWrite, AreWrites}
 use Rattle.reuse_tree.proofs.WrittenInTurn.{next_fails}
 use Rattle.reuse_undo.specs.FolderFault.{fault_of_store}

@@ -1,4 +1,4 @@
-use Rattle.std.proofs.Common.{◌≡◌, ◌≢◌, MatchResult, IfOk, sym, subst}
+use Rattle.std.proofs.Common.{◌≡◌, ◌≢◌, MatchResult, sym, subst}
 use Rattle.reuse_tree.specs.Listing.{listed_paths}
 use Rattle.reuse_tree.specs.declared.fault.StoreFault.TheVariants.{Clash}
 use Rattle.reuse_tree.specs.declared.record.CallRecord.{CallRecord}
