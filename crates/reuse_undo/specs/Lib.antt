@@ -2,6 +2,7 @@ pub mod AfterStops
 pub mod AmendSteps
 pub mod AmendWords
 pub mod Answering
+pub mod Asides
 pub mod Asking
 pub mod CarriedOut
 pub mod Choices
@@ -14,9 +15,11 @@ pub mod FileLists
 pub mod FileWords
 pub mod FolderFault
 pub mod FolderPlaces
+pub mod FolderWrites
 pub mod Forgotten
 pub mod Found
 pub mod Globs
+pub mod HeldFiles
 pub mod Honesty
 pub mod Hunks
 pub mod KeptOut
@@ -24,6 +27,7 @@ pub mod LineFaults
 pub mod Lines
 pub mod LinesInTurn
 pub mod ListedCommands
+pub mod Names
 pub mod Objects
 pub mod Outputs
 pub mod OwnerChanges
@@ -39,9 +43,13 @@ pub mod RunLine
 pub mod SetBack
 pub mod ShownNames
 pub mod Statuses
+pub mod SystemCall
+pub mod SystemCalls
+pub mod SystemLaws
 pub mod TextLines
 pub mod Texts
 pub mod Told
 pub mod Within
 pub mod WriterFaults
+pub mod Written
 pub mod RefusalTexts

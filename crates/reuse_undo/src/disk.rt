@@ -22,6 +22,7 @@ mod kept_out;
 mod listing;
 mod made_folder;
 mod new_file;
+mod new_name;
 mod origin;
 mod owner;
 mod parts_writer;
@@ -30,6 +31,7 @@ mod process;
 mod remembered;
 mod set_back;
 mod syncs;
+mod system;
 mod trail;
 
 use crate::lock::{HeldFolders, RootLock};

@@ -1,10 +1,11 @@
 //! A folder of the file system: its regular files by their paths.
-ghost use Rattle.std.specs.Prelude.{◌≡◌, All, false, IfOk, IsErr, IsTrue};
+ghost use Rattle.std.specs.Prelude.{◌≡◌, All, false, is_ok, IfOk, IsErr, IsTrue};
 ghost use Rattle.std.specs.List.Sorted.{IsSorted};
 ghost use Rattle.std.specs.Ordering.{nat_cmp};
 ghost use Rattle.std.specs.Cmp.Lexicographic.{slice_cmp};
 ghost use Rattle.reuse_undo.specs.KeptOut.{is_kept_out};
 ghost use Rattle.reuse_undo.specs.Within.{IsWithin};
+ghost use Rattle.reuse_undo.specs.SystemCalls.{SystemStart};
 
 mod batch;
 
@@ -16,14 +17,16 @@ use crate::disk::keeping::Keeping;
 use crate::disk::kept_out::{JOURNAL, is_kept_out};
 use crate::disk::listing::{Listing, list_below};
 use crate::disk::new_file::{Content, NewFile, Target};
+use crate::disk::new_name::new_names;
 use crate::disk::place::{FileStatus, Found, Place, folder_and_name};
 use crate::disk::remembered::Remembered;
 use crate::disk::syncs::{Syncs, Unsynced};
+use crate::disk::system::{HostSystem, System};
 use crate::disk::trail::Trail;
 pub use batch::Stop;
 use reuse_tree::{Change, Parts, PathText, Pruning, Reading};
 use std::alloc::{AllocError, Global};
-use std::fs::{self, File};
+use std::fs::File;
 use std::rt::{Env, Files};
 use std::time::Duration;
 
@@ -45,7 +48,8 @@ struct ReadFile {
 /// it is followed, and each call goes through the open handle of the folder that its path lies in.
 #[derive(Drop)]
 pub struct RootFolder<R: Files<File = File> + AllocGlobal + Clone + Drop> {
-    rt: R,
+    /// All calls that change regular files go through it.
+    system: HostSystem<R>,
     /// The folders that are open.
     trail: Trail,
     /// The regular files that were read since the last listing or write, in order and up to a
@@ -62,15 +66,21 @@ pub struct RootFolder<R: Files<File = File> + AllocGlobal + Clone + Drop> {
 }
 
 impl<R: Files<File = File> + AllocGlobal + Clone + Drop> RootFolder<R> {
+    ghost use Rattle.reuse_undo.specs.FolderWrites.{IsCleared, IsPutAt, IsRemovedAt};
+    ghost use Rattle.reuse_undo.specs.Written.{is_kept};
+    ghost use Rattle.reuse_tree.specs.Parts.{joined};
+
     /// The folder at this path, in which what is written is made lasting or not.
-    pub fn new(rt: R, root: String, syncs: Syncs, keeping: Keeping) -> RootFolder<R> {
+    pub fn new(rt: R, root: String, syncs: Syncs, keeping: Keeping) -> RootFolder<R>
+        ghost start: { SystemStart }
+    {
         let trail = Trail::new(rt.alloc(), root, keeping.process());
         let listed = String::new(rt.alloc());
         let unsynced = Unsynced::new(rt.alloc(), syncs);
         let reads = Vec::new(rt.alloc());
         let remembered = Remembered::nothing(rt.alloc());
         RootFolder {
-            rt,
+            system: HostSystem::new(rt),
             trail,
             reads,
             remembered,
@@ -96,7 +106,7 @@ impl<R: Files<File = File> + AllocGlobal + Clone + Drop> RootFolder<R> {
     /// `come_back`.
     pub fn go_to_handles(&mut self, env: &impl Env, alloc: Global) {
         self.new_file = None;
-        self.trail.go_to_handles(&self.rt, env, alloc);
+        self.trail.go_to_handles(self.system.rt(), env, alloc);
     }
 
     /// Comes back to the folder that the process was called in.
@@ -124,7 +134,7 @@ impl<R: Files<File = File> + AllocGlobal + Clone + Drop> RootFolder<R> {
 
     /// Nothing, or a fault where the root isn't there any more.
     fn nothing(&self, alloc: Global) -> Result<Place, FolderFault> {
-        self.trail.check_root(&self.rt, alloc)?;
+        self.trail.check_root(self.system.rt(), alloc)?;
         Ok(Place::Nothing)
     }
 
@@ -142,13 +152,15 @@ impl<R: Files<File = File> + AllocGlobal + Clone + Drop> RootFolder<R> {
         path: &PathText,
         seen: Option<FileStatus>,
     ) -> Result<Place, FolderFault>
-        ensures { IsTrue (is_kept_out path.now) → result ≡ Ok Place.Other }
+        ensures kept { self.new.system ≡ self.old.system }
+        ensures syncs { self.new.unsynced.syncs ≡ self.old.unsynced.syncs }
+        ensures kept_out { IsTrue (is_kept_out path.now) → result ≡ Ok Place.Other }
     {
         if is_kept_out(path.text()) {
             return Ok(Place::Other);
         }
         let (folder, name) = folder_and_name(path.text());
-        match self.trail.enter(&self.rt, alloc, folder)? {
+        match self.trail.enter(self.system.rt(), alloc, folder)? {
             None => {}
             Some(Place::Nothing) => return self.nothing(alloc),
             Some(place) => return Ok(place),
@@ -156,7 +168,7 @@ impl<R: Files<File = File> + AllocGlobal + Clone + Drop> RootFolder<R> {
         if let Some(status) = seen {
             return Ok(Place::File(status));
         }
-        match self.trail.current()?.look(&self.rt, alloc, name)? {
+        match self.trail.current()?.look(self.system.rt(), alloc, name)? {
             Found::Nothing => self.nothing(alloc),
             found => Ok(found.into_place()),
         }
@@ -185,7 +197,7 @@ impl<R: Files<File = File> + AllocGlobal + Clone + Drop> RootFolder<R> {
             }
         }
         self.new_file = None;
-        listing.walk(&self.rt, alloc, &mut self.trail, &mut self.listed)?;
+        listing.walk(self.system.rt(), alloc, &mut self.trail, &mut self.listed)?;
         Ok(listing.into_paths())
     }
 
@@ -241,7 +253,7 @@ impl<R: Files<File = File> + AllocGlobal + Clone + Drop> RootFolder<R> {
             }
             let (_, name) = folder_and_name(path.text());
             let folder = self.trail.current()?;
-            if let Some(file) = folder.open_file(&self.rt, alloc, name, status)? {
+            if let Some(file) = folder.open_file(self.system.rt(), alloc, name, status)? {
                 let reading = read_file(file, alloc, status.len, limit)?;
                 if let Reading::Found(bytes) = &reading {
                     self.remembered.note(alloc, path, &status, bytes);
@@ -270,7 +282,10 @@ impl<R: Files<File = File> + AllocGlobal + Clone + Drop> RootFolder<R> {
     }
 
     /// What was seen at the path, if it was the last one that was read. What was seen is forgotten.
-    fn take_last_seen(&mut self, path: &PathText) -> Option<FileStatus> {
+    fn take_last_seen(&mut self, path: &PathText) -> Option<FileStatus>
+        ensures kept { self.new.system ≡ self.old.system }
+        ensures syncs { self.new.unsynced.syncs ≡ self.old.unsynced.syncs }
+    {
         let last = self.reads.pop();
         self.reads.clear();
         match last {
@@ -282,6 +297,8 @@ impl<R: Files<File = File> + AllocGlobal + Clone + Drop> RootFolder<R> {
     /// Makes the parts joined the file at the path, as a whole or not at all, and folders as
     /// needed.
     pub fn put(&mut self, alloc: Global, path: &PathText, parts: Parts) -> Result<(), FolderFault>
+        ensures written { IsPutAt path.now (joined parts.entry) (is_kept self.old.unsynced.syncs)
+            (⟦<HostSystem<R> as System>⟧.holds self.old.system) (⟦<HostSystem<R> as System>⟧.holds self.new.system) (is_ok result) }
         ensures kept_out { IsTrue (is_kept_out path.now) → IsErr result }
     {
         let seen = self.take_last_seen(path);
@@ -297,14 +314,16 @@ impl<R: Files<File = File> + AllocGlobal + Clone + Drop> RootFolder<R> {
         path: &PathText,
         seen: Option<FileStatus>,
     ) -> Result<Option<FileStatus>, FolderFault>
-        ensures { IsTrue (is_kept_out path.now) → IsErr result }
+        ensures kept { self.new.system ≡ self.old.system }
+        ensures syncs { self.new.unsynced.syncs ≡ self.old.unsynced.syncs }
+        ensures kept_out { IsTrue (is_kept_out path.now) → IsErr result }
     {
         let (folder, _) = folder_and_name(path.text());
         self.keeping.check_hold()?;
         match self.look_unless_seen(alloc, path, seen)? {
             Place::Nothing => {
                 self.trail
-                    .make(&self.rt, alloc, folder, &mut self.unsynced)?;
+                    .make(self.system.rt(), alloc, folder, &mut self.unsynced)?;
                 Ok(None)
             }
             Place::File(status) => {
@@ -327,15 +346,16 @@ impl<R: Files<File = File> + AllocGlobal + Clone + Drop> RootFolder<R> {
         path: &PathText,
         parts: Parts,
         found: Option<FileStatus>,
-    ) -> Result<(), FolderFault> {
-        let (folder, _) = folder_and_name(path.text());
+    ) -> Result<(), FolderFault>
+        ensures { IsPutAt path.now (joined parts.entry) (is_kept self.old.unsynced.syncs)
+            (⟦<HostSystem<R> as System>⟧.holds self.old.system) (⟦<HostSystem<R> as System>⟧.holds self.new.system) (is_ok result) }
+    {
+        let (folder, name) = folder_and_name(path.text());
         self.unsynced.note(alloc, folder)?;
-        let mut new_file = match self.new_file.take() {
-            Some(new_file) => new_file,
-            None => self.open_new_file(alloc)?,
-        };
+        let mut new_file = self.take_new_file(alloc)?;
         let target = Target {
-            folder: self.trail.enter_seen(&self.rt, alloc, folder)?,
+            folder: self.trail.enter_seen(self.system.rt(), alloc, folder)?,
+            name,
             path: path.text(),
         };
         let content = Content {
@@ -343,26 +363,44 @@ impl<R: Files<File = File> + AllocGlobal + Clone + Drop> RootFolder<R> {
             wanted: self.keeping.wanted(target.folder, found),
             mode: found.map(|status| status.mode),
         };
-        new_file.write(&self.rt, alloc, target, content, &mut self.unsynced)?;
+        new_file.write(&mut self.system, target, content, &mut self.unsynced)?;
         self.keeping
             .note_written(path.text(), found, new_file.kept());
         self.new_file = Some(new_file);
         Ok(())
     }
 
+    /// The place of new files, opened as needed.
+    fn take_new_file(&mut self, alloc: Global) -> Result<NewFile, FolderFault>
+        ensures cleared { IsCleared (⟦<HostSystem<R> as System>⟧.holds self.old.system) (⟦<HostSystem<R> as System>⟧.holds self.new.system) result }
+        ensures syncs { self.new.unsynced.syncs ≡ self.old.unsynced.syncs }
+    {
+        match self.new_file.take() {
+            Some(new_file) => Ok(new_file),
+            None => self.open_new_file(alloc),
+        }
+    }
+
     /// Opens the journal's folder for new files; it is made as needed.
-    fn open_new_file(&mut self, alloc: Global) -> Result<NewFile, FolderFault> {
+    fn open_new_file(&mut self, alloc: Global) -> Result<NewFile, FolderFault>
+        ensures cleared { IsCleared (⟦<HostSystem<R> as System>⟧.holds self.old.system) (⟦<HostSystem<R> as System>⟧.holds self.new.system) result }
+        ensures syncs { self.new.unsynced.syncs ≡ self.old.unsynced.syncs }
+    {
         self.trail
-            .make(&self.rt, alloc, JOURNAL, &mut self.unsynced)?;
+            .make(self.system.rt(), alloc, JOURNAL, &mut self.unsynced)?;
         let folder = self.trail.current()?.try_clone(alloc)?;
+        let names = new_names(self.system.rt(), alloc, &folder)?;
         let new_file = NewFile::in_folder(alloc, folder);
-        new_file.clear(&self.rt, alloc)?;
+        new_file.clear(&mut self.system, &names)?;
         Ok(new_file)
     }
 
     /// Removes a folder without files, so that a file can take its place; with files it is a clash.
-    fn clear_folder(&mut self, alloc: Global, path: &PathText) -> Result<(), FolderFault> {
-        let (rt, trail) = (&self.rt, &mut self.trail);
+    fn clear_folder(&mut self, alloc: Global, path: &PathText) -> Result<(), FolderFault>
+        ensures kept { self.new.system ≡ self.old.system }
+        ensures syncs { self.new.unsynced.syncs ≡ self.old.unsynced.syncs }
+    {
+        let (rt, trail) = (self.system.rt(), &mut self.trail);
         let files = list_below(rt, alloc, trail, path.text(), &mut self.listed)?;
         if !files.is_empty() {
             return Err(FolderFault::Clash);
@@ -373,14 +411,15 @@ impl<R: Files<File = File> + AllocGlobal + Clone + Drop> RootFolder<R> {
     }
 
     /// Removes the regular file at the path, if there is one, and no folder.
-    pub fn remove(&mut self, alloc: Global, path: &PathText) -> Result<(), FolderFault> {
+    pub fn remove(&mut self, alloc: Global, path: &PathText) -> Result<(), FolderFault>
+        ensures { IsRemovedAt path.now (⟦<HostSystem<R> as System>⟧.holds self.old.system) (⟦<HostSystem<R> as System>⟧.holds self.new.system) }
+    {
         let seen = self.take_last_seen(path);
         match self.look_unless_seen(alloc, path, seen)? {
             Place::File(_) => {
                 let (folder, name) = folder_and_name(path.text());
                 self.unsynced.note(alloc, folder)?;
-                let place = self.trail.current()?.path_of(alloc, name)?;
-                Ok(fs::remove_file(&self.rt, place.as_str())?)
+                Ok(self.system.remove(self.trail.current()?, name)?)
             }
             Place::Nothing | Place::BelowFile | Place::Folder | Place::Other => Ok(()),
         }
@@ -388,7 +427,7 @@ impl<R: Files<File = File> + AllocGlobal + Clone + Drop> RootFolder<R> {
 
     /// Whose the journal is.
     pub fn journal_owners(&mut self, alloc: Global) -> Result<JournalOwners, FolderFault> {
-        journal_owners(&self.rt, alloc, &mut self.trail)
+        journal_owners(self.system.rt(), alloc, &mut self.trail)
     }
 
     /// Whether the file at the path can be written anew: it keeps its owner, or needn't. What isn't
@@ -404,7 +443,7 @@ impl<R: Files<File = File> + AllocGlobal + Clone + Drop> RootFolder<R> {
     /// hold, whoever wrote them, and all that was put and removed here.
     pub fn sync(&mut self, alloc: Global, changes: &[Change]) -> Result<(), FolderFault> {
         self.unsynced
-            .sync(&self.rt, alloc, &mut self.trail, changes)
+            .sync(self.system.rt(), alloc, &mut self.trail, changes)
     }
 }
 

@@ -172,6 +172,13 @@ impl OpenFolder {
         }
     }
 
+    /// Which folder it is.
+    pub fn identity(&self) -> Identity
+        ensures { result ≡ self.now.identity }
+    {
+        self.identity
+    }
+
     /// Whether calls go through the handle, and not by the folder's path.
     pub fn is_shown(&self) -> bool {
         self.ways.is_shown

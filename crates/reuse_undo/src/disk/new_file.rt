@@ -1,18 +1,24 @@
 //! Writing a file as a whole or not at all: a new one is written aside, and its data is synced
 //! before it is given its name.
+ghost use Rattle.std.specs.Prelude.{◌≡◌, ℕ, Bool, List, MatchResult, false, is_ok, IfOk};
+ghost use Rattle.reuse_tree.specs.Parts.{joined};
+ghost use Rattle.reuse_undo.specs.SystemLaws.{IsAlikeBut, IsAlikeButFile, IsAlikeUnless, IsFilled};
+ghost use Rattle.reuse_undo.specs.Asides.{name_in, place_of, key_of, IsNewIn, IsNewPlace};
+ghost use Rattle.reuse_undo.specs.HeldFiles.{file};
+ghost use Rattle.reuse_undo.specs.Written.{StandsAlone, IsWritten, is_kept, is_named};
+
 use crate::disk::fault::FolderFault;
 use crate::disk::handle::OpenFolder;
-use crate::disk::kept_out::{NEW, NEW_BESIDE, is_new_name};
+use crate::disk::kept_out::{NEW, NEW_BESIDE};
+use crate::disk::new_name::NewName;
 use crate::disk::owner::{Owner, Process};
 use crate::disk::parts_writer::write_parts;
-use crate::disk::place::{folder_and_name, kept_bits};
+use crate::disk::place::folder_and_name;
 use crate::disk::syncs::Unsynced;
+use crate::disk::system::{Aside, System};
 use reuse_tree::Parts;
 use std::alloc::Global;
-use std::fs::{self, File, OpenOptions, Permissions};
 use std::io::{self, ErrorKind};
-use std::os::unix::fs::{OpenOptionsExt, PermissionsExt, fchown};
-use std::rt::Files;
 
 /// Whose a file is to be, as far as this process may give it.
 #[derive(Clone, Copy)]
@@ -30,20 +36,12 @@ pub struct Content<'a> {
     pub mode: Option<u32>,
 }
 
-/// A path below the root that a file is to get, and the open folder that it lies in.
+/// A name that a file is to get in an open folder, and its path below the root.
 #[derive(Clone, Copy)]
 pub struct Target<'a> {
     pub folder: &'a OpenFolder,
+    pub name: &'a str,
     pub path: &'a str,
-}
-
-/// Where a file is written and which name it is given then, both as the system takes them, and its
-/// path below the root.
-#[derive(Clone, Copy)]
-struct Naming<'a> {
-    from: &'a str,
-    to: &'a str,
-    path: &'a str,
 }
 
 /// The folder in which each file is written before it is given its name.
@@ -62,63 +60,29 @@ pub struct NewFile {
 
 /// An empty file. One that a stopped run has left there is removed first; a link there is not
 /// followed.
-fn create<R: Files<File = File>>(rt: &R, path: &str, mode: Option<u32>) -> io::Result<File> {
-    let mut options = OpenOptions::new();
-    options.write(true).create_new(true);
-    if let Some(mode) = mode {
-        options.mode(mode);
-    }
-    match options.open(rt, path) {
+fn make<S: System>(
+    system: &mut S,
+    folder: &OpenFolder,
+    name: &str,
+    mode: Option<u32>,
+) -> io::Result<Aside>
+    ensures made { IfOk result (λ aside. (place_of aside ≡ name_in folder.now name.now) × StandsAlone (place_of aside) (key_of aside) (S.holds system.new)) }
+    ensures others { IsAlikeBut (name_in folder.now name.now) (S.holds system.old) (S.holds system.new) }
+{
+    match system.make(folder, name, mode) {
         Err(error) if error.kind() == ErrorKind::AlreadyExists => {
-            fs::remove_file(rt, path)?;
-            options.open(rt, path)
+            system.remove(folder, name)?;
+            system.make(folder, name, mode)
         }
-        opened => opened,
-    }
-}
-
-/// A new file that is written aside and has no name of its own yet.
-#[derive(Drop)]
-pub struct Aside {
-    file: File,
-    /// Where it is written, as the system takes it.
-    from: String,
-}
-
-impl Aside {
-    /// Makes the data of the file lasting, which is to get this path.
-    pub fn sync_data(&self, path: &str, unsynced: &mut Unsynced) -> Result<(), FolderFault> {
-        Ok(unsynced.sync_data(&self.file, path)?)
-    }
-
-    /// Gives the file the name of the target, if it lies on the same device: says whether.
-    pub fn name<R: Files<File = File>>(
-        &self,
-        rt: &R,
-        alloc: Global,
-        target: Target<'_>,
-    ) -> Result<bool, FolderFault> {
-        let to = target
-            .folder
-            .path_of(alloc, folder_and_name(target.path).1)?;
-        match fs::rename(rt, self.from.as_str(), to.as_str()) {
-            Err(error) if error.kind() == ErrorKind::CrossesDevices => Ok(false),
-            renamed => {
-                renamed?;
-                Ok(true)
-            }
-        }
-    }
-
-    /// Removes the file, which is of no use. A fault of that tells no more.
-    pub fn remove<R: Files<File = File>>(&self, rt: &R) {
-        let _ = fs::remove_file(rt, self.from.as_str());
+        made => made,
     }
 }
 
 impl NewFile {
     /// The new files in this folder.
-    pub fn in_folder(alloc: Global, folder: OpenFolder) -> NewFile {
+    pub fn in_folder(alloc: Global, folder: OpenFolder) -> NewFile
+        ensures { result.folder ≡ folder }
+    {
         NewFile {
             folder,
             granted: None,
@@ -130,15 +94,17 @@ impl NewFile {
 
     /// Gives these bits to a file that was created with them here. It lacks those that the user's
     /// mask takes away; a mode that was granted once is granted again.
-    fn set_mode(&mut self, file: &File, mode: u32) -> io::Result<()> {
+    fn set_mode(&mut self, aside: &Aside, mode: u32) -> io::Result<()>
+        ensures { self.new.folder ≡ self.old.folder }
+    {
         if self.granted == Some(mode) {
             return Ok(());
         }
-        if kept_bits(&file.metadata()?) == mode {
+        if aside.mode()? == mode {
             self.granted = Some(mode);
             return Ok(());
         }
-        file.set_permissions(Permissions::from_mode(mode))
+        aside.set_mode(mode)
     }
 
     /// Whose the file is that was written last.
@@ -148,10 +114,12 @@ impl NewFile {
 
     /// Gives a file that was created here to the owner that it is to have, as far as may be.
     /// Nothing is written to it before, so nobody reads what he may not.
-    fn keep_owner(&mut self, file: &File, wanted: Wanted<'_>) -> io::Result<()> {
+    fn keep_owner(&mut self, aside: &Aside, wanted: Wanted<'_>) -> io::Result<()>
+        ensures { self.new.folder ≡ self.old.folder }
+    {
         let made = match self.made {
             Some(made) => made,
-            None => Owner::of(&file.metadata()?),
+            None => aside.owner()?,
         };
         self.made = Some(made);
         let owner = wanted.process.kept_owner(wanted.owner, made);
@@ -161,120 +129,207 @@ impl NewFile {
         }
         let user = (owner.user != made.user).then_some(owner.user);
         let group = (owner.group != made.group).then_some(owner.group);
-        fchown(file, user, group)
+        aside.give_to(user, group)
     }
 
     /// Writes the content to a file that was created with its bits.
-    fn fill(&mut self, file: &File, content: Content<'_>) -> io::Result<()> {
-        self.keep_owner(file, content.wanted)?;
-        let mut out = file;
-        write_parts(&mut out, &mut self.joined, content.parts)?;
+    fn fill<S: System>(
+        &mut self,
+        system: &mut S,
+        aside: &Aside,
+        content: Content<'_>,
+    ) -> io::Result<()>
+        ensures folder { self.new.folder ≡ self.old.folder }
+        ensures filled { MatchResult result
+            (λ _. IsFilled (key_of aside.now) (joined content.entry.parts) false (S.holds system.old) (S.holds system.new))
+            (λ _. IsAlikeButFile (key_of aside.now) (S.holds system.old) (S.holds system.new)) }
+    {
+        self.keep_owner(aside, content.wanted)?;
+        write_parts(system, aside, &mut self.joined, content.parts)?;
         match content.mode {
-            Some(mode) => self.set_mode(file, mode),
+            Some(mode) => self.set_mode(aside, mode),
             None => Ok(()),
         }
     }
 
     /// Writes the content to such a file, which is to get this path, and makes its data lasting.
-    fn complete(
+    fn complete<S: System>(
         &mut self,
-        file: &File,
+        system: &mut S,
+        aside: &Aside,
         path: &str,
         content: Content<'_>,
         unsynced: &mut Unsynced,
-    ) -> io::Result<()> {
-        self.fill(file, content)?;
-        unsynced.sync_data(file, path)
+    ) -> io::Result<()>
+        ensures folder { self.new.folder ≡ self.old.folder }
+        ensures syncs { unsynced.new.syncs ≡ unsynced.old.syncs }
+        ensures filled { MatchResult result
+            (λ _. IsFilled (key_of aside.now) (joined content.entry.parts) (is_kept unsynced.old.syncs) (S.holds system.old) (S.holds system.new))
+            (λ _. IsAlikeButFile (key_of aside.now) (S.holds system.old) (S.holds system.new)) }
+    {
+        self.fill(system, aside, content)?;
+        unsynced.sync_data(system, aside, path)
     }
 
-    /// Writes the content aside, as the file of this number.
-    pub fn write_one_aside<R: Files<File = File>>(
+    /// Writes the content to a file that stands aside, makes its data lasting, and gives it the name of
+    /// the target.
+    fn put_in_place<S: System>(
         &mut self,
-        rt: &R,
-        alloc: Global,
-        number: usize,
-        content: Content<'_>,
-    ) -> Result<Aside, FolderFault> {
-        let name = if number == 0 {
-            String::from_str(alloc, NEW)?
-        } else {
-            format!(in alloc; "{NEW}.{number}")?
-        };
-        let from = self.folder.path_of(alloc, name.as_str())?;
-        let file = create(rt, from.as_str(), content.mode)?;
-        let aside = Aside { file, from };
-        if let Err(error) = self.fill(&aside.file, content) {
-            aside.remove(rt);
-            return Err(error.into());
-        }
-        Ok(aside)
-    }
-
-    /// Removes what a stopped run has left of new files here.
-    pub fn clear<R: Files<File = File> + AllocGlobal + Clone + Drop>(
-        &self,
-        rt: &R,
-        alloc: Global,
-    ) -> Result<(), FolderFault> {
-        for entry in fs::read_dir(rt, self.folder.path())? {
-            let entry = entry?;
-            if is_new_name(entry.file_name()) && entry.file_type()?.is_file() {
-                let place = self.folder.path_of(alloc, entry.file_name())?;
-                fs::remove_file(rt, place.as_str())?;
-            }
-        }
-        Ok(())
-    }
-
-    fn write_aside<R: Files<File = File>>(
-        &mut self,
-        rt: &R,
-        naming: Naming<'_>,
+        system: &mut S,
+        aside: &Aside,
+        target: Target<'_>,
         content: Content<'_>,
         unsynced: &mut Unsynced,
-    ) -> io::Result<()> {
-        let file = create(rt, naming.from, content.mode)?;
-        let written = match self.complete(&file, naming.path, content, unsynced) {
-            Ok(()) => fs::rename(rt, naming.from, naming.to),
-            Err(error) => Err(error),
-        };
+    ) -> io::Result<()>
+        ensures folder { self.new.folder ≡ self.old.folder }
+        ensures syncs { unsynced.new.syncs ≡ unsynced.old.syncs }
+        ensures written { StandsAlone (place_of aside.now) (key_of aside.now) (S.holds system.old)
+            → IsWritten (λ place. place ≡ place_of aside.now) (name_in target.entry.folder.now target.entry.name.now) (joined content.entry.parts)
+            (is_kept unsynced.old.syncs) (S.holds system.old) (S.holds system.new) (is_ok result) }
+    {
+        self.complete(system, aside, target.path, content, unsynced)?;
+        system.rename(aside, target.folder, target.name)
+    }
+
+    /// Does so, or removes the file aside.
+    fn put_or_discard<S: System>(
+        &mut self,
+        system: &mut S,
+        aside: &Aside,
+        target: Target<'_>,
+        content: Content<'_>,
+        unsynced: &mut Unsynced,
+    ) -> io::Result<()>
+        ensures folder { self.new.folder ≡ self.old.folder }
+        ensures syncs { unsynced.new.syncs ≡ unsynced.old.syncs }
+        ensures written { StandsAlone (place_of aside.now) (key_of aside.now) (S.holds system.old)
+            → IsWritten (λ place. place ≡ place_of aside.now) (name_in target.entry.folder.now target.entry.name.now) (joined content.entry.parts)
+            (is_kept unsynced.old.syncs) (S.holds system.old) (S.holds system.new) (is_ok result) }
+    {
+        let written = self.put_in_place(system, aside, target, content, unsynced);
         if written.is_err() {
             // What is left of the new file is of no use, and a fault of its removal tells no more.
-            let _ = fs::remove_file(rt, naming.from);
+            system.discard(aside);
         }
         written
     }
 
     /// What was granted, and to whom, is known of the one folder alone.
-    fn forget_granted(&mut self) {
+    fn forget_granted(&mut self)
+        ensures { self.new.folder ≡ self.old.folder }
+    {
         self.granted = None;
         self.made = None;
     }
 
-    /// Writes the content and gives the file the name of the target. Where that leads to another
-    /// device, as below a mount, the new file is written beside the one that it is to be.
-    pub fn write<R: Files<File = File>>(
+    /// Writes the content in the folder of new files and gives it the name of the target.
+    fn write_here<S: System>(
         &mut self,
-        rt: &R,
-        alloc: Global,
+        system: &mut S,
         target: Target<'_>,
         content: Content<'_>,
         unsynced: &mut Unsynced,
-    ) -> Result<(), FolderFault> {
-        let path = target.path;
-        let from = self.folder.path_of(alloc, NEW)?;
-        let to = target.folder.path_of(alloc, folder_and_name(path).1)?;
-        let (from, to) = (from.as_str(), to.as_str());
-        match self.write_aside(rt, Naming { from, to, path }, content, unsynced) {
+    ) -> io::Result<()>
+        ensures folder { self.new.folder ≡ self.old.folder }
+        ensures syncs { unsynced.new.syncs ≡ unsynced.old.syncs }
+        ensures written { IsWritten (IsNewPlace self.old.folder.identity target.entry.folder.now.identity) (name_in target.entry.folder.now target.entry.name.now) (joined content.entry.parts)
+            (is_kept unsynced.old.syncs) (S.holds system.old) (S.holds system.new) (is_ok result) }
+    {
+        let aside = make(system, &self.folder, NEW, content.mode)?;
+        self.put_or_discard(system, &aside, target, content, unsynced)
+    }
+
+    /// Writes the content beside the file that it is to be, and gives it the name of that.
+    fn write_beside<S: System>(
+        &mut self,
+        system: &mut S,
+        target: Target<'_>,
+        content: Content<'_>,
+        unsynced: &mut Unsynced,
+    ) -> io::Result<()>
+        ensures folder { self.new.folder ≡ self.old.folder }
+        ensures syncs { unsynced.new.syncs ≡ unsynced.old.syncs }
+        ensures written { IsWritten (IsNewPlace self.old.folder.identity target.entry.folder.now.identity) (name_in target.entry.folder.now target.entry.name.now) (joined content.entry.parts)
+            (is_kept unsynced.old.syncs) (S.holds system.old) (S.holds system.new) (is_ok result) }
+    {
+        let aside = make(system, target.folder, NEW_BESIDE, content.mode)?;
+        self.forget_granted();
+        let written = self.put_or_discard(system, &aside, target, content, unsynced);
+        self.forget_granted();
+        written
+    }
+
+    /// Writes the content and gives the file the name of the target. Where that leads to another
+    /// device, as below a mount, the new file is written beside the one that it is to be.
+    #[tactic(auto, using(crate::proofs::SystemLemmas::written_again))]
+    pub fn write<S: System>(
+        &mut self,
+        system: &mut S,
+        target: Target<'_>,
+        content: Content<'_>,
+        unsynced: &mut Unsynced,
+    ) -> Result<(), FolderFault>
+        ensures folder { self.new.folder ≡ self.old.folder }
+        ensures syncs { unsynced.new.syncs ≡ unsynced.old.syncs }
+        ensures written { IsWritten (IsNewPlace self.old.folder.identity target.entry.folder.now.identity) (name_in target.entry.folder.now target.entry.name.now) (joined content.entry.parts)
+            (is_kept unsynced.old.syncs) (S.holds system.old) (S.holds system.new) (is_ok result) }
+    {
+        match self.write_here(system, target, content, unsynced) {
             Err(error) if error.kind() == ErrorKind::CrossesDevices => {
-                let beside = target.folder.path_of(alloc, NEW_BESIDE)?;
-                let from = beside.as_str();
-                self.forget_granted();
-                let written = self.write_aside(rt, Naming { from, to, path }, content, unsynced);
-                self.forget_granted();
-                Ok(written?)
+                Ok(self.write_beside(system, target, content, unsynced)?)
             }
             written => Ok(written?),
+        }
+    }
+
+    /// Writes the content aside, as the file of this number.
+    pub fn write_one_aside<S: System>(
+        &mut self,
+        system: &mut S,
+        alloc: Global,
+        number: usize,
+        content: Content<'_>,
+    ) -> Result<Aside, FolderFault>
+        ensures folder { self.new.folder ≡ self.old.folder }
+        ensures filled { IfOk result (λ aside. IsNewIn self.old.folder.identity (place_of aside)
+            × (S.holds system.new (place_of aside) ≡ file (key_of aside) (joined content.entry.parts) false)) }
+        ensures others { IsAlikeUnless (IsNewIn self.old.folder.identity) (S.holds system.old) (S.holds system.new) }
+    {
+        let name = NewName::of_number(alloc, number)?;
+        let aside = make(system, &self.folder, name.as_str(), content.mode)?;
+        if let Err(error) = self.fill(system, &aside, content) {
+            system.discard(&aside);
+            return Err(error.into());
+        }
+        Ok(aside)
+    }
+
+    /// Removes what a stopped run has left of new files here, which have these names.
+    pub fn clear<S: System>(&self, system: &mut S, names: &[NewName]) -> Result<(), FolderFault>
+        ensures { IsAlikeUnless (IsNewIn self.now.folder.identity) (S.holds system.old) (S.holds system.new) }
+    {
+        for name in names {
+            system.remove(&self.folder, name.as_str())?;
+        }
+        Ok(())
+    }
+}
+
+/// Gives the new file the name of the target, if it lies on the same device: says whether.
+pub fn name_aside<S: System>(
+    system: &mut S,
+    aside: &Aside,
+    target: Target<'_>,
+) -> Result<bool, FolderFault>
+    ensures { (bytes : List ℕ) → (is_lasting : Bool) → S.holds system.old (place_of aside.now) ≡ file (key_of aside.now) bytes is_lasting
+        → IsWritten (λ place. place ≡ place_of aside.now) (name_in target.entry.folder.now target.entry.name.now) bytes is_lasting
+        (S.holds system.old) (S.holds system.new) (is_named result) }
+{
+    match system.rename(aside, target.folder, target.name) {
+        Err(error) if error.kind() == ErrorKind::CrossesDevices => Ok(false),
+        renamed => {
+            renamed?;
+            Ok(true)
         }
     }
 }

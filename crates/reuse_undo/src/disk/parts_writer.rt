@@ -1,10 +1,12 @@
-//! Writing the parts of a file, to any writer.
-ghost use Rattle.std.specs.Prelude.{OnOk};
-ghost use Rattle.std.specs.Io.KnownBytes.{Appends};
+//! Writing the parts of a file.
+ghost use Rattle.std.specs.Prelude.{MatchResult};
 ghost use Rattle.reuse_tree.specs.Parts.{joined};
+ghost use Rattle.reuse_undo.specs.SystemLaws.{IsAlikeButFile, IsAppended};
+ghost use Rattle.reuse_undo.specs.Asides.{key_of};
 
+use crate::disk::system::{Aside, System};
 use reuse_tree::Parts;
-use std::io::{self, Write};
+use std::io;
 
 /// Parts that are no longer than this together are joined, and go out by one call of the system. A
 /// copy of more takes longer than another call. (The library's vectored write would need no copy,
@@ -12,9 +14,16 @@ use std::io::{self, Write};
 const MOST_JOINED: usize = 32_768;
 
 /// Writes the parts, one after the other: those of a short file by one call of the system, for
-/// which they are joined in `room`. What the writer has then is what it had, and the parts joined.
-pub fn write_parts<W: Write>(out: &mut W, room: &mut Vec<u8>, parts: Parts) -> io::Result<()>
-    ensures { OnOk result (Appends (W.contents out.old) (W.contents out.new) (joined parts.entry)) }
+/// which they are joined in `room`. What the file has then is what it had, and the parts joined.
+pub fn write_parts<S: System>(
+    system: &mut S,
+    aside: &Aside,
+    room: &mut Vec<u8>,
+    parts: Parts,
+) -> io::Result<()>
+    ensures { MatchResult result
+        (λ _. IsAppended (key_of aside.now) (joined parts.entry) (S.holds system.old) (S.holds system.new))
+        (λ _. IsAlikeButFile (key_of aside.now) (S.holds system.old) (S.holds system.new)) }
 {
     let Parts {
         front,
@@ -23,13 +32,13 @@ pub fn write_parts<W: Write>(out: &mut W, room: &mut Vec<u8>, parts: Parts) -> i
     } = parts;
     let length = front.len().saturating_add(middle.len());
     if length.saturating_add(back.len()) > MOST_JOINED {
-        out.write_all(front)?;
-        out.write_all(middle)?;
-        return out.write_all(back);
+        system.append(aside, front)?;
+        system.append(aside, middle)?;
+        return system.append(aside, back);
     }
     room.clear();
     room.extend_from_slice(front)?;
     room.extend_from_slice(middle)?;
     room.extend_from_slice(back)?;
-    out.write_all(room)
+    system.append(aside, room)
 }

@@ -1,6 +1,7 @@
 //! What stands at a path below a root. No link is followed.
 ghost use Rattle.std.specs.Prelude.{◌≡◌};
 ghost use Rattle.reuse_undo.specs.Owners.{rights_of_mode};
+ghost use Rattle.reuse_undo.specs.Names.{IsNameOf};
 
 use crate::disk::fault::FolderFault;
 use crate::disk::owner::{Owner, Rights};
@@ -211,7 +212,9 @@ impl Found {
 }
 
 /// The folder that the path lies in, which is empty for the root, and the name there.
-pub fn folder_and_name(path: &str) -> (&str, &str) {
+pub fn folder_and_name(path: &str) -> (&str, &str)
+    ensures { IsNameOf path.now result.1.now }
+{
     path.rsplit_once('/').unwrap_or(("", path))
 }
 

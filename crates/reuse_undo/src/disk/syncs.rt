@@ -2,9 +2,12 @@
 //! synced before the file is given its name. Which folders got or lost a name is noted, and a
 //! barrier syncs each of them once. The system reports a fault of a sync once, and may then drop
 //! what it could not write: so a store whose sync has failed believes no later one.
-ghost use Rattle.std.specs.Prelude.{◌≡◌, IfErr, IfSome, IsOk, None, OnOk, Some};
+ghost use Rattle.std.specs.Prelude.{◌≡◌, IfErr, IfSome, IsOk, MatchResult, None, OnOk, Some};
 ghost use Rattle.std.specs.BTreeSet.{IsEmpty};
 ghost use Rattle.std.specs.Option.{unwrap_or};
+ghost use Rattle.reuse_undo.specs.SystemLaws.{IsAlikeButFile};
+ghost use Rattle.reuse_undo.specs.Asides.{key_of};
+ghost use Rattle.reuse_undo.specs.Written.{IsSyncedIf, is_kept};
 ghost use Rattle.reuse_undo.specs.declared.disk.fault.FolderFault.TheVariants.{Device};
 ghost use Rattle.reuse_undo.specs.declared.disk.fault.Obstacle.{Obstacle};
 ghost use Rattle.reuse_undo.specs.declared.disk.fault.Obstacle.TheVariants.{System};
@@ -12,6 +15,7 @@ ghost use Rattle.reuse_undo.specs.declared.disk.fault.Obstacle.TheVariants.{Syst
 use crate::disk::fault::{FolderFault, Obstacle};
 use crate::disk::kept_out::JOURNAL;
 use crate::disk::place::folder_and_name;
+use crate::disk::system::{Aside, System};
 use crate::disk::trail::Trail;
 use reuse_tree::Change;
 use std::alloc::{AllocError, Global};
@@ -88,15 +92,23 @@ impl Unsynced {
     }
 
     /// Makes the data of a file lasting that is to get this path.
-    pub fn sync_data(&mut self, file: &File, path: &str) -> io::Result<()>
+    pub fn sync_data<S: System>(
+        &mut self,
+        system: &mut S,
+        aside: &Aside,
+        path: &str,
+    ) -> io::Result<()>
         ensures syncs { self.new.syncs ≡ self.old.syncs }
         ensures ok { OnOk result (self.new.failed ≡ self.old.failed) }
         ensures failed { IfErr result (λ error. self.new.failed ≡ Some (unwrap_or self.old.failed (System error))) }
+        ensures synced { MatchResult result
+            (λ _. IsSyncedIf (is_kept self.old.syncs) (key_of aside.now) (S.holds system.old) (S.holds system.new))
+            (λ _. IsAlikeButFile (key_of aside.now) (S.holds system.old) (S.holds system.new)) }
     {
         if self.syncs == Syncs::LeftOut {
             return Ok(());
         }
-        match file.sync_data() {
+        match system.sync_data(aside) {
             Ok(()) => Ok(()),
             Err(error) => {
                 self.set_last(path);

@@ -1,6 +1,8 @@
 //! The folders that are open: the root, and those along the path that was worked in last. Calls
 //! come in the order of their paths, so most find their folder open. A folder is opened through the
 //! handle of the one above it.
+ghost use Rattle.std.specs.Prelude.{◌≡◌};
+
 use crate::disk::empty_folders::path_in;
 use crate::disk::fault::{FolderFault, Obstacle};
 use crate::disk::handle::{Below, OpenFolder, Start};
@@ -227,7 +229,9 @@ impl Trail {
         alloc: Global,
         folder: &str,
         unsynced: &mut Unsynced,
-    ) -> Result<(), FolderFault> {
+    ) -> Result<(), FolderFault>
+        ensures { unsynced.new.syncs ≡ unsynced.old.syncs }
+    {
         self.go_back(rt, alloc, folder)?;
         for name in self.rest_of(folder).split_terminator('/') {
             match self.open_or_make(rt, alloc, name, unsynced)? {
@@ -244,7 +248,9 @@ impl Trail {
         alloc: Global,
         name: &str,
         unsynced: &mut Unsynced,
-    ) -> Result<Below, FolderFault> {
+    ) -> Result<Below, FolderFault>
+        ensures { unsynced.new.syncs ≡ unsynced.old.syncs }
+    {
         let above = self.current()?;
         match above.open_below(rt, alloc, name)? {
             Below::Other(Found::Nothing) => {

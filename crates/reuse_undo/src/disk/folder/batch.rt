@@ -4,8 +4,9 @@ ghost use Rattle.std.specs.Prelude.{◌≡◌, ◌<◌, ◌≤◌, IfErr, IfOk, 
 
 use super::{ReadFile, RootFolder};
 use crate::disk::fault::FolderFault;
-use crate::disk::new_file::{Aside, Content, Target};
+use crate::disk::new_file::{Content, Target, name_aside};
 use crate::disk::place::{FileStatus, folder_and_name};
+use crate::disk::system::{Aside, System};
 use reuse_tree::{FileWrite, Parts, PathText};
 use std::alloc::{AllocError, Global};
 use std::fs::File;
@@ -61,9 +62,9 @@ impl Seen {
 }
 
 /// Removes new files that get no name.
-fn remove_all<R: Files<File = File>>(rt: &R, asides: &[Aside]) {
+fn remove_all<S: System>(system: &mut S, asides: &[Aside]) {
     for aside in asides {
-        aside.remove(rt);
+        system.discard(aside);
     }
 }
 
@@ -144,11 +145,8 @@ impl<R: Files<File = File> + AllocGlobal + Clone + Drop> RootFolder<R> {
         let (folder, _) = folder_and_name(write.path.text());
         let found = self.make_room(alloc, write.path, seen.next_at(write.path))?;
         self.unsynced.note(alloc, folder)?;
-        let mut new_file = match self.new_file.take() {
-            Some(new_file) => new_file,
-            None => self.open_new_file(alloc)?,
-        };
-        let target = match self.trail.enter_seen(&self.rt, alloc, folder) {
+        let mut new_file = self.take_new_file(alloc)?;
+        let target = match self.trail.enter_seen(self.system.rt(), alloc, folder) {
             Ok(target) => target,
             Err(fault) => {
                 // The new files before this one are still to be named, by the folder that it holds
@@ -162,7 +160,7 @@ impl<R: Files<File = File> + AllocGlobal + Clone + Drop> RootFolder<R> {
             wanted: self.keeping.wanted(target, found),
             mode: found.map(|status| status.mode),
         };
-        let aside = new_file.write_one_aside(&self.rt, alloc, number, content);
+        let aside = new_file.write_one_aside(&mut self.system, alloc, number, content);
         if aside.is_ok() {
             self.keeping
                 .note_written(write.path.text(), found, new_file.kept());
@@ -183,8 +181,8 @@ impl<R: Files<File = File> + AllocGlobal + Clone + Drop> RootFolder<R> {
         ensures { IfErr result (λ stop. stop.made < length writes.now) }
     {
         for (aside, write) in asides.iter().zip(writes) {
-            if let Err(fault) = aside.sync_data(write.path.text(), &mut self.unsynced) {
-                remove_all(&self.rt, asides);
+            if let Err(fault) = self.sync_aside(aside, write.path) {
+                remove_all(&mut self.system, asides);
                 return Err(Stop::at_first(fault));
             }
         }
@@ -193,11 +191,17 @@ impl<R: Files<File = File> + AllocGlobal + Clone + Drop> RootFolder<R> {
                 return Ok(());
             };
             if let Err(fault) = self.name_one(alloc, aside, write) {
-                remove_all(&self.rt, &asides[made..]);
+                remove_all(&mut self.system, &asides[made..]);
                 return Err(Stop { made, fault });
             }
         }
         Ok(())
+    }
+
+    /// Makes the data of the new file lasting that is to get this path.
+    fn sync_aside(&mut self, aside: &Aside, path: &PathText) -> Result<(), FolderFault> {
+        let unsynced = &mut self.unsynced;
+        Ok(unsynced.sync_data(&mut self.system, aside, path.text())?)
     }
 
     /// Gives the new file its name. Where that leads to another device, it is written anew beside
@@ -209,15 +213,16 @@ impl<R: Files<File = File> + AllocGlobal + Clone + Drop> RootFolder<R> {
         write: &FileWrite,
     ) -> Result<(), FolderFault> {
         let path = write.path.text();
-        let (folder, _) = folder_and_name(path);
+        let (folder, name) = folder_and_name(path);
         let target = Target {
-            folder: self.trail.enter_seen(&self.rt, alloc, folder)?,
+            folder: self.trail.enter_seen(self.system.rt(), alloc, folder)?,
+            name,
             path,
         };
-        if aside.name(&self.rt, alloc, target)? {
+        if name_aside(&mut self.system, aside, target)? {
             return Ok(());
         }
-        aside.remove(&self.rt);
+        self.system.discard(aside);
         match write.file {
             Some(parts) => self.put(alloc, write.path, parts),
             None => Ok(()),

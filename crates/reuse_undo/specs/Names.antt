@@ -1,0 +1,7 @@
+-- The name of a path in the folder that it lies in.
+use Rattle.std.specs.Prelude.{◌≡◌, ◌≢◌, ◌⊎◌, ℕ, ◌<◌, List, ◌∷◌, ◌++◌, length, slice_index}
+
+-- what stands behind the last slash, or all where there is none
+pub record IsNameOf (path name : List ℕ) : Type 0 where
+  pub behind : (name ≡ path) ⊎ ((folder : List ℕ) × (path ≡ folder ++ 47 ∷ name))
+  pub last : (i : ℕ) → i < length name → slice_index name i ≢ 47

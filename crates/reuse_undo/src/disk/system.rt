@@ -1,0 +1,95 @@
+//! The calls of the system that change regular files, and what they make of these. What a call says
+//! holds as long as nobody else writes in the folders.
+ghost use Rattle.std.specs.Prelude.{◌≡◌, MatchResult};
+ghost use Rattle.reuse_undo.specs.HeldFiles.{Held};
+
+mod host;
+mod make_file;
+mod record;
+
+use crate::disk::handle::OpenFolder;
+use crate::disk::owner::Owner;
+use crate::disk::place::{Identity, kept_bits};
+pub use host::HostSystem;
+use std::fs::{File, Permissions};
+use std::io;
+use std::os::unix::fs::{PermissionsExt, fchown};
+
+/// A new file that is written aside and has no name of its own yet.
+#[derive(Drop)]
+pub struct Aside {
+    file: File,
+    /// Where it was made, as the system takes it.
+    path: String,
+    /// The folder in which it was made, and its name there.
+    folder: Identity,
+    name: String,
+    /// How many files were made before.
+    number: u64,
+}
+
+impl Aside {
+    /// Whose it is.
+    pub fn owner(&self) -> io::Result<Owner> {
+        Ok(Owner::of(&self.file.metadata()?))
+    }
+
+    /// The bits of its mode that a rewritten file keeps.
+    pub fn mode(&self) -> io::Result<u32> {
+        Ok(kept_bits(&self.file.metadata()?))
+    }
+
+    /// Gives it these bits.
+    pub fn set_mode(&self, mode: u32) -> io::Result<()> {
+        self.file.set_permissions(Permissions::from_mode(mode))
+    }
+
+    /// Gives it to this user and group.
+    pub fn give_to(&self, user: Option<u32>, group: Option<u32>) -> io::Result<()> {
+        fchown(&self.file, user, group)
+    }
+}
+
+/// The calls of the system on files.
+pub trait System {
+    ghost use Rattle.reuse_undo.specs.SystemLaws.{IsAlikeBut, IsAlikeButFile, IsMade, IsAppended, IsSynced, IsRenamed, IsRemoved, MayBeRenamed};
+    ghost use Rattle.reuse_undo.specs.Asides.{name_in, place_of, key_of};
+
+    /// The regular file that each name in a folder leads to.
+    ghost holds: { Self → Held };
+
+    /// Makes an empty file of this name, and of this mode where one is given. It fails where anything
+    /// has the name.
+    fn make(&mut self, folder: &OpenFolder, name: &str, mode: Option<u32>) -> io::Result<Aside>
+        ensures { MatchResult result
+            (λ aside. (place_of aside ≡ name_in folder.now name.now) × IsMade (name_in folder.now name.now) (key_of aside) (holds self.old) (holds self.new))
+            (λ _. IsAlikeBut (name_in folder.now name.now) (holds self.old) (holds self.new)) };
+
+    /// Writes these bytes to the end of the file. Where that fails, any may be written.
+    fn append(&mut self, aside: &Aside, bytes: &[u8]) -> io::Result<()>
+        ensures { MatchResult result
+            (λ _. IsAppended (key_of aside.now) bytes.now (holds self.old) (holds self.new))
+            (λ _. IsAlikeButFile (key_of aside.now) (holds self.old) (holds self.new)) };
+
+    /// Makes the bytes of the file lasting.
+    fn sync_data(&mut self, aside: &Aside) -> io::Result<()>
+        ensures { MatchResult result
+            (λ _. IsSynced (key_of aside.now) (holds self.old) (holds self.new))
+            (λ _. IsAlikeButFile (key_of aside.now) (holds self.old) (holds self.new)) };
+
+    /// Gives the file another name, in place of what has it. Where that fails, it may be done.
+    fn rename(&mut self, aside: &Aside, folder: &OpenFolder, name: &str) -> io::Result<()>
+        ensures { MatchResult result
+            (λ _. IsRenamed (place_of aside.now) (name_in folder.now name.now) (holds self.old) (holds self.new))
+            (λ _. MayBeRenamed (place_of aside.now) (name_in folder.now name.now) (holds self.old) (holds self.new)) };
+
+    /// Removes what stands where the file was made. A fault of that tells no more.
+    fn discard(&mut self, aside: &Aside)
+        ensures { IsAlikeBut (place_of aside.now) (holds self.old) (holds self.new) };
+
+    /// Removes the file of this name. Where that fails, it may be done.
+    fn remove(&mut self, folder: &OpenFolder, name: &str) -> io::Result<()>
+        ensures { MatchResult result
+            (λ _. IsRemoved (name_in folder.now name.now) (holds self.old) (holds self.new))
+            (λ _. IsAlikeBut (name_in folder.now name.now) (holds self.old) (holds self.new)) };
+}

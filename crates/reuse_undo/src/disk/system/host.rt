@@ -1,0 +1,122 @@
+//! The system itself. Each method makes the one call that it notes: that it does is not proved, and
+//! has to be read here.
+ghost use Rattle.std.specs.Prelude.{◌≡◌};
+ghost use Rattle.reuse_undo.specs.SystemCall.{made_of};
+
+use crate::disk::handle::OpenFolder;
+use crate::disk::system::make_file::make_file;
+use crate::disk::system::record::{CallKind, SystemRecord};
+use crate::disk::system::{Aside, System};
+use std::fs::{self, File};
+use std::io::{self, ErrorKind, Write};
+use std::rt::Files;
+
+/// The system that the program runs on. The files that names lead to are those of its record: those
+/// of the start, which no code knows, as the calls have left them. So the contract holds for
+/// whatever files there were.
+#[derive(Drop)]
+pub struct HostSystem<R: Files<File = File> + AllocGlobal + Drop> {
+    rt: R,
+    /// How many files were to be made.
+    made: u64,
+    noted: SystemRecord,
+    ghost counted: { made ≡ made_of noted.calls },
+}
+
+impl<R: Files<File = File> + AllocGlobal + Drop> HostSystem<R> {
+    ghost use Rattle.reuse_undo.specs.SystemCalls.{SystemStart, held_at_start};
+
+    /// The system, of which nothing is asked yet.
+    pub fn new(rt: R) -> HostSystem<R>
+        ghost start: { SystemStart }
+        ensures { ⟦<HostSystem<R> as System>⟧.holds result ≡ held_at_start start.files }
+    {
+        HostSystem {
+            rt,
+            made: 0,
+            noted: SystemRecord::new(),
+        }
+    }
+
+    /// For the calls that change no regular file.
+    pub fn rt(&self) -> &R {
+        &self.rt
+    }
+}
+
+fn append_to(file: &File, bytes: &[u8]) -> io::Result<()> {
+    let mut out = file;
+    out.write_all(bytes)
+}
+
+fn rename_to<R: Files<File = File> + AllocGlobal>(
+    rt: &R,
+    aside: &Aside,
+    folder: &OpenFolder,
+    name: &str,
+) -> io::Result<()> {
+    let path = folder.path_of(rt.alloc(), name)?;
+    fs::rename(rt, aside.path.as_str(), path.as_str())
+}
+
+fn remove_in<R: Files<File = File> + AllocGlobal>(
+    rt: &R,
+    folder: &OpenFolder,
+    name: &str,
+) -> io::Result<()> {
+    let path = folder.path_of(rt.alloc(), name)?;
+    fs::remove_file(rt, path.as_str())
+}
+
+impl<R: Files<File = File> + AllocGlobal + Drop> System for HostSystem<R> {
+    ghost use Rattle.reuse_undo.specs.SystemCalls.{held_after};
+
+    ghost holds = { λ system. held_after system.noted.files system.noted.fates system.noted.calls };
+
+    fn make(&mut self, folder: &OpenFolder, name: &str, mode: Option<u32>) -> io::Result<Aside> {
+        let number = self.made;
+        let Some(made) = number.checked_add(1) else {
+            return Err(ErrorKind::Other.into());
+        };
+        let answer = make_file(&self.rt, folder, name, mode, number);
+        let kind = CallKind::Make(folder.identity(), answer.is_ok());
+        self.noted.note(&kind, name.as_bytes(), b"");
+        self.made = made;
+        answer
+    }
+
+    fn append(&mut self, aside: &Aside, bytes: &[u8]) -> io::Result<()> {
+        let answer = append_to(&aside.file, bytes);
+        let kind = CallKind::Append(aside.number, answer.is_ok());
+        self.noted.note(&kind, bytes, b"");
+        answer
+    }
+
+    fn sync_data(&mut self, aside: &Aside) -> io::Result<()> {
+        let answer = aside.file.sync_data();
+        let kind = CallKind::Sync(aside.number, answer.is_ok());
+        self.noted.note(&kind, b"", b"");
+        answer
+    }
+
+    fn rename(&mut self, aside: &Aside, folder: &OpenFolder, name: &str) -> io::Result<()> {
+        let answer = rename_to(&self.rt, aside, folder, name);
+        let kind = CallKind::Rename(aside.folder, folder.identity(), answer.is_ok());
+        self.noted
+            .note(&kind, aside.name.as_bytes(), name.as_bytes());
+        answer
+    }
+
+    fn discard(&mut self, aside: &Aside) {
+        let answer = fs::remove_file(&self.rt, aside.path.as_str());
+        let kind = CallKind::Remove(aside.folder, answer.is_ok());
+        self.noted.note(&kind, aside.name.as_bytes(), b"");
+    }
+
+    fn remove(&mut self, folder: &OpenFolder, name: &str) -> io::Result<()> {
+        let answer = remove_in(&self.rt, folder, name);
+        let kind = CallKind::Remove(folder.identity(), answer.is_ok());
+        self.noted.note(&kind, name.as_bytes(), b"");
+        answer
+    }
+}
