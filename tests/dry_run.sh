@@ -305,8 +305,9 @@ for ((round = 0; round < rounds; round++)); do
           call+=(--exclude "${globs[RANDOM % ${#globs[@]}]}")
         done
         if ((RANDOM % 3 == 0)); then
-          find "$tree" -type f -not -path '*/.reuse/*' -printf '%P\0' |
-            shuf -z -n $((RANDOM % 6)) > "$room/list"
+          # (a `shuf` that is to pick none doesn't read, so no pipe leads there)
+          find "$tree" -type f -not -path '*/.reuse/*' -printf '%P\0' > "$room/files"
+          shuf -z -n $((RANDOM % 6)) "$room/files" > "$room/list"
           call+=(--files-from "$room/list")
         fi
         ;;
