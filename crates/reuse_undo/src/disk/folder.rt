@@ -255,10 +255,14 @@ impl<R: Files<File = File> + AllocGlobal + Clone + Drop> RootFolder<R> {
             let folder = self.trail.current()?;
             if let Some(file) = folder.open_file(self.system.rt(), alloc, name, status)? {
                 let reading = read_file(file, alloc, status.len, limit)?;
-                if let Reading::Found(bytes) = &reading {
-                    self.remembered.note(alloc, path, &status, bytes);
+                // One that is remembered is looked at once more before it is written.
+                let is_remembered = match &reading {
+                    Reading::Found(bytes) => self.remembered.note(alloc, path, &status, bytes),
+                    _ => false,
+                };
+                if !is_remembered {
+                    self.note_read(alloc, path, status)?;
                 }
-                self.note_read(alloc, path, status)?;
                 return Ok(reading);
             }
         }

@@ -12,7 +12,7 @@ use std::alloc::Global;
 use std::time::Duration;
 
 /// How many bytes are remembered at most, in all.
-const MOST_BYTES: usize = 32 * 1_024 * 1_024;
+const MOST_BYTES: usize = 64 * 1_024 * 1_024;
 
 /// The longest file that is remembered: a longer one takes so long to write that reading it again
 /// costs little.
@@ -70,23 +70,33 @@ impl Remembered {
         is_settled && is_next && len <= LONGEST && self.bytes.saturating_add(len) <= MOST_BYTES
     }
 
-    /// A file was read that had this status before. If memory is short it isn't remembered.
-    pub fn note(&mut self, alloc: Global, path: &PathText, status: &FileStatus, bytes: &Bytes) {
+    /// A file was read that had this status before: says whether it is remembered. If memory is
+    /// short it isn't.
+    pub fn note(
+        &mut self,
+        alloc: Global,
+        path: &PathText,
+        status: &FileStatus,
+        bytes: &Bytes,
+    ) -> bool {
         let len = bytes.len();
         let version = status.version();
         if !self.takes(path, &version, len) {
-            return;
+            return false;
         }
-        if let (Ok(path), Ok(bytes)) = (path.try_clone(alloc), bytes.try_clone(alloc)) {
-            let file = RememberedFile {
-                path,
-                version,
-                bytes: Some(bytes),
-            };
-            if self.files.push(file).is_ok() {
-                self.bytes = self.bytes.saturating_add(len);
-            }
+        let (Ok(path), Ok(bytes)) = (path.try_clone(alloc), bytes.try_clone(alloc)) else {
+            return false;
+        };
+        let file = RememberedFile {
+            path,
+            version,
+            bytes: Some(bytes),
+        };
+        if self.files.push(file).is_err() {
+            return false;
         }
+        self.bytes = self.bytes.saturating_add(len);
+        true
     }
 
     /// Where the file of this path stands, if it is remembered. Files are mostly asked for in the
