@@ -8,12 +8,14 @@ use Rattle.reuse_session.specs.declared.events.Event.TheVariants as asked
 use Rattle.reuse_tree.specs.declared.cause.Cause.TheVariants as causes
 use Rattle.reuse_session.specs.declared.reply.Reply.{Reply}
 use Rattle.reuse_session.specs.declared.reply.Reply.TheVariants.{Opened}
+use Rattle.reuse_session.specs.declared.request.Request.{Request}
 use Rattle.reuse_session.specs.declared.reply.Refusal.{Refusal}
 use Rattle.reuse_session.specs.declared.failure.Failure.TheVariants.{Memory, Fault, Interrupted}
 use Rattle.reuse_session.specs.declared.reply.Refusal.TheVariants.{Failed}
 use Rattle.reuse_session.specs.Answer.{IsNoWantOfMemory, IsNoClash, HasCause, TellsNoFault}
-use Rattle.reuse_session.specs.Machine.{Snapshots, Step, step, answers_to, after_all}
-use Rattle.reuse_session.specs.Stops.{Point, open_at, closed, Reopens, GoesOrStops, Lists, Foretells, AnswersEvent, RunsWithStops, HaveCauses}
+use Rattle.reuse_session.specs.Machine.{Snapshots}
+use Rattle.reuse_session.specs.Model.{Gives, GivesEvent, AnswersAll}
+use Rattle.reuse_session.specs.Stops.{Point, open_at, closed, Reopens, Continues, AnswersEvent, RunsWithStops, HaveCauses}
 use Rattle.reuse_session.proofs.Driving.{answers_reopen}
 
 -- ---- many events
@@ -94,46 +96,31 @@ reopened (Ok reply) old new none told h = absurd h
 reopened (Err (Failed failure)) old new none told h = absurd told
 reopened (Err refusal) old new none told h = absurd h
 
-went : (next : Step) (answer : Result Reply Refusal) (state : Snapshots) (new : Point) → TellsNoFault answer → GoesOrStops next answer (open_at state) new → (answer ≡ next.0) × (new ≡ open_at next.1)
-went next (Ok reply) state new told h = h
-went next (Err (Failed failure)) state new told h = absurd told
-went next (Err refusal) state new told h = h
-
-listed : (next : Step) (answer : Result Reply Refusal) (state : Snapshots) (new : Point) → TellsNoFault answer → Lists next answer (open_at state) new → (answer ≡ next.0) × (new ≡ open_at state)
-listed next (Ok reply) state new told h = h
-listed next (Err (Failed Memory)) state new told h = absurd told
-listed next (Err refusal) state new told h = h
-
-foretold : (next : Step) (answer : Result Reply Refusal) (state : Snapshots) (new : Point) → TellsNoFault answer → Foretells next answer (open_at state) new → (answer ≡ next.0) × (new ≡ open_at state)
-foretold next (Ok reply) state new told h = h
-foretold next (Err (Failed (Fault fault))) state new told h = absurd told
-foretold next (Err (Failed Memory)) state new told h = absurd told
-foretold next (Err refusal) state new told h = h
+went : (request : Request) (answer : Result Reply Refusal) (old new : Point) → TellsNoFault answer → Continues request answer old new → (next : Snapshots) × Gives old.state request answer next × (new ≡ open_at next)
+went request (Ok reply) old new told h = h
+went request (Err (Failed failure)) old new told h = absurd told
+went request (Err refusal) old new told h = h
 
 answered : (event : Event) (answer : Result Reply Refusal) (state : Snapshots) (new : Point) → TellsNoFault answer → AnswersEvent true event answer (open_at state) new
-    → (answer ≡ (step state event).0) × (new ≡ open_at (step state event).1)
-answered (asked.Run command when) answer state new told h = went (step state (asked.Run command when)) answer state new told h
-answered asked.Undo answer state new told h = went (step state asked.Undo) answer state new told h
-answered asked.Redo answer state new told h = went (step state asked.Redo) answer state new told h
-answered asked.Log answer state new told h = listed (step state asked.Log) answer state new told h
-answered (asked.Preview call) answer state new told h = foretold (step state (asked.Preview call)) answer state new told h
-answered asked.Reopen answer state new told h = reopened answer (open_at state) new refl told h
+    → (next : Snapshots) × GivesEvent state event answer next × (new ≡ open_at next)
+answered (asked.Ask request) answer state new told h = went request answer (open_at state) new told h
+answered asked.Reopen answer state new told h = let r = reopened answer (open_at state) new refl told h in (state, (r.0, refl), r.1)
 
-runs_on : (events : List Event) (answers : List (Result Reply Refusal)) (state : Snapshots) (end : Point) → AllByRecursion TellsNoFault answers → RunsWithStops events answers (open_at state) end
-    → (answers ≡ answers_to events state) × (end ≡ open_at (after_all events state))
-runs_on [] [] state end told runs = (refl, runs)
-runs_on (event ∷ events) (answer ∷ answers) state end told runs =
+runs_on : (events : List Event) (answers : List (Result Reply Refusal)) (state : Snapshots) (point : Point) → AllByRecursion TellsNoFault answers → RunsWithStops events answers (open_at state) point
+    → (end : Snapshots) × AnswersAll events answers state end × (point ≡ open_at end)
+runs_on [] [] state point told runs = (state, refl, runs)
+runs_on (event ∷ events) (answer ∷ answers) state point told runs =
     let first = answered event answer state runs.0 told.0 runs.1 in
-    let others = runs_on events answers (step state event).1 end told.1 (subst (λ (p : Point). RunsWithStops events answers p end) first.1 runs.2) in
-    (ap (λ a. a ∷ answers) first.0 ∙ ap (λ given. (step state event).0 ∷ given) others.0, others.1)
-runs_on [] (answer ∷ answers) state end told runs = absurd runs
-runs_on (event ∷ events) [] state end told runs = absurd runs
+    let others = runs_on events answers first.0 point told.1 (subst (λ (p : Point). RunsWithStops events answers p point) first.2 runs.2) in
+    (others.0, (first.0, first.1, others.1), others.2)
+runs_on [] (answer ∷ answers) state point told runs = absurd runs
+runs_on (event ∷ events) [] state point told runs = absurd runs
 
 -- the opening and the events after it
-pub runs_as_machine : (events : List Event) (answers : List (Result Reply Refusal)) (state : Snapshots) (end : Point) → AllByRecursion TellsNoFault answers
-    → RunsWithStops (asked.Reopen ∷ events) answers (closed (open_at state)) end → (answers ≡ Ok Opened ∷ answers_to events state) × (end ≡ open_at (after_all events state))
-runs_as_machine events [] state end told runs = absurd runs
-runs_as_machine events (answer ∷ answers) state end told runs =
+pub runs_as_model : (events : List Event) (answers : List (Result Reply Refusal)) (state : Snapshots) (point : Point) → AllByRecursion TellsNoFault answers
+    → RunsWithStops (asked.Reopen ∷ events) answers (closed (open_at state)) point → (end : Snapshots) × AnswersAll (asked.Reopen ∷ events) answers state end × (point ≡ open_at end)
+runs_as_model events [] state point told runs = absurd runs
+runs_as_model events (answer ∷ answers) state point told runs =
     let first = reopened answer (closed (open_at state)) runs.0 refl told.0 runs.1 in
-    let others = runs_on events answers state end told.1 (subst (λ (p : Point). RunsWithStops events answers p end) first.1 runs.2) in
-    (ap (λ a. a ∷ answers) first.0 ∙ ap (λ given. Ok Opened ∷ given) others.0, others.1)
+    let others = runs_on events answers state point told.1 (subst (λ (p : Point). RunsWithStops events answers p point) first.1 runs.2) in
+    (others.0, (state, (first.0, refl), others.1), others.2)

@@ -1,5 +1,5 @@
 -- What a revert answers and leaves, from the run that it makes.
-use Rattle.std.proofs.Common.{◌≡◌, ◌⊎◌, inl, inr, ℕ, ◌<◌, Bool, true, false, List, [], ◌∷◌, Result, Ok, Err, IfOk, refl, sym, ap, ap₂, subst, ◌∙◌, arith}
+use Rattle.std.proofs.Common.{◌≡◌, ◌≢◌, ◌⊎◌, inl, inr, ℕ, ◌<◌, Bool, true, false, List, [], ◌∷◌, Result, Ok, Err, IfOk, IfErr, refl, sym, ap, ap₂, subst, ◌∙◌, arith}
 use Rattle.std.specs.List.{Contains}
 use Rattle.std.specs.List.Sorted.{IsStrictlySortedBy}
 use Rattle.std.specs.FinMap.{get}
@@ -9,7 +9,7 @@ use Rattle.reuse_tree.specs.declared.change.Change.{Change}
 use Rattle.reuse_session.specs.declared.failure.Fault.TheVariants as faults
 use Rattle.reuse_tree.specs.declared.store.Store.{Ghosts}
 use Rattle.reuse_tree.proofs.AskedLemmas.{later_more, later_reads}
-use Rattle.reuse_session.specs.Answer.{IsEarly, IsReadRefusal, IsRunAnswer, RefusedAsRead, TellsNoFault}
+use Rattle.reuse_session.specs.Answer.{IsEarly, IsNoClash, IsReadRefusal, IsRunAnswer, RefusedAsRead, TellsNoFault}
 use Rattle.reuse_session.specs.Calls.{folder_of, IsCall, LeavesRun}
 use Rattle.reuse_tree.specs.Entry.{paths_of}
 use Rattle.reuse_session.specs.Journal.{State}
@@ -24,13 +24,14 @@ use Rattle.reuse_session.specs.declared.command.Command.TheVariants.{Revert}
 use Rattle.reuse_tree.specs.declared.journal.entry.Entry.{Entry}
 use Rattle.reuse_session.specs.declared.reply.Refusal.{Refusal}
 use Rattle.reuse_session.specs.declared.failure.Failure.TheVariants.{Fault}
-use Rattle.reuse_session.specs.declared.reply.Refusal.TheVariants.{BadJournal, NoSuchStep, Failed}
+use Rattle.reuse_session.specs.declared.reply.Refusal.TheVariants.{BadJournal, JournalFull, NoSuchStep, Failed}
 use Rattle.reuse_session.specs.declared.reply.Reply.{Reply}
 use Rattle.reuse_session.specs.declared.reply.Reply.TheVariants.{Changed, NothingChanged}
 use Rattle.reuse_session.specs.declared.reply.Reverted.{Reverted}
 use Rattle.reuse_session.specs.declared.session.Session.{Session}
 use Rattle.reuse_tree.proofs.DifferingPaths.{changed_ascend}
-use Rattle.reuse_session.proofs.OnlyReading.{still_caused}
+use Rattle.reuse_session.proofs.OnlyReading.{read_early, still_caused}
+use Rattle.reuse_session.proofs.Peeking.{unclashed_read}
 use Rattle.reuse_session.proofs.LaterSteps.{later_as_machine}
 use Rattle.reuse_session.proofs.RunFollowing.{follows_exact}
 use Rattle.reuse_session.proofs.StepAnswers.{read_told}
@@ -195,3 +196,16 @@ run_leaves store number skip when result answer old new entry changes touched sa
       of.touched ∙ ap (touched_later number held.journal.done) (sym of.changes ∙ is_changes),
   subst (λ r. LeavesRun store (Revert entry.changes touched skip) when r old new) (sym same) (subst (λ cs. LeavesRun store (Revert cs touched skip) when answer old new) is_changes leaves),
 )
+
+-- a revert whose run was refused since the journal is full tells no clash
+pub full_revert : (result : Result Reverted Refusal) → as_run result ≡ Err JournalFull → IfErr result IsNoClash
+full_revert (Ok reverted) is = tt
+full_revert (Err refusal) is = subst IsNoClash (sym (same_refusal refusal is)) tt
+  where
+    same_refusal : (refusal : Refusal) → as_run (Err refusal) ≡ Err JournalFull → refusal ≡ JournalFull
+    same_refusal refusal is = cc
+
+-- where nothing was taken back, no clash is told either
+pub unclashed_back : (number : ℕ) (refusal : Refusal) → (refusal ≡ NoSuchStep number) ⊎ IsReadRefusal refusal → (refusal ≢ Failed (Fault faults.Clash)) → IsNoClash refusal
+unclashed_back number refusal (inl e) none = subst IsNoClash (sym e) tt
+unclashed_back number refusal (inr is) none = unclashed_read refusal none (read_early refusal is)

@@ -23,7 +23,7 @@ use Rattle.reuse_tree.specs.declared.cause.Cause.TheVariants as causes
 use Rattle.reuse_session.specs.declared.reply.Reply.{Reply}
 use Rattle.reuse_session.specs.declared.reply.Refusal.{Refusal}
 use Rattle.reuse_session.specs.declared.failure.Failure.TheVariants.{Memory as OutOfMemory, Fault, Interrupted}
-use Rattle.reuse_session.specs.declared.reply.Refusal.TheVariants.{BadJournal, JournalFull, Failed}
+use Rattle.reuse_session.specs.declared.reply.Refusal.TheVariants.{BadJournal, Failed}
 use Rattle.reuse_session.proofs.OnlyReading.{is_refused}
 use Rattle.reuse_session.proofs.HeadMoves.{below}
 use Rattle.reuse_session.proofs.JournalLemmas.{clash_beneath, entry_in_folder, like, paths_apart}
@@ -127,7 +127,7 @@ module _ (files : Files) (held : State) (standing : IsStanding files held) (free
   head_free clash = no_clash_at files head_path (tree_of_standing files held standing) (inl refl) free clash
 
   -- a run puts an entry only where the journal isn't full, so that its number is given out
-  pub run_no_clash : (done used : ℕ) → (is_full done used ≡ true → answer ≡ Err JournalFull)
+  pub run_no_clash : (done used : ℕ) → (is_full done used ≡ true → IfErr answer IsNoClash)
       → IfErr answer (HasClash (Clashes files (entry_path (used + 1))) (Clashes files head_path)) → IfErr answer IsNoClash
   run_no_clash done used full told = test (is_full done used) refl
     where
@@ -135,7 +135,7 @@ module _ (files : Files) (held : State) (standing : IsStanding files held) (free
       entry_free room = no_clash_at files (entry_path (used + 1)) (tree_of_standing files held standing) (inr (used + 1, omega arith, omega (arith, (below done used room).1), refl)) free
 
       test : (b : Bool) → is_full done used ≡ b → IfErr answer IsNoClash
-      test true is = subst (λ a. IfErr a IsNoClash) (sym (full is)) tt
+      test true is = full is
       test false room = never_clashes (Clashes files (entry_path (used + 1))) (Clashes files head_path) (entry_free room) head_free answer told
 
   pub back_no_clash : IfErr answer (HasClash ⊥ (Clashes files head_path)) → IfErr answer IsNoClash

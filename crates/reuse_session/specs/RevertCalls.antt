@@ -68,9 +68,11 @@ pub record IsBackOf (number : ℕ) (journal : Journal) (taken : List Change) (la
 
 -- ---- what a revert does
 
--- the standing is that after a run which takes some changes back
-abbrev pub IsAfterRevert : Bool → ℕ → State → State → Type 0
-IsAfterRevert skip_moved when held next = (changes : List Change) × (touched : List (List ℕ)) × IsRun (Revert changes touched skip_moved) when held next
+-- the state is that after a run which takes the changes of a step of the number back, but where a later step touched the path
+abbrev pub IsAfterRevert : ℕ → Bool → ℕ → State → State → Type 0
+IsAfterRevert number skip_moved when held next =
+    (step : Recorded) × Contains held.journal.done step × (number_of step ≡ number)
+    × IsRun (Revert step.changes (touched_later number held.journal.done step.changes) skip_moved) when held next
 
 -- the paths that are none of those that changed
 abbrev pub left_of : List (List ℕ) → List (List ℕ) → List (List ℕ)

@@ -5,15 +5,18 @@ use Rattle.reuse_tree.specs.declared.store.Store.{Ghosts}
 use Rattle.reuse_session.specs.Answer.{HasCause}
 use Rattle.reuse_session.specs.Journal.{State}
 use Rattle.reuse_session.specs.Losses.{AreSafeOn, AreInDoubt}
-use Rattle.reuse_session.specs.Machine.{Snapshots, Step, step}
+use Rattle.reuse_session.specs.Machine.{Snapshots}
+use Rattle.reuse_session.specs.Model.{Gives}
+use Rattle.reuse_session.specs.Requests.{MayFail}
 use Rattle.reuse_session.specs.Session.{HoldsSnapshots}
 use Rattle.reuse_session.specs.Standing.{IsStanding, InDoubt}
 use Rattle.reuse_session.specs.declared.events.Event.{Event}
 use Rattle.reuse_session.specs.declared.events.Event.TheVariants as event
+use Rattle.reuse_session.specs.declared.request.Request.{Request}
 use Rattle.reuse_session.specs.declared.reply.Reply.{Reply}
 use Rattle.reuse_session.specs.declared.reply.Reply.TheVariants.{Opened}
 use Rattle.reuse_session.specs.declared.reply.Refusal.{Refusal}
-use Rattle.reuse_session.specs.declared.failure.Failure.TheVariants.{Fault, Memory, Interrupted}
+use Rattle.reuse_session.specs.declared.failure.Failure.TheVariants.{Interrupted}
 use Rattle.reuse_session.specs.declared.reply.Refusal.TheVariants.{Broken, Failed}
 
 -- Where a run is: whether a session is open, the state of the machine, and, where a call stopped since the last opening, the state
@@ -39,35 +42,20 @@ Reopens (Ok Opened) old new = (state : Snapshots) × IsReached old state × (new
 Reopens (Err (Failed failure)) old new = new ≡ closed old
 Reopens answer old new = ⊥
 
--- An event of an open session that makes a step. One that was interrupted closes the session, and is kept or left out; one that failed
--- earlier is left out; and every other is that of the machine.
-abbrev pub GoesOrStops : Step → Result Reply Refusal → Point → Point → Type 0
-GoesOrStops next (Err (Failed (Interrupted cause))) old new = new ≡ record { is_open = false; state = old.state; next = Some next.1 }
-GoesOrStops next (Err (Failed failure)) old new = new ≡ old
-GoesOrStops next answer old new = (answer ≡ next.0) × (new ≡ open_at next.1)
-
--- a log answers the machine's rows, or memory ran out, and changes nothing
-abbrev pub Lists : Step → Result Reply Refusal → Point → Point → Type 0
-Lists next (Err (Failed Memory)) old new = new ≡ old
-Lists next answer old new = (answer ≡ next.0) × (new ≡ old)
-
--- a preview answers the machine's fates, or a fault of the store or want of memory refused it, and changes nothing
-abbrev pub Foretells : Step → Result Reply Refusal → Point → Point → Type 0
-Foretells next (Err (Failed (Fault fault))) old new = new ≡ old
-Foretells next (Err (Failed Memory)) old new = new ≡ old
-Foretells next answer old new = (answer ≡ next.0) × (new ≡ old)
-
--- an event of an open session
-abbrev pub Continues : Event → Result Reply Refusal → Point → Point → Type 0
-Continues event.Log answer old new = Lists (step old.state event.Log) answer old new
-Continues (event.Preview asked) answer old new = Foretells (step old.state (event.Preview asked)) answer old new
-Continues event answer old new = GoesOrStops (step old.state event) answer old new
+-- A request to an open session. One that was interrupted closes it, and its step is kept or left out; one that failed earlier is left out; and
+-- every other is answered as by the model.
+abbrev pub Continues : Request → Result Reply Refusal → Point → Point → Type 0
+Continues request (Err (Failed (Interrupted cause))) old new =
+    MayFail request (Interrupted cause)
+    × (given : Result Reply Refusal) × (next : Snapshots) × Gives old.state request given next × (new ≡ record { is_open = false; state = old.state; next = Some next })
+Continues request (Err (Failed failure)) old new = MayFail request failure × (new ≡ old)
+Continues request answer old new = (next : Snapshots) × Gives old.state request answer next × (new ≡ open_at next)
 
 -- while no session is open, all but an opening is refused as broken
 abbrev pub AnswersEvent : Bool → Event → Result Reply Refusal → Point → Point → Type 0
 AnswersEvent is_open event.Reopen answer old new = Reopens answer old new
-AnswersEvent true event answer old new = Continues event answer old new
-AnswersEvent false event answer old new = (answer ≡ Err Broken) × (new ≡ old)
+AnswersEvent true (event.Ask request) answer old new = Continues request answer old new
+AnswersEvent false (event.Ask request) answer old new = (answer ≡ Err Broken) × (new ≡ old)
 
 -- the events are answered so, one after the other, and lead from one point to the other
 abbrev pub RunsWithStops : List Event → List (Result Reply Refusal) → Point → Point → Type 0

@@ -3,7 +3,6 @@ ghost use Rattle.std.specs.Prelude.{◌≡◌, IfOk, IfErr};
 ghost use Rattle.reuse_session.specs.Answer.{IsFailure};
 ghost use Rattle.reuse_session.specs.Previews.{IsTold};
 
-use crate::command::Command;
 use crate::reply::Refusal;
 use reuse_tree::{Changes, Items, PathText};
 
@@ -30,17 +29,6 @@ pub struct Previewed {
     pub fates: Fates,
     /// The changes that it would make; of an undo those that it would take back.
     pub changes: Changes,
-}
-
-/// A call that can be looked at before it is made.
-#[derive(Debug, Drop)]
-pub enum Call {
-    /// A run of a command.
-    Run(Command),
-    /// An undo.
-    Undo,
-    /// A redo.
-    Redo,
 }
 
 /// The refusal, unless it is a failure.

@@ -8,12 +8,13 @@ use Rattle.reuse_session.specs.Standing.{IsStanding}
 use Rattle.reuse_session.specs.Stops.{HoldState, AreLeft}
 use Rattle.reuse_session.specs.declared.reply.Refusal.{Refusal}
 use Rattle.reuse_undo.specs.CarriedOut.{CarriesOut}
-use Rattle.reuse_undo.specs.RunLine.{HasCallClash, RequestLeaves, FollowsMachine, TellsAnswer, IfRefused, IfNoDiff}
+use Rattle.reuse_session.specs.Requests.{HasCallClash}
+use Rattle.reuse_undo.specs.RunLine.{RequestLeaves, FollowsModel, TellsAnswer, IfRefused, IfNoDiff}
 use Rattle.reuse_undo.specs.WriterFaults.{IsUndrawn}
 use Rattle.reuse_undo.specs.declared.fault.Fault.{Fault}
 use Rattle.reuse_undo.specs.declared.fault.Fault.TheVariants as faults
 use Rattle.reuse_undo.specs.declared.line.Telling.{Telling}
-use Rattle.reuse_undo.specs.declared.request.Request.{Request}
+use Rattle.reuse_session.specs.declared.request.Request.{Request}
 
 -- the one holds what the other holds, a loss of power leaves the same, and they count and are honest alike
 pub record IsSameStore {W S : Type 0} (outer : Ghosts W) (inner : Ghosts S) (whole : W) (inside : S) : Type 0 where
@@ -66,7 +67,7 @@ same_inside outer inner contents has_failed request telling before after old new
           (subst (λ f. TellsAnswer telling (λ answer. RequestLeaves (outer.files before) request answer f) (contents out) (contents left) result) a.files
           (carried.exact (a.gives honest)));
       machine = λ honest state held.
-          subst (λ f. TellsAnswer telling (λ answer. FollowsMachine state request answer f) (contents out) (contents left) result) a.files
+          subst (λ f. TellsAnswer telling (λ answer. FollowsModel state request answer f) (contents out) (contents left) result) a.files
           (carried.machine (a.gives honest) state (subst (λ f. HoldState f state) (sym b.files) held));
       after_stop = λ honest start found.
           let at = carried.after_stop (a.gives honest) start (subst (λ f. AreLeft f start.state start.next) (sym b.files) found) in

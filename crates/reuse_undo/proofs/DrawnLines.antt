@@ -3,30 +3,26 @@ use Rattle.std.proofs.Common.{◌≡◌, inl, inr, ℕ, List, Result, Ok, Err, I
 use Rattle.std.specs.declared.vec.Vec.{Vec}
 use Rattle.reuse_tree.specs.Files.{Files}
 use Rattle.reuse_session.specs.Journal.{State}
-use Rattle.reuse_session.specs.Machine.{as_reply}
-use Rattle.reuse_session.specs.declared.events.Event.TheVariants as events
+use Rattle.reuse_session.specs.Requests.{IsLook, Meets, replied}
 use Rattle.reuse_session.specs.declared.fate.Fate.{Fate}
 use Rattle.reuse_session.specs.declared.reply.Refusal.{Refusal}
 use Rattle.reuse_session.specs.declared.reply.Reply.TheVariants as replies
 use Rattle.reuse_undo.specs.Drawn.{IsDiffOfCall, IsDrawnText, IsTreeDiff, WouldLeave}
 use Rattle.reuse_undo.specs.Outputs.{AddsSome}
-use Rattle.reuse_undo.specs.Requests.{IsLook}
-use Rattle.reuse_undo.specs.RunLine.{as_told, Meets, RequestLeaves}
+use Rattle.reuse_undo.specs.RunLine.{RequestLeaves}
 use Rattle.reuse_undo.specs.Told.{Finishes, HasBehind, IsForeseen, IsWanted, WouldBeMade}
 use Rattle.reuse_undo.specs.declared.fault.Fault.{Fault}
 use Rattle.reuse_undo.specs.declared.line.OutputFormat.TheVariants.{Diff}
 use Rattle.reuse_undo.specs.declared.line.Telling.{Telling}
-use Rattle.reuse_undo.specs.declared.request.Request.{Request}
-use Rattle.reuse_undo.specs.declared.request.Request.TheVariants as requests
-use Rattle.reuse_undo.specs.declared.request.Told.{Told}
-use Rattle.reuse_undo.specs.declared.request.Told.TheVariants as tells
+use Rattle.reuse_session.specs.declared.request.Request.{Request}
+use Rattle.reuse_session.specs.declared.request.Request.TheVariants as requests
+use Rattle.reuse_session.specs.declared.reply.Reply.{Reply}
 
 -- ---- where a diff is wanted
 
 -- what would leave a tree only looks
 would_look : (request : Request) (held : State) (tree : Files) → WouldLeave request held tree → IsLook request
-would_look (requests.Call (events.Preview call)) held tree would = tt
-would_look (requests.PreviewRevert number skip_moved) held tree would = tt
+would_look (requests.Preview call) held tree would = tt
 would_look request held tree would = absurd would
 
 -- what holds of a value for each thing that something holds of
@@ -45,7 +41,7 @@ pub told_diff : {A : Type 0} (request : Request) (held : State) (tree : Files) (
 told_diff request held tree (Ok text) would all = all tree would
 told_diff request held tree (Err fault) would all = tt
 
-pub drawn_where_wanted : {A : Type 0} (telling : Telling) (request : Request) (held : State) (answer : Result Told Refusal) (diff : Result (Vec ℕ A) Fault)
+pub drawn_where_wanted : {A : Type 0} (telling : Telling) (request : Request) (held : State) (answer : Result Reply Refusal) (diff : Result (Vec ℕ A) Fault)
     → (IsWanted telling answer → IsLook request → IfOk diff (λ text. IsDiffOfCall request held text.items))
     → IfOk answer (λ told. IsForeseen telling told → IfOk diff (λ text. IsDiffOfCall request held text.items))
 drawn_where_wanted telling request held (Err refusal) diff drawn = tt
@@ -54,36 +50,29 @@ drawn_where_wanted telling request held (Ok told) diff drawn =
 
 -- ---- what a dry run tells
 
--- what is told, as an answer
-abbrev answered : Told → Result Told Refusal
+-- a reply, as an answer
+abbrev answered : Reply → Result Reply Refusal
 answered told = Ok told
 
-told_fates : (told : Told) (fates : Result (List Fate) Refusal) → answered told ≡ as_told tells.Reply (as_reply fates) → (f : List Fate) × (told ≡ tells.Reply (replies.Preview f))
+told_fates : (told : Reply) (fates : Result (List Fate) Refusal) → answered told ≡ replied replies.Preview fates → (f : List Fate) × (told ≡ replies.Preview f)
 told_fates told (Ok fates) is = (fates, cc)
 told_fates told (Err refusal) is = absurd (cc)
 
-told_back : (told : Told) (fates : Result (List Fate) Refusal) → answered told ≡ as_told (λ (f : List Fate). tells.Reply (replies.Preview f)) fates → (f : List Fate) × (told ≡ tells.Reply (replies.Preview f))
-told_back told (Ok fates) is = (fates, cc)
-told_back told (Err refusal) is = absurd (cc)
-
-meets_tells : (request : Request) (held found : State) (tree after : Files) (told : Told) → WouldLeave request held tree → Meets request found (Ok told) after
-    → (fates : List Fate) × (told ≡ tells.Reply (replies.Preview fates))
-meets_tells (requests.Call (events.Preview call)) held found tree after told would meets =
-    let leaves = meets.2 in
-    told_fates told leaves.0 (subst (λ reply. answered told ≡ as_told tells.Reply reply) leaves.1 meets.1)
-meets_tells (requests.PreviewRevert number skip_moved) held found tree after told would meets = told_back told meets.0 meets.1
+meets_tells : (request : Request) (held found : State) (tree after : Files) (told : Reply) → WouldLeave request held tree → Meets request found (Ok told) after
+    → (fates : List Fate) × (told ≡ replies.Preview fates)
+meets_tells (requests.Preview call) held found tree after told would meets = told_fates told meets.1.0 meets.1.1
 meets_tells request held found tree after told would meets = absurd would
 
 -- the dry run of a call that would leave a tree tells fates
-pub previews_tell : (request : Request) (held : State) (tree before after : Files) (told : Told) → WouldLeave request held tree → RequestLeaves before request (Ok told) after
-    → (fates : List Fate) × (told ≡ tells.Reply (replies.Preview fates))
+pub previews_tell : (request : Request) (held : State) (tree before after : Files) (told : Reply) → WouldLeave request held tree → RequestLeaves before request (Ok told) after
+    → (fates : List Fate) × (told ≡ replies.Preview fates)
 previews_tell request held tree before after told would (inl unopened) = let e = unopened.1 in absurd (cc)
 previews_tell request held tree before after told would (inr made) = meets_tells request held (made.made).0 tree after told would (made.made).3
 
 -- ---- lines and diff
 
-pub drawn_in_lines : {A : Type 0} (telling : Telling) (before after : Files) (told : Told) (fates : List Fate) (old new : List ℕ) (outcome : Result ℕ Fault) (diff : Result (Vec ℕ A) Fault)
-    → told ≡ tells.Reply (replies.Preview fates) → telling.format ≡ Diff → Finishes telling told old new outcome
+pub drawn_in_lines : {A : Type 0} (telling : Telling) (before after : Files) (told : Reply) (fates : List Fate) (old new : List ℕ) (outcome : Result ℕ Fault) (diff : Result (Vec ℕ A) Fault)
+    → told ≡ replies.Preview fates → telling.format ≡ Diff → Finishes telling told old new outcome
     → (IsForeseen telling told → IfOk outcome (λ count. IsOkAnd diff (λ text. AddsSome old new (HasBehind telling.names told text.items))))
     → (IsForeseen telling told → IfOk diff (λ text. IsTreeDiff before after text.items)) → IfOk outcome (λ count. AddsSome old new (IsDrawnText telling.names before after))
 drawn_in_lines telling before after told fates old new (Err fault) diff is wants finishes behind drawn = tt
@@ -92,5 +81,5 @@ drawn_in_lines telling before after told fates old new (Ok count) (Err fault) is
 drawn_in_lines telling before after told fates old new (Ok count) (Ok diff) is wants finishes behind drawn =
     let foreseen : IsForeseen telling told = (wants, fates, is, subst WouldBeMade is (finishes.1).1) in
     let adds = behind foreseen in
-    let has = subst (λ (answer : Told). HasBehind telling.names answer diff.items adds.0) is adds.1.0 in
+    let has = subst (λ (answer : Reply). HasBehind telling.names answer diff.items adds.0) is adds.1.0 in
     (adds.0, (record { fates = fates; lines = has.0; diff = diff.items; told = has.1; drawn = drawn foreseen; whole = has.2 }, adds.1.1))

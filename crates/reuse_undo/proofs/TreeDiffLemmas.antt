@@ -23,11 +23,14 @@ use Rattle.reuse_session.specs.JournalFiles.{entry_in, entry_path}
 use Rattle.reuse_session.specs.Outcome.{outcome_of}
 use Rattle.reuse_session.specs.Plan.{IsPlan}
 use Rattle.reuse_session.specs.RevertCalls.{touched_later, GivesRevert, Reverts}
+use Rattle.reuse_session.specs.Requests.{Makes, replied}
 use Rattle.reuse_session.specs.Session.{store_of, Runs, StandsOn}
+use Rattle.reuse_session.specs.declared.request.Call.TheVariants as calls
 use Rattle.reuse_session.specs.declared.command.Command.{Command}
 use Rattle.reuse_session.specs.declared.command.Command.TheVariants.{Revert}
 use Rattle.reuse_session.specs.declared.reply.Refusal.{Refusal}
 use Rattle.reuse_session.specs.declared.reply.Reply.{Reply}
+use Rattle.reuse_session.specs.declared.reply.Reply.TheVariants as replies
 use Rattle.reuse_session.specs.declared.reply.Reply.TheVariants.{Changed, NothingChanged}
 use Rattle.reuse_session.specs.declared.reply.Reverted.{Reverted}
 use Rattle.reuse_session.specs.declared.session.Session.{Session}
@@ -136,6 +139,10 @@ travel_foretells way (step ∷ steps) held reply new changes travels next entry 
 
 -- ---- a revert
 
+-- a reply, as an answer
+abbrev answered : Reply → Result Reply Refusal
+answered reply = Ok reply
+
 -- the steps done have one changes list for each number, so the command is that of the revert that would be made
 pub reverted_to : {S : Type 0} (files : S → Files) (session : Session S) (held : State) → StandsOn files session held → (number : ℕ) (skip_moved : Bool) (command : Command)
     → GivesRevert number skip_moved held (Ok command) → (when : ℕ) (reverted : Reverted) (new : State) → Reverts number skip_moved when held (Ok reverted) new
@@ -149,3 +156,12 @@ reverted_to files session held stands number skip_moved command back when revert
     let ran = ran_to (Revert takes.step.changes (touched_later number held.journal.done takes.step.changes) skip_moved) when held _ new takes.runs in
     ap (λ made. outcome_of made held.tree) back.3
     ∙ ap (λ (entry : Entry). outcome_of (Revert entry.changes (touched_later number held.journal.done entry.changes) skip_moved) held.tree) same ∙ ran
+
+-- the same of the reply
+pub reverts_to : {S : Type 0} (files : S → Files) (session : Session S) (held : State) → StandsOn files session held → (number : ℕ) (skip_moved : Bool) (command : Command)
+    → GivesRevert number skip_moved held (Ok command) → (when : ℕ) (reply : Reply) (new : State) → Makes (calls.Revert number skip_moved) when held (Ok reply) new → outcome_of command held.tree ≡ Ok new.tree
+reverts_to files session held stands number skip_moved command back when reply new (reverted, is, reverts) = by_reverted reverted is reverts
+  where
+    by_reverted : (reverted : Result Reverted Refusal) → answered reply ≡ replied replies.Reverted reverted → Reverts number skip_moved when held reverted new → outcome_of command held.tree ≡ Ok new.tree
+    by_reverted (Ok done) is reverts = reverted_to files session held stands number skip_moved command back when done new reverts
+    by_reverted (Err refusal) is reverts = absurd (cc)

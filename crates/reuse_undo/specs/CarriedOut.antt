@@ -11,24 +11,24 @@ use Rattle.reuse_session.specs.Stops.{Point, HoldState, AreLeft}
 use Rattle.reuse_undo.specs.AfterStops.{AnswersAfterStop}
 use Rattle.reuse_undo.specs.Drawn.{IsDrawnText, WouldLeave}
 use Rattle.reuse_undo.specs.Outputs.{AddsSome}
-use Rattle.reuse_undo.specs.Requests.{IsLook}
-use Rattle.reuse_undo.specs.RunLine.{HasCallClash, RequestLeaves, FollowsMachine, TellsAnswer, IfRefused, IfNoDiff}
+use Rattle.reuse_session.specs.Requests.{HasCallClash, IsLook}
+use Rattle.reuse_undo.specs.RunLine.{RequestLeaves, FollowsModel, TellsAnswer, IfRefused, IfNoDiff}
 use Rattle.reuse_undo.specs.Told.{TellsFailure}
 use Rattle.reuse_undo.specs.WriterFaults.{IsUndrawn}
 use Rattle.reuse_undo.specs.declared.fault.Fault.{Fault}
 use Rattle.reuse_undo.specs.declared.line.OutputFormat.TheVariants.{Diff}
 use Rattle.reuse_undo.specs.declared.line.Telling.{Telling}
-use Rattle.reuse_undo.specs.declared.request.Request.{Request}
+use Rattle.reuse_session.specs.declared.request.Request.{Request}
 
 -- The store went from `old` to `new`, what the answer is written to from `before` to `after`, and this is told.
 pub record CarriesOut {S O : Type 0} (store : Ghosts S) (contents : O → List ℕ) (has_failed : O → Bool)
     (request : Request) (telling : Telling) (old new : S) (before after : O) (result : Result ℕ Fault) : Type 0 where
   -- from any files, where the store is honest: what is told is the session's answer, and the files are as it left them
   pub exact : store.honest new → TellsAnswer telling (λ answer. RequestLeaves (store.files old) request answer (store.files new)) (contents before) (contents after) result
-  -- from any state that the files hold it is that of the machine that keeps whole copies
+  -- from any state that the files hold it is that of the model that keeps whole copies
   pub machine : store.honest new → (state : Snapshots) → HoldState (store.files old) state
-      → TellsAnswer telling (λ answer. FollowsMachine state request answer (store.files new)) (contents before) (contents after) result
-  -- From files that an earlier stop may have left in doubt too: what is told is the answer of a run of the machine with stops, and the files are left
+      → TellsAnswer telling (λ answer. FollowsModel state request answer (store.files new)) (contents before) (contents after) result
+  -- From files that an earlier stop may have left in doubt too: what is told is the answer of a run of the model with stops, and the files are left
   -- where that run is.
   pub after_stop : store.honest new → (start : Point) → AreLeft (store.files old) start.state start.next
       → (end : Point) × TellsAnswer telling (λ answer. AnswersAfterStop request answer start end) (contents before) (contents after) result

@@ -12,27 +12,20 @@ use Rattle.reuse_tree.specs.declared.store.Store.{Ghosts}
 use Rattle.reuse_tree.specs.declared.way.Way.{Way}
 use Rattle.reuse_tree.specs.declared.way.Way.TheVariants as go
 use Rattle.reuse_session.specs.Journal.{State}
-use Rattle.reuse_session.specs.RevertCalls.{Reverts}
 use Rattle.reuse_session.specs.Session.{store_of, StandsOn}
-use Rattle.reuse_session.specs.declared.events.Event.{Event}
-use Rattle.reuse_session.specs.declared.events.Event.TheVariants as events
-use Rattle.reuse_session.specs.declared.fate.Call.{Call}
-use Rattle.reuse_session.specs.declared.fate.Call.TheVariants as calls
 use Rattle.reuse_session.specs.declared.fate.Fate.{Fate}
 use Rattle.reuse_session.specs.declared.fate.Previewed.{Previewed}
 use Rattle.reuse_session.specs.declared.reply.Refusal.{Refusal}
-use Rattle.reuse_session.specs.declared.reply.Reply.{Reply as SessionReply}
+use Rattle.reuse_session.specs.declared.reply.Reply.{Reply}
 use Rattle.reuse_session.specs.declared.reply.Reply.TheVariants.{Preview}
-use Rattle.reuse_session.specs.declared.reply.Reverted.{Reverted}
 use Rattle.reuse_session.specs.declared.session.Session.{Session}
 use Rattle.reuse_undo.specs.DiffText.{IsDiff}
 use Rattle.reuse_undo.specs.RowLines.{AreJoined}
-use Rattle.reuse_undo.specs.RunLine.{CallLeadsTo, IsAnswered}
-use Rattle.reuse_undo.specs.Told.{is_refused, IsAccepted, IsLinesText}
-use Rattle.reuse_undo.specs.declared.request.Request.{Request}
-use Rattle.reuse_undo.specs.declared.request.Request.TheVariants as requests
-use Rattle.reuse_undo.specs.declared.request.Told.{Told}
-use Rattle.reuse_undo.specs.declared.request.Told.TheVariants.{Reply}
+use Rattle.reuse_session.specs.Requests.{IsAnswered, Makes}
+use Rattle.reuse_undo.specs.Lines.{IsReplyText}
+use Rattle.reuse_undo.specs.Told.{is_refused, IsAccepted}
+use Rattle.reuse_session.specs.declared.request.Request.{Request}
+use Rattle.reuse_session.specs.declared.request.Request.TheVariants as requests
 use Rattle.reuse_undo.specs.declared.shown_name.Names.{Names}
 use Rattle.reuse_undo.specs.declared.run_line.foreseen.Foreseen.{Foreseen}
 
@@ -55,18 +48,9 @@ WouldLead foreseen before after = AreSmallSteps foreseen.way foreseen.changes be
 
 -- ---- the two trees
 
--- the call of which this is the dry run
-abbrev pub made : Call → ℕ → Event
-made (calls.Run command) when = events.Run command when
-made calls.Undo when = events.Undo
-made calls.Redo when = events.Redo
-
--- Made on the standing, the call whose dry run is asked for is accepted and leaves this tree.
+-- Made on the committed state, the call whose dry run is asked for is accepted and leaves this tree.
 abbrev pub WouldLeave : Request → State → Files → Type 0
-WouldLeave (requests.Call (events.Preview call)) held after =
-    (when : ℕ) × (reply : SessionReply) × (new : State) × CallLeadsTo (made call when) held (Ok reply) new × (new.tree ≡ after)
-WouldLeave (requests.PreviewRevert number skip_moved) held after =
-    (when : ℕ) × (reverted : Reverted) × (new : State) × Reverts number skip_moved when held (Ok reverted) new × (new.tree ≡ after)
+WouldLeave (requests.Preview call) held after = (when : ℕ) × (reply : Reply) × (new : State) × Makes call when held (Ok reply) new × (new.tree ≡ after)
 WouldLeave request held after = ⊥
 
 -- the diff of two trees: of each path at which they differ, in byte order, what it holds in the one and in the other
@@ -78,7 +62,7 @@ pub record IsDrawnText (names : Names) (before after : Files) (text : List ℕ) 
   pub fates : List Fate
   pub lines : List ℕ
   pub diff : List ℕ
-  pub told : IsLinesText names (Reply (Preview fates)) lines
+  pub told : IsReplyText names (Preview fates) lines
   pub drawn : IsTreeDiff before after diff
   pub whole : text ≡ lines ++ diff
 
@@ -104,13 +88,13 @@ foreseen_in way (Ok previewed) = foreseen_unless (is_refused previewed.fates) pr
 foreseen_in way (Err refusal) = None
 
 -- where a dry run was answered without a refusal, what would change is there, and leads to whatever tree the call would leave
-abbrev pub ForetellsAccepted : {S : Type 0} → Ghosts S → Request → Result Told Refusal → Option Foreseen → Session S → Session S → Type 0
+abbrev pub ForetellsAccepted : {S : Type 0} → Ghosts S → Request → Result Reply Refusal → Option Foreseen → Session S → Session S → Type 0
 ForetellsAccepted store request answer foreseen old new =
     store.honest (store_of new) → (held : State) → StandsOn store.files old held → (after : Files) → WouldLeave request held after → IsAccepted answer
     → IsSomeAnd foreseen (λ foreseen. Foretells foreseen held.tree after)
 
 -- the request is answered, and of a dry run without a refusal what would change is there, and of nothing else
-pub record IsAnsweredWith {S : Type 0} (store : Ghosts S) (request : Request) (answer : Result Told Refusal) (foreseen : Option Foreseen) (old new : Session S) : Type 0 where
+pub record IsAnsweredWith {S : Type 0} (store : Ghosts S) (request : Request) (answer : Result Reply Refusal) (foreseen : Option Foreseen) (old new : Session S) : Type 0 where
   pub answered : IsAnswered store request answer old new
   pub accepted : IfSome foreseen (λ foreseen. IsAccepted answer)
   pub foretells : ForetellsAccepted store request answer foreseen old new

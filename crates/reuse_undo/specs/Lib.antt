@@ -32,7 +32,6 @@ pub mod Objects
 pub mod Outputs
 pub mod OwnerChanges
 pub mod Owners
-pub mod Peeks
 pub mod Places
 pub mod PrefixNames
 pub mod Readings

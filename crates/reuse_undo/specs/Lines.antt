@@ -7,6 +7,7 @@ use Rattle.reuse_undo.specs.RowLines.{AreRowLines, IsRowLine}
 use Rattle.reuse_session.specs.declared.fate.Fate.{Fate}
 use Rattle.reuse_session.specs.declared.fate.Fate.TheVariants.{Changes, Unchanged, Skipped, Refused}
 use Rattle.reuse_session.specs.declared.reply.Reply.{Reply}
+use Rattle.reuse_session.specs.declared.reply.Reply.TheVariants as replies
 use Rattle.reuse_session.specs.declared.reply.Reply.TheVariants.{Opened, Changed, NothingChanged, Undone, Redone, Log, Preview}
 use Rattle.reuse_session.specs.declared.reply.Reverted.{Reverted}
 use Rattle.reuse_session.specs.declared.reply.Shown.{Shown}
@@ -48,16 +49,6 @@ change_line names change = line_of names (kind_word change) (path_of change)
 abbrev pub change_lines : Names → List Change → List ℕ
 change_lines names changes = joined (change_line names) changes
 
--- what a reply is printed as; that a session was opened is not told
-abbrev pub IsReplyText : Names → Reply → List ℕ → Type 0
-IsReplyText names Opened text = text ≡ []
-IsReplyText names (Changed paths) text = text ≡ lines_of names (codes "changed") paths
-IsReplyText names NothingChanged text = text ≡ codes "nothing changed" ++ 10 ∷ []
-IsReplyText names (Undone paths) text = text ≡ lines_of names (codes "undone") paths
-IsReplyText names (Redone paths) text = text ≡ lines_of names (codes "redone") paths
-IsReplyText names (Log rows) text = AreRowLines rows text
-IsReplyText names (Preview fates) text = text ≡ fate_lines names fates
-
 -- what a step is printed as: its row of the log, and a line for each path
 abbrev pub IsShownText : Names → Shown → List ℕ → Type 0
 IsShownText names shown text = (line : List ℕ) × IsRowLine shown.row line × (text ≡ line ++ change_lines names shown.changes)
@@ -70,6 +61,18 @@ changed_text names (path ∷ paths) = lines_of names (codes "changed") (path ∷
 -- what a revert is printed as: these, and then the paths that were left
 abbrev pub reverted_text : Names → Reverted → List ℕ
 reverted_text names reverted = changed_text names reverted.changed ++ lines_of names (codes "skipped") reverted.skipped
+
+-- what a reply is printed as; that a session was opened is not told
+abbrev pub IsReplyText : Names → Reply → List ℕ → Type 0
+IsReplyText names Opened text = text ≡ []
+IsReplyText names (Changed paths) text = text ≡ lines_of names (codes "changed") paths
+IsReplyText names NothingChanged text = text ≡ codes "nothing changed" ++ 10 ∷ []
+IsReplyText names (Undone paths) text = text ≡ lines_of names (codes "undone") paths
+IsReplyText names (Redone paths) text = text ≡ lines_of names (codes "redone") paths
+IsReplyText names (Log rows) text = AreRowLines rows text
+IsReplyText names (Preview fates) text = text ≡ fate_lines names fates
+IsReplyText names (replies.Shown shown) text = IsShownText names shown text
+IsReplyText names (replies.Reverted reverted) text = text ≡ reverted_text names reverted
 
 -- whether a path would change
 abbrev pub would_change : Fate → Bool
@@ -85,3 +88,5 @@ path_count (Undone paths) = length paths
 path_count (Redone paths) = length paths
 path_count (Log rows) = 0
 path_count (Preview fates) = count_by would_change fates
+path_count (replies.Shown shown) = 0
+path_count (replies.Reverted reverted) = length reverted.changed

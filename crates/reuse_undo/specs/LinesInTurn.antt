@@ -8,7 +8,7 @@ use Rattle.reuse_undo.specs.CarriedOut.{CarriesOut}
 use Rattle.reuse_undo.specs.RunLine.{TellsAnswer}
 use Rattle.reuse_undo.specs.declared.fault.Fault.{Fault}
 use Rattle.reuse_undo.specs.declared.line.Telling.{Telling}
-use Rattle.reuse_undo.specs.declared.request.Request.{Request}
+use Rattle.reuse_session.specs.declared.request.Request.{Request}
 
 -- a line that was carried out: what it asked for, its store and what its answer is written to, each before and after, and what was told
 pub record CarriedLine (S O : Type 0) : Type 0 where

@@ -6,7 +6,7 @@ ghost use Rattle.std.specs.Prelude.{◌≡◌, ◌≤◌};
 ghost use Rattle.reuse_session.specs.Answer.{TellsNoFault};
 ghost use Rattle.reuse_session.specs.Journal.{State};
 ghost use Rattle.reuse_session.specs.Session.{store_of, StandsOn};
-ghost use Rattle.reuse_undo.specs.Peeks.{Peeks};
+ghost use Rattle.reuse_session.specs.Requests.{Peeks};
 ghost use Rattle.reuse_undo.specs.Answering.{PreviewsRequest};
 
 use crate::denial::Denial;
@@ -16,9 +16,8 @@ use crate::line::Telling;
 use crate::on_folder::run_on_folder;
 use crate::output::Output;
 use crate::progress::{ClearedOutput, Progress};
-use crate::request::Request;
-use crate::run_line::{is_refused, preview_revert};
-use reuse_session::{Event, Fate, Fates, Refusal, Session};
+use crate::run_line::is_refused;
+use reuse_session::{Fate, Fates, Refusal, Request, Session};
 use reuse_tree::{PathText, Store};
 use std::alloc::Global;
 use std::fs::File;
@@ -95,10 +94,7 @@ fn answer_at_once<
 }
 
 fn changes_tree(request: &Request) -> bool {
-    matches!(
-        request,
-        Request::Call(Event::Run(_, _) | Event::Undo | Event::Redo) | Request::Revert { .. }
-    )
+    matches!(request, Request::Make(_, _))
 }
 
 /// The first path that the call would change and whose file can't keep its owner, if there is one.
@@ -160,14 +156,7 @@ fn preview_in<S: Store + Drop>(
     ensures peeks { Peeks S.Store result session.old session.new }
 {
     match request {
-        Request::Call(Event::Run(command, _)) => session.preview(alloc, command),
-        Request::Call(Event::Undo) => session.preview_undo(alloc),
-        Request::Call(Event::Redo) => session.preview_redo(alloc),
-        Request::Revert {
-            number,
-            skip_moved,
-            when: _,
-        } => preview_revert(alloc, session, *number, *skip_moved),
+        Request::Make(call, _) => session.preview_call(alloc, call),
         _ => Ok(Fates::new(Vec::new(alloc))),
     }
 }

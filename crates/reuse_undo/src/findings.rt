@@ -6,8 +6,9 @@ use crate::damage::{Damage, Headless, damage_of, is_gone, steps_without_head};
 use crate::disk::{DiskStore, Failure, Kept};
 use crate::fault::Fault;
 use crate::line::{Action, Deed, Line};
-use crate::request::Request;
-use reuse_session::{Command, Event, Fate, Head, Refusal, Scope, Session, Unknown, decode_head};
+use reuse_session::{
+    Call, Command, Fate, Head, Refusal, Request, Scope, Session, Unknown, decode_head,
+};
 use reuse_text::{Bytes, LONGEST_FILE};
 use reuse_tree::{PathText, Reading, Store};
 use std::alloc::Global;
@@ -225,7 +226,7 @@ fn unrecognised_by<S: Store + Drop>(
 /// The annotation that was refused for a name that isn't recognised, or passed such names over, and
 /// no others.
 fn passing_over<'a>(request: &'a Request, outcome: &Result<usize, Fault>) -> Option<&'a Command> {
-    let Request::Call(Event::Run(command, _)) = request else {
+    let Request::Make(Call::Run(command), _) = request else {
         return None;
     };
     match (command, outcome) {

@@ -33,7 +33,7 @@ pub fn print_paths<W: Write>(
     Ok(())
 }
 
-/// Prints a reply: a line for each path or row. That a session was opened is not told, nor the
+/// Prints a reply: a line for each path or row. That a session was opened is not printed, nor the
 /// refusals of a preview.
 pub fn print_reply<W: Write>(out: &mut W, names: Names, reply: &Reply) -> io::Result<()>
     ensures { OnOk result (AppendsSome (W.contents out.old) (W.contents out.new) (IsReplyText names reply.now)) }
@@ -45,6 +45,8 @@ pub fn print_reply<W: Write>(out: &mut W, names: Names, reply: &Reply) -> io::Re
         Reply::NothingChanged => writeln!(out, "nothing changed"),
         Reply::Log(rows) => print_rows(out, rows.as_slice()),
         Reply::Preview(fates) => print_fates(out, names, fates.as_slice()),
+        Reply::Shown(shown) => print_shown(out, names, shown),
+        Reply::Reverted(reverted) => print_reverted(out, names, reverted),
         Reply::Opened => Ok(()),
     }
 }
@@ -71,7 +73,7 @@ fn print_fate<W: Write>(out: &mut W, names: Names, fate: &Fate) -> io::Result<()
 }
 
 /// Prints a step: its row of the log, and a line for each path.
-pub fn print_shown<W: Write>(out: &mut W, names: Names, shown: &Shown) -> io::Result<()>
+fn print_shown<W: Write>(out: &mut W, names: Names, shown: &Shown) -> io::Result<()>
     ensures { OnOk result (AppendsSome (W.contents out.old) (W.contents out.new) (IsShownText names shown.now)) }
 {
     print_row(out, &shown.row)?;
@@ -99,7 +101,7 @@ pub fn kind_word(change: &Change) -> &'static str
 }
 
 /// Prints what a revert did: the paths that changed, and then those that were left.
-pub fn print_reverted<W: Write>(out: &mut W, names: Names, reverted: &Reverted) -> io::Result<()>
+fn print_reverted<W: Write>(out: &mut W, names: Names, reverted: &Reverted) -> io::Result<()>
     ensures { OnOk result (Appends (W.contents out.old) (W.contents out.new) (reverted_text names reverted.now)) }
 {
     print_reverted_paths(out, names, reverted.changed.as_slice())?;
@@ -125,7 +127,8 @@ pub fn path_count(reply: &Reply) -> usize
             paths.as_slice().len()
         }
         Reply::Preview(fates) => change_count(fates.as_slice()),
-        Reply::NothingChanged | Reply::Log(_) | Reply::Opened => 0,
+        Reply::Reverted(reverted) => reverted.changed.as_slice().len(),
+        Reply::NothingChanged | Reply::Log(_) | Reply::Shown(_) | Reply::Opened => 0,
     }
 }
 

@@ -7,12 +7,11 @@ ghost use Rattle.reuse_session.specs.Journal.{State};
 ghost use Rattle.reuse_session.specs.Standing.{IsStanding};
 ghost use Rattle.reuse_undo.specs.CarriedOut.{CarriesOut};
 ghost use Rattle.reuse_undo.specs.Drawn.{Foretells, ForetellsAccepted, IsDiffOfCall, IsTreeDiff};
-ghost use Rattle.reuse_undo.specs.Requests.{IsLook};
-ghost use Rattle.reuse_undo.specs.RunLine.{HasCallClash, IfNoDiff, IsAnswered, RequestLeaves};
+ghost use Rattle.reuse_session.specs.Requests.{HasCallClash, IsAnswered, IsLook};
+ghost use Rattle.reuse_undo.specs.RunLine.{IfNoDiff, RequestLeaves};
 ghost use Rattle.reuse_undo.specs.Told.{IsAccepted, IsDiffOf, IsForeseen, IsNoDiff};
 ghost use Rattle.reuse_undo.specs.WriterFaults.{IsOfDiff, IsUndrawn};
 
-mod calls;
 mod drawn;
 mod foreseen;
 mod printed;
@@ -20,14 +19,11 @@ mod printed;
 use crate::fault::Fault;
 use crate::line::{OutputFormat, Telling};
 use crate::output::Sink;
-use crate::request::{Request, Told};
-use calls::ask;
-pub use calls::preview_revert;
 use drawn::draw;
 use foreseen::{Foreseen, ask_with_changes};
 use printed::finish;
 pub use printed::is_refused;
-use reuse_session::{Refusal, Session};
+use reuse_session::{Answer, Request, Session};
 use reuse_tree::Store;
 use std::alloc::Global;
 
@@ -60,7 +56,7 @@ fn call<S: Store + Drop>(
     store: S,
     request: &Request,
     telling: Telling,
-) -> (S, Result<Told, Refusal>, Result<Vec<u8>, Fault>)
+) -> (S, Answer, Result<Vec<u8>, Fault>)
     ensures carries { S.honest result.0 → RequestLeaves (S.files store) request.now result.1 (S.files result.0) }
     ensures looks { S.honest result.0 → IsLook request.now → (held : State) → IsStanding (S.files store) held → OnlyReads S.Store store result.0 }
     ensures fault { IfErr result.1 (HasCause (S.failures store < S.failures result.0)) }
@@ -90,14 +86,14 @@ fn ask_for<S: Store + Drop>(
     session: &mut Session<S>,
     request: &Request,
     format: OutputFormat,
-) -> (Result<Told, Refusal>, Option<Foreseen>)
+) -> (Answer, Option<Foreseen>)
     ensures answered { IsAnswered S.Store request.now result.0 session.old session.new }
     ensures wanted { IfSome result.1 (λ foreseen. (format ≡ OutputFormat.Diff) × IsAccepted result.0) }
     ensures foretells { format ≡ OutputFormat.Diff → ForetellsAccepted S.Store request.now result.0 result.1 session.old session.new }
 {
     match format {
         OutputFormat::Diff => ask_with_changes(alloc, session, request),
-        _ => (ask(alloc, session, request), None),
+        _ => (session.answer(alloc, request), None),
     }
 }
 

@@ -1,5 +1,5 @@
 //! A session takes a step back that need not be the last.
-ghost use Rattle.std.specs.Prelude.{◌≡◌, ◌↔◌, ◌⊎◌, not, IfOk, true, false};
+ghost use Rattle.std.specs.Prelude.{◌≡◌, ◌↔◌, ◌⊎◌, length, not, IfErr, IfOk, true, false};
 ghost use Rattle.reuse_session.specs.Answer.{IsRunAnswer};
 ghost use Rattle.reuse_tree.specs.Listing.{ArePaths, is_among};
 ghost use Rattle.reuse_session.specs.RevertCalls.{as_run, left_of};
@@ -14,11 +14,11 @@ use std::alloc::Global;
 
 impl<S: Store + Drop> Session<S> {
     ghost use Rattle.reuse_tree.specs.Asked.{OnlyReads};
-    ghost use Rattle.reuse_session.specs.Answer.{TellsNoFault, IsNoStep};
+    ghost use Rattle.reuse_session.specs.Answer.{TellsNoFault, IsNoClash, IsNoStep};
     ghost use Rattle.reuse_session.specs.Calls.{IsCall};
     ghost use Rattle.reuse_session.specs.Journal.{State};
     ghost use Rattle.reuse_session.specs.Losses.{SurvivesCall};
-    ghost use Rattle.reuse_session.specs.Machine.{Snapshots};
+    ghost use Rattle.reuse_session.specs.Machine.{Snapshots, is_full};
     ghost use Rattle.reuse_session.specs.RevertCalls.{as_run, GivesRevert, GivesRevertAt, IsAfterRevert, Reverts, RevertFollows, LeavesRevert};
     ghost use Rattle.reuse_session.specs.Previews.{OnlyLooks};
     ghost use Rattle.reuse_session.specs.Session.{store_of, is_broken, memory_of, StandsOn, StandsAt};
@@ -46,6 +46,8 @@ impl<S: Store + Drop> Session<S> {
         ensures broken { (result ≡ Err Refusal.Broken) ↔ (is_broken self.old ≡ true) }
         ensures absent { (result ≡ Err (Refusal.NoSuchStep number)) ↔ ((is_broken self.old ≡ false) × (lists (memory_of self.old).done number ≡ false)) }
         ensures stays { (result ≡ Err Refusal.Broken) ⊎ (result ≡ Err (Refusal.NoSuchStep number)) → self.new ≡ self.old }
+        // A full journal takes no further entry, so that no clash of one is told.
+        ensures full { S.honest (store_of self.new) → is_full (length (memory_of self.old).done) (memory_of self.old).used ≡ true → IfErr result IsNoClash }
 
         // Unless the answer tells a fault of the store or want of memory, the files and the session
         // go on as a run of the command that takes the step's changes back: from any standing, and
@@ -60,7 +62,7 @@ impl<S: Store + Drop> Session<S> {
 
         // What is left after a loss of power, at any moment of the call, as of a run that takes
         // some changes back.
-        ensures survives { SurvivesCall S.Store (IsAfterRevert skip_moved when) (as_run result) self.old self.new }
+        ensures survives { SurvivesCall S.Store (IsAfterRevert number skip_moved when) (as_run result) self.old self.new }
 
         // What any call leaves, and what a revert leaves of the files, whatever it answers.
         ensures call { IsCall S.Store result self.old self.new }

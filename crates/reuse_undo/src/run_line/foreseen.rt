@@ -3,12 +3,10 @@
 ghost use Rattle.std.specs.Prelude.{◌≡◌};
 ghost use Rattle.reuse_session.specs.Previews.{fates_alone};
 ghost use Rattle.reuse_undo.specs.Drawn.{foreseen_in, foreseen_unless, IsAnsweredWith};
-ghost use Rattle.reuse_undo.specs.RunLine.{as_told};
+ghost use Rattle.reuse_session.specs.Requests.{replied};
 
-use super::calls::ask;
 use super::printed::is_refused;
-use crate::request::{Request, Told};
-use reuse_session::{Call, Changes, Event, Previewed, Refusal, Reply, Session};
+use reuse_session::{Answer, Call, Changes, Previewed, Refusal, Reply, Request, Session};
 use reuse_tree::{Store, Way};
 use std::alloc::Global;
 
@@ -24,15 +22,12 @@ pub fn ask_with_changes<S: Store + Drop>(
     alloc: Global,
     session: &mut Session<S>,
     request: &Request,
-) -> (Result<Told, Refusal>, Option<Foreseen>)
+) -> (Answer, Option<Foreseen>)
     ensures { IsAnsweredWith S.Store request.now result.0 result.1 session.old session.new }
 {
     match request {
-        Request::Call(Event::Preview(call)) => call_with_changes(alloc, session, call),
-        Request::PreviewRevert { number, skip_moved } => {
-            revert_with_changes(alloc, session, *number, *skip_moved)
-        }
-        _ => (ask(alloc, session, request), None),
+        Request::Preview(call) => call_with_changes(alloc, session, call),
+        _ => (session.answer(alloc, request), None),
     }
 }
 
@@ -41,13 +36,16 @@ fn call_with_changes<S: Store + Drop>(
     alloc: Global,
     session: &mut Session<S>,
     call: &Call,
-) -> (Result<Told, Refusal>, Option<Foreseen>)
-    ensures { IsAnsweredWith S.Store (Request.Call (Event.Preview call.now)) result.0 result.1 session.old session.new }
+) -> (Answer, Option<Foreseen>)
+    ensures { IsAnsweredWith S.Store (Request.Preview call.now) result.0 result.1 session.old session.new }
 {
     match call {
         Call::Run(command) => told_with(session.preview_changes(alloc, command), Way::Do),
         Call::Undo => told_with(session.preview_step(alloc, Way::Undo), Way::Undo),
         Call::Redo => told_with(session.preview_step(alloc, Way::Do), Way::Do),
+        Call::Revert { number, skip_moved } => {
+            revert_with_changes(alloc, session, *number, *skip_moved)
+        }
     }
 }
 
@@ -57,8 +55,8 @@ fn revert_with_changes<S: Store + Drop>(
     session: &mut Session<S>,
     number: u32,
     skip_moved: bool,
-) -> (Result<Told, Refusal>, Option<Foreseen>)
-    ensures { IsAnsweredWith S.Store (Request.PreviewRevert number skip_moved) result.0 result.1 session.old session.new }
+) -> (Answer, Option<Foreseen>)
+    ensures { IsAnsweredWith S.Store (Request.Preview (Call.Revert number skip_moved)) result.0 result.1 session.old session.new }
 {
     match session.revert_command(alloc, number, skip_moved) {
         Ok(command) => {
@@ -74,14 +72,14 @@ fn revert_with_changes<S: Store + Drop>(
 fn told_with(
     answer: Result<Previewed, Refusal>,
     way: Way,
-) -> (Result<Told, Refusal>, Option<Foreseen>)
-    ensures told { result.0 ≡ as_told (λ fates. Told.Reply (Reply.Preview fates)) (fates_alone answer) }
+) -> (Answer, Option<Foreseen>)
+    ensures told { result.0 ≡ replied Reply.Preview (fates_alone answer) }
     ensures foreseen { result.1 ≡ foreseen_in way answer }
 {
     match answer {
         Ok(Previewed { fates, changes }) => {
             let foreseen = foreseen_of(is_refused(fates.as_slice()), changes, way);
-            (Ok(Told::Reply(Reply::Preview(fates))), foreseen)
+            (Ok(Reply::Preview(fates)), foreseen)
         }
         Err(refusal) => (Err(refusal), None),
     }

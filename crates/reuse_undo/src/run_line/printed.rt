@@ -4,16 +4,15 @@ ghost use Rattle.reuse_undo.specs.DiffText.{AreRecords};
 ghost use Rattle.reuse_undo.specs.Outputs.{AddsSome};
 ghost use Rattle.reuse_undo.specs.RowLines.{AppendsSome};
 ghost use Rattle.reuse_undo.specs.RunLine.{IfNoDiff};
-ghost use Rattle.reuse_undo.specs.Told.{Accepts, Finishes, HasBehind, is_refusal, is_refused, IsBehind, IsDiffBehind, IsDiffOf, IsForeseen, IsLinesText, IsTextIn, IsToldText, TellsFailure};
+ghost use Rattle.reuse_undo.specs.Told.{Accepts, Finishes, HasBehind, is_refusal, is_refused, IsBehind, IsDiffBehind, IsDiffOf, IsForeseen, IsTextIn, IsToldText, TellsFailure};
 ghost use Rattle.reuse_undo.specs.declared.fault.Fault.TheVariants as faults;
 
 use crate::diff::print_record;
 use crate::fault::{Fault, in_memory};
 use crate::line::{OutputFormat, Telling};
-use crate::lines::{path_count, print_reply, print_reverted, print_shown};
+use crate::lines::{path_count, print_reply};
 use crate::objects::{print_fate_objects, print_row_objects, print_shown_object};
 use crate::output::{Sink, write_text};
-use crate::request::Told;
 use crate::shown_name::Names;
 use reuse_session::{Fate, Fates, Reply};
 use reuse_tree::Change;
@@ -25,7 +24,7 @@ use std::io::{self, Write};
 pub fn finish<O: Sink>(
     out: &mut O,
     alloc: Global,
-    told: Told,
+    told: Reply,
     telling: Telling,
     diff: Result<Vec<u8>, Fault>,
 ) -> Result<usize, Fault>
@@ -48,7 +47,7 @@ pub fn finish<O: Sink>(
 fn print<O: Sink>(
     out: &mut O,
     alloc: Global,
-    told: &Told,
+    told: &Reply,
     telling: Telling,
     diff: Result<Vec<u8>, Fault>,
 ) -> Result<(), Fault>
@@ -67,7 +66,7 @@ fn print<O: Sink>(
 }
 
 // What is told of an answer. No part of it is written before it is whole.
-fn text_of(alloc: Global, told: &Told, telling: Telling, diff: &[u8]) -> Result<Vec<u8>, Fault>
+fn text_of(alloc: Global, told: &Reply, telling: Telling, diff: &[u8]) -> Result<Vec<u8>, Fault>
     ensures text { (telling.format ≡ OutputFormat.Diff → IsDiffBehind told.now diff.now) → IfOk result (λ text. IsToldText telling told.now text.items) }
     ensures behind { telling.format ≡ OutputFormat.Diff → IfOk result (λ text. HasBehind telling.names told.now diff.now text.items) }
     ensures fault { IfErr result (λ fault. fault ≡ faults.Memory) }
@@ -80,7 +79,7 @@ fn text_of(alloc: Global, told: &Told, telling: Telling, diff: &[u8]) -> Result<
 // The diff of what would change, or that of a step that is shown.
 fn whole_diff(
     alloc: Global,
-    told: &Told,
+    told: &Reply,
     telling: Telling,
     diff: Result<Vec<u8>, Fault>,
 ) -> Result<Vec<u8>, Fault>
@@ -90,7 +89,7 @@ fn whole_diff(
     ensures undrawn { IfNoDiff result (λ refusal. diff ≡ Err (faults.NoDiff refusal)) }
 {
     match (telling.format, told) {
-        (OutputFormat::Diff, Told::Shown(shown)) => {
+        (OutputFormat::Diff, Reply::Shown(shown)) => {
             drop(diff);
             records_of(alloc, shown.changes.as_slice())
         }
@@ -113,7 +112,7 @@ fn records_of(alloc: Global, changes: &[Change]) -> Result<Vec<u8>, Fault>
 fn print_told<W: Write>(
     out: &mut W,
     alloc: Global,
-    told: &Told,
+    told: &Reply,
     telling: Telling,
     diff: &[u8],
 ) -> io::Result<()>
@@ -121,53 +120,40 @@ fn print_told<W: Write>(
     ensures behind { telling.format ≡ OutputFormat.Diff → OnOk result (AppendsSome (W.contents out.old) (W.contents out.new) (HasBehind telling.names told.now diff.now)) }
 {
     match telling.format {
-        OutputFormat::Lines => print_lines(out, telling.names, told),
+        OutputFormat::Lines => print_reply(out, telling.names, told),
         OutputFormat::Diff => {
-            print_lines(out, telling.names, told)?;
+            print_reply(out, telling.names, told)?;
             out.write_all(diff)
         }
         OutputFormat::Json => print_objects(out, alloc, telling.names, told),
     }
 }
 
-fn print_lines<W: Write>(out: &mut W, names: Names, told: &Told) -> io::Result<()>
-    ensures { OnOk result (AppendsSome (W.contents out.old) (W.contents out.new) (IsLinesText names told.now)) }
-{
-    match told {
-        Told::Reply(reply) => print_reply(out, names, reply),
-        Told::Shown(shown) => print_shown(out, names, shown),
-        Told::Reverted(reverted) => print_reverted(out, names, reverted),
-    }
-}
-
 // Rows, steps and dry runs as objects, and all else in lines.
-fn print_objects<W: Write>(out: &mut W, alloc: Global, names: Names, told: &Told) -> io::Result<()>
+fn print_objects<W: Write>(out: &mut W, alloc: Global, names: Names, told: &Reply) -> io::Result<()>
     ensures { OnOk result (AppendsSome (W.contents out.old) (W.contents out.new) (IsTextIn OutputFormat.Json names told.now)) }
 {
     match told {
-        Told::Reply(Reply::Log(rows)) => print_row_objects(out, alloc, rows.as_slice()),
-        Told::Reply(Reply::Preview(fates)) => print_fate_objects(out, alloc, fates.as_slice()),
-        Told::Shown(shown) => print_shown_object(out, alloc, shown),
-        Told::Reply(reply) => print_reply(out, names, reply),
-        Told::Reverted(reverted) => print_reverted(out, names, reverted),
+        Reply::Log(rows) => print_row_objects(out, alloc, rows.as_slice()),
+        Reply::Preview(fates) => print_fate_objects(out, alloc, fates.as_slice()),
+        Reply::Shown(shown) => print_shown_object(out, alloc, shown),
+        reply => print_reply(out, names, reply),
     }
 }
 
 // How many paths an answer tells that changed, or would change, unless it is a preview with a
 // refusal.
-fn accept(told: Told) -> Result<usize, Fault>
+fn accept(told: Reply) -> Result<usize, Fault>
     ensures { Accepts told result }
 {
     match told {
-        Told::Reply(Reply::Preview(fates)) => accept_fates(fates),
-        Told::Reply(reply) => Ok(path_count(&reply)),
-        Told::Shown(_) => Ok(0),
-        Told::Reverted(reverted) => Ok(reverted.changed.as_slice().len()),
+        Reply::Preview(fates) => accept_fates(fates),
+        reply => Ok(path_count(&reply)),
     }
 }
 
 fn accept_fates(fates: Fates) -> Result<usize, Fault>
-    ensures { Accepts (Told.Reply (Reply.Preview fates)) result }
+    ensures { Accepts (Reply.Preview fates) result }
 {
     if is_refused(fates.as_slice()) {
         Err(Fault::WouldRefuse(fates))

@@ -2,61 +2,72 @@ use Rattle.std.proofs.Common.{◌<◌, IfErr, Some, arith, ap, sym, subst, ◌�
 use Rattle.std.proofs.lemmas.Bool.{false≢true}
 use Rattle.reuse_tree.specs.Files.{Files}
 use Rattle.reuse_session.specs.Answer.{HasCause}
+use Rattle.reuse_session.specs.Calls.{folder_of}
 use Rattle.reuse_session.specs.JournalFiles.{IsFree}
-use Rattle.reuse_session.specs.Machine.{step}
+use Rattle.reuse_session.specs.Machine.{Snapshots}
 use Rattle.reuse_session.specs.Driven.{IsSafelyAt}
 use Rattle.reuse_session.specs.Stops.{Point, open_at, Continues, AreLeft}
 use Rattle.reuse_session.specs.declared.events.Driven.TheVariants.{Closed}
 use Rattle.reuse_tree.specs.Tree.{undo_folder_of}
 use Rattle.reuse_session.proofs.Driving.{goes_on, closes}
+use Rattle.reuse_session.proofs.SafeAnswers.{follows, stands, stops, goes_safely}
 use Rattle.reuse_session.proofs.SafeDriving.{goes_on_safely, closes_safely}
 use Rattle.reuse_session.proofs.events.go_on.Goals as goal
 
 pub returns-then-is_interrupted-clause-continues : goal.returns-then-is_interrupted-clause-continues
-returns-then-is_interrupted-clause-continues g c honest state stands =
+returns-then-is_interrupted-clause-continues g c honest state at =
     let store = g.S.Store in
     let same = c.into_store.ensures in
     let was = c.is_interrupted.ensures.0 c.if-is_interrupted.true in
-    let left = c.ask-answer.ensures.stops (subst store.honest same honest) state stands was.0 was.1 in
-    closes store.files c.args.event.now c.ask-answer.result state c.into_store.result was.0 was.1 c.ask-answer.ensures.log c.ask-answer.ensures.preview
-    (subst (λ (f : Files). AreLeft f state (Some (step state c.args.event.now).1)) (sym (ap store.files same)) left)
+    let request = c.args.request.now in
+    let answer = c.answer-answer.result in
+    let left = stops store request answer c.args.session c.answer-answer.new.self c.answer-answer.ensures (subst store.honest same honest) state at was.0 was.1 in
+    closes store.files request answer state c.into_store.result was.0 was.1 c.answer-answer.ensures.fails
+    (left.0, left.1, left.2, subst (λ (f : Files). AreLeft f state (Some left.1)) (sym (ap store.files same)) left.3)
 
 pub returns-then-is_interrupted-clause-survives : goal.returns-then-is_interrupted-clause-survives
 returns-then-is_interrupted-clause-survives g c honest state safely =
     let store = g.S.Store in
-    let event = c.args.event.now in
-    let answer = c.ask-answer.result in
+    let request = c.args.request.now in
+    let answer = c.answer-answer.result in
     let same = c.into_store.ensures in
     let was = c.is_interrupted.ensures.0 c.if-is_interrupted.true in
-    let asked = c.ask-answer.ensures.survives (subst store.honest same honest) state safely in
-    subst (λ left. (new : Point) × Continues event answer (open_at state) new × IsSafelyAt store (Closed left) new) (sym same)
-    (closes_safely store event answer state c.ask-answer.new.session was.0 was.1 c.ask-answer.ensures.log c.ask-answer.ensures.preview asked)
+    let goes = goes_safely store request answer c.args.session c.answer-answer.new.self c.answer-answer.ensures (subst store.honest same honest) state safely in
+    subst (λ left. (new : Point) × Continues request answer (open_at state) new × IsSafelyAt store (Closed left) new) (sym same)
+    (closes_safely store request answer state c.answer-answer.new.self was.0 was.1 c.answer-answer.ensures.fails goes)
 
 pub returns-then-is_interrupted-clause-clash : goal.returns-then-is_interrupted-clause-clash
-returns-then-is_interrupted-clause-clash g c honest state stands free = c.ask-answer.ensures.clash (subst g.S.Store.honest c.into_store.ensures honest) state stands free
+returns-then-is_interrupted-clause-clash g c honest state at free = c.answer-answer.ensures.unclashed (subst g.S.Store.honest c.into_store.ensures honest) at.held at.stands free
 
 pub returns-then-is_interrupted-clause-free : goal.returns-then-is_interrupted-clause-free
 returns-then-is_interrupted-clause-free g c honest free =
     let store = g.S.Store in
     let same = c.into_store.ensures in
-    subst (λ (f : Files). IsFree (undo_folder_of f)) (sym (ap store.files same)) (c.ask-answer.ensures.free (subst store.honest same honest) free)
+    subst (λ (f : Files). IsFree (undo_folder_of f)) (sym (ap store.files same)) (c.answer-answer.ensures.free (subst store.honest same honest) free)
 
 pub returns-then-is_interrupted-clause-fault : goal.returns-then-is_interrupted-clause-fault
 returns-then-is_interrupted-clause-fault g c =
-    subst (λ n. IfErr c.ask-answer.result (HasCause (g.S.Store.failures c.args.session.store < n))) (sym (ap g.S.Store.failures c.into_store.ensures)) c.ask-answer.ensures.fault
+    subst (λ n. IfErr c.answer-answer.result (HasCause (g.S.Store.failures c.args.session.store < n))) (sym (ap g.S.Store.failures c.into_store.ensures)) c.answer-answer.ensures.call.fault
 
 pub returns-then-is_interrupted-clause-failures : goal.returns-then-is_interrupted-clause-failures
-returns-then-is_interrupted-clause-failures g c = omega (arith, ap g.S.Store.failures c.into_store.ensures, c.ask-answer.ensures.failures)
+returns-then-is_interrupted-clause-failures g c = omega (arith, ap g.S.Store.failures c.into_store.ensures, c.answer-answer.ensures.call.later.failures)
 
 pub returns-then-is_interrupted-clause-was_honest : goal.returns-then-is_interrupted-clause-was_honest
-returns-then-is_interrupted-clause-was_honest g c honest = c.ask-answer.ensures.was_honest (subst g.S.Store.honest c.into_store.ensures honest)
+returns-then-is_interrupted-clause-was_honest g c honest = c.answer-answer.ensures.call.later.was_honest (subst g.S.Store.honest c.into_store.ensures honest)
 
 pub returns-clause-continues : goal.returns-clause-continues
-returns-clause-continues g c honest state stands =
-    goes_on g.S.Store.files c.args.event.now c.ask-answer.result state c.ask-answer.new.session (c.ask-answer.ensures.follows honest state stands) (c.ask-answer.ensures.stands honest state stands) c.ask-answer.ensures.log
-    (λ cause is. false≢true (sym c.if-is_interrupted.false ∙ c.is_interrupted.ensures.1 (cause, is)))
+returns-clause-continues g c honest state at =
+    let store = g.S.Store in
+    let request = c.args.request.now in
+    let answer = c.answer-answer.result in
+    let old = c.args.session in
+    let new = c.answer-answer.new.self in
+    goes_on store.files request answer state new (follows store request answer old new c.answer-answer.ensures honest state at) (stands store request answer old new c.answer-answer.ensures honest state at)
+    c.answer-answer.ensures.fails (λ cause is. false≢true (sym c.if-is_interrupted.false ∙ c.is_interrupted.ensures.1 (cause, is)))
 
 pub returns-clause-survives : goal.returns-clause-survives
 returns-clause-survives g c honest state safely =
-    goes_on_safely g.S.Store state c.ask-answer.new.session c.args.event.now c.ask-answer.result (c.ask-answer.ensures.survives honest state safely) c.ask-answer.ensures.log
+    let store = g.S.Store in
+    goes_on_safely store state c.answer-answer.new.self c.args.request.now c.answer-answer.result
+    (goes_safely store c.args.request.now c.answer-answer.result c.args.session c.answer-answer.new.self c.answer-answer.ensures honest state safely) c.answer-answer.ensures.fails
     (λ cause is. false≢true (sym c.if-is_interrupted.false ∙ c.is_interrupted.ensures.1 (cause, is)))

@@ -4,14 +4,15 @@ use Rattle.reuse_session.specs.Answer.{HasCause}
 use Rattle.reuse_session.specs.Stops.{Point, AreLeft}
 use Rattle.reuse_undo.specs.AfterStops.{AnswersAfterStop}
 use Rattle.reuse_undo.specs.Drawn.{IsDiffOfCall}
-use Rattle.reuse_undo.specs.RunLine.{HasCallClash, RequestLeaves, FollowsMachine}
+use Rattle.reuse_session.specs.Requests.{HasCallClash}
+use Rattle.reuse_undo.specs.RunLine.{RequestLeaves, FollowsModel}
 use Rattle.reuse_undo.specs.Told.{IsForeseen}
 use Rattle.reuse_undo.specs.WriterFaults.{IsUndrawn}
-use Rattle.reuse_undo.specs.declared.request.Told.{Told}
+use Rattle.reuse_session.specs.declared.reply.Reply.{Reply}
 use Rattle.reuse_undo.proofs.AfterStopLemmas.{answers_after_stop, told_of_end}
 use Rattle.reuse_undo.proofs.DiffLemmas.{undrawn_told}
 use Rattle.reuse_undo.proofs.DrawnLines.{drawn_in_lines, previews_tell, told_diff}
-use Rattle.reuse_undo.proofs.MachineLemmas.{carries_as, carries_step, told_of, no_refusal}
+use Rattle.reuse_undo.proofs.ModelLemmas.{carries_as, carries_step, told_of, no_refusal}
 use Rattle.reuse_undo.proofs.run_line.run_request.Goals as goal
 
 pub returns-in-Ok : goal.returns-in-Ok
@@ -29,7 +30,7 @@ returns-in-Ok g c =
     record {
       exact = λ honest. told_of c.args.telling (λ answer. RequestLeaves before request answer after) c.in-Ok.told old new outcome (carries honest) told;
       machine = λ honest state held.
-          told_of c.args.telling (λ answer. FollowsMachine state request answer after) c.in-Ok.told old new outcome (carries_step state before request (Ok c.in-Ok.told) after held (carries honest)) told;
+          told_of c.args.telling (λ answer. FollowsModel state request answer after) c.in-Ok.told old new outcome (carries_step state before request (Ok c.in-Ok.told) after held (carries honest)) told;
       after_stop = λ honest start found.
           let Ends = (λ (end : Point). AreLeft after end.state end.next) in
           told_of_end c.args.telling (λ end answer. AnswersAfterStop request answer start end) Ends old new outcome
@@ -39,7 +40,7 @@ returns-in-Ok g c =
           let tells = previews_tell request held tree before after c.in-Ok.told would (carries honest) in
           drawn_in_lines c.args.telling held.tree tree c.in-Ok.told tells.0 old new outcome c.call-store.result.2 tells.1 wants told c.finish.ensures.behind
           (λ foreseen. told_diff request held tree c.call-store.result.2 would
-          (IfOk-at_ok (λ (answer : Told). IsForeseen c.args.telling answer → IfOk c.call-store.result.2 (λ text. IsDiffOfCall request held text.items)) c.in-Ok.is
+          (IfOk-at_ok (λ (answer : Reply). IsForeseen c.args.telling answer → IfOk c.call-store.result.2 (λ text. IsDiffOfCall request held text.items)) c.in-Ok.is
           (c.call-store.ensures.drawn honest held standing) foreseen));
       looks = c.call-store.ensures.looks;
       quiet = no_refusal _ _ _ _ outcome (λ refusal. c.finish.new.out ≡ c.args.out.now) told;

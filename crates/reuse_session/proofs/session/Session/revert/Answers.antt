@@ -1,13 +1,15 @@
-use Rattle.std.proofs.Common.{Err, refl, sym, ap, subst, ◌∙◌}
-use Rattle.reuse_session.specs.Answer.{TellsNoFault}
+use Rattle.std.proofs.Common.{◌≡◌, Err, IfErr, refl, sym, ap, ap₂, subst, ◌∙◌}
+use Rattle.reuse_session.specs.Answer.{IsNoClash, TellsNoFault}
 use Rattle.reuse_tree.specs.Entry.{paths_of}
-use Rattle.reuse_session.specs.RevertCalls.{IsAfterRevert, Reverts, RevertFollows}
+use Rattle.reuse_session.specs.RevertCalls.{IsAfterRevert, Reverts, RevertFollows, as_run}
 use Rattle.reuse_session.specs.Losses.{Survives}
 use Rattle.reuse_session.specs.Session.{store_of, IsRun}
+use Rattle.reuse_session.specs.declared.command.Command.{Command}
 use Rattle.reuse_session.specs.declared.command.Command.TheVariants.{Revert}
+use Rattle.reuse_session.specs.declared.reply.Refusal.TheVariants.{JournalFull}
 use Rattle.reuse_session.proofs.OnlyReading.{is_refused}
 use Rattle.reuse_session.proofs.Recording.{after_reading}
-use Rattle.reuse_session.proofs.RevertAnswers.{told_run, reverts_step, revert_follows, absent_step, absent_follows, no_step_back, run_leaves}
+use Rattle.reuse_session.proofs.RevertAnswers.{told_run, reverts_step, revert_follows, absent_step, absent_follows, no_step_back, run_leaves, full_revert, unclashed_back}
 use Rattle.reuse_session.proofs.StepDoubt.{reads_are_safe, survives_weaker}
 use Rattle.reuse_session.proofs.StepAnswers.{still_stands}
 use Rattle.reuse_session.proofs.session.Session.revert.Goals as goal
@@ -91,8 +93,22 @@ returns-clause-survives g c honest earlier held stands safe =
     let session = c.args.self.now in
     let was = c.run.ensures.call.later.was_honest honest in
     let still = still_stands files session c.read_back.new.store held (c.read_back.ensures.reads.files was) stands in
-    let IsNext = IsAfterRevert c.args.skip_moved c.args.when held in
+    let back = c.in_ok-changes.ensures.back was held.journal stands.remembers stands.standing.journal in
+    let IsNext = IsAfterRevert c.args.number c.args.skip_moved c.args.when held in
     subst (λ r. Survives g.S.Store IsNext earlier held r (store_of c.run.new.self)) (sym (c.told.ensures.same c.run.ensures.kinds))
     (survives_weaker g.S.Store (IsRun (Revert c.in_ok-changes.changes c.in_ok-changes.touched c.args.skip_moved) c.args.when held) IsNext earlier held (store_of c.run.new.self) c.run.result
-    (λ next is. (c.in_ok-changes.changes, c.in_ok-changes.touched, is))
+    (λ next is. (back.step, back.is_done, back.numbered, subst (λ (command : Command). IsRun command c.args.when held next) (ap₂ (λ cs ts. Revert cs ts c.args.skip_moved) back.changes back.touched) is))
     (c.run.ensures.survives honest earlier held still (reads_are_safe g.S.Store earlier held (store_of session) c.read_back.new.store c.read_back.ensures.reads safe)))
+
+-- ---- a full journal
+
+pub returns-clause-full : goal.returns-clause-full
+returns-clause-full g c honest full =
+    let is : as_run c.told.result ≡ Err JournalFull = c.told.ensures.same c.run.ensures.kinds ∙ c.run.ensures.full.1 (c.if-self.false, full) in
+    full_revert c.told.result is
+
+pub returns-in_err-changes-clause-full : goal.returns-in_err-changes-clause-full
+returns-in_err-changes-clause-full g c honest full =
+    let refusal = c.in_err-changes.field-0.0 in
+    subst (λ r. IfErr r IsNoClash) (sym (is_refused c.from_residual.result c.from_residual.ensures.1))
+    (unclashed_back c.args.number refusal c.in_err-changes.ensures.refusal (λ e. c.read_back.ensures.fails.clash honest (c.in_err-changes.was ∙ ap (λ x. Err x) e)))

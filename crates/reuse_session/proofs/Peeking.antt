@@ -1,25 +1,22 @@
--- Calls of a session that only look, and answers as they are told.
-use Rattle.std.proofs.Common.{◌≡◌, ◌≢◌, ◌∙◌, ◌<◌, ℕ, true, false, Result, Ok, Err, IfErr, refl, sym, ap, subst, arith}
+-- Calls of a session that only look.
+use Rattle.std.proofs.Common.{◌≡◌, ◌≢◌, ◌∙◌, ◌<◌, ℕ, Bool, true, false, Result, Ok, Err, IfErr, refl, sym, ap, subst, arith}
 use Rattle.std.proofs.lemmas.Bool.{false≢true}
 use Rattle.reuse_tree.specs.Asked.{OnlyReads}
-use Rattle.reuse_tree.proofs.AskedLemmas.{reads_more}
+use Rattle.reuse_tree.proofs.AskedLemmas.{later_reads, reads_more, reads_none}
 use Rattle.reuse_session.specs.declared.failure.Fault.TheVariants as stores
 use Rattle.reuse_tree.specs.declared.store.Store.{Ghosts}
-use Rattle.reuse_session.specs.Answer.{TellsNoFault, IsEarly, IsStop, HasCause, IsNoClash, RefusedAsRead}
+use Rattle.reuse_session.specs.Answer.{TellsNoFault, IsBrokenOrMemory, IsEarly, IsStop, HasCause, IsNoClash, RefusedAsRead}
 use Rattle.reuse_session.specs.Journal.{State}
 use Rattle.reuse_session.specs.Calls.{IsCall}
 use Rattle.reuse_session.specs.Previews.{OnlyLooks, IsPreviewRefusal}
+use Rattle.reuse_session.specs.Requests.{Peeks}
 use Rattle.reuse_session.specs.Session.{store_of, is_broken, StandsOn, IsKept}
-use Rattle.reuse_session.specs.Standing.{IsStanding}
 use Rattle.reuse_tree.specs.declared.cause.Cause.TheVariants as causes
 use Rattle.reuse_session.specs.declared.reply.Refusal.{Refusal}
-use Rattle.reuse_session.specs.declared.failure.Failure.TheVariants.{Fault as StoreFailed, Interrupted}
-use Rattle.reuse_session.specs.declared.reply.Refusal.TheVariants.{Failed}
+use Rattle.reuse_session.specs.declared.failure.Failure.TheVariants.{Fault as StoreFailed, Memory, Interrupted}
+use Rattle.reuse_session.specs.declared.reply.Refusal.TheVariants.{Broken, Failed}
 use Rattle.reuse_session.specs.declared.session.Session.{Session}
 use Rattle.reuse_session.proofs.Driving.{stands_still}
-use Rattle.reuse_undo.specs.declared.request.Told.{Told}
-use Rattle.reuse_undo.specs.Peeks.{Peeks}
-use Rattle.reuse_undo.specs.RunLine.{Looks, as_told}
 
 -- a refusal as an answer
 abbrev pub refused : (A : Type 0) → Refusal → Result A Refusal
@@ -35,18 +32,7 @@ caused Rose Higher on (Err (Failed (StoreFailed stores.Device))) h = on h
 caused Rose Higher on (Err (Failed (Interrupted causes.Device))) h = on h
 caused Rose Higher on (Err refusal) h = tt
 
--- ---- answers as they are told
-
--- what holds of a refusal holds of it as it is told
-pub err_told : {A : Type 0} (tell : A → Told) (answer : Result A Refusal) (result : Result Told Refusal) (P : Refusal → Type 0) → result ≡ as_told tell answer → IfErr answer P → IfErr result P
-err_told tell (Ok value) result P is h = subst (λ r. IfErr r P) (sym is) tt
-err_told tell (Err refusal) result P is h = subst (λ r. IfErr r P) (sym is) h
-
 -- ---- calls that only look
-
-peek_files : {S A : Type 0} (store : Ghosts S) (answer : Result A Refusal) (old new : Session S) → Peeks store answer old new → store.honest (store_of new)
-    → store.files (store_of new) ≡ store.files (store_of old)
-peek_files store answer old new peeks honest = peeks.reads.files honest
 
 pub unclashed_read : (refusal : Refusal) → (refusal ≢ Failed (StoreFailed stores.Clash)) → IsEarly refusal → IsNoClash refusal
 unclashed_read (Failed (StoreFailed stores.Clash)) none early = absurd (none refl)
@@ -54,39 +40,23 @@ unclashed_read (Failed (Interrupted cause)) none early = absurd early
 unclashed_read refusal none early = tt
 
 -- what only looks tells no clash
-pub peek_unclashed : {S A : Type 0} (store : Ghosts S) (answer : Result A Refusal) (old new : Session S) (held : State) → Peeks store answer old new → store.honest (store_of new)
-    → StandsOn store.files old held → IfErr answer IsNoClash
-peek_unclashed store (Ok value) old new held peeks honest stands = tt
-peek_unclashed store (Err refusal) old new held peeks honest stands =
-    unclashed_read refusal (λ is. peeks.fails.clash honest (ap (λ r. Err r) is)) (peeks.unstopped stands.whole)
-
--- and leaves the standing
-pub peek_looks : {S A : Type 0} (store : Ghosts S) (IsAnswer : Result A Refusal → Type 0) (answer : Result A Refusal) (old new : Session S) (held : State) → Peeks store answer old new
-    → store.honest (store_of new) → StandsOn store.files old held → (TellsNoFault answer → IsAnswer answer) → Looks IsAnswer held answer (store.files (store_of new))
-peek_looks store IsAnswer answer old new held peeks honest stands right =
-    record {
-      right = right;
-      stands = subst (λ f. IsStanding f held) (sym (peek_files store answer old new peeks honest)) stands.standing;
-      unstopped = peeks.unstopped stands.whole;
-    }
+pub peek_unclashed : {S A : Type 0} (store : Ghosts S) (answer : Result A Refusal) (old new : Session S) → Peeks store answer old new → store.honest (store_of new)
+    → IfErr answer IsNoClash
+peek_unclashed store (Ok value) old new peeks honest = tt
+peek_unclashed store (Err refusal) old new peeks honest =
+    unclashed_read refusal (λ is. peeks.fails.clash honest (ap (λ r. Err r) is)) peeks.unstopped
 
 -- a step that is shown only looks
-pub show_peeks : {S A : Type 0} (store : Ghosts S) (answer : Result A Refusal) (old new : Session S) → OnlyReads store (store_of old) (store_of new) → IsKept old new
-    → RefusedAsRead store (store_of old) (store_of new) answer → IsCall store answer old new → Peeks store answer old new
-show_peeks store answer old new reads kept fails call =
-    record {
-      reads = reads;
-      kept = kept;
-      fails = fails;
-      unstopped = λ whole. never_stops answer old new whole kept call.interrupted;
-      caused = call.fault;
-    }
+pub show_peeks : {S A : Type 0} (store : Ghosts S) (answer : Result A Refusal) (old new : Session S) → (is_broken old ≡ true → answer ≡ Err Broken) → OnlyReads store (store_of old) (store_of new)
+    → IsKept old new → RefusedAsRead store (store_of old) (store_of new) answer → IsCall store answer old new → Peeks store answer old new
+show_peeks {S} {A} store answer old new broken reads kept fails call =
+    record { reads = reads; kept = kept; fails = fails; unstopped = never_stops answer (is_broken old) refl broken call.interrupted; caused = call.fault }
   where
-    never_stops : {S A : Type 0} (answer : Result A Refusal) (old new : Session S) → is_broken old ≡ false → IsKept old new → IfErr answer (λ refusal. IsStop refusal → is_broken new ≡ true)
-        → IfErr answer IsEarly
-    never_stops (Ok value) old new whole kept stops = tt
-    never_stops (Err (Failed (Interrupted cause))) old new whole kept stops = absurd (false≢true (sym whole ∙ sym kept.1 ∙ stops tt))
-    never_stops (Err refusal) old new whole kept stops = tt
+    never_stops : (answer : Result A Refusal) (b : Bool) → is_broken old ≡ b → (is_broken old ≡ true → answer ≡ Err Broken) → IfErr answer (λ refusal. IsStop refusal → is_broken new ≡ true) → IfErr answer IsEarly
+    never_stops (Ok value) b is broken stops = tt
+    never_stops (Err (Failed (Interrupted cause))) true is broken stops = subst (λ a. IfErr a IsEarly) (sym (broken is)) tt
+    never_stops (Err (Failed (Interrupted cause))) false is broken stops = absurd (false≢true (sym is ∙ sym kept.1 ∙ stops tt))
+    never_stops (Err refusal) b is broken stops = tt
 
 -- the same of an answer that tells no fault, and of a refusal that is handed on
 pub peeks_ok : {S A B : Type 0} (store : Ghosts S) (first : Result A Refusal) (value : B) (old new : Session S) → Peeks store first old new → Peeks {A = B} store (Ok value) old new
@@ -95,7 +65,7 @@ peeks_ok store first value old new peeks =
       reads = peeks.reads;
       kept = peeks.kept;
       fails = record { device = λ is. absurd (ok_is_no_err value _ is); clash = λ honest is. ok_is_no_err value _ is };
-      unstopped = λ whole. tt;
+      unstopped = tt;
       caused = tt;
     }
   where
@@ -128,7 +98,7 @@ preview_peeks store answer old new looks is =
       reads = looks.reads;
       kept = looks.kept;
       fails = looks.fails;
-      unstopped = λ whole. unstopped answer is;
+      unstopped = unstopped answer is;
       caused = caused_by answer looks.fails is;
     }
   where
@@ -161,6 +131,42 @@ peeks_on store first second old mid new one two =
             device = λ is. let rise = two.fails.device is in omega (arith, rise, one.reads.failures);
             clash = two.fails.clash;
           };
-      unstopped = λ whole. two.unstopped (one.kept.1 ∙ whole);
+      unstopped = two.unstopped;
       caused = caused _ _ (λ rise. omega (arith, rise, one.reads.failures)) second two.caused;
     }
+
+-- a log looks
+pub log_peeks : {S A : Type 0} (store : Ghosts S) (answer : Result A Refusal) (session : Session S) → IfErr answer IsBrokenOrMemory → Peeks store answer session session
+log_peeks {S} {A} store answer session is =
+    record {
+      reads = reads_none store (store_of session);
+      kept = (refl, refl);
+      fails = record { device = λ e. absurd (subst (λ a. IfErr a IsBrokenOrMemory) e is); clash = λ honest e. subst (λ a. IfErr a IsBrokenOrMemory) e is };
+      unstopped = early answer is;
+      caused = caused_none _ answer is;
+    }
+  where
+    early : (answer : Result A Refusal) → IfErr answer IsBrokenOrMemory → IfErr answer IsEarly
+    early (Ok value) is = tt
+    early (Err (Failed (Interrupted cause))) is = absurd is
+    early (Err refusal) is = tt
+
+    caused_none : (Rose : Type 0) (answer : Result A Refusal) → IfErr answer IsBrokenOrMemory → IfErr answer (HasCause Rose)
+    caused_none Rose (Ok value) is = tt
+    caused_none Rose (Err (Failed Memory)) is = tt
+    caused_none Rose (Err Broken) is = tt
+    caused_none Rose (Err refusal) is = absurd is
+
+-- what any call leaves, of one that looks
+pub peek_call : {S A : Type 0} (store : Ghosts S) (answer : Result A Refusal) (old new : Session S) → Peeks store answer old new → IsCall store answer old new
+peek_call {S} {A} store answer old new peeks =
+    record { refused = kept answer; interrupted = stopped answer peeks.unstopped; fault = peeks.caused; later = later_reads store (store_of old) (store_of new) peeks.reads }
+  where
+    kept : (answer : Result A Refusal) → IfErr answer (λ refusal. IsEarly refusal → IsKept old new)
+    kept (Ok value) = tt
+    kept (Err refusal) = λ early. peeks.kept
+
+    stopped : (answer : Result A Refusal) → IfErr answer IsEarly → IfErr answer (λ refusal. IsStop refusal → is_broken new ≡ true)
+    stopped (Ok value) early = tt
+    stopped (Err (Failed (Interrupted cause))) early = absurd early
+    stopped (Err refusal) early = λ stop. absurd stop

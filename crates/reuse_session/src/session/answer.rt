@@ -1,0 +1,121 @@
+//! A session answers a request: the one place that says which call it is.
+ghost use Rattle.std.specs.Prelude.{◌≡◌, ◌↔◌, true};
+ghost use Rattle.reuse_session.specs.Requests.{replied};
+
+use crate::fate::Fates;
+use crate::reply::{Answer, Refusal, Reply, Reverted, Rows, Shown};
+use crate::request::{Call, Request};
+use crate::session::Session;
+use reuse_tree::{Moment, Store};
+use std::alloc::Global;
+
+impl<S: Store + Drop> Session<S> {
+    ghost use Rattle.reuse_session.specs.Answer.{TellsNoFault};
+    ghost use Rattle.reuse_session.specs.Journal.{State};
+    ghost use Rattle.reuse_session.specs.Requests.{IsAnswered, Peeks, Previews};
+    ghost use Rattle.reuse_session.specs.Session.{store_of, is_broken, StandsOn};
+
+    /// Answers a request. It is refused as the call is that it asks for.
+    pub fn answer(&mut self, alloc: Global, request: &Request) -> Answer
+        ensures { IsAnswered S.Store request.now result self.old self.new }
+    {
+        match request {
+            Request::Make(call, when) => self.make(alloc, call, *when),
+            Request::Preview(call) => fates_replied(self.preview_call(alloc, call)),
+            Request::Log => rows_replied(self.log(alloc)),
+            Request::Show(number) => shown_replied(self.show(alloc, *number)),
+        }
+    }
+
+    // Makes a call.
+    fn make(&mut self, alloc: Global, call: &Call, when: Moment) -> Answer
+        ensures { IsAnswered S.Store (Request.Make call.now when) result self.old self.new }
+    {
+        match call {
+            Call::Run(command) => self.run(alloc, command, when),
+            Call::Undo => self.undo(alloc),
+            Call::Redo => self.redo(alloc),
+            Call::Revert { number, skip_moved } => {
+                reverted_replied(self.revert(alloc, *number, *skip_moved, when))
+            }
+        }
+    }
+
+    /// Tells what the call would do, path by path, and changes nothing. If one of the fates is a
+    /// refusal, the call would be refused by the first, and else it would be accepted.
+    ///
+    /// It is refused as `preview`, `preview_undo` and `preview_redo` are, and for a revert as
+    /// `revert_command` is.
+    pub fn preview_call(&mut self, alloc: Global, call: &Call) -> Result<Fates, Refusal>
+        ensures broken { (result ≡ Err Refusal.Broken) ↔ (is_broken self.old ≡ true) }
+        ensures exact { S.honest (store_of self.new) → (held : State) → StandsOn S.files self.old held → TellsNoFault result → Previews call.now held result }
+        ensures looks { Peeks S.Store result self.old self.new }
+    {
+        match call {
+            Call::Run(command) => self.preview(alloc, command),
+            Call::Undo => self.preview_undo(alloc),
+            Call::Redo => self.preview_redo(alloc),
+            Call::Revert { number, skip_moved } => {
+                self.preview_revert(alloc, *number, *skip_moved)
+            }
+        }
+    }
+
+    // What taking a step back would do.
+    fn preview_revert(
+        &mut self,
+        alloc: Global,
+        number: u32,
+        skip_moved: bool,
+    ) -> Result<Fates, Refusal>
+        ensures broken { (result ≡ Err Refusal.Broken) ↔ (is_broken self.old ≡ true) }
+        ensures exact { S.honest (store_of self.new) → (held : State) → StandsOn S.files self.old held
+            → TellsNoFault result → Previews (Call.Revert number skip_moved) held result }
+        ensures looks { Peeks S.Store result self.old self.new }
+    {
+        match self.revert_command(alloc, number, skip_moved) {
+            Ok(command) => {
+                let fates = self.preview(alloc, &command);
+                drop(command);
+                fates
+            }
+            Err(refusal) => Err(refusal),
+        }
+    }
+}
+
+fn fates_replied(answer: Result<Fates, Refusal>) -> Answer
+    ensures { result ≡ replied Reply.Preview answer }
+{
+    match answer {
+        Ok(fates) => Ok(Reply::Preview(fates)),
+        Err(refusal) => Err(refusal),
+    }
+}
+
+fn rows_replied(answer: Result<Rows, Refusal>) -> Answer
+    ensures { result ≡ replied Reply.Log answer }
+{
+    match answer {
+        Ok(rows) => Ok(Reply::Log(rows)),
+        Err(refusal) => Err(refusal),
+    }
+}
+
+fn shown_replied(answer: Result<Shown, Refusal>) -> Answer
+    ensures { result ≡ replied Reply.Shown answer }
+{
+    match answer {
+        Ok(shown) => Ok(Reply::Shown(shown)),
+        Err(refusal) => Err(refusal),
+    }
+}
+
+fn reverted_replied(answer: Result<Reverted, Refusal>) -> Answer
+    ensures { result ≡ replied Reply.Reverted answer }
+{
+    match answer {
+        Ok(reverted) => Ok(Reply::Reverted(reverted)),
+        Err(refusal) => Err(refusal),
+    }
+}
