@@ -84,6 +84,13 @@ Gives state (requests.Preview call) answer next = (fates : Result (List Fate) Re
 Gives state requests.Log answer next = (answer ≡ Ok (replies.Log (rows_of state))) × (next ≡ state)
 Gives state (requests.Show number) answer next = (shown : Result Shown Refusal) × (answer ≡ replied replies.Shown shown) × ShowsBy state number shown × (next ≡ state)
 
+-- a request that the model answers by its trees alone: no step is named by its number
+abbrev pub IsByTrees : Request → Type 0
+IsByTrees (requests.Make (calls.Revert number skip_moved) when) = ⊥
+IsByTrees (requests.Preview (calls.Revert number skip_moved)) = ⊥
+IsByTrees (requests.Show number) = ⊥
+IsByTrees request = Unit {0}
+
 -- ---- events
 
 -- a request, or to be opened again

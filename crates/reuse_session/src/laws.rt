@@ -30,6 +30,8 @@ ghost use Rattle.reuse_session.specs.Fates.{first_refusal, fates_of, AreFatesOf}
 ghost use Rattle.reuse_session.specs.InTurn.{LeadsInTurn};
 ghost use Rattle.reuse_session.specs.Journal.{Recorded, State, Travels};
 ghost use Rattle.reuse_session.specs.JournalFiles.{IsFree};
+ghost use Rattle.reuse_session.specs.Machine.{Snapshots};
+ghost use Rattle.reuse_session.specs.Model.{Gives, IsByTrees};
 ghost use Rattle.reuse_session.specs.Opening.{IsFirstBad, IsStuckAt, CanOpenOn};
 ghost use Rattle.reuse_session.specs.Outcome.{edits_of, outcome_of};
 ghost use Rattle.reuse_session.specs.Previews.{Foresees};
@@ -55,6 +57,7 @@ ghost use Rattle.reuse_session.specs.declared.licence.LicenceText.{LicenceText};
 ghost use Rattle.reuse_session.specs.declared.reply.Refusal.{Refusal};
 ghost use Rattle.reuse_session.specs.declared.reply.Refusal.TheVariants.{Moved};
 ghost use Rattle.reuse_session.specs.declared.reply.Reply.{Reply};
+ghost use Rattle.reuse_session.specs.declared.request.Request.{Request};
 
 use reuse_header::{
     amending_keeps_other_bytes, annotated_texts_are_texts, annotating_keeps_other_bytes,
@@ -262,4 +265,11 @@ pub fn steps_follow_fates()
     ensures accepted { (way : Way) (tree : Files) (changes : List Change) (fates : List Fate) → AreFatesOf way tree changes fates → (first_refusal fates ≡ None) ↔ All (CanBeMade way tree) changes }
     ensures foretold { (way : Way) (steps : List Recorded) (old new : State) (fates : List Fate) (result : Result Reply Refusal) (refusal : Refusal) → Foresees way steps old.tree (Ok fates)
         → Travels way steps old result new → (result ≡ Err refusal) ↔ (first_refusal fates ≡ Some refusal) }
+{}
+
+/// To a request that names no step by its number the model gives one answer, and is in one state
+/// then.
+pub fn model_gives_one_answer()
+    ensures one { (state : Snapshots) (request : Request) (first second : Result Reply Refusal) (next other : Snapshots) → IsByTrees request
+        → Gives state request first next → Gives state request second other → (first ≡ second) × (next ≡ other) }
 {}

@@ -1,36 +1,36 @@
 -- What a subcommand asks for, by its name.
-use Rattle.std.proofs.Common.{◌≡◌, ◌≢◌, ◌∙◌, ℕ, Bool, true, false, cond, List, ap, refl, sym, codes}
-use Rattle.std.specs.Prelude.{Ok, Err}
+use Rattle.std.proofs.Common.{◌≡◌, ◌≢◌, ◌∙◌, ℕ, Bool, false, List, Option, ap, refl, sym, codes}
+use Rattle.std.specs.Prelude.{None, Ok, Err}
 use Rattle.std.specs.Str.{bytes_eq}
 use Rattle.std.proofs.lemmas.Bool.{false_from_ne_true}
 use Rattle.std.proofs.lemmas.Slice.Eq.{bytes_eq-Decides}
-use Rattle.reuse_undo.specs.Asking.{Wish, call, carry_out, foretell, wish_in, work_in}
+use Rattle.reuse_session.specs.declared.request.Call.{Call}
+use Rattle.reuse_session.specs.declared.request.Request.{Request}
+use Rattle.reuse_undo.specs.Asking.{call}
 use Rattle.reuse_undo.specs.Choices.{change_status_of, format_of, is_dry_run}
-use Rattle.reuse_undo.specs.CommandLine.{requested, wish_read, work_read}
+use Rattle.reuse_undo.specs.CommandLine.{call_read, line_read, requested, session_read, texts_read}
 use Rattle.reuse_undo.specs.Found.{Rows}
 use Rattle.reuse_undo.specs.LineFaults.{then_read, unread}
-use Rattle.reuse_undo.specs.declared.line.Action.{Action}
-use Rattle.reuse_undo.specs.declared.line.Action.TheVariants as actions
+use Rattle.reuse_undo.specs.Requests.{made_or_seen}
 use Rattle.reuse_undo.specs.declared.line.ChangeStatus.{ChangeStatus}
-use Rattle.reuse_undo.specs.declared.line.Deed.{Deed}
 use Rattle.reuse_undo.specs.declared.line.OutputFormat.{OutputFormat}
 
 -- the name is another
 other : (name word : List ℕ) → name ≢ word → bytes_eq name word ≡ false
 other name word h = false_from_ne_true _ (λ is. h ((bytes_eq-Decides name word).0 is))
 
-pub wish_else : (name : List ℕ) (found : Rows) (year : ℕ) → name ≢ codes "log" → name ≢ codes "show"
-    → wish_read name found year ≡ then_read (work_read name found year)
-    (λ work. Ok (cond (is_dry_run found) (foretell work) (carry_out work)))
-unfolding wish_read
-wish_else name found year log show = rw (other name (codes "log") log, other name (codes "show") show) refl
+pub session_else : (name : List ℕ) (found : Rows) (moment year : ℕ) → name ≢ codes "log" → name ≢ codes "show"
+    → session_read name found moment year ≡ then_read (call_read name found year)
+    (λ asked. Ok (made_or_seen asked moment (is_dry_run found)))
+unfolding session_read
+session_else name found moment year log show = rw (other name (codes "log") log, other name (codes "show") show) refl
 
-pub work_else : (name : List ℕ) (found : Rows) (year : ℕ) → name ≢ codes "annotate" → name ≢ codes "amend"
+pub call_else : (name : List ℕ) (found : Rows) (year : ℕ) → name ≢ codes "annotate" → name ≢ codes "amend"
     → name ≢ codes "convert-dep5" → name ≢ codes "download" → name ≢ codes "undo" → name ≢ codes "redo"
     → name ≢ codes "revert"
-    → work_read name found year ≡ Err (unread (codes "a subcommand that nothing reads"))
-unfolding work_read
-work_else name found year a b c d e f g =
+    → call_read name found year ≡ Err (unread (codes "a subcommand that nothing reads"))
+unfolding call_read
+call_else name found year a b c d e f g =
     rw (
       other name (codes "annotate") a,
       other name (codes "amend") b,
@@ -42,31 +42,27 @@ work_else name found year a b c d e f g =
       other name (codes "revert") g,
     ) refl
 
+pub texts_else : (name : List ℕ) (found : Rows) → name ≢ codes "download" → texts_read name found ≡ Ok None
+unfolding texts_read
+texts_else name found download = rw (other name (codes "download") download) refl
+
 pub requested_else : (root name : List ℕ) (found : Rows) (moment year : ℕ) → name ≢ codes "recover"
     → name ≢ codes "forget"
-    → requested root name found moment year ≡ then_read (wish_read name found year)
-    (λ wish. Ok (call
-    (record { root = root; wish = wish; format = format_of found; change_status = change_status_of found; moment = moment })))
+    → requested root name found moment year ≡ line_read root name found moment year
 unfolding requested
 requested_else root name found moment year recover forget = rw
     (other name (codes "recover") recover, other name (codes "forget") forget) refl
 
-pub wish_of : (deed : Deed) (dry wanted : Bool) (action : Action) → dry ≡ wanted → action ≡ cond dry
-    (actions.Foretell deed) (actions.Do deed)
-    → cond wanted (foretell (work_in deed)) (carry_out (work_in deed)) ≡ wish_in action
-wish_of deed dry wanted action same is = ap (λ b. cond b (foretell (work_in deed)) (carry_out (work_in deed)))
-    (sym same) ∙ each dry ∙ ap wish_in (sym is)
-  where
-    each : (b : Bool) → cond b (foretell (work_in deed)) (carry_out (work_in deed)) ≡ wish_in
-        (cond b (actions.Foretell deed) (actions.Do deed))
-    each true = refl
-    each false = refl
+-- what is made or seen, as the words say
+pub made_of : (asked : Call) (moment : ℕ) (dry wanted : Bool) (request : Request) → dry ≡ wanted
+    → request ≡ made_or_seen asked moment dry → made_or_seen asked moment wanted ≡ request
+made_of asked moment dry wanted request same is = ap (made_or_seen asked moment) (sym same) ∙ sym is
 
 -- a call of these parts
-pub call_same : (root : List ℕ) (wish : Wish) (found : Rows) (moment : ℕ) (format : OutputFormat)
+pub call_same : (root : List ℕ) (request : Request) (texts : Option (List ℕ)) (found : Rows) (format : OutputFormat)
     (status : ChangeStatus) → format ≡ format_of found → status ≡ change_status_of found
-    → call (record { root = root; wish = wish; format = format_of found; change_status = change_status_of found; moment = moment }) ≡ call (record { root = root; wish = wish; format = format; change_status = status; moment = moment })
-call_same root wish found moment format status a b =
+    → call (record { root = root; request = request; texts = texts; format = format_of found; change_status = change_status_of found }) ≡ call (record { root = root; request = request; texts = texts; format = format; change_status = status })
+call_same root request texts found format status a b =
     ap (λ f. call
-    (record { root = root; wish = wish; format = f; change_status = change_status_of found; moment = moment })) (sym a)
-    ∙ ap (λ s. call (record { root = root; wish = wish; format = format; change_status = s; moment = moment })) (sym b)
+    (record { root = root; request = request; texts = texts; format = f; change_status = change_status_of found })) (sym a)
+    ∙ ap (λ s. call (record { root = root; request = request; texts = texts; format = format; change_status = s })) (sym b)

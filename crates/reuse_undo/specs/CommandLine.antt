@@ -1,56 +1,75 @@
 -- From what clap found on a command line to what is asked for (docs/REFERENCE.md).
-use Rattle.std.specs.Prelude.{◌≡◌, ◌⊎◌, ℕ, false, List, Option, None, Some, Result, Ok, Err, codes, option_map, string_bytes, if◌then◌else◌}
+use Rattle.std.specs.Prelude.{◌≡◌, ◌⊎◌, ℕ, false, List, [], Option, None, Some, Result, Ok, Err, codes, option_map, string_bytes, if◌then◌else◌}
 use Rattle.std.specs.Str.{bytes_eq}
 use Rattle.clap.specs.Simple.{app_of, HasMatchesOf, subcommand_rows_of}
 use Rattle.clap.specs.declared.builder.command.Command.{Command}
 use Rattle.clap.specs.declared.parser.matches.ArgMatches.{ArgMatches}
-use Rattle.reuse_undo.specs.Asking.{Request, Wish, Work, call, carry_out, convert_dep5, download, foretell, forget, log, recover, redo, request_in, revert, run, show, undo}
+use Rattle.reuse_session.specs.declared.command.Command.{Command as SessionCommand}
+use Rattle.reuse_session.specs.declared.command.Command.TheVariants.{ConvertDep5, Download}
+use Rattle.reuse_session.specs.declared.request.Call.{Call}
+use Rattle.reuse_session.specs.declared.request.Call.TheVariants as calls
+use Rattle.reuse_session.specs.declared.request.Request.{Request as SessionRequest}
+use Rattle.reuse_session.specs.declared.request.Request.TheVariants as requests
+use Rattle.reuse_undo.specs.Asking.{Request, call, forget, recover, request_in}
 use Rattle.reuse_undo.specs.Choices.{change_status_of, format_of, is_dry_run, settings_of, usual_settings}
 use Rattle.reuse_undo.specs.CommandWords.{amend_read, annotate_read}
 use Rattle.reuse_undo.specs.Dates.{IsYearOf}
 use Rattle.reuse_undo.specs.FileWords.{files_from_of, ids_of, root_of, steps_read, texts_folder_read}
 use Rattle.reuse_undo.specs.Found.{Rows, flag, found_in, number}
 use Rattle.reuse_undo.specs.LineFaults.{IsDueAs, Mistake, then_read, unread}
+use Rattle.reuse_undo.specs.Requests.{made_or_seen}
 use Rattle.reuse_undo.specs.declared.line.LineFault.{LineFault}
 use Rattle.reuse_undo.specs.declared.line.LineFault.TheVariants as faults
 use Rattle.reuse_undo.specs.declared.words.Said.{Said}
 
--- the licences are copied from this folder
-unfoldable pub download_read : Rows → Result Work Mistake
-download_read found = then_read (texts_folder_read found) (λ folder. Ok (download folder (ids_of found)))
+-- a download of these licences; the texts are found later
+abbrev pub download_of : Rows → SessionCommand
+download_of found = Download (ids_of found) []
 
 -- what changes the tree, by the name of the subcommand
-unfoldable pub work_read : List ℕ → Rows → ℕ → Result Work Mistake
-work_read name found year =
-    if bytes_eq name (codes "annotate") then then_read (annotate_read found year) (λ command. Ok (run command))
-    else if bytes_eq name (codes "amend") then then_read (amend_read found) (λ command. Ok (run command))
-    else if bytes_eq name (codes "convert-dep5") then Ok convert_dep5
-    else if bytes_eq name (codes "download") then download_read found
-    else if bytes_eq name (codes "undo") then Ok undo
-    else if bytes_eq name (codes "redo") then Ok redo
+unfoldable pub call_read : List ℕ → Rows → ℕ → Result Call Mistake
+call_read name found year =
+    if bytes_eq name (codes "annotate") then then_read (annotate_read found year) (λ command. Ok (calls.Run command))
+    else if bytes_eq name (codes "amend") then then_read (amend_read found) (λ command. Ok (calls.Run command))
+    else if bytes_eq name (codes "convert-dep5") then Ok (calls.Run ConvertDep5)
+    else if bytes_eq name (codes "download") then Ok (calls.Run (download_of found))
+    else if bytes_eq name (codes "undo") then Ok calls.Undo
+    else if bytes_eq name (codes "redo") then Ok calls.Redo
     else if bytes_eq name (codes "revert")
-    then Ok (revert (number found (codes "NUMBER")) (flag found (codes "skip-moved")))
+    then Ok (calls.Revert (number found (codes "NUMBER")) (flag found (codes "skip-moved")))
     else Err (unread (codes "a subcommand that nothing reads"))
 
--- the history is looked at; else the tree is changed, or in a dry run it is told what would change
-unfoldable pub wish_read : List ℕ → Rows → ℕ → Result Wish Mistake
-wish_read name found year =
-    if bytes_eq name (codes "log") then Ok log
-    else if bytes_eq name (codes "show") then Ok (show (number found (codes "NUMBER")))
-    else then_read (work_read name found year) (λ work. Ok (if is_dry_run found then foretell work else carry_out work))
+-- the history is looked at; else the call is made at this moment, or in a dry run it is previewed
+unfoldable pub session_read : List ℕ → Rows → ℕ → ℕ → Result SessionRequest Mistake
+session_read name found moment year =
+    if bytes_eq name (codes "log") then Ok requests.Log
+    else if bytes_eq name (codes "show") then Ok (requests.Show (number found (codes "NUMBER")))
+    else then_read (call_read name found year) (λ asked. Ok (made_or_seen asked moment (is_dry_run found)))
+
+-- the licences of a download are copied from this folder
+unfoldable pub texts_read : List ℕ → Rows → Result (Option (List ℕ)) Mistake
+texts_read name found =
+    if bytes_eq name (codes "download") then then_read (texts_folder_read found) (λ folder. Ok (Some folder))
+    else Ok None
+
+-- a line that a session answers, in the tree under the folder
+unfoldable pub line_read : List ℕ → List ℕ → Rows → ℕ → ℕ → Result Request Mistake
+line_read root name found moment year =
+    then_read (session_read name found moment year) (λ request.
+    then_read (texts_read name found) (λ texts. Ok (call (record {
+      root = root;
+      request = request;
+      texts = texts;
+      format = format_of found;
+      change_status = change_status_of found;
+    }))))
 
 -- what the subcommand of this name asks for in the tree under the folder, at this moment of this year
 unfoldable pub requested : List ℕ → List ℕ → Rows → ℕ → ℕ → Result Request Mistake
 requested root name found moment year =
     if bytes_eq name (codes "recover") then Ok (recover root (flag found (codes "skip-moved")))
     else if bytes_eq name (codes "forget") then then_read (steps_read found) (λ steps. Ok (forget root steps))
-    else then_read (wish_read name found year) (λ wish. Ok (call (record {
-      root = root;
-      wish = wish;
-      format = format_of found;
-      change_status = change_status_of found;
-      moment = moment;
-    })))
+    else line_read root name found moment year
 
 -- what the whole line asks for: the root stands before the subcommand
 unfoldable pub request_read : Rows → Option (List ℕ × Rows) → ℕ → ℕ → Result Request Mistake

@@ -6,12 +6,12 @@ use crate::denial::Denial;
 use crate::disk::DiskStore;
 use crate::fault::Fault;
 use crate::findings::{Findings, Task, begun_step};
-use crate::line::{Deed, Forgetting, Line, Recovery, Steps, Telling};
+use crate::line::{Forgetting, Line, Recovery, Steps, Telling};
 use crate::lock::{RootLock, lock_root};
 use crate::on_folder::{forget_on_folder, recover_on_folder};
 use crate::output::Output;
 use crate::progress::{ClearedOutput, Progress};
-use crate::request::request_of;
+use crate::request::{ids_of, with_texts};
 use crate::settings::Settings;
 use crate::shown_name::Names;
 use crate::texts::find_texts;
@@ -49,8 +49,8 @@ pub fn carry_out<R: Files<File = File> + AllocGlobal + Clock + Env + Print + Epr
 
 /// The texts that the line needs.
 fn texts_for(rt: &impl Files, alloc: Global, line: &Line) -> Result<LicenceTexts, AllocError> {
-    match line.action.deed() {
-        Some(Deed::Download { folder, ids }) => find_texts(rt, alloc, folder.as_str(), ids),
+    match (&line.texts, ids_of(&line.request)) {
+        (Some(folder), Some(ids)) => find_texts(rt, alloc, folder.as_str(), ids),
         _ => Ok(LicenceTexts::new(Vec::new(alloc))),
     }
 }
@@ -137,6 +137,18 @@ fn work_with<R: Files<File = File> + AllocGlobal + Clock + Env + Print + Eprint 
         set_back,
         findings,
     }
+}
+
+/// The request of a line with the texts that were found for it.
+fn request_of(line: Line, texts: LicenceTexts) -> Request {
+    let Line {
+        root: _,
+        request,
+        texts: _,
+        format: _,
+        change_status: _,
+    } = line;
+    with_texts(request, texts)
 }
 
 fn found_before<R: Files + AllocGlobal + Clone + Drop>(

@@ -3,13 +3,14 @@ ghost use Rattle.std.specs.Prelude.{◌≡◌, ◌++◌, IfErr, IfOk, IfSome, On
 ghost use Rattle.std.specs.Option.{option_map, option_to_list};
 ghost use Rattle.reuse_notice.specs.Sets.{set_of};
 ghost use Rattle.reuse_undo.specs.LineFaults.{mistake_of, unreadable};
-ghost use Rattle.reuse_undo.specs.ListedCommands.{IsWithList, action_listed, command_listed, deed_listed};
+ghost use Rattle.reuse_undo.specs.ListedCommands.{IsWithList};
 ghost use Rattle.reuse_undo.specs.FileLists.{has_nul, separator_of, path_of_word, path_listed, listed_paths, paths_within, without_return};
 
-use crate::line::{Action, Deed, Line, LineFault};
+use crate::line::{Line, LineFault};
 use crate::place_word::place_of_word;
 use crate::reading::read_front;
-use reuse_session::{Command, PathList, Place};
+use crate::request::set_listed;
+use reuse_session::{PathList, Place};
 use reuse_tree::PathText;
 use std::alloc::{AllocError, Global};
 use std::fs;
@@ -34,43 +35,13 @@ pub fn with_list<R: Files + Input>(
     let mut line = line;
     match read_list(rt, alloc, file.as_str()) {
         Ok(listed) => {
-            set_listed(&mut line.action, listed);
+            set_listed(&mut line.request, listed);
             Ok(line)
         }
         Err(fault) => {
             drop(line);
             Err(fault)
         }
-    }
-}
-
-/// Of the files beneath folders the command goes through those of the list alone.
-fn set_listed(action: &mut Action, listed: PathList)
-    ensures { action.new ≡ action_listed listed action.old }
-{
-    match action {
-        Action::Do(deed) => set_deed_listed(deed, listed),
-        Action::Foretell(deed) => set_deed_listed(deed, listed),
-        Action::Log | Action::Show(_) => drop(listed),
-    }
-}
-
-fn set_deed_listed(deed: &mut Deed, listed: PathList)
-    ensures { deed.new ≡ deed_listed listed deed.old }
-{
-    match deed {
-        Deed::Run(command) => set_command_listed(command, listed),
-        _ => drop(listed),
-    }
-}
-
-fn set_command_listed(command: &mut Command, listed: PathList)
-    ensures { command.new ≡ command_listed listed command.old }
-{
-    match command {
-        Command::Annotate { scope, .. } => scope.listed = Some(listed),
-        Command::Amend { scope, .. } => scope.listed = Some(listed),
-        _ => drop(listed),
     }
 }
 

@@ -5,7 +5,7 @@ use crate::above::journal_above;
 use crate::damage::{Damage, Headless, damage_of, is_gone, steps_without_head};
 use crate::disk::{DiskStore, Failure, Kept};
 use crate::fault::Fault;
-use crate::line::{Action, Deed, Line};
+use crate::line::Line;
 use reuse_session::{
     Call, Command, Fate, Head, Refusal, Request, Scope, Session, Unknown, decode_head,
 };
@@ -47,15 +47,15 @@ pub enum Task {
 }
 
 impl Task {
-    fn of(action: &Action) -> Task {
-        match action {
-            Action::Do(Deed::Run(_) | Deed::Download { .. }) => Task::Step,
-            Action::Do(Deed::ConvertDep5) => Task::Conversion,
-            Action::Do(Deed::Undo) => Task::Undo,
-            Action::Do(Deed::Redo) => Task::Redo,
-            Action::Do(Deed::Revert { .. }) => Task::Revert,
-            Action::Foretell(Deed::Revert { .. }) => Task::PreviewRevert,
-            Action::Foretell(_) | Action::Log | Action::Show(_) => Task::Look,
+    fn of(request: &Request) -> Task {
+        match request {
+            Request::Make(Call::Run(Command::ConvertDep5), _) => Task::Conversion,
+            Request::Make(Call::Run(_), _) => Task::Step,
+            Request::Make(Call::Undo, _) => Task::Undo,
+            Request::Make(Call::Redo, _) => Task::Redo,
+            Request::Make(Call::Revert { .. }, _) => Task::Revert,
+            Request::Preview(Call::Revert { .. }) => Task::PreviewRevert,
+            Request::Preview(_) | Request::Log | Request::Show(_) => Task::Look,
         }
     }
 }
@@ -103,11 +103,11 @@ impl Findings {
         line: &Line,
         begun: Option<u32>,
     ) -> Findings {
-        let task = Task::of(&line.action);
+        let task = Task::of(&line.request);
         let mut findings = Findings::of(rt, alloc, line.root.as_str(), task, begun);
-        findings.texts = match line.action.deed() {
-            Some(Deed::Download { folder, .. }) => String::from_str(alloc, folder.as_str()).ok(),
-            _ => None,
+        findings.texts = match &line.texts {
+            Some(folder) => String::from_str(alloc, folder.as_str()).ok(),
+            None => None,
         };
         findings
     }

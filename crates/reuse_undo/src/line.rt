@@ -1,74 +1,14 @@
 //! What a command line asks for.
 ghost use Rattle.std.specs.Prelude.{◌≡◌, Some, if◌then◌else◌};
 ghost use Rattle.reuse_undo.specs.RefusalTexts.{line_fault_text};
-ghost use Rattle.reuse_undo.specs.declared.line.Action.TheVariants as actions;
 ghost use Rattle.reuse_undo.specs.declared.line.ChangeStatus.TheVariants as statuses;
 
 use crate::shown_name::Names;
 use reuse_notice::NoticeRefusal;
-use reuse_session::{Command, EntryNumbers, Ids, Moment};
+use reuse_session::{EntryNumbers, Request};
 use std::alloc::{AllocError, AllocFailed};
 use std::error::Error;
 use std::fmt;
-
-/// What changes a tree.
-#[derive(Drop)]
-pub enum Deed {
-    /// To run this command, which is `annotate` or `amend`.
-    Run(Command),
-    /// To run `convert-dep5`.
-    ConvertDep5,
-    /// To run `download`.
-    Download {
-        /// The folder of the texts, relative to the working folder.
-        folder: String,
-        ids: Ids,
-    },
-    /// To take the last step back.
-    Undo,
-    /// To make the step again that was taken back last.
-    Redo,
-    /// To take a step back, wherever it stands in the history.
-    Revert {
-        number: u32,
-        /// Whether the paths that can't be taken back are left as they are.
-        skip_moved: bool,
-    },
-}
-
-/// What a line asks for.
-#[derive(Drop)]
-pub enum Action {
-    /// To change the tree.
-    Do(Deed),
-    /// To tell what that would change.
-    Foretell(Deed),
-    /// For the log.
-    Log,
-    /// To show the step of this number.
-    Show(u32),
-}
-
-impl Action {
-    /// To change the tree, or to tell what that would change.
-    pub fn of(deed: Deed, dry_run: bool) -> Action
-        ensures { result ≡ (if dry_run then actions.Foretell deed else actions.Do deed) }
-    {
-        if dry_run {
-            Action::Foretell(deed)
-        } else {
-            Action::Do(deed)
-        }
-    }
-
-    /// What would change the tree, or is told of.
-    pub fn deed(&self) -> Option<&Deed> {
-        match self {
-            Action::Do(deed) | Action::Foretell(deed) => Some(deed),
-            Action::Log | Action::Show(_) => None,
-        }
-    }
-}
 
 /// In which form an answer is printed.
 #[derive(Clone, Copy, PartialEq, Eq)]
@@ -117,11 +57,12 @@ impl ChangeStatus {
 pub struct Line {
     /// The folder of the tree, relative to the working folder.
     pub root: String,
-    pub action: Action,
+    /// What a session is asked for. The texts of a download are found later.
+    pub request: Request,
+    /// The folder of the texts of a download, relative to the working folder.
+    pub texts: Option<String>,
     pub format: OutputFormat,
     pub change_status: ChangeStatus,
-    /// When the line was read.
-    pub moment: Moment,
 }
 
 /// What words ask for.

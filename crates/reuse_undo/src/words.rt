@@ -3,10 +3,11 @@ ghost use Rattle.std.specs.Prelude.{◌≡◌, ◌≤◌, ◌⊎◌, IfErr, IfOk
 ghost use Rattle.clap.specs.Simple.{subcommand_rows_of};
 ghost use Rattle.clap.specs.Values.{kind_of};
 ghost use Rattle.clap.specs.declared.parser.matches.ArgMatches.{ArgMatches};
-ghost use Rattle.reuse_undo.specs.Asking.{request_in, wish_in, work_in};
-ghost use Rattle.reuse_undo.specs.CommandLine.{IsFoundIn, IsOfClap, IsRefusedByClap, Says, download_read, no_line, request_read, requested, wish_read, work_read};
+ghost use Rattle.std.specs.Option.{option_map};
+ghost use Rattle.reuse_undo.specs.Asking.{request_in};
+ghost use Rattle.reuse_undo.specs.CommandLine.{IsFoundIn, IsOfClap, IsRefusedByClap, Says, call_read, download_of, no_line, request_read, requested, session_read, texts_read};
 ghost use Rattle.reuse_undo.specs.Found.{found_in};
-ghost use Rattle.reuse_undo.specs.LineFaults.{IsDueAs, IsToldAs};
+ghost use Rattle.reuse_undo.specs.LineFaults.{IsDue, IsDueAs, IsToldAs};
 
 mod amend_words;
 mod choices;
@@ -17,7 +18,8 @@ mod unread_words;
 
 use crate::arguments::whole;
 use crate::date::year_of;
-use crate::line::{Action, Asked, Deed, Forgetting, Line, LineFault, Recovery};
+use crate::line::{Asked, Forgetting, Line, LineFault, Recovery};
+use crate::request::made_or_seen;
 use crate::settings::Settings;
 use choices::{is_dry_run, read_change_status, read_format, read_settings};
 use clap::error::ErrorKind;
@@ -25,7 +27,7 @@ use clap::{ArgMatches, Error};
 use command_words::{read_amend, read_annotate};
 use file_words::{read_files_from, read_ids, read_root, read_steps, read_texts};
 use found::{flag, number, subcommand};
-use reuse_session::Moment;
+use reuse_session::{Call, Command, LicenceTexts, Moment, Request};
 use std::alloc::{AllocError, Global};
 use unread_words::unread;
 
@@ -148,54 +150,56 @@ fn read_request(
             Ok(Asked::Forget(Forgetting { root, steps }))
         }
         _ => {
-            let action = read_action(alloc, name, matches, year)?;
+            let request = read_session_request(alloc, name, matches, moment, year)?;
             Ok(Asked::Line(Line {
                 root,
-                action,
+                request,
+                texts: read_texts_folder(alloc, name, matches)?,
                 format: read_format(matches),
                 change_status: read_change_status(matches),
-                moment,
             }))
         }
     }
 }
 
-fn read_action(
+/// What a session is asked for.
+fn read_session_request(
     alloc: Global,
     name: &str,
     matches: &ArgMatches<'_>,
+    moment: Moment,
     year: u16,
-) -> Result<Action, LineFault>
+) -> Result<Request, LineFault>
     requires { year ≤ 9999 }
-    ensures { IsDueAs wish_in (wish_read name.now (found_in matches.now) year) result }
+    ensures { IsDue (session_read name.now (found_in matches.now) moment year) result }
 {
     match name {
-        "log" => Ok(Action::Log),
-        "show" => Ok(Action::Show(number(matches, "NUMBER"))),
+        "log" => Ok(Request::Log),
+        "show" => Ok(Request::Show(number(matches, "NUMBER"))),
         _ => {
-            let deed = read_deed(alloc, name, matches, year)?;
-            Ok(Action::of(deed, is_dry_run(matches)))
+            let call = read_call(alloc, name, matches, year)?;
+            Ok(made_or_seen(call, moment, is_dry_run(matches)))
         }
     }
 }
 
-fn read_deed(
+fn read_call(
     alloc: Global,
     name: &str,
     matches: &ArgMatches<'_>,
     year: u16,
-) -> Result<Deed, LineFault>
+) -> Result<Call, LineFault>
     requires { year ≤ 9999 }
-    ensures { IsDueAs work_in (work_read name.now (found_in matches.now) year) result }
+    ensures { IsDue (call_read name.now (found_in matches.now) year) result }
 {
     match name {
-        "annotate" => Ok(Deed::Run(read_annotate(alloc, matches, year)?)),
-        "amend" => Ok(Deed::Run(read_amend(alloc, matches)?)),
-        "convert-dep5" => Ok(Deed::ConvertDep5),
-        "download" => read_download(alloc, matches),
-        "undo" => Ok(Deed::Undo),
-        "redo" => Ok(Deed::Redo),
-        "revert" => Ok(Deed::Revert {
+        "annotate" => Ok(Call::Run(read_annotate(alloc, matches, year)?)),
+        "amend" => Ok(Call::Run(read_amend(alloc, matches)?)),
+        "convert-dep5" => Ok(Call::Run(Command::ConvertDep5)),
+        "download" => Ok(Call::Run(read_download(alloc, matches)?)),
+        "undo" => Ok(Call::Undo),
+        "redo" => Ok(Call::Redo),
+        "revert" => Ok(Call::Revert {
             number: number(matches, "NUMBER"),
             skip_moved: flag(matches, "skip-moved"),
         }),
@@ -203,10 +207,25 @@ fn read_deed(
     }
 }
 
-fn read_download(alloc: Global, matches: &ArgMatches<'_>) -> Result<Deed, LineFault>
-    ensures { IsDueAs work_in (download_read (found_in matches.now)) result }
+/// A download of these ids, without texts.
+fn read_download(alloc: Global, matches: &ArgMatches<'_>) -> Result<Command, AllocError>
+    ensures { IfOk result (λ command. command ≡ download_of (found_in matches.now)) }
 {
-    let folder = read_texts(alloc, matches)?;
     let ids = read_ids(alloc, matches)?;
-    Ok(Deed::Download { folder, ids })
+    let texts = LicenceTexts::new(Vec::new(alloc));
+    Ok(Command::Download { ids, texts })
+}
+
+/// The folder of the texts of a download.
+fn read_texts_folder(
+    alloc: Global,
+    name: &str,
+    matches: &ArgMatches<'_>,
+) -> Result<Option<String>, LineFault>
+    ensures { IsDueAs (option_map string_bytes) (texts_read name.now (found_in matches.now)) result }
+{
+    match name {
+        "download" => Ok(Some(read_texts(alloc, matches)?)),
+        _ => Ok(None),
+    }
 }

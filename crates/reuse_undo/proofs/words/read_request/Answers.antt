@@ -1,8 +1,8 @@
 use Rattle.std.proofs.Common.{◌∙◌, Ok, ap, string_bytes, sym}
 use Rattle.reuse_undo.proofs.CommandLineLemmas.{call_same, requested_else}
-use Rattle.reuse_undo.proofs.LineFaultLemmas.{due_after, mistake_first, mistake_same, read_on}
+use Rattle.reuse_undo.proofs.LineFaultLemmas.{due_after, mistake_behind, mistake_first, mistake_same, read_on}
 use Rattle.reuse_undo.specs.Asking.{recover}
-use Rattle.reuse_undo.specs.CommandLine.{requested}
+use Rattle.reuse_undo.specs.CommandLine.{line_read, requested}
 use Rattle.reuse_undo.specs.Found.{found_in}
 use Rattle.reuse_undo.proofs.words.read_request.Goals as goal
 
@@ -29,14 +29,23 @@ returns-in_ok-steps-in-forget c =
     (found_in c.args.matches.now) c.args.moment c.args.year) c.in-forget.is)
     ∙ read_on _ _ _ c.in_ok-steps-in-forget.ensures
 
-pub returns-in_err-action-in_default : goal.returns-in_err-action-in_default
-returns-in_err-action-in_default c =
-    due_after _ _ _ _ c.from_residual-in_err-action-in_default.ensures.1
+pub returns-in_err-request-in_default : goal.returns-in_err-request-in_default
+unfolding line_read
+returns-in_err-request-in_default c =
+    due_after _ _ _ _ c.from_residual-in_err-request-in_default.ensures.1
     (mistake_same _ _ _ (requested_else _ _ _ _ _ c.in_default.not-recover c.in_default.not-forget)
-    (mistake_first _ _ _ c.in_err-action-in_default.ensures))
+    (mistake_first _ _ _ c.in_err-request-in_default.ensures))
 
-pub returns-in_ok-action-in_default : goal.returns-in_ok-action-in_default
-returns-in_ok-action-in_default c =
+pub returns-in_err-read_texts_folder-in_default : goal.returns-in_err-read_texts_folder-in_default
+unfolding line_read
+returns-in_err-read_texts_folder-in_default c =
+    due_after _ _ _ _ c.from_residual-in_err-read_texts_folder-in_default.ensures.1
+    (mistake_same _ _ _ (requested_else _ _ _ _ _ c.in_default.not-recover c.in_default.not-forget)
+    (mistake_behind _ _ _ _ c.in_ok-request-in_default.ensures (mistake_first _ _ _ c.in_err-read_texts_folder-in_default.ensures)))
+
+pub returns-in_ok-read_texts_folder-in_default : goal.returns-in_ok-read_texts_folder-in_default
+unfolding line_read
+returns-in_ok-read_texts_folder-in_default c =
     requested_else _ _ _ _ _ c.in_default.not-recover c.in_default.not-forget
-    ∙ read_on _ _ _ c.in_ok-action-in_default.ensures
+    ∙ read_on _ _ _ c.in_ok-request-in_default.ensures ∙ read_on _ _ _ c.in_ok-read_texts_folder-in_default.ensures
     ∙ ap (λ request. Ok request) (call_same _ _ _ _ _ _ c.read_format.ensures c.read_change_status.ensures)
