@@ -64,6 +64,15 @@ impl HeadPath {
     }
 }
 
+/// A head that is to be put: its path and its text.
+#[derive(Clone, Copy)]
+pub struct NewHead<'a> {
+    /// Where it is put.
+    pub path: &'a HeadPath,
+    /// What it says.
+    pub text: &'a [u8],
+}
+
 /// The path of the entry of this number.
 pub fn entry_path(alloc: Global, number: u32) -> Result<PathText, AllocError>
     ensures { IfOk result (λ path. path ≡ entry_path number) }

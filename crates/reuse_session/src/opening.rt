@@ -20,7 +20,7 @@ ghost use Rattle.reuse_tree.specs.Asked.{OnlyReads, IsLater};
 ghost use Rattle.reuse_session.specs.declared.failure.Failure.TheVariants as failures;
 
 use crate::history::{History, ListedEntry};
-use crate::journal_files::{HeadPath, entry_path, read_entry, read_head};
+use crate::journal_files::{HeadPath, NewHead, entry_path, read_entry, read_head};
 use crate::known_path::known_path;
 use crate::reply::Refusal;
 use crate::roll_back::roll_back;
@@ -128,15 +128,13 @@ fn settle<S: Store>(
 {
     let entry = read_entry(alloc, store, pending.entry)?;
     let settled = history.head_text(alloc, None)?;
-    let head = HeadPath::new(alloc)?;
-    roll_back(
-        alloc,
-        store,
-        &head,
-        entry.changes.as_slice(),
-        pending.way.way(),
-        settled.as_slice(),
-    )
+    let path = HeadPath::new(alloc)?;
+    let changes = entry.changes.as_slice();
+    let head = NewHead {
+        path: &path,
+        text: settled.as_slice(),
+    };
+    roll_back(alloc, store, changes, pending.way.way(), &head)
 }
 
 // Neither `.reuse` nor `.reuse/undo` is a file.

@@ -174,7 +174,16 @@ fn change_back(
                 seal,
             },
             Reading::Found(file),
-        ) => put_back(alloc, path, file, *at, old, new, *rest, *seal),
+        ) => {
+            let written = Written {
+                at: *at,
+                old,
+                new,
+                rest: *rest,
+                seal: *seal,
+            };
+            put_back(alloc, path, file, &written)
+        }
         _ => Ok(None),
     }
 }
@@ -195,21 +204,35 @@ fn drop_made(
     Ok(Some(Change::sealed_drop(path.try_clone(alloc)?, file)))
 }
 
+// What a step wrote into a file: the place, the bytes that went and those that came, how many stood
+// behind them, and the digests of the file.
+#[derive(Clone, Copy)]
+struct Written<'a> {
+    at: usize,
+    old: &'a Bytes,
+    new: &'a Bytes,
+    rest: usize,
+    seal: Option<Seal>,
+}
+
 // The old bytes are put back in the place of the new ones, where these stand there as they were
 // written.
 fn put_back(
     alloc: Global,
     path: &PathText,
     file: Bytes,
-    at: usize,
-    old: &Bytes,
-    new: &Bytes,
-    rest: usize,
-    seal: Option<Seal>,
+    written: &Written<'_>,
 ) -> Result<Option<Change>, AllocError>
-    ensures { (tree : Files) → old.now ≢ new.now → get tree path.now ≡ Some file → length file ≤ LONGEST_FILE
-        → IfOk result (MakesEdit tree (Ok (taken_back (Splice path.now at old.now new.now rest seal) (Some file)))) }
+    ensures { (tree : Files) → written.now.old.now ≢ written.now.new.now → get tree path.now ≡ Some file → length file ≤ LONGEST_FILE
+        → IfOk result (MakesEdit tree (Ok (taken_back (Splice path.now written.now.at written.now.old.now written.now.new.now written.now.rest written.now.seal) (Some file)))) }
 {
+    let Written {
+        at,
+        old,
+        new,
+        rest,
+        seal,
+    } = *written;
     if !stands_as_written(
         file.as_slice(),
         at,

@@ -29,7 +29,7 @@ ghost use Rattle.reuse_session.specs.declared.failure.Fault.{Fault};
 ghost use Rattle.reuse_session.specs.declared.failure.Failure.TheVariants as failures;
 
 use crate::history::History;
-use crate::journal_files::{HeadPath, put_head, read_entry};
+use crate::journal_files::{HeadPath, NewHead, put_head, read_entry};
 use crate::opening::read_journal;
 use crate::reply::{Paths, Recovered, Refusal};
 use crate::roll_back::{roll_back, told};
@@ -164,16 +164,13 @@ fn recover_step<S: Store>(
     let found = find_each(alloc, store, entry.changes.as_slice(), way)?;
     refuse_first(alloc, found.skipped.as_slice(), skip_moved)?;
     let settled = history.head_text(alloc, None)?;
-    let head = HeadPath::new(alloc)?;
+    let path = HeadPath::new(alloc)?;
     let part = changes_besides(found.skipped.as_slice(), entry.changes.into_vec());
-    roll_back_part(
-        alloc,
-        store,
-        &head,
-        part.as_slice(),
-        way,
-        settled.as_slice(),
-    )?;
+    let head = NewHead {
+        path: &path,
+        text: settled.as_slice(),
+    };
+    roll_back_part(alloc, store, part.as_slice(), way, &head)?;
     Ok(Recovered {
         number: Some(pending.entry),
         changed: Paths::new(found.changed),
@@ -185,14 +182,13 @@ fn recover_step<S: Store>(
 fn roll_back_part<S: Store>(
     alloc: Global,
     store: &mut S,
-    head: &HeadPath,
     changes: &[Change],
     way: Way,
-    settled: &[u8],
+    head: &NewHead<'_>,
 ) -> Result<(), Refusal>
-    ensures done { S.honest store.new → ArePart changes.now → OnOk result (IsRolledBack way changes.now settled.now (S.files store.old) (S.files store.new)) }
+    ensures done { S.honest store.new → ArePart changes.now → OnOk result (IsRolledBack way changes.now head.now.text.now (S.files store.old) (S.files store.new)) }
     ensures back { S.honest store.new → ArePart changes.now → (cause : Cause) → result ≡ Err (Refusal.Failed (failures.Interrupted cause))
-        → StopsBack way changes.now settled.now (S.files store.old) (S.files store.new) }
+        → StopsBack way changes.now head.now.text.now (S.files store.old) (S.files store.new) }
     // What a loss of power may leave, if each tree that might be left before is the start with some
     // of the changes made.
     ensures lasting { S.honest store.new → ArePart changes.now
@@ -203,7 +199,7 @@ fn roll_back_part<S: Store>(
         → (start : Files) → ArePartlyMade way changes.now start (tree_of (S.files store.old))
         → Leaves S.Store store.old (λ kept. SomeMade way changes.now start (tree_of kept))
         → (cause : Cause) → result ≡ Err (Refusal.Failed (failures.Interrupted cause))
-        → StopsBackWithDoubt S.Store way changes.now settled.now start (S.files store.old) store.new }
+        → StopsBackWithDoubt S.Store way changes.now head.now.text.now start (S.files store.old) store.new }
     ensures never_moved { S.honest store.new → ArePart changes.now → All (CanBeSetBack way (tree_of (S.files store.old))) changes.now
         → (path : List ℕ) → result ≢ Err (Refusal.Moved path) }
     ensures refusal { IfErr result IsRollBackRefusal }
@@ -215,27 +211,22 @@ fn roll_back_part<S: Store>(
     ensures later { IsLater S.Store store.old store.new }
 {
     if changes.is_empty() {
-        clear_head(alloc, store, head, settled)
+        clear_head(alloc, store, head)
     } else {
-        roll_back(alloc, store, head, changes, way, settled)
+        roll_back(alloc, store, changes, way, head)
     }
 }
 
 // Puts a head that tells of no step, between barriers.
-fn clear_head<S: Store>(
-    alloc: Global,
-    store: &mut S,
-    head: &HeadPath,
-    settled: &[u8],
-) -> Result<(), Refusal>
-    ensures done { S.honest store.new → OnOk result (Sets head_path (Some settled.now) (S.files store.old) (S.files store.new)) }
+fn clear_head<S: Store>(alloc: Global, store: &mut S, head: &NewHead<'_>) -> Result<(), Refusal>
+    ensures done { S.honest store.new → OnOk result (Sets head_path (Some head.now.text.now) (S.files store.old) (S.files store.new)) }
     ensures stopped { S.honest store.new → (cause : Cause) → result ≡ Err (Refusal.Failed (failures.Interrupted cause))
-        → (S.files store.new ≡ S.files store.old) ⊎ Sets head_path (Some settled.now) (S.files store.old) (S.files store.new) }
+        → (S.files store.new ≡ S.files store.old) ⊎ Sets head_path (Some head.now.text.now) (S.files store.old) (S.files store.new) }
     ensures lasting { S.honest store.new → HaveTree S.Store store.old (tree_of (S.files store.old))
         → OnOk result (IsSynced S.Store store.new) }
     ensures left { S.honest store.new → HaveTree S.Store store.old (tree_of (S.files store.old))
         → (cause : Cause) → result ≡ Err (Refusal.Failed (failures.Interrupted cause))
-        → MayHaveHead S.Store settled.now (S.files store.old) store.new }
+        → MayHaveHead S.Store head.now.text.now (S.files store.old) store.new }
     ensures refusal { IfErr result IsRollBackRefusal }
     ensures never_moved { (path : List ℕ) → result ≢ Err (Refusal.Moved path) }
     ensures clash { S.honest store.new → ¬ (Clashes (S.files store.old) head_path) → IfErr result IsNoClash }
@@ -245,7 +236,7 @@ fn clear_head<S: Store>(
     ensures later { IsLater S.Store store.old store.new }
 {
     store.sync(alloc, &[])?;
-    match put_head(alloc, store, head, settled) {
+    match put_head(alloc, store, head.path, head.text) {
         Ok(()) => Ok(()),
         Err(cause) => Err(told(true, cause)),
     }

@@ -17,7 +17,7 @@ ghost use Rattle.reuse_tree.specs.Lasting.{IsMidway};
 ghost use Rattle.reuse_session.specs.Losses.{StopsBackWithDoubt};
 
 use crate::failure::{Failure, Fault};
-use crate::journal_files::{HeadPath, put_head};
+use crate::journal_files::{NewHead, put_head};
 use crate::prepare::{Aim, test_each};
 use crate::reply::Refusal;
 use reuse_tree::turn::set_back;
@@ -33,17 +33,16 @@ use std::alloc::Global;
 pub fn roll_back<S: Store>(
     alloc: Global,
     store: &mut S,
-    head: &HeadPath,
     changes: &[Change],
     way: Way,
-    settled: &[u8],
+    head: &NewHead<'_>,
 ) -> Result<(), Refusal>
-    ensures done { S.honest store.new → IsEntry changes.now → OnOk result (IsRolledBack way changes.now settled.now (S.files store.old) (S.files store.new)) }
+    ensures done { S.honest store.new → IsEntry changes.now → OnOk result (IsRolledBack way changes.now head.now.text.now (S.files store.old) (S.files store.new)) }
     ensures moved { S.honest store.new → IsEntry changes.now → (path : List ℕ) → result ≡ Err (Refusal.Moved path)
         → IsFirstWithout (CanBeSetBack way (tree_of (S.files store.old))) changes.now path }
     // From a tree on which some of the changes were made, it stops on the way back to that tree.
     ensures stopped { S.honest store.new → IsEntry changes.now → (start : Files) → ArePartlyMade way changes.now start (tree_of (S.files store.old))
-        → (cause : Cause) → result ≡ Err (refusals.Failed (failures.Interrupted cause)) → StopsRollingBack way changes.now settled.now start (S.files store.old) (S.files store.new) }
+        → (cause : Cause) → result ≡ Err (refusals.Failed (failures.Interrupted cause)) → StopsRollingBack way changes.now head.now.text.now start (S.files store.old) (S.files store.new) }
     // It is never refused on the way from a tree.
     ensures settles { S.honest store.new → IsEntry changes.now → (start : Files) → AreFiles start → ArePartlyMade way changes.now start (tree_of (S.files store.old))
         → (path : List ℕ) → result ≢ Err (Refusal.Moved path) }
@@ -54,10 +53,10 @@ pub fn roll_back<S: Store>(
         → Leaves S.Store store.old (λ kept. SomeMade way changes.now start (tree_of kept)) → OnOk result (IsSynced S.Store store.new) }
     ensures left { S.honest store.new → IsEntry changes.now → (start : Files) → ArePartlyMade way changes.now start (tree_of (S.files store.old))
         → Leaves S.Store store.old (λ kept. SomeMade way changes.now start (tree_of kept))
-        → (cause : Cause) → result ≡ Err (refusals.Failed (failures.Interrupted cause)) → StopsBackWithDoubt S.Store way changes.now settled.now start (S.files store.old) store.new }
+        → (cause : Cause) → result ≡ Err (refusals.Failed (failures.Interrupted cause)) → StopsBackWithDoubt S.Store way changes.now head.now.text.now start (S.files store.old) store.new }
     // Where it stops, each path is as it was or is set back.
     ensures back { S.honest store.new → IsEntry changes.now → (cause : Cause) → result ≡ Err (refusals.Failed (failures.Interrupted cause))
-        → StopsBack way changes.now settled.now (S.files store.old) (S.files store.new) }
+        → StopsBack way changes.now head.now.text.now (S.files store.old) (S.files store.new) }
     ensures refusal { IfErr result IsRollBackRefusal }
     ensures clash { S.honest store.new → IsEntry changes.now → ¬ (Clashes (S.files store.old) head_path) → IfErr result IsNoClash }
     // It stops only where each change isn't made or can be taken back.
@@ -69,14 +68,14 @@ pub fn roll_back<S: Store>(
     ensures early { IfErr result (λ refusal. IsEarly refusal → OnlyReads S.Store store.old store.new) }
     ensures late { (cause : Cause) → result ≡ Err (refusals.Failed (failures.Interrupted cause)) → cause ≢ Cause.Moved → S.moves store.old < S.moves store.new }
     ensures fault { IfErr result (HasCause (S.failures store.old < S.failures store.new)) }
-    ensures written { IsEntry changes.now → S.written store.new ≤ S.written store.old + length settled.now }
+    ensures written { IsEntry changes.now → S.written store.new ≤ S.written store.old + length head.now.text.now }
     ensures moves { S.moves store.new ≤ S.moves store.old + length changes.now + 1 }
     ensures later { IsLater S.Store store.old store.new }
 {
     test_each(alloc, store, changes, way, Aim::SetBack)?;
     store.sync(alloc, &[])?;
     let mut started = false;
-    match set_all_back(alloc, store, head, changes, way, settled, &mut started) {
+    match set_all_back(alloc, store, changes, way, head, &mut started) {
         Ok(()) => Ok(()),
         Err(cause) => Err(told(started, cause)),
     }
@@ -99,27 +98,26 @@ pub fn told(started: bool, cause: Cause) -> Refusal
 fn set_all_back<S: Store>(
     alloc: Global,
     store: &mut S,
-    head: &HeadPath,
     changes: &[Change],
     way: Way,
-    settled: &[u8],
+    head: &NewHead<'_>,
     started: &mut bool,
 ) -> Result<(), Cause>
-    ensures done { S.honest store.new → IsEntry changes.now → OnOk result (IsRolledBack way changes.now settled.now (S.files store.old) (S.files store.new)) }
+    ensures done { S.honest store.new → IsEntry changes.now → OnOk result (IsRolledBack way changes.now head.now.text.now (S.files store.old) (S.files store.new)) }
     ensures stopped { S.honest store.new → IsEntry changes.now → (start : Files) → ArePartlyMade way changes.now start (tree_of (S.files store.old))
-        → OnErr result (StopsRollingBack way changes.now settled.now start (S.files store.old) (S.files store.new)) }
+        → OnErr result (StopsRollingBack way changes.now head.now.text.now start (S.files store.old) (S.files store.new)) }
     ensures lasting { S.honest store.new → IsEntry changes.now → (start : Files) → ArePartlyMade way changes.now start (tree_of (S.files store.old))
         → Leaves S.Store store.old (IsMidway way changes.now start (undo_folder_of (S.files store.old))) → OnOk result (IsSynced S.Store store.new) }
     ensures left { S.honest store.new → IsEntry changes.now → (start : Files) → ArePartlyMade way changes.now start (tree_of (S.files store.old))
         → Leaves S.Store store.old (IsMidway way changes.now start (undo_folder_of (S.files store.old)))
-        → OnErr result (StopsBackWithDoubt S.Store way changes.now settled.now start (S.files store.old) store.new) }
-    ensures back { S.honest store.new → IsEntry changes.now → OnErr result (StopsBack way changes.now settled.now (S.files store.old) (S.files store.new)) }
+        → OnErr result (StopsBackWithDoubt S.Store way changes.now head.now.text.now start (S.files store.old) store.new) }
+    ensures back { S.honest store.new → IsEntry changes.now → OnErr result (StopsBack way changes.now head.now.text.now (S.files store.old) (S.files store.new)) }
     ensures cause { S.honest store.new → IsEntry changes.now → All (CanBeSetBack way (tree_of (S.files store.old))) changes.now
         → ¬ (Clashes (S.files store.old) head_path) → (result ≢ Err Cause.Moved) × (result ≢ Err Cause.Clash) }
     ensures folder { S.honest store.new → IsEntry changes.now → IsSameBut head_path (undo_folder_of (S.files store.old)) (undo_folder_of (S.files store.new)) }
     ensures notes { NotesMoves S.Store started.old started.new store.old store.new }
     ensures device { IsErrOf result Cause.Device → S.failures store.old < S.failures store.new }
-    ensures written { IsEntry changes.now → S.written store.new ≤ S.written store.old + length settled.now }
+    ensures written { IsEntry changes.now → S.written store.new ≤ S.written store.old + length head.now.text.now }
     ensures moves { S.moves store.new ≤ S.moves store.old + length changes.now + 1 }
     ensures later { IsLater S.Store store.old store.new }
 {
@@ -128,5 +126,5 @@ fn set_all_back<S: Store>(
     }
     store.sync(alloc, changes)?;
     *started = true;
-    put_head(alloc, store, head, settled)
+    put_head(alloc, store, head.path, head.text)
 }

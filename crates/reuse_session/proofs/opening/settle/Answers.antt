@@ -62,16 +62,16 @@ returns-in_err-settled-clause-settles g c honest journal read step first number 
     let p = err_from_is_err_and c.from_residual-in_err-settled.result c.from_residual-in_err-settled.ensures.1 in
     stays_under_way c.from_residual-in_err-settled.result p.0 (Failed Memory) c.args.pending.way step first (files c.args.store.now) (files c.read_entry.new.store) p.1 p.2 tt (c.read_entry.ensures.reads.files honest) under
 
-pub returns-in_err-head-clause-survives : goal.returns-in_err-head-clause-survives
-returns-in_err-head-clause-survives g c honest journal read earlier held next doubt =
-    let p = err_from_is_err_and c.from_residual-in_err-head.result c.from_residual-in_err-head.ensures.1 in
-    refused_in_doubt g.S.Store earlier held next c.args.store.now c.read_entry.new.store c.read_entry.ensures.reads honest c.from_residual-in_err-head.result p.0 _ p.1 doubt
+pub returns-in_err-path-clause-survives : goal.returns-in_err-path-clause-survives
+returns-in_err-path-clause-survives g c honest journal read earlier held next doubt =
+    let p = err_from_is_err_and c.from_residual-in_err-path.result c.from_residual-in_err-path.ensures.1 in
+    refused_in_doubt g.S.Store earlier held next c.args.store.now c.read_entry.new.store c.read_entry.ensures.reads honest c.from_residual-in_err-path.result p.0 _ p.1 doubt
 
-pub returns-in_err-head-clause-settles : goal.returns-in_err-head-clause-settles
-returns-in_err-head-clause-settles g c honest journal read step first number under =
+pub returns-in_err-path-clause-settles : goal.returns-in_err-path-clause-settles
+returns-in_err-path-clause-settles g c honest journal read step first number under =
     let files = g.S.Store.files in
-    let p = err_from_is_err_and c.from_residual-in_err-head.result c.from_residual-in_err-head.ensures.1 in
-    stays_under_way c.from_residual-in_err-head.result p.0 (Failed Memory) c.args.pending.way step first (files c.args.store.now) (files c.read_entry.new.store) p.1 p.2 tt (c.read_entry.ensures.reads.files honest) under
+    let p = err_from_is_err_and c.from_residual-in_err-path.result c.from_residual-in_err-path.ensures.1 in
+    stays_under_way c.from_residual-in_err-path.result p.0 (Failed Memory) c.args.pending.way step first (files c.args.store.now) (files c.read_entry.new.store) p.1 p.2 tt (c.read_entry.ensures.reads.files honest) under
 
 -- what is known once the pending step is rolled back, or isn't
 module _ (g : Over) (c : After-roll_back g) (honest : g.S.Store.honest c.roll_back.new.store) (journal : Journal) (read : IsRead (g.S.Store.files c.args.store.now) (Some c.args.pending) c.args.history.now journal) where
@@ -81,23 +81,23 @@ module _ (g : Over) (c : After-roll_back g) (honest : g.S.Store.honest c.roll_ba
   says : EntrySays (get (undo_folder_of (g.S.Store.files c.args.store.now)) (entry_path c.args.pending.entry)) c.in_ok-entry.entry
   says = c.in_ok-entry.ensures.ok (c.roll_back.ensures.later.was_honest honest)
 
-  good : IsEntry c.as_slice.result.now
-  good = subst IsEntry (sym c.as_slice.ensures) (is_entry (g.S.Store.files c.args.store.now) c.args.pending c.args.history.now journal read c.in_ok-entry.entry says)
+  good : IsEntry c.as_slice-changes.result.now
+  good = subst IsEntry (sym c.as_slice-changes.ensures) (is_entry (g.S.Store.files c.args.store.now) c.args.pending c.args.history.now journal read c.in_ok-entry.entry says)
 
   are_files : AreFiles (g.S.Store.files c.args.store.now)
   are_files = g.met.S.Store.are_files c.args.store.now (c.read_entry.ensures.reads.was_honest (c.roll_back.ensures.later.was_honest honest))
 
-  good_text : IsGoodHead c.as_slice-2.result.now (head_of journal None)
+  good_text : IsGoodHead c.as_slice.result.now (head_of journal None)
   good_text =
-      settled_good (undo_folder_of (g.S.Store.files c.args.store.now)) journal (Some c.args.pending) c.args.history.now c.as_slice-2.result.now read.keeps read.remembers
-      (λ sound. subst (λ t. IsGoodHead t (head_listing c.args.history.now None)) (sym c.as_slice-2.ensures.value) (c.in_ok-settled.ensures.good sound))
+      settled_good (undo_folder_of (g.S.Store.files c.args.store.now)) journal (Some c.args.pending) c.args.history.now c.as_slice.result.now read.keeps read.remembers
+      (λ sound. subst (λ t. IsGoodHead t (head_listing c.args.history.now None)) (sym c.as_slice.ensures.value) (c.in_ok-settled.ensures.good sound))
 
   -- what rolling back says of the files, the way and the changes that it was given is said of those of the step
-  of_step : (Says : Files → Way → List Change → Type 0) → Says (g.S.Store.files c.read_entry.new.store) c.way.result c.as_slice.result.now → Says (g.S.Store.files c.args.store.now) (way_of c.args.pending.way) c.in_ok-entry.entry.changes
-  of_step Says = at_same Says (g.S.Store.files c.read_entry.new.store) (g.S.Store.files c.args.store.now) c.way.result (way_of c.args.pending.way) c.as_slice.result.now c.in_ok-entry.entry.changes same c.way.ensures c.as_slice.ensures
+  of_step : (Says : Files → Way → List Change → Type 0) → Says (g.S.Store.files c.read_entry.new.store) c.way.result c.as_slice-changes.result.now → Says (g.S.Store.files c.args.store.now) (way_of c.args.pending.way) c.in_ok-entry.entry.changes
+  of_step Says = at_same Says (g.S.Store.files c.read_entry.new.store) (g.S.Store.files c.args.store.now) c.way.result (way_of c.args.pending.way) c.as_slice-changes.result.now c.in_ok-entry.entry.changes same c.way.ensures c.as_slice-changes.ensures
 
-  given_to : (Says : Files → Way → List Change → Type 0) → Says (g.S.Store.files c.args.store.now) (way_of c.args.pending.way) c.in_ok-entry.entry.changes → Says (g.S.Store.files c.read_entry.new.store) c.way.result c.as_slice.result.now
-  given_to Says = at_same Says (g.S.Store.files c.args.store.now) (g.S.Store.files c.read_entry.new.store) (way_of c.args.pending.way) c.way.result c.in_ok-entry.entry.changes c.as_slice.result.now (sym same) (sym c.way.ensures) (sym c.as_slice.ensures)
+  given_to : (Says : Files → Way → List Change → Type 0) → Says (g.S.Store.files c.args.store.now) (way_of c.args.pending.way) c.in_ok-entry.entry.changes → Says (g.S.Store.files c.read_entry.new.store) c.way.result c.as_slice-changes.result.now
+  given_to Says = at_same Says (g.S.Store.files c.args.store.now) (g.S.Store.files c.read_entry.new.store) (way_of c.args.pending.way) c.way.result c.in_ok-entry.entry.changes c.as_slice-changes.result.now (sym same) (sym c.way.ensures) (sym c.as_slice-changes.ensures)
 
   -- a step that was under way is taken back, or stays under way where that fails
   stands_or_stays : (step : Recorded) (first : State) → number_of step ≡ c.args.pending.entry → IsUnderWay c.args.pending.way step first (g.S.Store.files c.args.store.now)
@@ -107,7 +107,7 @@ module _ (g : Over) (c : After-roll_back g) (honest : g.S.Store.honest c.roll_ba
       let old = g.S.Store.files c.args.store.now in
       let new = g.S.Store.files c.roll_back.new.store in
       let entry = c.in_ok-entry.entry in
-      let text = c.as_slice-2.result.now in
+      let text = c.as_slice.result.now in
       let result = c.roll_back.result in
       let partly = given_to (λ f w cs. ArePartlyMade w cs first.tree (tree_of f)) (partly_made old c.args.pending c.args.history.now journal read entry says step first number under) in
       settles old c.args.pending c.args.history.now journal read entry says step first number under result new text good_text
@@ -129,13 +129,13 @@ module _ (g : Over) (c : After-roll_back g) (honest : g.S.Store.honest c.roll_ba
       let pending = c.args.pending in
       let memory = c.args.history.now in
       let entry = c.in_ok-entry.entry in
-      let text = c.as_slice-2.result.now in
+      let text = c.as_slice.result.now in
       let result = c.roll_back.result in
       let at = read_pending held next files pending memory journal read (files_in_doubt store earlier held next old doubt) in
       let changes = its_changes files pending memory journal read entry says at.step held at.number at.under in
       let partly = given_to (λ f w cs. ArePartlyMade w cs held.tree (tree_of f)) (partly_made files pending memory journal read entry says at.step held at.number at.under) in
       let each = each_in_doubt store earlier held next old pending memory journal read doubt in
-      let sure : Leaves store mid (λ kept. SomeMade c.way.result c.as_slice.result.now held.tree (tree_of kept)) =
+      let sure : Leaves store mid (λ kept. SomeMade c.way.result c.as_slice-changes.result.now held.tree (tree_of kept)) =
       λ kept is. given_to (λ f w cs. SomeMade w cs held.tree (tree_of kept)) (subst (λ cs. SomeMade (way_of pending.way) cs held.tree (tree_of kept)) changes
       (some_made store earlier held next pending.way at.step at.leads kept (each kept (c.read_entry.ensures.reads.may kept is)))) in
       survives store earlier held next result new (λ refusal. IsFailure refusal × (IsStanding (store.files new) held ⊎ IsUnderWay pending.way at.step held (store.files new)))
@@ -155,7 +155,7 @@ returns-clause-done g c honest journal read =
     let at = (goal.at.returns-clause-done g c).After-roll_back in
     let old = g.S.Store.files c.args.store.now in
     let new = g.S.Store.files c.roll_back.new.store in
-    let text = c.as_slice-2.result.now in
+    let text = c.as_slice.result.now in
     on_ok_weaker c.roll_back.result
     (is_settled old c.args.pending c.args.history.now journal read c.in_ok-entry.entry (says g at honest journal read) new text (g.met.S.Store.are_files c.roll_back.new.store honest) (good_text g at honest journal read))
     (of_step g at honest journal read (λ f w cs. OnOk c.roll_back.result (IsRolledBack w cs text f new)) (c.roll_back.ensures.done honest (good g at honest journal read)))
@@ -191,7 +191,7 @@ returns-clause-interrupted g c honest journal read cause e =
 
 pub returns-clause-moves : goal.returns-clause-moves
 returns-clause-moves g c honest =
-    inr (c.in_ok-entry.entry, c.in_ok-entry.ensures.ok (c.roll_back.ensures.later.was_honest honest), omega (arith, c.roll_back.ensures.moves, ap length c.as_slice.ensures, c.read_entry.ensures.reads.moves))
+    inr (c.in_ok-entry.entry, c.in_ok-entry.ensures.ok (c.roll_back.ensures.later.was_honest honest), omega (arith, c.roll_back.ensures.moves, ap length c.as_slice-changes.ensures, c.read_entry.ensures.reads.moves))
 
 pub returns-clause-folder : goal.returns-clause-folder
 returns-clause-folder g c honest journal read =
@@ -202,7 +202,7 @@ pub returns-clause-texts : goal.returns-clause-texts
 returns-clause-texts g c honest journal read =
     let new = g.S.Store.files c.roll_back.new.store in
     on_ok_weaker c.roll_back.result
-    (λ (rolled : IsRolledBack c.way.result c.as_slice.result.now c.as_slice-2.result.now (g.S.Store.files c.read_entry.new.store) new). file_in_folder new head_path head_path refl refl ∙ rolled.sets.here ∙ ap (λ text. Some text) (c.as_slice-2.ensures.value ∙ c.in_ok-settled.ensures.text))
+    (λ (rolled : IsRolledBack c.way.result c.as_slice-changes.result.now c.as_slice.result.now (g.S.Store.files c.read_entry.new.store) new). file_in_folder new head_path head_path refl refl ∙ rolled.sets.here ∙ ap (λ text. Some text) (c.as_slice.ensures.value ∙ c.in_ok-settled.ensures.text))
     (c.roll_back.ensures.done honest (good g (goal.at.returns-clause-texts g c).After-roll_back honest journal read))
 
 pub returns-clause-clash : goal.returns-clause-clash
@@ -214,4 +214,4 @@ returns-clause-clash g c honest journal read =
 pub returns-clause-written : goal.returns-clause-written
 returns-clause-written g c honest journal read =
     let sound = settled_sound (undo_folder_of (g.S.Store.files c.args.store.now)) journal (Some c.args.pending) c.args.history.now read.keeps read.remembers in
-    omega (arith, c.roll_back.ensures.written (good g (goal.at.returns-clause-written g c).After-roll_back honest journal read), ap length c.as_slice-2.ensures.value, c.in_ok-settled.ensures.bound sound, c.read_entry.ensures.reads.written)
+    omega (arith, c.roll_back.ensures.written (good g (goal.at.returns-clause-written g c).After-roll_back honest journal read), ap length c.as_slice.ensures.value, c.in_ok-settled.ensures.bound sound, c.read_entry.ensures.reads.written)

@@ -74,31 +74,31 @@ module _ (g : Over) (c : After-roll_back_part g) (at : In_ok-found g) (honest : 
         let looked = c.roll_back_part.ensures.later.was_honest honest in
         c.find_each.ensures.reads.files looked ∙ c.read_entry.ensures.reads.files (c.find_each.ensures.reads.was_honest looked)
 
-    part_is : c.as_slice-4.result.now ≡ changes_besides c.in_ok-found.found.skipped.items c.in_ok-entry.entry.changes
+    part_is : c.as_slice-5.result.now ≡ changes_besides c.in_ok-found.found.skipped.items c.in_ok-entry.entry.changes
     part_is =
         let ascend = skipped_ascend (g.S.Store.files c.args.store.now) c.args.pending c.args.history.now journal read c.in_ok-entry.entry its_says c.in_ok-found.found.changed.items c.in_ok-found.found.skipped.items its_found in
-        c.as_slice-4.ensures.value ∙ c.changes_besides-part.ensures (subst ArePaths (sym c.as_slice-3.ensures.value) ascend)
+        c.as_slice-5.ensures.value ∙ c.changes_besides-part.ensures (subst ArePaths (sym c.as_slice-3.ensures.value) ascend)
         ∙ ap (λ paths. changes_besides paths c.into_vec.result.items) c.as_slice-3.ensures.value ∙ ap (changes_besides c.in_ok-found.found.skipped.items) c.into_vec.ensures
 
     -- what rolling back says of what it was given is said of the step's changes that can be set back
-    of_step : (Says : Files → Way → List Change → Type 0) → Says (g.S.Store.files c.find_each.new.store) c.way-way.result c.as_slice-4.result.now
+    of_step : (Says : Files → Way → List Change → Type 0) → Says (g.S.Store.files c.find_each.new.store) c.way-way.result c.as_slice-5.result.now
         → Says (g.S.Store.files c.args.store.now) (way_of c.args.pending.way) (changes_besides c.in_ok-found.found.skipped.items c.in_ok-entry.entry.changes)
-    of_step Says = at_same Says (g.S.Store.files c.find_each.new.store) (g.S.Store.files c.args.store.now) c.way-way.result (way_of c.args.pending.way) c.as_slice-4.result.now (changes_besides c.in_ok-found.found.skipped.items c.in_ok-entry.entry.changes) same c.way-way.ensures part_is
+    of_step Says = at_same Says (g.S.Store.files c.find_each.new.store) (g.S.Store.files c.args.store.now) c.way-way.result (way_of c.args.pending.way) c.as_slice-5.result.now (changes_besides c.in_ok-found.found.skipped.items c.in_ok-entry.entry.changes) same c.way-way.ensures part_is
 
     given_to : (Says : Files → Way → List Change → Type 0) → Says (g.S.Store.files c.args.store.now) (way_of c.args.pending.way) (changes_besides c.in_ok-found.found.skipped.items c.in_ok-entry.entry.changes)
-        → Says (g.S.Store.files c.find_each.new.store) c.way-way.result c.as_slice-4.result.now
-    given_to Says = at_same Says (g.S.Store.files c.args.store.now) (g.S.Store.files c.find_each.new.store) (way_of c.args.pending.way) c.way-way.result (changes_besides c.in_ok-found.found.skipped.items c.in_ok-entry.entry.changes) c.as_slice-4.result.now (sym same) (sym c.way-way.ensures) (sym part_is)
+        → Says (g.S.Store.files c.find_each.new.store) c.way-way.result c.as_slice-5.result.now
+    given_to Says = at_same Says (g.S.Store.files c.args.store.now) (g.S.Store.files c.find_each.new.store) (way_of c.args.pending.way) c.way-way.result (changes_besides c.in_ok-found.found.skipped.items c.in_ok-entry.entry.changes) c.as_slice-5.result.now (sym same) (sym c.way-way.ensures) (sym part_is)
 
-    part : ArePart c.as_slice-4.result.now
+    part : ArePart c.as_slice-5.result.now
     part = subst ArePart (sym part_is) (is_part (g.S.Store.files c.args.store.now) c.args.pending c.args.history.now journal read c.in_ok-entry.entry its_says c.in_ok-found.found.changed.items c.in_ok-found.found.skipped.items its_found)
 
-    can : All (CanBeSetBack c.way-way.result (tree_of (g.S.Store.files c.find_each.new.store))) c.as_slice-4.result.now
+    can : All (CanBeSetBack c.way-way.result (tree_of (g.S.Store.files c.find_each.new.store))) c.as_slice-5.result.now
     can = given_to (λ f w cs. All (CanBeSetBack w (tree_of f)) cs) (can_all (g.S.Store.files c.args.store.now) c.args.pending c.args.history.now journal read c.in_ok-entry.entry its_says c.in_ok-found.found.changed.items c.in_ok-found.found.skipped.items its_found)
 
-    good_text : IsGoodHead c.as_slice-5.result.now (head_of journal None)
+    good_text : IsGoodHead c.as_slice-4.result.now (head_of journal None)
     good_text =
-        settled_good (undo_folder_of (g.S.Store.files c.args.store.now)) journal (Some c.args.pending) c.args.history.now c.as_slice-5.result.now read.keeps read.remembers
-        (λ sound. subst (λ t. IsGoodHead t (head_listing c.args.history.now None)) (sym c.as_slice-5.ensures.value) (c.in_ok-settled.ensures.good sound))
+        settled_good (undo_folder_of (g.S.Store.files c.args.store.now)) journal (Some c.args.pending) c.args.history.now c.as_slice-4.result.now read.keeps read.remembers
+        (λ sound. subst (λ t. IsGoodHead t (head_listing c.args.history.now None)) (sym c.as_slice-4.ensures.value) (c.in_ok-settled.ensures.good sound))
 
     folder : IsSameBut head_path (undo_folder_of (g.S.Store.files c.args.store.now)) (undo_folder_of (g.S.Store.files c.roll_back_part.new.store))
     folder = subst (λ f. IsSameBut head_path (undo_folder_of f) (undo_folder_of (g.S.Store.files c.roll_back_part.new.store))) same (c.roll_back_part.ensures.folder honest part)
@@ -137,7 +137,7 @@ returns-in_err-roll_back_part-clause-interrupted g c honest journal read cause e
     let it = says g at.In_ok-found looked journal read in
     let them = found g at.In_ok-found looked journal read in
     let new = g.S.Store.files c.roll_back_part.new.store in
-    let text = c.as_slice-5.result.now in
+    let text = c.as_slice-4.result.now in
     let stops = c.roll_back_part.ensures.back honest (part g at.After-roll_back_part at.In_ok-found honest journal read it them) cause
     (passed_on c.from_residual-in_err-roll_back_part.result c.roll_back_part.result c.from_residual-in_err-roll_back_part.ensures.1 c.in_err-roll_back_part.was e) in
     stops_recovering (g.S.Store.files c.args.store.now) c.args.pending c.args.history.now journal read c.in_ok-entry.entry it c.in_ok-found.found.changed.items c.in_ok-found.found.skipped.items them
@@ -162,7 +162,7 @@ returns-clause-recovered g c honest journal read =
     let files = g.S.Store.files c.args.store.now in
     let new = g.S.Store.files c.roll_back_part.new.store in
     let entry = c.in_ok-entry.entry in
-    let text = c.as_slice-5.result.now in
+    let text = c.as_slice-4.result.now in
     let changed = c.in_ok-found.found.changed.items in
     let skipped = c.in_ok-found.found.skipped.items in
     let rolled = c.in_ok-roll_back_part.ensures.done honest (part g at.After-roll_back_part at.In_ok-found honest journal read it them) in
@@ -216,12 +216,12 @@ returns-in_err-settled-clause-lasting g c honest journal read way step held awai
     (is_refused c.from_residual-in_err-settled.result c.from_residual-in_err-settled.ensures.1) tt
     (looked_at g at) honest awaits
 
-pub returns-in_err-head-clause-lasting : goal.returns-in_err-head-clause-lasting
-returns-in_err-head-clause-lasting g c honest journal read way step held awaits =
-    let at = (goal.at.returns-in_err-head-clause-lasting g c).After-find_each in
-    refused_on_the_way way step held g.S.Store c.args.store.now c.find_each.new.store c.from_residual-in_err-head.result
+pub returns-in_err-path-clause-lasting : goal.returns-in_err-path-clause-lasting
+returns-in_err-path-clause-lasting g c honest journal read way step held awaits =
+    let at = (goal.at.returns-in_err-path-clause-lasting g c).After-find_each in
+    refused_on_the_way way step held g.S.Store c.args.store.now c.find_each.new.store c.from_residual-in_err-path.result
     (Failed Memory)
-    (is_refused c.from_residual-in_err-head.result c.from_residual-in_err-head.ensures.1) tt
+    (is_refused c.from_residual-in_err-path.result c.from_residual-in_err-path.ensures.1) tt
     (looked_at g at) honest awaits
 
 -- what is known of files that await recovery, once those that can be set back are rolled back
@@ -236,7 +236,7 @@ module _ (g : Over) (c : After-roll_back_part g) (at : In_ok-found g)
     (way : PendingWay) (step : Recorded) (held : State)
     (awaits : AwaitsRecovery g.S.Store way step held c.args.store.now)
   where
-    partly_there : ArePartlyMade c.way-way.result c.as_slice-4.result.now held.tree
+    partly_there : ArePartlyMade c.way-way.result c.as_slice-5.result.now held.tree
         (tree_of (g.S.Store.files c.find_each.new.store))
     partly_there =
         given_to g c at honest journal read its_says its_found (λ f w cs. ArePartlyMade w cs held.tree (tree_of f))
@@ -245,7 +245,7 @@ module _ (g : Over) (c : After-roll_back_part g) (at : In_ok-found g)
         c.in_ok-found.found.changed.items c.in_ok-found.found.skipped.items its_found way step held awaits.files)
 
     sure_there : Leaves g.S.Store c.find_each.new.store
-        (λ kept. SomeMade c.way-way.result c.as_slice-4.result.now held.tree (tree_of kept))
+        (λ kept. SomeMade c.way-way.result c.as_slice-5.result.now held.tree (tree_of kept))
     sure_there kept is =
         given_to g c at honest journal read its_says its_found (λ f w cs. SomeMade w cs held.tree (tree_of kept))
         (some_left
@@ -263,12 +263,12 @@ module _ (g : Over) (c : After-roll_back_part g) (at : In_ok-found g)
         (λ rolled. part_stands
         (g.S.Store.files c.args.store.now) c.args.pending c.args.history.now journal read c.in_ok-entry.entry its_says
         c.in_ok-found.found.changed.items c.in_ok-found.found.skipped.items its_found way step held awaits.files
-        g.S.Store c.roll_back_part.new.store c.as_slice-5.result.now
+        g.S.Store c.roll_back_part.new.store c.as_slice-4.result.now
         (good_text g c at honest journal read its_says its_found)
         (g.met.S.Store.are_files c.roll_back_part.new.store honest)
         (folder g c at honest journal read its_says its_found)
         (of_step g c at honest journal read its_says its_found
-        (λ f w cs. IsRolledBack w cs c.as_slice-5.result.now f
+        (λ f w cs. IsRolledBack w cs c.as_slice-4.result.now f
         (g.S.Store.files c.roll_back_part.new.store)) rolled))
         (c.roll_back_part.ensures.done honest (part g c at honest journal read its_says its_found))
 
@@ -279,10 +279,10 @@ module _ (g : Over) (c : After-roll_back_part g) (at : In_ok-found g)
         part_stops
         (g.S.Store.files c.args.store.now) c.args.pending c.args.history.now journal read c.in_ok-entry.entry its_says
         c.in_ok-found.found.changed.items c.in_ok-found.found.skipped.items its_found way step held awaits.files
-        g.S.Store c.roll_back_part.new.store c.as_slice-5.result.now
+        g.S.Store c.roll_back_part.new.store c.as_slice-4.result.now
         (good_text g c at honest journal read its_says its_found)
         (of_step g c at honest journal read its_says its_found
-        (λ f w cs. StopsBackWithDoubt g.S.Store w cs c.as_slice-5.result.now held.tree f c.roll_back_part.new.store)
+        (λ f w cs. StopsBackWithDoubt g.S.Store w cs c.as_slice-4.result.now held.tree f c.roll_back_part.new.store)
         (c.roll_back_part.ensures.left honest
         (part g c at honest journal read its_says its_found) held.tree partly_there sure_there cause e))
 

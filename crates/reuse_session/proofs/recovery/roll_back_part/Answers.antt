@@ -17,18 +17,18 @@ pub returns-then-is_empty-clause-done : goal.returns-then-is_empty-clause-done
 returns-then-is_empty-clause-done g c honest part =
     let none : length c.args.changes.now ≡ 0 = grind (arith, nat_tests, c.is_empty.ensures, c.if-is_empty.true) in
     on_ok_weaker c.clear_head.result
-    (cleared c.args.way c.args.settled.now (g.S.Store.files c.args.store.now) (g.S.Store.files c.clear_head.new.store) c.args.changes.now (none_there c.args.changes.now none))
+    (cleared c.args.way c.args.head.now.text.now (g.S.Store.files c.args.store.now) (g.S.Store.files c.clear_head.new.store) c.args.changes.now (none_there c.args.changes.now none))
     (c.clear_head.ensures.done honest)
 
 pub returns-then-is_empty-clause-back : goal.returns-then-is_empty-clause-back
 returns-then-is_empty-clause-back g c honest part cause e =
     let none : length c.args.changes.now ≡ 0 = grind (arith, nat_tests, c.is_empty.ensures, c.if-is_empty.true) in
-    cleared_or_not c.args.way c.args.settled.now (g.S.Store.files c.args.store.now) (g.S.Store.files c.clear_head.new.store) c.args.changes.now (none_there c.args.changes.now none)
+    cleared_or_not c.args.way c.args.head.now.text.now (g.S.Store.files c.args.store.now) (g.S.Store.files c.clear_head.new.store) c.args.changes.now (none_there c.args.changes.now none)
     (c.clear_head.ensures.stopped honest cause e)
 
 pub returns-then-is_empty-clause-folder : goal.returns-then-is_empty-clause-folder
 returns-then-is_empty-clause-folder g c honest part =
-    cleared_alone g.S.Store c.args.settled.now c.args.store.now c.clear_head.new.store c.clear_head.result honest (c.clear_head.ensures.done honest) (c.clear_head.ensures.stopped honest) c.clear_head.ensures.early
+    cleared_alone g.S.Store c.args.head.now.text.now c.args.store.now c.clear_head.new.store c.clear_head.result honest (c.clear_head.ensures.done honest) (c.clear_head.ensures.stopped honest) c.clear_head.ensures.early
 
 pub returns-else-is_empty-clause-never_moved : goal.returns-else-is_empty-clause-never_moved
 returns-else-is_empty-clause-never_moved g c honest part can path e =
@@ -43,15 +43,15 @@ pub returns-then-is_empty-clause-lasting : goal.returns-then-is_empty-clause-las
 returns-then-is_empty-clause-lasting g c honest part start partly sure =
     let none : length c.args.changes.now ≡ 0 = grind (arith, nat_tests, c.is_empty.ensures, c.if-is_empty.true) in
     c.clear_head.ensures.lasting honest
-    (starts_certain g.S.Store c.args.way c.args.settled.now c.args.changes.now
+    (starts_certain g.S.Store c.args.way c.args.head.now.text.now c.args.changes.now
     (none_there c.args.changes.now none) start c.args.store.now c.clear_head.new.store partly sure)
 
 pub returns-then-is_empty-clause-left : goal.returns-then-is_empty-clause-left
 returns-then-is_empty-clause-left g c honest part start partly sure cause e =
     let none = none_there c.args.changes.now (grind (arith, nat_tests, c.is_empty.ensures, c.if-is_empty.true)) in
-    let have = starts_certain g.S.Store c.args.way c.args.settled.now c.args.changes.now none start c.args.store.now
+    let have = starts_certain g.S.Store c.args.way c.args.head.now.text.now c.args.changes.now none start c.args.store.now
     c.clear_head.new.store partly sure in
-    cleared_with_doubt g.S.Store c.args.way c.args.settled.now c.args.changes.now none start c.args.store.now
+    cleared_with_doubt g.S.Store c.args.way c.args.head.now.text.now c.args.changes.now none start c.args.store.now
     c.clear_head.new.store partly (c.clear_head.ensures.left honest have cause e)
 
 -- where some changes can be set back, they are changes of an entry

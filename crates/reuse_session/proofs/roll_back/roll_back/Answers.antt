@@ -123,16 +123,16 @@ returns-in-Err-clause-stopped g c honest good start partly cause e =
     let before = c.set_all_back.ensures.later.was_honest honest in
     let after = store.files c.set_all_back.new.store in
     let stopped = c.set_all_back.ensures.stopped honest good start (still_partly g at before start partly) in
-    subst (λ files. StopsRollingBack c.args.way c.args.changes.now c.args.settled.now start files after) (same_files g at before)
-    (subst (λ r. OnErr r (StopsRollingBack c.args.way c.args.changes.now c.args.settled.now start (store.files c.sync.new.self) after)) c.in-Err.is stopped)
+    subst (λ files. StopsRollingBack c.args.way c.args.changes.now c.args.head.now.text.now start files after) (same_files g at before)
+    (subst (λ r. OnErr r (StopsRollingBack c.args.way c.args.changes.now c.args.head.now.text.now start (store.files c.sync.new.self) after)) c.in-Err.is stopped)
 
 pub returns-in-Err-clause-back : goal.returns-in-Err-clause-back
 returns-in-Err-clause-back g c honest good cause e =
     let store = g.S.Store in
     let at = (goal.at.returns-in-Err-clause-back g c).After-sync in
     let after = store.files c.set_all_back.new.store in
-    subst (λ files. StopsBack c.args.way c.args.changes.now c.args.settled.now files after) (same_files g at (c.set_all_back.ensures.later.was_honest honest))
-    (subst (λ r. OnErr r (StopsBack c.args.way c.args.changes.now c.args.settled.now (store.files c.sync.new.self) after)) c.in-Err.is (c.set_all_back.ensures.back honest good))
+    subst (λ files. StopsBack c.args.way c.args.changes.now c.args.head.now.text.now files after) (same_files g at (c.set_all_back.ensures.later.was_honest honest))
+    (subst (λ r. OnErr r (StopsBack c.args.way c.args.changes.now c.args.head.now.text.now (store.files c.sync.new.self) after)) c.in-Err.is (c.set_all_back.ensures.back honest good))
 
 pub returns-in-Err-clause-left : goal.returns-in-Err-clause-left
 returns-in-Err-clause-left g c honest good start partly sure cause e =
@@ -142,8 +142,8 @@ returns-in-Err-clause-left g c honest good start partly sure cause e =
     let new = c.set_all_back.new.store in
     let now = still_partly g at.After-sync before start partly in
     let left = c.set_all_back.ensures.left honest good start now (midway g at.In_ok-sync start now.made sure) in
-    subst (λ files. StopsBackWithDoubt store c.args.way c.args.changes.now c.args.settled.now start files new) (same_files g at.After-sync before)
-    (subst (λ r. OnErr r (StopsBackWithDoubt store c.args.way c.args.changes.now c.args.settled.now start (store.files c.sync.new.self) new)) c.in-Err.is left)
+    subst (λ files. StopsBackWithDoubt store c.args.way c.args.changes.now c.args.head.now.text.now start files new) (same_files g at.After-sync before)
+    (subst (λ r. OnErr r (StopsBackWithDoubt store c.args.way c.args.changes.now c.args.head.now.text.now start (store.files c.sync.new.self) new)) c.in-Err.is left)
 
 pub returns-in-Ok-clause-lasting : goal.returns-in-Ok-clause-lasting
 returns-in-Ok-clause-lasting g c honest good start partly sure =

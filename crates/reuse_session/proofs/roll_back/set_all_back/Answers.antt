@@ -98,7 +98,7 @@ returns-in_err-set_back-clause-stopped g c honest good start partly =
     let after = g.S.Store.files c.set_back.new.store in
     let p = err_from_is_err_and c.from_residual.result c.from_residual.ensures.1 in
     let stops = c.in_err-set_back.ensures.err honest of.proper of.small in
-    subst (λ r. OnErr r (StopsRollingBack c.args.way c.args.changes.now c.args.settled.now start old after)) (sym p.1) (inl (
+    subst (λ r. OnErr r (StopsRollingBack c.args.way c.args.changes.now c.args.head.now.text.now start old after)) (sym p.1) (inl (
       some_at_stop c.args.way c.args.changes.now good c.loop-change.change-index c.loop-change-test.true c.change-item.result c.change-item.is start old (g.S.Store.files c.loop-change.store) after partly
           (c.loop-change.invariant.back (c.set_back.ensures.later.was_honest honest) good) stops,
       folder_stopped g at.After-set_back honest good stops,
@@ -122,7 +122,7 @@ returns-in_err-set_back-clause-back g c honest good =
     let after = g.S.Store.files c.set_back.new.store in
     let p = err_from_is_err_and c.from_residual.result c.from_residual.ensures.1 in
     let stops = c.in_err-set_back.ensures.err honest of.proper of.small in
-    subst (λ r. OnErr r (StopsBack c.args.way c.args.changes.now c.args.settled.now old after)) (sym p.1) (inl (
+    subst (λ r. OnErr r (StopsBack c.args.way c.args.changes.now c.args.head.now.text.now old after)) (sym p.1) (inl (
       back_at_stop c.args.way c.args.changes.now good c.loop-change.change-index c.loop-change-test.true c.change-item.result c.change-item.is old (g.S.Store.files c.loop-change.store) after
           (c.loop-change.invariant.back (c.set_back.ensures.later.was_honest honest) good) stops,
       folder_stopped g at.After-set_back honest good stops,
@@ -135,7 +135,7 @@ returns-in_err-set_back-clause-left g c honest good start partly sure =
     let old = g.S.Store.files c.args.store.now in
     let p = err_from_is_err_and c.from_residual.result c.from_residual.ensures.1 in
     let stops = c.in_err-set_back.ensures.err honest of.proper of.small in
-    subst (λ r. OnErr r (StopsBackWithDoubt g.S.Store c.args.way c.args.changes.now c.args.settled.now start old c.set_back.new.store)) (sym p.1) (inl (
+    subst (λ r. OnErr r (StopsBackWithDoubt g.S.Store c.args.way c.args.changes.now c.args.head.now.text.now start old c.set_back.new.store)) (sym p.1) (inl (
       record {
         tree = some_at_stop c.args.way c.args.changes.now good c.loop-change.change-index c.loop-change-test.true c.change-item.result c.change-item.is start old (g.S.Store.files c.loop-change.store) (g.S.Store.files c.set_back.new.store) partly
             (c.loop-change.invariant.back (c.set_back.ensures.later.was_honest honest) good) stops;
@@ -252,8 +252,8 @@ returns-in_err-sync-clause-stopped g c honest good start partly =
     let after = g.S.Store.files c.sync.new.self in
     let back = all_are_back g (goal.at.returns-in_err-sync-clause-stopped g c).After-sync honest good in
     let p = err_from_is_err_and c.from_residual-in_err-sync.result c.from_residual-in_err-sync.ensures.1 in
-    subst (λ r. OnErr r (StopsRollingBack c.args.way c.args.changes.now c.args.settled.now start old after)) (sym p.1)
-    (stops_at_head c.args.way c.args.changes.now c.args.settled.now good old after after back.0 back.1 start partly (inl refl))
+    subst (λ r. OnErr r (StopsRollingBack c.args.way c.args.changes.now c.args.head.now.text.now start old after)) (sym p.1)
+    (stops_at_head c.args.way c.args.changes.now c.args.head.now.text.now good old after after back.0 back.1 start partly (inl refl))
 
 pub returns-in_err-sync-clause-back : goal.returns-in_err-sync-clause-back
 returns-in_err-sync-clause-back g c honest good =
@@ -261,14 +261,14 @@ returns-in_err-sync-clause-back g c honest good =
     let after = g.S.Store.files c.sync.new.self in
     let back = all_are_back g (goal.at.returns-in_err-sync-clause-back g c).After-sync honest good in
     let p = err_from_is_err_and c.from_residual-in_err-sync.result c.from_residual-in_err-sync.ensures.1 in
-    subst (λ r. OnErr r (StopsBack c.args.way c.args.changes.now c.args.settled.now old after)) (sym p.1)
-    (stops_back c.args.way c.args.changes.now c.args.settled.now good old after after back.0 back.1 (inl refl))
+    subst (λ r. OnErr r (StopsBack c.args.way c.args.changes.now c.args.head.now.text.now old after)) (sym p.1)
+    (stops_back c.args.way c.args.changes.now c.args.head.now.text.now good old after after back.0 back.1 (inl refl))
 
 pub returns-in_err-sync-clause-left : goal.returns-in_err-sync-clause-left
 returns-in_err-sync-clause-left g c honest good start partly sure =
     let at = (goal.at.returns-in_err-sync-clause-left g c).After-sync in
     let p = err_from_is_err_and c.from_residual-in_err-sync.result c.from_residual-in_err-sync.ensures.1 in
-    subst (λ r. OnErr r (StopsBackWithDoubt g.S.Store c.args.way c.args.changes.now c.args.settled.now start (g.S.Store.files c.args.store.now) c.sync.new.self)) (sym p.1) (inl (
+    subst (λ r. OnErr r (StopsBackWithDoubt g.S.Store c.args.way c.args.changes.now c.args.head.now.text.now start (g.S.Store.files c.args.store.now) c.sync.new.self)) (sym p.1) (inl (
       record {
         tree = subst (SomeMade c.args.way c.args.changes.now start) (sym (all_back g at honest good start partly)) (made_none c.args.way c.args.changes.now start);
         folder = (all_are_back g at honest good).1;
@@ -296,12 +296,12 @@ synced g c honest good start tree partly sure left is =
 pub returns-clause-done : goal.returns-clause-done
 returns-clause-done g c honest good =
     let back = all_are_back g (goal.at.returns-clause-done g c).After-sync (c.put_head.ensures.later.was_honest honest) good in
-    on_ok_weaker c.put_head.result (rolled_back c.args.way c.args.changes.now c.args.settled.now good _ _ (g.S.Store.files c.put_head.new.store) back.0 back.1) (c.put_head.ensures.ok honest)
+    on_ok_weaker c.put_head.result (rolled_back c.args.way c.args.changes.now c.args.head.now.text.now good _ _ (g.S.Store.files c.put_head.new.store) back.0 back.1) (c.put_head.ensures.ok honest)
 
 pub returns-clause-stopped : goal.returns-clause-stopped
 returns-clause-stopped g c honest good start partly =
     let back = all_are_back g (goal.at.returns-clause-stopped g c).After-sync (c.put_head.ensures.later.was_honest honest) good in
-    on_err_weaker c.put_head.result (stops_at_head c.args.way c.args.changes.now c.args.settled.now good _ _ (g.S.Store.files c.put_head.new.store) back.0 back.1 start partly) (c.put_head.ensures.err honest)
+    on_err_weaker c.put_head.result (stops_at_head c.args.way c.args.changes.now c.args.head.now.text.now good _ _ (g.S.Store.files c.put_head.new.store) back.0 back.1 start partly) (c.put_head.ensures.err honest)
 
 pub returns-clause-lasting : goal.returns-clause-lasting
 returns-clause-lasting g c honest good start partly sure =
@@ -318,11 +318,11 @@ returns-clause-left g c honest good start partly sure =
     let done = c.put_head.ensures.later.was_honest honest in
     let tree = all_back g at.After-sync done good start partly in
     on_err_weaker c.put_head.result
-    (λ (head : (after ≡ now) ⊎ Sets head_path (Some c.args.settled.now) now after). inr (
+    (λ (head : (after ≡ now) ⊎ Sets head_path (Some c.args.head.now.text.now) now after). inr (
       now,
       tree,
       (all_are_back g at.After-sync done good).1,
-      (head, λ left is. head_or_not now left c.args.settled.now (synced g at.In_ok-sync done good start tree partly sure) (c.put_head.ensures.left left is)),
+      (head, λ left is. head_or_not now left c.args.head.now.text.now (synced g at.In_ok-sync done good start tree partly sure) (c.put_head.ensures.left left is)),
     ))
     (c.put_head.ensures.err honest)
 
@@ -337,7 +337,7 @@ pub returns-clause-folder : goal.returns-clause-folder
 returns-clause-folder g c honest good =
     let now = g.S.Store.files c.sync.new.self in
     let after = g.S.Store.files c.put_head.new.store in
-    let here = put_at c.args.settled.now c.put_head.result now after (c.put_head.ensures.ok honest) (c.put_head.ensures.err honest) in
+    let here = put_at c.args.head.now.text.now c.put_head.result now after (c.put_head.ensures.ok honest) (c.put_head.ensures.err honest) in
     let back = all_are_back g (goal.at.returns-clause-folder g c).After-sync (c.put_head.ensures.later.was_honest honest) good in
     λ other differs. here other differs ∙ ap (λ folder. get folder other) back.1
 
@@ -350,4 +350,4 @@ returns-clause-written g c good =
 pub returns-clause-back : goal.returns-clause-back
 returns-clause-back g c honest good =
     let back = all_are_back g (goal.at.returns-clause-back g c).After-sync (c.put_head.ensures.later.was_honest honest) good in
-    on_err_weaker c.put_head.result (stops_back c.args.way c.args.changes.now c.args.settled.now good _ _ (g.S.Store.files c.put_head.new.store) back.0 back.1) (c.put_head.ensures.err honest)
+    on_err_weaker c.put_head.result (stops_back c.args.way c.args.changes.now c.args.head.now.text.now good _ _ (g.S.Store.files c.put_head.new.store) back.0 back.1) (c.put_head.ensures.err honest)

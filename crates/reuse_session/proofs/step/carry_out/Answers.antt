@@ -67,35 +67,35 @@ head_or_not {MightBe} {head} done left sure (inr made) = inr (subst (λ files. S
 -- the head's put leaves the tree
 pub perform-requires : goal.perform-requires
 perform-requires g c honest =
-    let stays = tree_stays c.args.way c.args.changes.now c.args.pending.now (g.S.Store.files c.args.store.now) (g.S.Store.files c.put_head.new.store) (c.in_ok-put_head.ensures.ok honest) in
+    let stays = tree_stays c.args.way c.args.changes.now c.args.heads.now.pending.now (g.S.Store.files c.args.store.now) (g.S.Store.files c.put_head.new.store) (c.in_ok-put_head.ensures.ok honest) in
     subst (λ t. CanGo c.args.way t c.args.changes.now) (sym stays) (c.requires (c.put_head.ensures.later.was_honest honest))
 
 pub returns-in_err-put_head-clause-stopped : goal.returns-in_err-put_head-clause-stopped
 returns-in_err-put_head-clause-stopped g c honest good =
     let way = c.args.way in
     let changes = c.args.changes.now in
-    let pending = c.args.pending.now in
+    let pending = c.args.heads.now.pending.now in
     let old = g.S.Store.files c.args.store.now in
     let after = g.S.Store.files c.put_head.new.store in
     let p = err_from_is_err_and c.from_residual.result c.from_residual.ensures.1 in
-    let left : (after ≡ old) ⊎ IsStopped way changes pending old after ⊎ IsCarriedOut way changes c.args.settled.now old after = ⊎_elim
+    let left : (after ≡ old) ⊎ IsStopped way changes pending old after ⊎ IsCarriedOut way changes c.args.heads.now.settled.now old after = ⊎_elim
     (λ (same : after ≡ old). inl same)
     (λ (first : Sets head_path (Some pending) old after). inr (inl (stopped way changes pending old after first after (made_none way changes (tree_of after)) refl)))
     (c.in_err-put_head.ensures.err honest) in
-    subst (λ r. OnErr r ((after ≡ old) ⊎ IsStopped way changes pending old after ⊎ IsCarriedOut way changes c.args.settled.now old after)) (sym p.1) left
+    subst (λ r. OnErr r ((after ≡ old) ⊎ IsStopped way changes pending old after ⊎ IsCarriedOut way changes c.args.heads.now.settled.now old after)) (sym p.1) left
 
 module _ (g : Over) (c : After-perform g) (honest : g.S.Store.honest c.perform.new.store) where
-  first_put : Sets head_path (Some c.args.pending.now) (g.S.Store.files c.args.store.now) (g.S.Store.files c.put_head.new.store)
+  first_put : Sets head_path (Some c.args.heads.now.pending.now) (g.S.Store.files c.args.store.now) (g.S.Store.files c.put_head.new.store)
   first_put = c.in_ok-put_head.ensures.ok (c.perform.ensures.later.was_honest honest)
 
   -- where each change can be made, none is in the way of another
   no_cause : IsEntry c.args.changes.now → All (CanBeMade c.args.way (tree_of (g.S.Store.files c.args.store.now))) c.args.changes.now → (c.perform.result ≡ Err Moved → ⊥) × (c.perform.result ≡ Err Clash → ⊥)
   no_cause good all =
-      let stays = tree_stays c.args.way c.args.changes.now c.args.pending.now (g.S.Store.files c.args.store.now) (g.S.Store.files c.put_head.new.store) first_put in
+      let stays = tree_stays c.args.way c.args.changes.now c.args.heads.now.pending.now (g.S.Store.files c.args.store.now) (g.S.Store.files c.put_head.new.store) first_put in
       c.perform.ensures.cause honest good (subst (λ t. All (CanBeMade c.args.way t) c.args.changes.now) (sym stays) all)
 
 performed : (g : Over) (c : In_ok-perform g) → g.S.Store.honest c.perform.new.store → IsEntry c.args.changes.now
-    → Performed c.args.way c.args.changes.now c.args.pending.now (g.S.Store.files c.args.store.now) (g.S.Store.files c.put_head.new.store) (g.S.Store.files c.perform.new.store)
+    → Performed c.args.way c.args.changes.now c.args.heads.now.pending.now (g.S.Store.files c.args.store.now) (g.S.Store.files c.put_head.new.store) (g.S.Store.files c.perform.new.store)
 performed g c honest good = record {
   first = c.in_ok-put_head.ensures.ok (c.perform.ensures.later.was_honest honest);
   leads = c.in_ok-perform.ensures.done honest good;
@@ -109,8 +109,8 @@ returns-in_err-perform-clause-stopped g c honest good =
     let now = g.S.Store.files c.perform.new.store in
     let p = err_from_is_err_and c.from_residual-in_err-perform.result c.from_residual-in_err-perform.ensures.1 in
     let front = c.in_err-perform.ensures.midway honest good in
-    subst (λ r. OnErr r ((now ≡ old) ⊎ IsStopped c.args.way c.args.changes.now c.args.pending.now old now ⊎ IsCarriedOut c.args.way c.args.changes.now c.args.settled.now old now)) (sym p.1)
-    (inr (inl (stopped c.args.way c.args.changes.now c.args.pending.now old started (first_put g (goal.at.returns-in_err-perform-clause-stopped g c).After-perform honest) now
+    subst (λ r. OnErr r ((now ≡ old) ⊎ IsStopped c.args.way c.args.changes.now c.args.heads.now.pending.now old now ⊎ IsCarriedOut c.args.way c.args.changes.now c.args.heads.now.settled.now old now)) (sym p.1)
+    (inr (inl (stopped c.args.way c.args.changes.now c.args.heads.now.pending.now old started (first_put g (goal.at.returns-in_err-perform-clause-stopped g c).After-perform honest) now
     (made_of_front c.args.way c.args.changes.now front.0 (tree_of started) (tree_of now) front.1 good) (c.perform.ensures.folder honest good))))
 
 pub returns-in_err-perform-clause-moved : goal.returns-in_err-perform-clause-moved
@@ -127,12 +127,12 @@ returns-in_err-perform-clause-clash g c honest good all e = absurd (
 pub returns-clause-done : goal.returns-clause-done
 returns-clause-done g c honest good =
     let done = performed g (goal.at.returns-clause-done g c).In_ok-perform (c.put_head-2.ensures.later.was_honest honest) good in
-    on_ok_weaker c.put_head-2.result (carried done c.args.settled.now (g.S.Store.files c.put_head-2.new.store)) (c.put_head-2.ensures.ok honest)
+    on_ok_weaker c.put_head-2.result (carried done c.args.heads.now.settled.now (g.S.Store.files c.put_head-2.new.store)) (c.put_head-2.ensures.ok honest)
 
 pub returns-clause-stopped : goal.returns-clause-stopped
 returns-clause-stopped g c honest good =
     let done = performed g (goal.at.returns-clause-stopped g c).In_ok-perform (c.put_head-2.ensures.later.was_honest honest) good in
-    on_err_weaker c.put_head-2.result (in_doubt done c.args.settled.now (g.S.Store.files c.put_head-2.new.store)) (c.put_head-2.ensures.err honest)
+    on_err_weaker c.put_head-2.result (in_doubt done c.args.heads.now.settled.now (g.S.Store.files c.put_head-2.new.store)) (c.put_head-2.ensures.err honest)
 
 pub returns-clause-moved : goal.returns-clause-moved
 returns-clause-moved g c honest good all = c.put_head-2.ensures.moved
@@ -151,14 +151,14 @@ synced_next g c honest good sure = c.in_ok-perform.ensures.lasting honest good (
 pub returns-in_err-put_head-clause-doubt : goal.returns-in_err-put_head-clause-doubt
 returns-in_err-put_head-clause-doubt g c honest good sure =
     let p = err_from_is_err_and c.from_residual.result c.from_residual.ensures.1 in
-    subst (λ r. OnErr r (StopsWithDoubt g.S.Store c.args.way c.args.changes.now c.args.pending.now c.args.settled.now c.args.store.now c.put_head.new.store)) (sym p.1)
+    subst (λ r. OnErr r (StopsWithDoubt g.S.Store c.args.way c.args.changes.now c.args.heads.now.pending.now c.args.heads.now.settled.now c.args.store.now c.put_head.new.store)) (sym p.1)
     (inl (c.in_err-put_head.ensures.err honest, λ left is. with_head (c.put_head.ensures.left left is)))
 
 pub returns-in_err-perform-clause-doubt : goal.returns-in_err-perform-clause-doubt
 returns-in_err-perform-clause-doubt g c honest good sure =
     let way = c.args.way in
     let changes = c.args.changes.now in
-    let pending = c.args.pending.now in
+    let pending = c.args.heads.now.pending.now in
     let old = g.S.Store.files c.args.store.now in
     let started = g.S.Store.files c.put_head.new.store in
     let now = g.S.Store.files c.perform.new.store in
@@ -166,7 +166,7 @@ returns-in_err-perform-clause-doubt g c honest good sure =
     let front = c.in_err-perform.ensures.midway honest good in
     let first = first_put g (goal.at.returns-in_err-perform-clause-doubt g c).After-perform honest in
     let synced = c.in_ok-put_head.ensures.lasting (c.perform.ensures.later.was_honest honest) sure in
-    subst (λ r. OnErr r (StopsWithDoubt g.S.Store way changes pending c.args.settled.now c.args.store.now c.perform.new.store)) (sym p.1)
+    subst (λ r. OnErr r (StopsWithDoubt g.S.Store way changes pending c.args.heads.now.settled.now c.args.store.now c.perform.new.store)) (sym p.1)
     (inr (inl (
       stopped way changes pending old started first now (made_of_front way changes front.0 (tree_of started) (tree_of now) front.1 good) (c.perform.ensures.folder honest good),
       λ left is. let midway = c.perform.ensures.left honest good synced left is in stopped way changes pending old started first left midway.tree midway.folder,
@@ -184,7 +184,7 @@ returns-clause-doubt g c honest good sure =
     let old = g.S.Store.files c.args.store.now in
     let started = g.S.Store.files c.put_head.new.store in
     let now = g.S.Store.files c.perform.new.store in
-    let pending = c.args.pending.now in
+    let pending = c.args.heads.now.pending.now in
     on_err_weaker c.put_head-2.result (λ either. inr (inr (
       now,
       subst (λ t. LeadsBy c.args.way c.args.changes.now t (tree_of now)) (tree_stays c.args.way c.args.changes.now pending old started done.first) done.leads,

@@ -128,8 +128,8 @@ returns-in_err-before-clause-call g c = call_none g.S.Store c.args.self.now c.fr
 pub returns-in_err-settled-clause-call : goal.returns-in_err-settled-clause-call
 returns-in_err-settled-clause-call g c = call_none g.S.Store c.args.self.now c.from_residual-in_err-settled.result (is_refused c.from_residual-in_err-settled.result c.from_residual-in_err-settled.ensures.1)
 
-pub returns-in_err-head-clause-call : goal.returns-in_err-head-clause-call
-returns-in_err-head-clause-call g c = call_none g.S.Store c.args.self.now c.from_residual-in_err-head.result (is_refused c.from_residual-in_err-head.result c.from_residual-in_err-head.ensures.1)
+pub returns-in_err-path-clause-call : goal.returns-in_err-path-clause-call
+returns-in_err-path-clause-call g c = call_none g.S.Store c.args.self.now c.from_residual-in_err-path.result (is_refused c.from_residual-in_err-path.result c.from_residual-in_err-path.ensures.1)
 
 -- ---- after a loss of power
 
