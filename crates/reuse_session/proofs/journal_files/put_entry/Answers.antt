@@ -1,4 +1,4 @@
-use Rattle.std.proofs.Common.{◌≡◌, ◌+◌, true, inl, inr, ℕ, List, Option, arith, Some, ap, refl, sym, subst, length, ◌∙◌}
+use Rattle.std.proofs.Common.{rules, ◌≡◌, ◌+◌, true, inl, inr, ℕ, List, Option, arith, Some, ap, refl, sym, subst, length, ◌∙◌}
 use Rattle.std.specs.FinMap.{get}
 use Rattle.reuse_tree.specs.Asked.{MaySet}
 use Rattle.reuse_tree.specs.Entry.{IsEntry}
@@ -10,6 +10,7 @@ use Rattle.reuse_tree.specs.Tree.{Sets}
 use Rattle.reuse_tree.proofs.Lasting.{may_set_by_put, set_weaker, certain_tree}
 use Rattle.reuse_session.specs.JournalFiles.{entry_path, EntrySays}
 use Rattle.reuse_session.specs.Session.{IsSameBut, HasEntryText}
+use Rattle.reuse_session.proofs.Barriers.{IsBehind}
 use Rattle.reuse_session.proofs.JournalLemmas.{sets_in_folder}
 use Rattle.reuse_session.proofs.JournalReading.{put_says, put_beside, failed_beside, counted_most, counted_entry}
 use Rattle.reuse_tree.proofs.TurnLemmas.{put_sets}
@@ -85,7 +86,8 @@ tree_kept number start text left sure (inr made) = entry_keeps_tree number made.
 
 pub returns-clause-lasting : goal.returns-clause-lasting
 returns-clause-lasting g c honest sure left is =
-    let got = c.in_ok-sync.ensures.barrier.ok left is in
+    let barrier : IsBehind g.S.Store c.put.new.self c.sync.new.self = search rules in
+    let got = barrier left is in
     let files = g.S.Store.files in
     let start = tree_of (files c.args.store.now) in
     let now = behind g (goal.at.returns-clause-lasting g c).After-sync (λ f. tree_of f ≡ start) honest (λ put.

@@ -1,10 +1,11 @@
-use Rattle.std.proofs.Common.{◌≡◌, ◌⊎◌, inl, inr, ℕ, List, Some, OnErr, sym, subst, ◌∙◌, arith}
+use Rattle.std.proofs.Common.{rules, ◌≡◌, ◌⊎◌, inl, inr, ℕ, List, Some, OnErr, sym, subst, ◌∙◌, arith}
 use Rattle.std.proofs.lemmas.Result.{err_from_is_err_and}
 use Rattle.reuse_tree.specs.Asked.{MaySet}
 use Rattle.reuse_tree.specs.Files.{Files, tree_of}
 use Rattle.reuse_tree.specs.Lasting.{WithOrWithout}
 use Rattle.reuse_tree.specs.Tree.{Sets}
 use Rattle.reuse_tree.proofs.Lasting.{may_set_by_put, set_weaker, certain_tree}
+use Rattle.reuse_session.proofs.Barriers.{IsBehind}
 use Rattle.reuse_session.proofs.HeadPuts.{head_keeps_tree}
 use Rattle.reuse_session.specs.JournalFiles.{head_path}
 use Rattle.reuse_session.proofs.JournalReading.{counted_head}
@@ -59,7 +60,8 @@ tree_kept start text left sure (inr made) = head_keeps_tree made.0 left made.2 m
 
 pub returns-clause-lasting : goal.returns-clause-lasting
 returns-clause-lasting g c honest sure left is =
-    let got = c.in_ok-sync.ensures.barrier.ok left is in
+    let barrier : IsBehind g.S.Store c.put.new.self c.sync.new.self = search rules in
+    let got = barrier left is in
     let start = tree_of (g.S.Store.files c.args.store.now) in
     let now = head_keeps_tree (g.S.Store.files c.args.store.now) (g.S.Store.files c.sync.new.self) (Some c.args.text.now) (was_put g (goal.at.returns-clause-lasting g c).After-sync honest) in
     certain_tree (g.S.Store.files c.sync.new.self) got.0 left

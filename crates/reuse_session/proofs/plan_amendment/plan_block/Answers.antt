@@ -1,5 +1,5 @@
-use Rattle.std.proofs.Common.{length, Some, true, false, sym, ap, subst, ◌∙◌, arith}
-use Rattle.reuse_header.specs.Amendment.{amendment_of, amendment_answer, IsAmendmentDue}
+use Rattle.std.proofs.Common.{rules, ◌≡◌, length, Some, true, false, sym, ap, subst, ◌∙◌, arith}
+use Rattle.reuse_header.specs.Amendment.{amendment_of}
 use Rattle.reuse_header.specs.Neighbour.{is_text}
 use Rattle.reuse_header.proofs.NeighbourLemmas.{text-test}
 use Rattle.reuse_session.specs.Amend.{amendment_edit}
@@ -28,4 +28,4 @@ returns-clause-edit c tree bytes here reading =
     (subst (λ xs. AnswersEdit tree (amendment_edit path path xs (amendment_of style a xs)) c.amendment_by.result) (c.as_slice-3.ensures ∙ sym same)
     (c.amendment_by.ensures.edit tree due (here ∙ ap (λ xs. Some xs) (same ∙ sym c.as_slice-3.ensures)) (omega (arith, ap length c.as_slice-3.ensures, c.in_ok-bytes.ensures.short))
     (fits_amendment file due (λ edit e. c.amendments_fit.ensures.files style a file edit e))
-    (subst (λ xs. IsAmendmentDue (amendment_answer xs (amendment_of style a xs)) c.amend_file-made.result) (c.as_slice-2.ensures ∙ sym c.as_slice-3.ensures) c.amend_file-made.ensures)))
+    (let bytes_again : c.as_slice-3.result.now ≡ c.as_slice-2.result.now = c.as_slice-3.ensures ∙ sym c.as_slice-2.ensures in rw bytes_again (search rules))))

@@ -1,4 +1,4 @@
-use Rattle.std.proofs.Common.{◌≡◌, ◌≢◌, ◌<◌, ◌≤◌, ℕ, Bool, true, false, List, Result, Err, OnErr, OnOk, arith, refl, sym, ap, subst, ◌∙◌}
+use Rattle.std.proofs.Common.{rules, ◌≡◌, ◌≢◌, ◌<◌, ◌≤◌, ℕ, Bool, true, false, List, Result, Err, OnErr, OnOk, arith, refl, sym, ap, subst, ◌∙◌}
 use Rattle.std.specs.List.{All}
 use Rattle.std.proofs.lemmas.Result.{err_from_is_err_and}
 use Rattle.reuse_tree.proofs.AskedLemmas.{reads_more}
@@ -18,9 +18,10 @@ use Rattle.reuse_session.specs.declared.failure.Failure.TheVariants.{Interrupted
 use Rattle.reuse_session.specs.declared.reply.Refusal.TheVariants.{Moved, Failed}
 use Rattle.reuse_tree.proofs.Walk.{none_without}
 use Rattle.reuse_tree.proofs.MadeLemmas.{settles_from}
+use Rattle.reuse_session.proofs.Barriers.{IsBehind}
 use Rattle.reuse_session.proofs.LeftByRollBacks.{certain_midway}
 use Rattle.reuse_session.proofs.roll_back.roll_back.Given.{Over}
-use Rattle.reuse_session.proofs.roll_back.roll_back.Goals.{After-sync, In_ok-sync}
+use Rattle.reuse_session.proofs.roll_back.roll_back.Goals.{After-sync}
 use Rattle.reuse_session.proofs.roll_back.roll_back.Goals as goal
 
 told_no_clash : (started : Bool) (cause : Cause) → cause ≢ causes.Moved → cause ≢ causes.Clash → IsNoClash (told_of started cause)
@@ -110,10 +111,10 @@ module _ (g : Over) (c : After-sync g) (honest : g.S.Store.honest c.sync.new.sel
   still_partly start = subst (λ files. ArePartlyMade c.args.way c.args.changes.now start (tree_of files)) (sym same_files)
 
 -- the head that is there is certain then, and each path of the tree is left as it is or as it might be
-midway : (g : Over) (c : In_ok-sync g) (start : Files) → SomeMade c.args.way c.args.changes.now start (tree_of (g.S.Store.files c.sync.new.self)) → Leaves g.S.Store c.args.store.now (λ kept. SomeMade c.args.way c.args.changes.now start (tree_of kept))
+midway : (g : Over) (c : After-sync g) → IsBehind g.S.Store c.test_each.new.store c.sync.new.self → (start : Files) → SomeMade c.args.way c.args.changes.now start (tree_of (g.S.Store.files c.sync.new.self)) → Leaves g.S.Store c.args.store.now (λ kept. SomeMade c.args.way c.args.changes.now start (tree_of kept))
     → Leaves g.S.Store c.sync.new.self (IsMidway c.args.way c.args.changes.now start (undo_folder_of (g.S.Store.files c.sync.new.self)))
-midway g c start now sure left is =
-    let got = c.in_ok-sync.ensures.barrier.ok left is in
+midway g c barrier start now sure left is =
+    let got = barrier left is in
     certain_midway c.args.way c.args.changes.now start (g.S.Store.files c.sync.new.self) got.0 left now (sure got.0 (c.test_each.ensures.reads.may got.0 got.1)) got.2
 
 pub returns-in-Err-clause-stopped : goal.returns-in-Err-clause-stopped
@@ -141,7 +142,8 @@ returns-in-Err-clause-left g c honest good start partly sure cause e =
     let before = c.set_all_back.ensures.later.was_honest honest in
     let new = c.set_all_back.new.store in
     let now = still_partly g at.After-sync before start partly in
-    let left = c.set_all_back.ensures.left honest good start now (midway g at.In_ok-sync start now.made sure) in
+    let barrier : IsBehind store c.test_each.new.store c.sync.new.self = search rules in
+    let left = c.set_all_back.ensures.left honest good start now (midway g at.After-sync barrier start now.made sure) in
     subst (λ files. StopsBackWithDoubt store c.args.way c.args.changes.now c.args.head.now.text.now start files new) (same_files g at.After-sync before)
     (subst (λ r. OnErr r (StopsBackWithDoubt store c.args.way c.args.changes.now c.args.head.now.text.now start (store.files c.sync.new.self) new)) c.in-Err.is left)
 
@@ -149,7 +151,8 @@ pub returns-in-Ok-clause-lasting : goal.returns-in-Ok-clause-lasting
 returns-in-Ok-clause-lasting g c honest good start partly sure =
     let at = goal.at.returns-in-Ok-clause-lasting g c in
     let now = still_partly g at.After-sync (c.set_all_back.ensures.later.was_honest honest) start partly in
-    let lasting = c.set_all_back.ensures.lasting honest good start now (midway g at.In_ok-sync start now.made sure) in
+    let barrier : IsBehind g.S.Store c.test_each.new.store c.sync.new.self = search rules in
+    let lasting = c.set_all_back.ensures.lasting honest good start now (midway g at.After-sync barrier start now.made sure) in
     subst (λ r. OnOk r (IsSynced g.S.Store c.set_all_back.new.store)) c.in-Ok.is lasting
 
 pub returns-in-Err-clause-refusal : goal.returns-in-Err-clause-refusal
