@@ -109,16 +109,14 @@ impl Remembered {
     }
 
     /// The bytes of the file, if it is remembered and is still as it was. It isn't remembered any
-    /// more.
+    /// more, however it is.
     pub fn take(&mut self, path: &PathText, status: &FileStatus) -> Option<Bytes> {
         let at = self.place_of(path)?;
         self.next = at.saturating_add(1);
         let file = self.files.get_mut(at)?;
-        if file.version != status.version() {
-            return None;
-        }
+        let is_same = file.version == status.version();
         let bytes = file.bytes.take()?;
         self.bytes = self.bytes.saturating_sub(bytes.len());
-        Some(bytes)
+        if is_same { Some(bytes) } else { None }
     }
 }

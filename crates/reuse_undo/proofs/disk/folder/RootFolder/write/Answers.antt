@@ -1,4 +1,4 @@
-use Rattle.std.proofs.Common.{rules, ◌≡◌, false, true, is_ok}
+use Rattle.std.proofs.Common.{rules, ◌≡◌, false, is_ok}
 use Rattle.reuse_tree.specs.Parts.{joined}
 use Rattle.reuse_undo.specs.Asides.{IsNewIn, IsNewPlace}
 use Rattle.reuse_undo.specs.HeldFiles.{place_in}
@@ -20,27 +20,6 @@ returns-in_err-new_file g c =
     let cleared = c.take_new_file.ensures.cleared in
     rw failed (cleared_alone c.args.path.now name cleared.folder _ _ _ _ named cleared.others)
 
-pub returns-in_err-write : goal.returns-in_err-write
-returns-in_err-write g c =
-    let path = c.args.path.now in
-    let name = c.folder_and_name.result.1.now in
-    let named : IsNameOf path name = search rules in
-    let bytes = joined c.args.parts in
-    let is = is_kept c.args.self.now.unsynced.syncs in
-    let folder = c.in_ok-enter_seen.field-0.now.identity in
-    let new_files = c.in_ok-new_file.new_file.folder.identity in
-    let first = c.args.self.now.system.noted in
-    let second = c.take_new_file.new.self.system.noted in
-    let third = c.write.new.system.noted in
-    let a = held_after first.files first.fates first.calls in
-    let b = held_after second.files second.fates second.calls in
-    let d = held_after third.files third.fates third.calls in
-    let cleared = c.in_ok-new_file.ensures.cleared in
-    let alike : IsAlikeUnless (IsNewIn new_files) a b = rw cleared.is_folder cleared.others in
-    let written : IsWritten (IsNewPlace new_files folder) (place_in folder name) bytes is b d false = search rules in
-    let put = put_at path name new_files folder bytes is a b d false named alike written in
-    search rules
-
 pub returns : goal.returns
 returns g c =
     let path = c.args.path.now in
@@ -48,16 +27,17 @@ returns g c =
     let named : IsNameOf path name = search rules in
     let bytes = joined c.args.parts in
     let is = is_kept c.args.self.now.unsynced.syncs in
+    let is_done = is_ok c.write-written.result in
     let folder = c.in_ok-enter_seen.field-0.now.identity in
     let new_files = c.in_ok-new_file.new_file.folder.identity in
     let first = c.args.self.now.system.noted in
     let second = c.take_new_file.new.self.system.noted in
-    let third = c.write.new.system.noted in
+    let third = c.write-written.new.system.noted in
     let a = held_after first.files first.fates first.calls in
     let b = held_after second.files second.fates second.calls in
     let d = held_after third.files third.fates third.calls in
     let cleared = c.in_ok-new_file.ensures.cleared in
     let alike : IsAlikeUnless (IsNewIn new_files) a b = rw cleared.is_folder cleared.others in
-    let written : IsWritten (IsNewPlace new_files folder) (place_in folder name) bytes is b d true = search rules in
-    let put = put_at path name new_files folder bytes is a b d true named alike written in
+    let written : IsWritten (IsNewPlace new_files folder) (place_in folder name) bytes is b d is_done = search rules in
+    let put = put_at path name new_files folder bytes is a b d is_done named alike written in
     search rules

@@ -1,0 +1,184 @@
+//! Putting and removing a file. What a put makes of the names is stated by what each call of the
+//! system makes of them, whatever was there.
+ghost use Rattle.std.specs.Prelude.{◌≡◌, is_ok, IsErr, IsTrue};
+ghost use Rattle.reuse_undo.specs.KeptOut.{is_kept_out};
+
+use super::RootFolder;
+use crate::disk::empty_folders::remove_folders;
+use crate::disk::fault::{FolderFault, Obstacle};
+use crate::disk::kept_out::JOURNAL;
+use crate::disk::listing::list_below;
+use crate::disk::new_file::{Content, NewFile, Target};
+use crate::disk::new_name::new_names;
+use crate::disk::place::{FileStatus, Place, folder_and_name};
+use crate::disk::system::{HostSystem, System};
+use reuse_tree::{Parts, PathText};
+use std::alloc::Global;
+use std::fs::File;
+use std::rt::Files;
+
+impl<R: Files<File = File> + AllocGlobal + Clone + Drop> RootFolder<R> {
+    ghost use Rattle.reuse_undo.specs.FolderWrites.{IsCleared, IsPutAt, IsRemovedAt};
+    ghost use Rattle.reuse_undo.specs.Written.{is_kept};
+    ghost use Rattle.reuse_tree.specs.Parts.{joined};
+
+    /// What was seen at the path, if it was the last one that was read. What was seen is forgotten.
+    fn take_last_seen(&mut self, path: &PathText) -> Option<FileStatus>
+        ensures kept { self.new.system ≡ self.old.system }
+        ensures syncs { self.new.unsynced.syncs ≡ self.old.unsynced.syncs }
+    {
+        let last = self.reads.pop();
+        self.reads.clear();
+        match last {
+            Some(last) if last.path == *path => Some(last.status),
+            _ => None,
+        }
+    }
+
+    /// Makes the parts joined the file at the path, as a whole or not at all, and folders as
+    /// needed.
+    pub fn put(&mut self, alloc: Global, path: &PathText, parts: Parts) -> Result<(), FolderFault>
+        ensures written { IsPutAt path.now (joined parts.entry) (is_kept self.old.unsynced.syncs)
+            (⟦<HostSystem<R> as System>⟧.holds self.old.system) (⟦<HostSystem<R> as System>⟧.holds self.new.system) (is_ok result) }
+        ensures kept_out { IsTrue (is_kept_out path.now) → IsErr result }
+    {
+        let seen = self.take_last_seen(path);
+        let found = self.make_room(alloc, path, seen)?;
+        self.write(alloc, path, parts, found)
+    }
+
+    /// Makes room for a file at the path, and the folders above it as needed. Gives the file that
+    /// stands there, if one does.
+    pub(super) fn make_room(
+        &mut self,
+        alloc: Global,
+        path: &PathText,
+        seen: Option<FileStatus>,
+    ) -> Result<Option<FileStatus>, FolderFault>
+        ensures kept { self.new.system ≡ self.old.system }
+        ensures syncs { self.new.unsynced.syncs ≡ self.old.unsynced.syncs }
+        ensures kept_out { IsTrue (is_kept_out path.now) → IsErr result }
+    {
+        let (folder, _) = folder_and_name(path.text());
+        self.keeping.check_hold()?;
+        match self.look_unless_seen(alloc, path, seen)? {
+            Place::Nothing => {
+                self.trail
+                    .make(self.system.rt(), alloc, folder, &mut self.unsynced)?;
+                Ok(None)
+            }
+            Place::File(status) => {
+                self.keeping.check(path.text(), status)?;
+                Ok(Some(status))
+            }
+            Place::BelowFile => Err(FolderFault::Clash),
+            Place::Folder => {
+                self.clear_folder(alloc, path)?;
+                Ok(None)
+            }
+            Place::Other => Err(FolderFault::Device(Obstacle::Foreign)),
+        }
+    }
+
+    /// Writes the parts to the path, where this file was found, or none.
+    fn write(
+        &mut self,
+        alloc: Global,
+        path: &PathText,
+        parts: Parts,
+        found: Option<FileStatus>,
+    ) -> Result<(), FolderFault>
+        ensures { IsPutAt path.now (joined parts.entry) (is_kept self.old.unsynced.syncs)
+            (⟦<HostSystem<R> as System>⟧.holds self.old.system) (⟦<HostSystem<R> as System>⟧.holds self.new.system) (is_ok result) }
+    {
+        let (folder, name) = folder_and_name(path.text());
+        self.unsynced.note(alloc, folder)?;
+        let mut new_file = self.take_new_file(alloc)?;
+        let target = Target {
+            folder: self.trail.enter_seen(self.system.rt(), alloc, folder)?,
+            name,
+            path: path.text(),
+        };
+        let content = Content {
+            parts,
+            wanted: self.keeping.wanted(target.folder, found),
+            mode: found.map(|status| status.mode),
+        };
+        let written = new_file.write(&mut self.system, target, content, &mut self.unsynced);
+        self.note_written(path, found, new_file, written.is_ok());
+        written
+    }
+
+    /// The path, where this file was found, or none, was to be written by way of this place of new
+    /// files. If that failed, the place is opened anew before the next one.
+    fn note_written(
+        &mut self,
+        path: &PathText,
+        found: Option<FileStatus>,
+        new_file: NewFile,
+        is_done: bool,
+    )
+        ensures { self.new.system ≡ self.old.system }
+    {
+        if is_done {
+            self.keeping
+                .note_written(path.text(), found, new_file.kept());
+            self.new_file = Some(new_file);
+        }
+    }
+
+    /// The place of new files, opened as needed.
+    pub(super) fn take_new_file(&mut self, alloc: Global) -> Result<NewFile, FolderFault>
+        ensures cleared { IsCleared (⟦<HostSystem<R> as System>⟧.holds self.old.system) (⟦<HostSystem<R> as System>⟧.holds self.new.system) result }
+        ensures syncs { self.new.unsynced.syncs ≡ self.old.unsynced.syncs }
+    {
+        match self.new_file.take() {
+            Some(new_file) => Ok(new_file),
+            None => self.open_new_file(alloc),
+        }
+    }
+
+    /// Opens the journal's folder for new files; it is made as needed.
+    fn open_new_file(&mut self, alloc: Global) -> Result<NewFile, FolderFault>
+        ensures cleared { IsCleared (⟦<HostSystem<R> as System>⟧.holds self.old.system) (⟦<HostSystem<R> as System>⟧.holds self.new.system) result }
+        ensures syncs { self.new.unsynced.syncs ≡ self.old.unsynced.syncs }
+    {
+        self.trail
+            .make(self.system.rt(), alloc, JOURNAL, &mut self.unsynced)?;
+        let folder = self.trail.current()?.try_clone(alloc)?;
+        let names = new_names(self.system.rt(), alloc, &folder)?;
+        let new_file = NewFile::in_folder(alloc, folder);
+        new_file.clear(&mut self.system, &names)?;
+        Ok(new_file)
+    }
+
+    /// Removes a folder without files, so that a file can take its place; with files it is a clash.
+    fn clear_folder(&mut self, alloc: Global, path: &PathText) -> Result<(), FolderFault>
+        ensures kept { self.new.system ≡ self.old.system }
+        ensures syncs { self.new.unsynced.syncs ≡ self.old.unsynced.syncs }
+    {
+        let (rt, trail) = (self.system.rt(), &mut self.trail);
+        let files = list_below(rt, alloc, trail, path.text(), &mut self.listed)?;
+        if !files.is_empty() {
+            return Err(FolderFault::Clash);
+        }
+        let (folder, _) = folder_and_name(path.text());
+        self.unsynced.note(alloc, folder)?;
+        remove_folders(rt, alloc, trail, path.text())
+    }
+
+    /// Removes the regular file at the path, if there is one, and no folder.
+    pub fn remove(&mut self, alloc: Global, path: &PathText) -> Result<(), FolderFault>
+        ensures { IsRemovedAt path.now (⟦<HostSystem<R> as System>⟧.holds self.old.system) (⟦<HostSystem<R> as System>⟧.holds self.new.system) }
+    {
+        let seen = self.take_last_seen(path);
+        match self.look_unless_seen(alloc, path, seen)? {
+            Place::File(_) => {
+                let (folder, name) = folder_and_name(path.text());
+                self.unsynced.note(alloc, folder)?;
+                Ok(self.system.remove(self.trail.current()?, name)?)
+            }
+            Place::Nothing | Place::BelowFile | Place::Folder | Place::Other => Ok(()),
+        }
+    }
+}
