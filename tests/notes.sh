@@ -125,6 +125,16 @@ refusals() {
   notes annotate --skip-unrecognised -l MIT b.xyz c.xyz : \
     '2 files passed over, since no comment style is known for the names; --dry-run names them'
   notes annotate --skip-unrecognised --skip-existing -l MIT b.xyz c.xyz :
+  # Of files that change, stay as they are and are passed over, the last alone are counted
+  files b.xyz 'x\n' c.xyz 'x\n' a.py 'x\n' d.py 'x\n'
+  "$program" --root "$tree" annotate -l MIT a.py > /dev/null
+  notes annotate --skip-unrecognised -l MIT -r . : '1 file changed; .*' \
+    '2 files passed over, since no comment style is known for the names; --dry-run names them'
+  rm "$tree/c.xyz" "$tree/d.py"
+  notes annotate --skip-unrecognised -l MIT -r . : \
+    '1 file passed over, since no comment style is known for the names; --dry-run names them'
+  rm "$tree/b.xyz"
+  notes annotate --skip-unrecognised -l MIT -r . :
   notes annotate -l MIT zz :
   files a.py 'x\n'
   "$program" --root "$tree" annotate -l MIT a.py > /dev/null
@@ -147,6 +157,23 @@ refusals() {
   notes undo : 'this file was changed since: .*'
   files a.py 'x\n' .reuse/styles.toml 'version = 1\n[styles]\n".proto" = "pascal"\n'
   notes annotate -l MIT a.py : 'what is wrong with \.reuse/styles\.toml: bad style of \.proto'
+}
+
+# A call that passes files over has counted them itself: with notes it asks the system for no name
+# of the tree more often than without.
+once() {
+  local kind quiet verbose
+  files b.xyz 'x\n' c.xyz 'x\n' in/a.py 'x\n'
+  for kind in quiet verbose; do
+    rm -rf "$room/copy"
+    cp -a "$tree" "$room/copy"
+    [[ $kind == quiet ]] && set -- || set -- -v
+    strace -f -qq -o "$room/trace" "$program" --root "$room/copy" "$@" annotate -l MIT \
+      --skip-unrecognised -r . > /dev/null 2> "$room/error"
+    printf -v "$kind" %s "$(grep -cE '(b\.xyz|c\.xyz|a\.py)"' "$room/trace")"
+  done
+  grep -q '^reuse-undo: note: 2 files passed over' "$room/error" || fail 'no note of files passed over'
+  ((quiet > 0 && verbose == quiet)) || fail "with notes $verbose calls name the files, not $quiet"
 }
 
 dep5() {
@@ -350,5 +377,5 @@ progress() {
     fail 'progress without a terminal'
 }
 
-for group in words changes refusals dep5 journal faults above names progress; do $group; done
+for group in words changes refusals once dep5 journal faults above names progress; do $group; done
 echo "$notes notes are as stated, with -v and at a terminal, and names show no control byte there"

@@ -1,6 +1,8 @@
-//! The changes of a run, and what a preview tells: both are made of the plans of one walk.
+//! The changes of a run and what it counts, and what a preview tells: both are made of the plans of
+//! one walk.
 ghost use Rattle.std.specs.Prelude.{◌≡◌, ◌++◌, None, IfOk, IfErr};
 ghost use Rattle.std.specs.List.Sorted.{IsPermutation, IsSortedBy};
+ghost use Rattle.reuse_session.specs.Counted.{skipped_count};
 ghost use Rattle.reuse_session.specs.Fates.{fates_of, first_refusal};
 ghost use Rattle.reuse_session.specs.Outcome.{outcome_of, edits_of};
 ghost use Rattle.reuse_session.specs.PathPlans.{limit_planned};
@@ -9,30 +11,34 @@ ghost use Rattle.reuse_session.specs.Answer.{IsEarlyFailure};
 ghost use Rattle.reuse_session.specs.Reading.{tree_of, IsOfPlan, OnlyReads, RefusedAsRead};
 
 use crate::command::Command;
+use crate::counts::Counts;
 use crate::fate::{Fate, Fates, Previewed};
 use crate::path_plan::Policy;
 use crate::plan::plan_command;
-use crate::planned::{Planned, changes_planned};
+use crate::planned::{Planned, changes_planned, skipped_planned};
 use crate::reply::Refusal;
 use reuse_tree::{Change, Changes, Store, is_too_many};
 use std::alloc::{AllocError, Global};
 
 /// The changes of a command on the tree that the store has, in byte order of their paths, or the
-/// command's first refusal.
+/// command's first refusal. Where there is none, what the walk counted is put into the counts.
 pub(crate) fn plan<S: Store>(
     alloc: Global,
     store: &mut S,
     command: &Command,
+    counts: &mut Counts,
 ) -> Result<Vec<Change>, Refusal>
     ensures changes { S.honest store.new → IfOk result (λ changes. IsPlan (outcome_of command.now (tree_of (S.files store.old))) (tree_of (S.files store.old)) changes.items) }
     // The changes hold what the command removes and writes at each path, and no more.
     ensures recorded { S.honest store.new → IfOk result (λ changes. Records (tree_of (S.files store.old)) (edits_of command.now (tree_of (S.files store.old))) changes.items) }
+    ensures skipped { S.honest store.new → IfOk result (λ changes. counts.new.skipped ≡ skipped_count (fates_of command.now (tree_of (S.files store.old)))) }
     ensures refusal { S.honest store.new → IfErr result (λ refusal. IsRefusalOf (outcome_of command.now (tree_of (S.files store.old))) refusal) }
     ensures fails { RefusedAsRead S.Store store.old store.new result }
     ensures reads { OnlyReads S.Store store.old store.new }
     ensures planned { IfErr result IsOfPlan }
 {
     let plans = plan_command(alloc, store, command, Policy::Stop)?;
+    counts.skipped = skipped_planned(&plans);
     let changes = sorted(changes_planned(alloc, plans)?);
     if is_too_many(&changes) {
         return Err(Refusal::TooMany);

@@ -3,6 +3,7 @@ ghost use Rattle.std.specs.Prelude.{◌≡◌, ◌++◌, ◌∷◌, [], ◌||◌
 ghost use Rattle.std.specs.Option.{option_to_list};
 ghost use Rattle.std.specs.List.{list_any};
 ghost use Rattle.reuse_session.specs.PathPlans.{change_planned, changes_planned, fate_planned, is_refusal};
+ghost use Rattle.reuse_session.specs.Counted.{is_skip_planned, skipped_planned};
 
 use crate::fate::Fate;
 use crate::path_plan::PathPlan;
@@ -82,4 +83,17 @@ fn push_change(changes: &mut Vec<Change>, plan: PathPlan) -> Result<(), AllocErr
         changes.push(change)?;
     }
     Ok(())
+}
+
+/// How many of the plans skip their file.
+pub(crate) fn skipped_planned(plans: &[PathPlan]) -> usize
+    ensures { result ≡ skipped_planned plans.now }
+{
+    plans.iter().filter(|plan| is_skip(plan)).count()
+}
+
+fn is_skip(plan: &PathPlan) -> bool
+    ensures { result ≡ is_skip_planned plan.now }
+{
+    matches!(plan, PathPlan::Skipped(_))
 }

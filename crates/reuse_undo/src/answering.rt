@@ -17,7 +17,7 @@ use crate::on_folder::run_on_folder;
 use crate::output::Output;
 use crate::progress::{ClearedOutput, Progress};
 use crate::run_line::is_refused;
-use reuse_session::{Fate, Fates, Refusal, Request, Session};
+use reuse_session::{Counts, Fate, Fates, Refusal, Request, Session};
 use reuse_tree::{PathText, Store};
 use std::alloc::Global;
 use std::fs::File;
@@ -39,27 +39,28 @@ pub struct Asking<'a, R: Clock + Eprint + Drop> {
 }
 
 /// Makes the call and prints the answer, unless a file that it would change can't keep its owner.
+/// It answers what the call counted, too.
 pub fn answer<R: Files<File = File> + AllocGlobal + Clock + Env + Print + Eprint + Clone + Drop>(
     folder: DiskStore<R>,
     alloc: Global,
     asking: &Asking<'_, R>,
-) -> (DiskStore<R>, CallEnding) {
+) -> (DiskStore<R>, CallEnding, Counts) {
     let mut folder = folder;
     if changes_tree(asking.request) {
         folder.watch_owners();
         folder.remember_files(time_now(asking.rt));
     }
-    let (mut folder, outcome) = answer_at_once(folder, alloc, asking);
+    let (mut folder, outcome, counts) = answer_at_once(folder, alloc, asking);
     if !folder.release_owners() {
-        return (folder, Ok(outcome));
+        return (folder, Ok(outcome), counts);
     }
     drop(outcome);
     let (folder, lost) = first_lost(folder, alloc, asking.request);
     match lost {
-        Some(path) => (folder, Err(Denial::CannotKeepOwner(path))),
+        Some(path) => (folder, Err(Denial::CannotKeepOwner(path)), Counts::none()),
         None => {
-            let (folder, outcome) = answer_at_once(folder, alloc, asking);
-            (folder, Ok(outcome))
+            let (folder, outcome, counts) = answer_at_once(folder, alloc, asking);
+            (folder, Ok(outcome), counts)
         }
     }
 }
@@ -75,12 +76,12 @@ fn answer_at_once<
     folder: DiskStore<R>,
     alloc: Global,
     asking: &Asking<'_, R>,
-) -> (DiskStore<R>, Result<usize, Fault>) {
+) -> (DiskStore<R>, Result<usize, Fault>, Counts) {
     let mut folder = folder;
     folder.go_to_handles(asking.rt, alloc);
     let progress = asking.progress;
     let mut out = Output::new(ClearedOutput::new(progress, io::writer(asking.rt)));
-    let (mut folder, outcome) = run_on_folder(
+    let (mut folder, outcome, counts) = run_on_folder(
         folder,
         progress,
         alloc,
@@ -90,7 +91,7 @@ fn answer_at_once<
     );
     folder.come_back(asking.rt, alloc);
     progress.clear();
-    (folder, outcome)
+    (folder, outcome, counts)
 }
 
 fn changes_tree(request: &Request) -> bool {

@@ -116,7 +116,7 @@ fn work_with<R: Files<File = File> + AllocGlobal + Clock + Env + Print + Eprint 
         return CarriedOut::denied(Denial::JournalOfAnother);
     }
     let begun = begun_step(alloc, &mut folder);
-    let findings = found_before(rt, alloc, &line, begun, extras.notes);
+    let mut findings = found_before(rt, alloc, &line, begun, extras.notes);
     let telling = Telling {
         format: line.format,
         names: extras.names,
@@ -128,7 +128,10 @@ fn work_with<R: Files<File = File> + AllocGlobal + Clock + Env + Print + Eprint 
         request: &request,
         telling,
     };
-    let (folder, ending) = answer(folder, alloc, &asking);
+    let (folder, ending, counts) = answer(folder, alloc, &asking);
+    if let Some(findings) = &mut findings {
+        findings.counts = counts;
+    }
     let set_back = set_back_step(begun, folder.set_back());
     let findings = found_after(rt, alloc, findings, folder, &request, &ending);
     drop(request);

@@ -7,7 +7,7 @@ use crate::disk::{DiskStore, Failure, Kept};
 use crate::fault::Fault;
 use crate::line::Line;
 use reuse_session::{
-    Call, Command, Fate, Head, Refusal, Request, Scope, Session, Unknown, decode_head,
+    Call, Command, Counts, Fate, Head, Refusal, Request, Scope, Session, Unknown, decode_head,
 };
 use reuse_text::{Bytes, LONGEST_FILE};
 use reuse_tree::{PathText, Reading, Store};
@@ -84,6 +84,8 @@ pub struct Findings {
     pub is_gone: bool,
     /// Whether the table that was made says nothing of any file.
     pub is_table_empty: bool,
+    /// What the call counted.
+    pub counts: Counts,
     /// How many files have names that aren't recognised, where the call was refused for one or
     /// passed them over.
     pub unrecognised: usize,
@@ -135,6 +137,7 @@ impl Findings {
             damage: None,
             is_gone: false,
             is_table_empty: false,
+            counts: Counts::none(),
             unrecognised: 0,
             failure: None,
             missing_root: missing_root(rt, alloc, root),
@@ -155,7 +158,29 @@ impl Findings {
         if self.task == Task::Conversion {
             self.is_table_empty = is_table_empty(alloc, &mut folder);
         }
-        self.unrecognised = unrecognised_by(alloc, folder, request, outcome);
+        self.unrecognised = self.unrecognised_by(alloc, folder, request, outcome);
+    }
+
+    /// Of how many files the names aren't recognised, where the call was refused for one or passed
+    /// them over. A call that was made has counted them. One that was refused stopped at the first,
+    /// so it is looked at once more. Want of memory or a fault leaves them out.
+    fn unrecognised_by<S: Store + Drop>(
+        &self,
+        alloc: Global,
+        folder: S,
+        request: &Request,
+        outcome: &Result<usize, Fault>,
+    ) -> usize {
+        let Request::Make(Call::Run(command), _) = request else {
+            return 0;
+        };
+        match (command, outcome) {
+            (_, Err(Fault::Refused(Refusal::Unrecognised(_)))) => {
+                unrecognised_names(alloc, folder, command).unwrap_or(0)
+            }
+            (Command::Annotate { scope, .. }, Ok(_)) if passes_over(scope) => self.counts.skipped,
+            _ => 0,
+        }
     }
 
     /// Adds what is found after any task.
@@ -207,62 +232,27 @@ fn missing_root(rt: &impl Files, alloc: Global, root: &str) -> Option<String> {
     }
 }
 
-/// Of how many files the names aren't recognised, where the call was refused for one or passed them
-/// over. Want of memory or a fault leaves them out.
-fn unrecognised_by<S: Store + Drop>(
-    alloc: Global,
-    folder: S,
-    request: &Request,
-    outcome: &Result<usize, Fault>,
-) -> usize {
-    match passing_over(request, outcome) {
-        Some(command) => {
-            unrecognised_names(alloc, folder, command, outcome.is_ok()).unwrap_or(0)
-        }
-        None => 0,
-    }
-}
-
-/// The annotation that was refused for a name that isn't recognised, or passed such names over, and
-/// no others.
-fn passing_over<'a>(request: &'a Request, outcome: &Result<usize, Fault>) -> Option<&'a Command> {
-    let Request::Make(Call::Run(command), _) = request else {
-        return None;
-    };
-    match (command, outcome) {
-        (_, Err(Fault::Refused(Refusal::Unrecognised(_)))) => Some(command),
-        (Command::Annotate { scope, .. }, Ok(_)) if passes_over(scope) => Some(command),
-        _ => None,
-    }
-}
-
+/// Whether the files that are skipped are those whose names aren't recognised.
 fn passes_over(scope: &Scope) -> bool {
     scope.unknown == Unknown::Skip && !scope.skip_existing
 }
 
-/// Of how many files that the annotation goes through the names aren't recognised. It is looked at
-/// once more for that.
+/// Of how many files that the annotation goes through the names aren't recognised.
 fn unrecognised_names<S: Store + Drop>(
     alloc: Global,
     folder: S,
     command: &Command,
-    passed_over: bool,
 ) -> Option<usize> {
     let mut session = Session::open(alloc, folder).ok()?;
     let fates = session.preview(alloc, command).ok()?;
-    Some(unrecognised_among(fates.as_slice(), passed_over))
+    Some(unrecognised_among(fates.as_slice()))
 }
 
-/// How many of the fates are of names that aren't recognised: they are refused, or, where such are
-/// passed over, skipped.
-pub fn unrecognised_among(fates: &[Fate], passed_over: bool) -> usize {
+/// How many of the fates are refusals of names that aren't recognised.
+pub fn unrecognised_among(fates: &[Fate]) -> usize {
     fates
         .iter()
-        .filter(|fate| match fate {
-            Fate::Refused(Refusal::Unrecognised(_)) => true,
-            Fate::Skipped(_) => passed_over,
-            _ => false,
-        })
+        .filter(|fate| matches!(fate, Fate::Refused(Refusal::Unrecognised(_))))
         .count()
 }
 

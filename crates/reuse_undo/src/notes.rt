@@ -209,7 +209,7 @@ fn note_fates(rt: &impl Eprint, findings: &Findings, fates: &[Fate]) {
             last = told;
         }
     }
-    note_unrecognised(rt, unrecognised_among(fates, false), false);
+    note_unrecognised(rt, unrecognised_among(fates), false);
 }
 
 /// Tells how many files a call changed, and how that is taken back.

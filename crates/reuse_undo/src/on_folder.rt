@@ -12,15 +12,15 @@ use crate::progress::Progress;
 use crate::recovering::run_recover;
 use crate::run_line::run_request;
 use crate::shown_name::Names;
-use reuse_session::Request;
+use reuse_session::{Counts, Request};
 use reuse_tree::{Store, WatchedStore};
 use std::alloc::Global;
 use std::fs::File;
 use std::rt::{Clock, Files};
 
 /// Opens a session on the folder, makes the one call that is asked for, and writes the lines of its
-/// answer; how many paths that tells. The folder is given back as a store, with what is known of
-/// its last failure.
+/// answer; how many paths that tells, and what the call counted. The folder is given back as a
+/// store, with what is known of its last failure.
 pub fn run_on_folder<R: Files<File = File> + AllocGlobal + Clock + Eprint + Clone + Drop, O: Sink>(
     folder: DiskStore<R>,
     progress: &Progress<R>,
@@ -28,13 +28,13 @@ pub fn run_on_folder<R: Files<File = File> + AllocGlobal + Clock + Eprint + Clon
     request: &Request,
     telling: Telling,
     out: &mut O,
-) -> (DiskStore<R>, Result<usize, Fault>)
+) -> (DiskStore<R>, Result<usize, Fault>, Counts)
     // As on any store, for whatever files the folder holds.
     ensures { CarriesOut ⟦<DiskStore<R> as Store>⟧ O.contents O.failed request.now telling folder result.0 out.old out.new result.1 }
 {
     let watched = WatchedStore::new(folder, progress);
-    let (watched, outcome) = run_request(alloc, request, telling, watched, out);
-    (watched.into_inner(), outcome)
+    let (watched, outcome, counts) = run_request(alloc, request, telling, watched, out);
+    (watched.into_inner(), outcome, counts)
 }
 
 /// Sets back what a stopped run left pending in the folder, and writes a line for each path that

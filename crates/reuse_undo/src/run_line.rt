@@ -23,28 +23,28 @@ use drawn::draw;
 use foreseen::{Foreseen, ask_with_changes};
 use printed::finish;
 pub use printed::is_refused;
-use reuse_session::{Answer, Request, Session};
+use reuse_session::{Answer, Counts, Request, Session};
 use reuse_tree::Store;
 use std::alloc::Global;
 
 /// Opens a session on the store, makes the one call that is asked for, and writes the lines of its
-/// answer. The store is given back, and how many paths the answer tells that changed; where it
-/// can't be written, what the call changed stands.
+/// answer. The store is given back, how many paths the answer tells that changed, and what the call
+/// counted; where it can't be written, what the call changed stands.
 pub fn run_request<S: Store + Drop, O: Sink>(
     alloc: Global,
     request: &Request,
     telling: Telling,
     store: S,
     out: &mut O,
-) -> (S, Result<usize, Fault>)
+) -> (S, Result<usize, Fault>, Counts)
     ensures { CarriesOut S.Store O.contents O.failed request.now telling store result.0 out.old out.new result.1 }
 {
-    let (store, answer, diff) = call(alloc, store, request, telling);
+    let (store, answer, diff, counts) = call(alloc, store, request, telling);
     match answer {
-        Ok(told) => (store, finish(out, alloc, told, telling, diff)),
+        Ok(told) => (store, finish(out, alloc, told, telling, diff), counts),
         Err(refusal) => {
             drop(diff);
-            (store, Err(Fault::Refused(refusal)))
+            (store, Err(Fault::Refused(refusal)), counts)
         }
     }
 }
@@ -56,7 +56,7 @@ fn call<S: Store + Drop>(
     store: S,
     request: &Request,
     telling: Telling,
-) -> (S, Answer, Result<Vec<u8>, Fault>)
+) -> (S, Answer, Result<Vec<u8>, Fault>, Counts)
     ensures carries { S.honest result.0 → RequestLeaves (S.files store) request.now result.1 (S.files result.0) }
     ensures looks { S.honest result.0 → IsLook request.now → (held : State) → IsStanding (S.files store) held → OnlyReads S.Store store result.0 }
     ensures fault { IfErr result.1 (HasCause (S.failures store < S.failures result.0)) }
@@ -72,10 +72,11 @@ fn call<S: Store + Drop>(
         Ok(opened) => {
             let mut session = opened;
             let (answer, foreseen) = ask_for(alloc, &mut session, request, telling.format);
+            let counts = session.counts();
             let (store, diff) = draw_foreseen(alloc, session.into_store(), foreseen);
-            (store, answer, diff)
+            (store, answer, diff, counts)
         }
-        Err((refusal, store)) => (store, Err(refusal), Ok(Vec::new(alloc))),
+        Err((refusal, store)) => (store, Err(refusal), Ok(Vec::new(alloc)), Counts::none()),
     }
 }
 

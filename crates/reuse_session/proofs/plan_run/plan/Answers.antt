@@ -5,6 +5,7 @@ use Rattle.std.proofs.lemmas.Result.{err_from_is_err_and}
 use Rattle.reuse_tree.specs.Files.{Files, tree_of}
 use Rattle.reuse_tree.specs.declared.change.Change.{Change}
 use Rattle.reuse_tree.specs.Entry.{change_size, entry_size}
+use Rattle.reuse_session.specs.Counted.{skipped_planned}
 use Rattle.reuse_session.specs.Outcome.{outcome_of, path_edits_of, edits_of, tree_after}
 use Rattle.reuse_session.specs.PathPlans.{ArePlansOf, changes_planned}
 use Rattle.reuse_session.specs.declared.command.Command.{Command}
@@ -14,6 +15,7 @@ use Rattle.reuse_session.proofs.PathPlanning.{changes_made, none_refused}
 use Rattle.reuse_session.specs.Plan.{IsRefusalOf, MakesEdits}
 use Rattle.reuse_tree.proofs.TreeLemmas.{tree_are_files}
 use Rattle.reuse_session.proofs.Annotating.{refusal_passes, too_many}
+use Rattle.reuse_session.proofs.Counting.{skips_are}
 use Rattle.reuse_session.proofs.EditOrder.{sorted_plan}
 use Rattle.reuse_session.proofs.Fitting.{command_fits}
 use Rattle.reuse_session.proofs.plan_run.plan.Goals as goal
@@ -43,7 +45,7 @@ returns-then-is_too_many-clause-refusal g c honest =
     let changes = c.in_ok-changes_planned.field-0.items in
     too_many tree (edits_of c.args.command.now tree) changes (made c.args.command.now tree c.in_ok-plans.plans.items changes (c.in_ok-plans.ensures.plans honest) c.in_ok-changes_planned.ensures)
     (sym (as_many changes c.sorted-changes.result.items c.sorted-changes.ensures.moved)
-    ∙ ap (λ cs. nat_lt 100_000 (length cs) || nat_lt 268_435_456 (entry_size cs)) (sym c.deref.ensures.value) ∙ sym c.is_too_many.ensures ∙ c.if-is_too_many.true)
+    ∙ ap (λ cs. nat_lt 100_000 (length cs) || nat_lt 268_435_456 (entry_size cs)) (sym c.deref-2.ensures.value) ∙ sym c.is_too_many.ensures ∙ c.if-is_too_many.true)
 
 pub returns-clause-changes : goal.returns-clause-changes
 unfolding outcome_of
@@ -54,7 +56,7 @@ returns-clause-changes g c honest =
     sorted_plan (tree_of files) (edits_of c.args.command.now (tree_of files)) changes c.sorted-changes.result.items are
     (made c.args.command.now (tree_of files) c.in_ok-plans.plans.items changes (c.in_ok-plans.ensures.plans honest) c.in_ok-changes_planned.ensures)
     c.sorted-changes.ensures.moved c.sorted-changes.ensures.sorted (command_fits c.args.command.now (tree_of files) c.in_ok-plans.ensures.entry are)
-    (ap (λ cs. nat_lt 100_000 (length cs) || nat_lt 268_435_456 (entry_size cs)) (sym c.deref.ensures.value) ∙ sym c.is_too_many.ensures ∙ c.if-is_too_many.false)
+    (ap (λ cs. nat_lt 100_000 (length cs) || nat_lt 268_435_456 (entry_size cs)) (sym c.deref-2.ensures.value) ∙ sym c.is_too_many.ensures ∙ c.if-is_too_many.false)
 
 pub returns-clause-recorded : goal.returns-clause-recorded
 returns-clause-recorded g c honest = (
@@ -62,3 +64,9 @@ returns-clause-recorded g c honest = (
   c.sorted-changes.ensures.moved,
   made c.args.command.now (tree_of (g.S.Store.files c.args.store.now)) c.in_ok-plans.plans.items c.in_ok-changes_planned.field-0.items (c.in_ok-plans.ensures.plans honest) c.in_ok-changes_planned.ensures,
 )
+
+pub returns-clause-skipped : goal.returns-clause-skipped
+returns-clause-skipped g c honest =
+    let plans = c.in_ok-plans.plans.items in
+    c.skipped_planned-counts.ensures ∙ ap skipped_planned c.deref.ensures.value
+    ∙ skips_are Stop c.args.command.now (tree_of (g.S.Store.files c.args.store.now)) plans (c.in_ok-plans.ensures.plans honest)

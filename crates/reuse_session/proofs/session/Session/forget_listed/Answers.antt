@@ -44,7 +44,7 @@ pub returns-in-Ok-clause-leaves : goal.returns-in-Ok-clause-leaves
 returns-in-Ok-clause-leaves g c =
     let is = to_forget g (goal.at.returns-in-Ok-clause-leaves g c).After-put_and_remove in
     leaves_done g.S.Store c.args.self.now _ _ _ _ is
-    (record { store = c.put_and_remove.new.store; history = c.in_ok-numbers.field-0.left; broken = c.args.self.now.broken })
+    (record { store = c.put_and_remove.new.store; history = c.in_ok-numbers.field-0.left; broken = c.args.self.now.broken; counts = c.args.self.now.counts })
     (λ honest. c.in-Ok.ensures.done honest) c.in_ok-numbers.ensures.left c.put_and_remove.ensures.written c.put_and_remove.ensures.moves c.new-in-Ok.result
 
 pub returns-in-Err-clause-survives : goal.returns-in-Err-clause-survives
