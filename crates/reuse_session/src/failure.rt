@@ -1,6 +1,6 @@
 //! What a call of a session answers that failed: the store or memory, and no rule, is to blame.
 ghost use Rattle.std.specs.Prelude.{Some};
-ghost use Rattle.reuse_session.specs.RefusalTexts.{failure_text};
+ghost use Rattle.reuse_session.specs.session.RefusalTexts.{failure_text};
 
 use reuse_tree::Cause;
 use std::error::Error;

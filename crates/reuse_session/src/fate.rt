@@ -1,7 +1,7 @@
 //! What a call would do, path by path.
 ghost use Rattle.std.specs.Prelude.{◌≡◌, IfOk, IfErr};
-ghost use Rattle.reuse_session.specs.Answer.{IsFailure};
-ghost use Rattle.reuse_session.specs.Previews.{IsTold};
+ghost use Rattle.reuse_session.specs.session.Answer.{IsFailure};
+ghost use Rattle.reuse_session.specs.session.Previews.{IsTold};
 
 use crate::reply::Refusal;
 use reuse_tree::{Changes, Items, PathText};

@@ -1,4 +1,9 @@
 //! A folder of the file system as a store of files.
+//!
+//! No link is followed, and no file is written where another may read it half: it is written aside,
+//! synced and renamed. Each call of the system is noted with its answer, and the contracts speak of
+//! these notes. The room `run` opens a store, with the lock of its folder in hand. Tested by
+//! `folder.sh`, `races.sh`, `syncs.sh`, `owners.sh` and `fail_system_calls.sh` in `tests/`.
 ghost use Rattle.std.specs.Prelude.{◌≡◌, ◌<◌, ℕ, ◌∷◌, List, IfErr, length};
 ghost use Rattle.std.specs.Result.{result_map_both};
 ghost use Rattle.reuse_tree.specs.Calls.Call.{ListCall};
@@ -6,8 +11,8 @@ ghost use Rattle.reuse_tree.specs.Asked.{IsLater, IsPut, IsRemoval, IsWrite, Are
 ghost use Rattle.reuse_tree.specs.Parts.{joined};
 ghost use Rattle.reuse_tree.specs.Calls.{Start, failures_of, written_of, moves_of};
 ghost use Rattle.reuse_tree.specs.Files.{AreFiles};
-ghost use Rattle.reuse_undo.specs.FolderFault.{fault_of_store};
-ghost use Rattle.reuse_undo.specs.Honesty.{files_of, files_may_be_left, IsHonest, MayBeLeft};
+ghost use Rattle.reuse_undo.specs.disk.FolderFault.{fault_of_store};
+ghost use Rattle.reuse_undo.specs.disk.Honesty.{files_of, files_may_be_left, IsHonest, MayBeLeft};
 
 mod bare;
 mod empty_folders;
@@ -28,13 +33,14 @@ mod owner;
 mod parts_writer;
 mod place;
 mod process;
+pub(crate) mod reading;
 mod remembered;
 mod set_back;
 mod syncs;
 mod system;
 mod trail;
 
-use crate::lock::{HeldFolders, RootLock};
+use crate::run::lock::{HeldFolders, RootLock};
 pub use failure::Failure;
 use failure::LastFailure;
 use fault::FolderFault;

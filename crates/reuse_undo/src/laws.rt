@@ -1,9 +1,9 @@
 //! What the contracts of the program say of lines that follow one another.
 ghost use Rattle.std.specs.Prelude.{List};
-ghost use Rattle.reuse_session.specs.Stops.{Point, AreLeft};
-ghost use Rattle.reuse_undo.specs.LinesInTurn.{CarriedLine, HoldsSame, AreInTurn, RunAsModel};
+ghost use Rattle.reuse_session.specs.session.Stops.{Point, AreLeft};
+ghost use Rattle.reuse_undo.specs.run.LinesInTurn.{CarriedLine, HoldsSame, AreInTurn, RunAsModel};
 
-use crate::output::Sink;
+use crate::print::output::Sink;
 use reuse_tree::Store;
 
 /// Lines are carried out one after the other, each on the files that the one before it left, as

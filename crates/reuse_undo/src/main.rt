@@ -3,60 +3,24 @@
 
 ghost use Rattle.std.specs.Prelude.{string_bytes};
 ghost use Rattle.std.specs.Option.{option_map};
-ghost use Rattle.reuse_undo.specs.ListedCommands.{IsAskedWithList};
+ghost use Rattle.reuse_undo.specs.cli.ListedCommands.{IsAskedWithList};
 
-mod above;
-mod amend_options;
-mod answering;
-mod arguments;
-mod carried_out;
-mod carry_out;
-mod damage;
-mod date;
-mod denial;
-mod diff;
+mod cli;
 mod disk;
-mod error_output;
-mod fault;
-mod file_list;
-mod findings;
-mod forgetting;
-mod glob_word;
-mod help;
 mod laws;
-mod line;
-mod lines;
-mod lock;
-mod notes;
-mod objects;
-mod on_folder;
-mod options;
-mod output;
-mod place_word;
-mod prefix_name;
-mod progress;
-mod reading;
-mod recovering;
-mod report;
-mod request;
-mod rows;
-mod run_line;
-mod settings;
-mod shown_name;
-mod status;
-mod subcommands;
-mod texts;
-mod words;
+mod print;
+mod run;
 
-use carried_out::CarriedOut;
-use carry_out::{Extras, carry_out, forget_folder, recover_folder};
-use error_output::ErrorOutput;
-use file_list::with_list;
-use line::{Asked, ChangeStatus, LineFault};
-use report::{tell_outcome, tell_words};
+use cli::file_list::with_list;
+use cli::line::{Asked, ChangeStatus, LineFault};
+use cli::words::{Said, words_to_command};
+use print::error_output::ErrorOutput;
+use print::report::{tell_outcome, tell_words};
+use print::shown_name::Names;
+use print::status::{Ending, exit_status};
 use reuse_session::Moment;
-use shown_name::Names;
-use status::{Ending, exit_status};
+use run::carried_out::CarriedOut;
+use run::locked::{Extras, carry_out, forget_folder, recover_folder};
 use std::alloc::Global;
 use std::env;
 use std::fs::File;
@@ -64,7 +28,6 @@ use std::io::{ErrorKind, IsTerminal};
 use std::process::ExitCode;
 use std::rt::{Clock, Env, Files, Runtime};
 use std::time::{SystemTime, UNIX_EPOCH};
-use words::{Said, words_to_command};
 
 /// The moment now, or none where it is out of range.
 fn moment_now(rt: &impl Clock) -> Option<Moment> {
@@ -153,7 +116,7 @@ fn run_asked<R: Runtime + Files<File = File> + AllocGlobal>(
     }
 }
 
-fn run<R: Runtime + Files<File = File> + AllocGlobal>(
+fn run_program<R: Runtime + Files<File = File> + AllocGlobal>(
     rt: &R,
     alloc: Global,
     moment: Moment,
@@ -182,7 +145,7 @@ fn main(rt: HostRuntime) -> ExitCode {
         errors: rt.stderr().is_terminal(),
     };
     let ending = match moment_now(&rt) {
-        Some(moment) => run(&rt, rt.alloc(), moment, terminals),
+        Some(moment) => run_program(&rt, rt.alloc(), moment, terminals),
         None => {
             let _ = eprintln!(rt; "reuse-undo: bad clock");
             Ending::BadClock

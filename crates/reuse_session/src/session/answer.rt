@@ -1,6 +1,6 @@
 //! A session answers a request: the one place that says which call it is.
 ghost use Rattle.std.specs.Prelude.{◌≡◌, ◌↔◌, true};
-ghost use Rattle.reuse_session.specs.Requests.{replied};
+ghost use Rattle.reuse_session.specs.session.Requests.{replied};
 
 use crate::fate::Fates;
 use crate::reply::{Answer, Refusal, Reply, Reverted, Rows, Shown};
@@ -10,10 +10,10 @@ use reuse_tree::{Moment, Store};
 use std::alloc::Global;
 
 impl<S: Store + Drop> Session<S> {
-    ghost use Rattle.reuse_session.specs.Answer.{TellsNoFault};
-    ghost use Rattle.reuse_session.specs.Journal.{State};
-    ghost use Rattle.reuse_session.specs.Requests.{IsAnswered, Peeks, Previews};
-    ghost use Rattle.reuse_session.specs.Session.{store_of, is_broken, StandsOn};
+    ghost use Rattle.reuse_session.specs.session.Answer.{TellsNoFault};
+    ghost use Rattle.reuse_session.specs.journal.Journal.{State};
+    ghost use Rattle.reuse_session.specs.session.Requests.{IsAnswered, Peeks, Previews};
+    ghost use Rattle.reuse_session.specs.session.Session.{store_of, is_broken, StandsOn};
 
     /// Answers a request. It is refused as the call is that it asks for.
     pub fn answer(&mut self, alloc: Global, request: &Request) -> Answer

@@ -1,27 +1,27 @@
 //! Previews: what a call would do, alone or with the changes of the same plan. They only read.
 ghost use Rattle.std.specs.Prelude.{◌≡◌, ◌↔◌, ◌++◌, ◌∷◌, [], List, true, false, length, None, Some, IfOk, IfErr};
-ghost use Rattle.reuse_session.specs.Answer.{TellsNoFault, IsReadRefusal};
-ghost use Rattle.reuse_session.specs.Fates.{fates_of, first_refusal};
-ghost use Rattle.reuse_session.specs.History.{entries_ahead};
-ghost use Rattle.reuse_session.specs.Journal.{State, ahead, changes_ahead, end_of};
-ghost use Rattle.reuse_session.specs.Machine.{Snapshots, is_full, run_fates, undo_fates, redo_fates, step_fates};
-ghost use Rattle.reuse_session.specs.Outcome.{outcome_of, edits_of};
-ghost use Rattle.reuse_session.specs.Plan.{IsPlan, Records};
-ghost use Rattle.reuse_session.specs.Previews.{run_fates_on, fates_alone, Foresees, OnlyLooks, IsPreviewRefusal};
-ghost use Rattle.reuse_session.specs.Session.{store_of, is_broken, memory_of, StandsOn, StandsAt};
+ghost use Rattle.reuse_session.specs.session.Answer.{TellsNoFault, IsReadRefusal};
+ghost use Rattle.reuse_session.specs.session.Fates.{fates_of, first_refusal};
+ghost use Rattle.reuse_session.specs.journal.History.{entries_ahead};
+ghost use Rattle.reuse_session.specs.journal.Journal.{State, ahead, changes_ahead, end_of};
+ghost use Rattle.reuse_session.specs.session.Machine.{Snapshots, is_full, run_fates, undo_fates, redo_fates, step_fates};
+ghost use Rattle.reuse_session.specs.plan.Outcome.{outcome_of, edits_of};
+ghost use Rattle.reuse_session.specs.plan.Plan.{IsPlan, Records};
+ghost use Rattle.reuse_session.specs.session.Previews.{run_fates_on, fates_alone, Foresees, OnlyLooks, IsPreviewRefusal};
+ghost use Rattle.reuse_session.specs.session.Session.{store_of, is_broken, memory_of, StandsOn, StandsAt};
 ghost use Rattle.reuse_tree.specs.Entry.{IsEntry};
 ghost use Rattle.reuse_tree.specs.declared.way.Way.TheVariants as go;
-ghost use Rattle.reuse_session.specs.declared.history.ListedEntry.{ListedEntry};
+ghost use Rattle.reuse_session.specs.declared.journal.history.ListedEntry.{ListedEntry};
 
 use crate::command::Command;
 use crate::fate::{Fates, Previewed};
-use crate::history::ListedEntry;
-use crate::journal_files::read_entry;
-use crate::plan_run::plan_preview;
+use crate::journal::files::read_entry;
+use crate::journal::history::ListedEntry;
+use crate::plan::run::plan_preview;
 use crate::reply::Refusal;
 use crate::session::Session;
 use crate::session::travel::end_of;
-use crate::travel_fates::travel_fates;
+use crate::session::travel_fates::travel_fates;
 use reuse_tree::{Store, Way};
 use std::alloc::Global;
 

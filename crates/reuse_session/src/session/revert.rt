@@ -1,11 +1,11 @@
 //! A session takes a step back that need not be the last.
 ghost use Rattle.std.specs.Prelude.{◌≡◌, ◌↔◌, ◌⊎◌, length, not, IfErr, IfOk, true, false};
-ghost use Rattle.reuse_session.specs.Answer.{IsRunAnswer};
+ghost use Rattle.reuse_session.specs.session.Answer.{IsRunAnswer};
 ghost use Rattle.reuse_tree.specs.Listing.{ArePaths, is_among};
-ghost use Rattle.reuse_session.specs.RevertCalls.{as_run, left_of};
+ghost use Rattle.reuse_session.specs.session.RevertCalls.{as_run, left_of};
 
 use crate::command::Command;
-use crate::prepare::paths_of;
+use crate::journal::prepare::paths_of;
 use crate::reply::{Paths, Refusal, Reply, Reverted};
 use crate::session::Session;
 use crate::session::later_steps::read_back;
@@ -14,15 +14,15 @@ use std::alloc::Global;
 
 impl<S: Store + Drop> Session<S> {
     ghost use Rattle.reuse_tree.specs.Asked.{OnlyReads};
-    ghost use Rattle.reuse_session.specs.Answer.{TellsNoFault, IsNoClash, IsNoStep};
-    ghost use Rattle.reuse_session.specs.Calls.{IsCall};
-    ghost use Rattle.reuse_session.specs.Journal.{State};
-    ghost use Rattle.reuse_session.specs.Losses.{SurvivesCall};
-    ghost use Rattle.reuse_session.specs.Machine.{Snapshots, is_full};
-    ghost use Rattle.reuse_session.specs.RevertCalls.{as_run, GivesRevert, GivesRevertAt, IsAfterRevert, Reverts, RevertFollows, LeavesRevert};
-    ghost use Rattle.reuse_session.specs.Previews.{OnlyLooks};
-    ghost use Rattle.reuse_session.specs.Session.{store_of, is_broken, memory_of, StandsOn, StandsAt};
-    ghost use Rattle.reuse_session.specs.Showing.{lists};
+    ghost use Rattle.reuse_session.specs.session.Answer.{TellsNoFault, IsNoClash, IsNoStep};
+    ghost use Rattle.reuse_session.specs.session.Calls.{IsCall};
+    ghost use Rattle.reuse_session.specs.journal.Journal.{State};
+    ghost use Rattle.reuse_session.specs.journal.Losses.{SurvivesCall};
+    ghost use Rattle.reuse_session.specs.session.Machine.{Snapshots, is_full};
+    ghost use Rattle.reuse_session.specs.session.RevertCalls.{as_run, GivesRevert, GivesRevertAt, IsAfterRevert, Reverts, RevertFollows, LeavesRevert};
+    ghost use Rattle.reuse_session.specs.session.Previews.{OnlyLooks};
+    ghost use Rattle.reuse_session.specs.session.Session.{store_of, is_broken, memory_of, StandsOn, StandsAt};
+    ghost use Rattle.reuse_session.specs.session.Showing.{lists};
 
     /// Takes the changes of a step back, on whatever the tree is now, as a new step. With
     /// `skip_moved` a change that can't be taken back is left out. It answers the paths that

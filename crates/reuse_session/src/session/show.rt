@@ -1,7 +1,7 @@
 //! A session shows what a step changed.
 ghost use Rattle.std.specs.Prelude.{◌≡◌, ◌↔◌, ◌||◌, true, false, IfOk};
 
-use crate::journal_files::read_entry;
+use crate::journal::files::read_entry;
 use crate::reply::{Refusal, Shown};
 use crate::session::Session;
 use reuse_tree::{EntryChanges, Store};
@@ -9,12 +9,12 @@ use std::alloc::Global;
 
 impl<S: Store + Drop> Session<S> {
     ghost use Rattle.reuse_tree.specs.Asked.{OnlyReads};
-    ghost use Rattle.reuse_session.specs.Answer.{TellsNoFault, RefusedAsRead};
-    ghost use Rattle.reuse_session.specs.Calls.{IsCall};
-    ghost use Rattle.reuse_session.specs.Journal.{State};
-    ghost use Rattle.reuse_session.specs.Machine.{Snapshots};
-    ghost use Rattle.reuse_session.specs.Session.{store_of, is_broken, memory_of, IsKept, StandsOn, StandsAt};
-    ghost use Rattle.reuse_session.specs.Showing.{lists, ShowsIn, ShowsAt};
+    ghost use Rattle.reuse_session.specs.session.Answer.{TellsNoFault, RefusedAsRead};
+    ghost use Rattle.reuse_session.specs.session.Calls.{IsCall};
+    ghost use Rattle.reuse_session.specs.journal.Journal.{State};
+    ghost use Rattle.reuse_session.specs.session.Machine.{Snapshots};
+    ghost use Rattle.reuse_session.specs.session.Session.{store_of, is_broken, memory_of, IsKept, StandsOn, StandsAt};
+    ghost use Rattle.reuse_session.specs.session.Showing.{lists, ShowsIn, ShowsAt};
 
     /// The step of this number, done or undone: its row of the log, and what it changed.
     ///

@@ -1,6 +1,6 @@
 //! Bare git repositories: folders in which version control keeps its data under any name.
 ghost use Rattle.std.specs.Prelude.{◌≡◌};
-ghost use Rattle.reuse_undo.specs.FolderPlaces.{stands};
+ghost use Rattle.reuse_undo.specs.disk.FolderPlaces.{stands};
 
 use crate::disk::fault::FolderFault;
 use crate::disk::handle::OpenFolder;

@@ -1,6 +1,6 @@
 //! Why a call on a folder fails.
 ghost use Rattle.std.specs.Prelude.{◌≡◌};
-ghost use Rattle.reuse_undo.specs.FolderFault.{fault_of_system, fault_of_path, fault_of_store};
+ghost use Rattle.reuse_undo.specs.disk.FolderFault.{fault_of_system, fault_of_path, fault_of_store};
 ghost use Rattle.reuse_undo.specs.declared.disk.fault.FolderFault.TheVariants.{Memory};
 
 use reuse_tree::{PathError, StoreFault};

@@ -1,8 +1,8 @@
 //! Reading a file that is open, by any reader.
 ghost use Rattle.std.specs.Prelude.{◌≢◌, IfErr, IfOk, IfSome};
 ghost use Rattle.std.specs.IoError.{error_kind};
-ghost use Rattle.reuse_undo.specs.Readings.{IsReadingOf, IsWholeOf};
-ghost use Rattle.reuse_undo.specs.Within.{IsWithin};
+ghost use Rattle.reuse_undo.specs.disk.Readings.{IsReadingOf, IsWholeOf};
+ghost use Rattle.reuse_undo.specs.disk.Within.{IsWithin};
 
 use crate::disk::fault::FolderFault;
 use reuse_text::Bytes;

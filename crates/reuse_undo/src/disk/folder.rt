@@ -3,9 +3,9 @@ ghost use Rattle.std.specs.Prelude.{◌≡◌, All, false, IfOk, IsTrue};
 ghost use Rattle.std.specs.List.Sorted.{IsSorted};
 ghost use Rattle.std.specs.Ordering.{nat_cmp};
 ghost use Rattle.std.specs.Cmp.Lexicographic.{slice_cmp};
-ghost use Rattle.reuse_undo.specs.KeptOut.{is_kept_out};
-ghost use Rattle.reuse_undo.specs.Within.{IsWithin};
-ghost use Rattle.reuse_undo.specs.SystemCalls.{SystemStart};
+ghost use Rattle.reuse_undo.specs.disk.KeptOut.{is_kept_out};
+ghost use Rattle.reuse_undo.specs.disk.Within.{IsWithin};
+ghost use Rattle.reuse_undo.specs.disk.SystemCalls.{SystemStart};
 
 mod batch;
 mod writing;

@@ -1,7 +1,7 @@
 //! Whose the journal of a tree is. What a journal lists is carried out: the next call writes files
 //! of a pending step, and `undo` those of a step. So a journal of another user is not opened.
 ghost use Rattle.std.specs.Prelude.{◌≡◌};
-ghost use Rattle.reuse_undo.specs.Owners.{is_of_other, is_journal_of_other};
+ghost use Rattle.reuse_undo.specs.disk.Owners.{is_of_other, is_journal_of_other};
 
 use crate::disk::fault::FolderFault;
 use crate::disk::kept_out::{ABOVE_JOURNAL, HEAD, JOURNAL};

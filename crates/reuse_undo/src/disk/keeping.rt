@@ -2,10 +2,10 @@
 //! anew, unless that is allowed. A call is held before its first put if it has read such a file, so
 //! that it can be looked at, before it begins, whether it would write that file.
 ghost use Rattle.std.specs.Prelude.{◌≡◌, ◌↔◌, IsErr, IfErr, true};
-ghost use Rattle.reuse_undo.specs.KeptOut.{begins_journal};
-ghost use Rattle.reuse_undo.specs.Owners.{cannot_keep, rights_of_mode};
-ghost use Rattle.reuse_undo.specs.OwnerChanges.{is_lost, may_write};
-ghost use Rattle.reuse_undo.specs.Places.{between_slashes};
+ghost use Rattle.reuse_undo.specs.disk.KeptOut.{begins_journal};
+ghost use Rattle.reuse_undo.specs.disk.Owners.{cannot_keep, rights_of_mode};
+ghost use Rattle.reuse_undo.specs.disk.OwnerChanges.{is_lost, may_write};
+ghost use Rattle.reuse_undo.specs.cli.Places.{between_slashes};
 ghost use Rattle.reuse_undo.specs.declared.disk.fault.FolderFault.TheVariants.{Device};
 ghost use Rattle.reuse_undo.specs.declared.disk.fault.Obstacle.TheVariants.{Owned};
 

@@ -4,8 +4,8 @@ ghost use Rattle.std.specs.Char.{is_ascii_digit};
 ghost use Rattle.std.specs.List.{list_all};
 ghost use Rattle.std.specs.Option.{option_map_or};
 ghost use Rattle.std.specs.Str.{str_eq_ignore_ascii_case};
-ghost use Rattle.reuse_undo.specs.Places.{between_slashes};
-ghost use Rattle.reuse_undo.specs.KeptOut.{is_control_folder, is_name_kept_out, begins_journal, is_number, is_new_name, begins_new, is_new_in_reuse, is_new, is_foreign, is_kept_out, is_folder_kept_out};
+ghost use Rattle.reuse_undo.specs.cli.Places.{between_slashes};
+ghost use Rattle.reuse_undo.specs.disk.KeptOut.{is_control_folder, is_name_kept_out, begins_journal, is_number, is_new_name, begins_new, is_new_in_reuse, is_new, is_foreign, is_kept_out, is_folder_kept_out};
 
 /// The folder of the journal.
 pub const JOURNAL: &str = ".reuse/undo";
@@ -133,7 +133,7 @@ fn is_new(path: &str) -> bool
 }
 
 /// Whether somebody else's data stands at the path, of a file or of a folder.
-#[tactic(auto, using(crate::proofs::NameLemmas::foreign_before))]
+#[tactic(auto, using(crate::proofs::lemmas::disk::NameLemmas::foreign_before))]
 fn is_foreign(path: &str, is_folder: bool) -> bool
     ensures { result ≡ is_foreign is_folder (between_slashes path.now) }
 {

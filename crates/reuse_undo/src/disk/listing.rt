@@ -3,7 +3,7 @@ ghost use Rattle.std.specs.Prelude.{◌≡◌, All, false};
 ghost use Rattle.std.specs.List.Sorted.{IsSorted};
 ghost use Rattle.std.specs.Ordering.{nat_cmp};
 ghost use Rattle.std.specs.Cmp.Lexicographic.{slice_cmp};
-ghost use Rattle.reuse_undo.specs.KeptOut.{is_kept_out};
+ghost use Rattle.reuse_undo.specs.disk.KeptOut.{is_kept_out};
 
 use crate::disk::empty_folders::path_in;
 use crate::disk::fault::{FolderFault, Obstacle};

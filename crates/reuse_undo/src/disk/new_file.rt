@@ -2,10 +2,10 @@
 //! before it is given its name.
 ghost use Rattle.std.specs.Prelude.{◌≡◌, ℕ, Bool, List, MatchResult, false, is_ok, IfOk};
 ghost use Rattle.reuse_tree.specs.Parts.{joined};
-ghost use Rattle.reuse_undo.specs.SystemLaws.{IsAlikeBut, IsAlikeButFile, IsAlikeUnless, IsFilled};
-ghost use Rattle.reuse_undo.specs.Asides.{name_in, place_of, key_of, IsNewIn, IsNewPlace};
-ghost use Rattle.reuse_undo.specs.HeldFiles.{file};
-ghost use Rattle.reuse_undo.specs.Written.{StandsAlone, IsWritten, is_kept, is_named};
+ghost use Rattle.reuse_undo.specs.disk.SystemLaws.{IsAlikeBut, IsAlikeButFile, IsAlikeUnless, IsFilled};
+ghost use Rattle.reuse_undo.specs.disk.Asides.{name_in, place_of, key_of, IsNewIn, IsNewPlace};
+ghost use Rattle.reuse_undo.specs.disk.HeldFiles.{file};
+ghost use Rattle.reuse_undo.specs.disk.Written.{StandsAlone, IsWritten, is_kept, is_named};
 
 use crate::disk::fault::FolderFault;
 use crate::disk::handle::OpenFolder;
@@ -261,7 +261,7 @@ impl NewFile {
 
     /// Writes the content and gives the file the name of the target. Where that leads to another
     /// device, as below a mount, the new file is written beside the one that it is to be.
-    #[tactic(auto, using(crate::proofs::SystemLemmas::written_again))]
+    #[tactic(auto, using(crate::proofs::lemmas::disk::SystemLemmas::written_again))]
     pub fn write<S: System>(
         &mut self,
         system: &mut S,

@@ -1,6 +1,6 @@
 //! Names of new files in the journal's folder.
 ghost use Rattle.std.specs.Prelude.{◌≡◌, IsTrue, string_bytes, true};
-ghost use Rattle.reuse_undo.specs.KeptOut.{is_new_name};
+ghost use Rattle.reuse_undo.specs.disk.KeptOut.{is_new_name};
 
 use crate::disk::fault::FolderFault;
 use crate::disk::handle::OpenFolder;

@@ -2,7 +2,7 @@
 //! as a new one, which belongs to the process. It is given to the old one's owner and group, if the
 //! process may do that. These are the rules alone; tests/owners.sh tests that they are followed.
 ghost use Rattle.std.specs.Prelude.{◌≡◌, ◌≢◌, ℕ, Bool, IsTrue, false};
-ghost use Rattle.reuse_undo.specs.Owners.{access, covers, gives_user, gives_group, kept_owner, cannot_keep, owner_of_new, rights_of_mode};
+ghost use Rattle.reuse_undo.specs.disk.Owners.{access, covers, gives_user, gives_group, kept_owner, cannot_keep, owner_of_new, rights_of_mode};
 
 /// The owner and the group of a file or a folder, by number.
 #[derive(Clone, Copy, PartialEq, Eq)]
@@ -81,7 +81,7 @@ impl Process {
 
     /// Whether a file of this owner and these rights can't be written anew without its owner
     /// losing access, or somebody gaining it.
-    #[tactic(auto, using(crate::proofs::OwnerLemmas::same_access, crate::proofs::OwnerLemmas::no_loss))]
+    #[tactic(auto, using(crate::proofs::lemmas::disk::OwnerLemmas::same_access, crate::proofs::lemmas::disk::OwnerLemmas::no_loss))]
     pub fn cannot_keep(&self, owner: Owner, rights: Rights) -> bool
         ensures exact { result ≡ cannot_keep self.now owner rights }
         // Else whoever owns neither the old file nor the new one has the access that he had, and

@@ -1,8 +1,8 @@
 //! Writing the parts of a file.
 ghost use Rattle.std.specs.Prelude.{MatchResult};
 ghost use Rattle.reuse_tree.specs.Parts.{joined};
-ghost use Rattle.reuse_undo.specs.SystemLaws.{IsAlikeButFile, IsAppended};
-ghost use Rattle.reuse_undo.specs.Asides.{key_of};
+ghost use Rattle.reuse_undo.specs.disk.SystemLaws.{IsAlikeButFile, IsAppended};
+ghost use Rattle.reuse_undo.specs.disk.Asides.{key_of};
 
 use crate::disk::system::{Aside, System};
 use reuse_tree::Parts;

@@ -1,7 +1,7 @@
 //! What stands at a path below a root. No link is followed.
 ghost use Rattle.std.specs.Prelude.{◌≡◌};
-ghost use Rattle.reuse_undo.specs.Owners.{rights_of_mode};
-ghost use Rattle.reuse_undo.specs.Names.{IsNameOf};
+ghost use Rattle.reuse_undo.specs.disk.Owners.{rights_of_mode};
+ghost use Rattle.reuse_undo.specs.disk.Names.{IsNameOf};
 
 use crate::disk::fault::FolderFault;
 use crate::disk::owner::{Owner, Rights};
@@ -185,7 +185,7 @@ pub enum Place {
 }
 
 impl Found {
-    ghost use Rattle.reuse_undo.specs.FolderPlaces.{place_of_found, place_below};
+    ghost use Rattle.reuse_undo.specs.disk.FolderPlaces.{place_of_found, place_below};
 
     /// What a path is at which this stands.
     pub fn into_place(self) -> Place

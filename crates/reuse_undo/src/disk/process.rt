@@ -2,7 +2,7 @@
 ghost use Rattle.std.specs.Prelude.{◌≡◌, ◌==◌};
 
 use crate::disk::owner::Process;
-use crate::reading::read_front;
+use crate::disk::reading::read_front;
 use std::alloc::{AllocError, Global};
 use std::fs::{self, File};
 use std::io;

@@ -1,9 +1,9 @@
 //! How many files a run set back that finds a step pending. It writes and removes them first, and
 //! then the head, which is the first file of the journal that it writes.
 ghost use Rattle.std.specs.Prelude.{◌≡◌, if◌then◌else◌, false};
-ghost use Rattle.reuse_undo.specs.KeptOut.{begins_journal};
-ghost use Rattle.reuse_undo.specs.Places.{between_slashes};
-ghost use Rattle.reuse_undo.specs.SetBack.{after_write, set_back_by};
+ghost use Rattle.reuse_undo.specs.disk.KeptOut.{begins_journal};
+ghost use Rattle.reuse_undo.specs.cli.Places.{between_slashes};
+ghost use Rattle.reuse_undo.specs.disk.SetBack.{after_write, set_back_by};
 
 use crate::disk::kept_out::is_in_journal;
 

@@ -5,9 +5,9 @@
 ghost use Rattle.std.specs.Prelude.{◌≡◌, IfErr, IfSome, IsOk, MatchResult, None, OnOk, Some};
 ghost use Rattle.std.specs.BTreeSet.{IsEmpty};
 ghost use Rattle.std.specs.Option.{unwrap_or};
-ghost use Rattle.reuse_undo.specs.SystemLaws.{IsAlikeButFile};
-ghost use Rattle.reuse_undo.specs.Asides.{key_of};
-ghost use Rattle.reuse_undo.specs.Written.{IsSyncedIf, is_kept};
+ghost use Rattle.reuse_undo.specs.disk.SystemLaws.{IsAlikeButFile};
+ghost use Rattle.reuse_undo.specs.disk.Asides.{key_of};
+ghost use Rattle.reuse_undo.specs.disk.Written.{IsSyncedIf, is_kept};
 ghost use Rattle.reuse_undo.specs.declared.disk.fault.FolderFault.TheVariants.{Device};
 ghost use Rattle.reuse_undo.specs.declared.disk.fault.Obstacle.{Obstacle};
 ghost use Rattle.reuse_undo.specs.declared.disk.fault.Obstacle.TheVariants.{System};

@@ -1,7 +1,7 @@
 //! The calls of the system that change regular files, and what they make of these. What a call says
 //! holds as long as nobody else writes in the folders.
 ghost use Rattle.std.specs.Prelude.{◌≡◌, MatchResult};
-ghost use Rattle.reuse_undo.specs.HeldFiles.{Held};
+ghost use Rattle.reuse_undo.specs.disk.HeldFiles.{Held};
 
 mod host;
 mod make_file;
@@ -52,8 +52,8 @@ impl Aside {
 
 /// The calls of the system on files.
 pub trait System {
-    ghost use Rattle.reuse_undo.specs.SystemLaws.{IsAlikeBut, IsAlikeButFile, IsMade, IsAppended, IsSynced, IsRenamed, IsRemoved, MayBeRenamed};
-    ghost use Rattle.reuse_undo.specs.Asides.{name_in, place_of, key_of};
+    ghost use Rattle.reuse_undo.specs.disk.SystemLaws.{IsAlikeBut, IsAlikeButFile, IsMade, IsAppended, IsSynced, IsRenamed, IsRemoved, MayBeRenamed};
+    ghost use Rattle.reuse_undo.specs.disk.Asides.{name_in, place_of, key_of};
 
     /// The regular file that each name in a folder leads to.
     ghost holds: { Self → Held };

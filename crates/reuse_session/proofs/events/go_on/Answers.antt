@@ -1,17 +1,17 @@
 use Rattle.std.proofs.Common.{◌<◌, IfErr, Some, arith, ap, sym, subst, ◌∙◌}
 use Rattle.std.proofs.lemmas.Bool.{false≢true}
 use Rattle.reuse_tree.specs.Files.{Files}
-use Rattle.reuse_session.specs.Answer.{HasCause}
-use Rattle.reuse_session.specs.Calls.{folder_of}
-use Rattle.reuse_session.specs.JournalFiles.{IsFree}
-use Rattle.reuse_session.specs.Machine.{Snapshots}
-use Rattle.reuse_session.specs.Driven.{IsSafelyAt}
-use Rattle.reuse_session.specs.Stops.{Point, open_at, Continues, AreLeft}
+use Rattle.reuse_session.specs.session.Answer.{HasCause}
+use Rattle.reuse_session.specs.session.Calls.{folder_of}
+use Rattle.reuse_session.specs.journal.JournalFiles.{IsFree}
+use Rattle.reuse_session.specs.session.Machine.{Snapshots}
+use Rattle.reuse_session.specs.session.Driven.{IsSafelyAt}
+use Rattle.reuse_session.specs.session.Stops.{Point, open_at, Continues, AreLeft}
 use Rattle.reuse_session.specs.declared.events.Driven.TheVariants.{Closed}
 use Rattle.reuse_tree.specs.Tree.{undo_folder_of}
-use Rattle.reuse_session.proofs.Driving.{goes_on, closes}
-use Rattle.reuse_session.proofs.SafeAnswers.{follows, stands, stops, goes_safely}
-use Rattle.reuse_session.proofs.SafeDriving.{goes_on_safely, closes_safely}
+use Rattle.reuse_session.proofs.lemmas.session.Driving.{goes_on, closes}
+use Rattle.reuse_session.proofs.lemmas.session.SafeAnswers.{follows, stands, stops, goes_safely}
+use Rattle.reuse_session.proofs.lemmas.session.SafeDriving.{goes_on_safely, closes_safely}
 use Rattle.reuse_session.proofs.events.go_on.Goals as goal
 
 pub returns-then-is_interrupted-clause-continues : goal.returns-then-is_interrupted-clause-continues

@@ -1,4 +1,4 @@
-use Rattle.reuse_session.proofs.AnnotationFates.{skipped_told, told_skipped_all, left_stays}
+use Rattle.reuse_session.proofs.lemmas.plan.AnnotationFates.{skipped_told, told_skipped_all, left_stays}
 use Rattle.reuse_session.proofs.laws.annotations_follow_fates.Goals as goal
 
 pub returns : goal.returns

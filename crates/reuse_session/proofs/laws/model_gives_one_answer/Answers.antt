@@ -1,7 +1,7 @@
 use Rattle.std.proofs.Common.{◌≡◌, ◌∙◌, Result, ap, sym}
-use Rattle.reuse_session.specs.Machine.{Snapshots}
-use Rattle.reuse_session.specs.Model.{Gives, IsByTrees}
-use Rattle.reuse_session.specs.Requests.{replied}
+use Rattle.reuse_session.specs.session.Machine.{Snapshots}
+use Rattle.reuse_session.specs.session.Model.{Gives, IsByTrees}
+use Rattle.reuse_session.specs.session.Requests.{replied}
 use Rattle.reuse_session.specs.declared.reply.Refusal.{Refusal}
 use Rattle.reuse_session.specs.declared.reply.Reply.{Reply}
 use Rattle.reuse_session.specs.declared.reply.Reply.TheVariants as replies

@@ -1,5 +1,5 @@
-use Rattle.reuse_session.proofs.FateLaws.{refused_by_first, accepted_without}
-use Rattle.reuse_session.proofs.ChangedPaths.{changes_where_trees_differ}
+use Rattle.reuse_session.proofs.lemmas.plan.FateLaws.{refused_by_first, accepted_without}
+use Rattle.reuse_session.proofs.lemmas.plan.ChangedPaths.{changes_where_trees_differ}
 use Rattle.reuse_session.proofs.laws.outcome_follows_fates.Goals as goal
 
 pub returns : goal.returns

@@ -1,5 +1,5 @@
-use Rattle.reuse_session.proofs.AmendedPlaces.{amended_exactly, amended_given, amended_ascend}
-use Rattle.reuse_session.proofs.Choosing.{worked_exactly, given_exactly, worked_ascend, all_chosen}
+use Rattle.reuse_session.proofs.lemmas.plan.AmendedPlaces.{amended_exactly, amended_given, amended_ascend}
+use Rattle.reuse_session.proofs.lemmas.plan.Choosing.{worked_exactly, given_exactly, worked_ascend, all_chosen}
 use Rattle.reuse_session.proofs.laws.worked_paths_are_asked_for.Goals as goal
 
 pub returns : goal.returns

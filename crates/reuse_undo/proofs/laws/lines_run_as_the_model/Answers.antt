@@ -1,4 +1,4 @@
-use Rattle.reuse_undo.proofs.AfterStopLemmas.{stopped_in_turn}
+use Rattle.reuse_undo.proofs.lemmas.run.AfterStopLemmas.{stopped_in_turn}
 use Rattle.reuse_undo.proofs.laws.lines_run_as_the_model.Goals as goal
 
 pub returns : goal.returns

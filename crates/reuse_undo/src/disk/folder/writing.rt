@@ -1,7 +1,7 @@
 //! Putting and removing a file. What a put makes of the names is stated by what each call of the
 //! system makes of them, whatever was there.
 ghost use Rattle.std.specs.Prelude.{◌≡◌, is_ok, IsErr, IsTrue};
-ghost use Rattle.reuse_undo.specs.KeptOut.{is_kept_out};
+ghost use Rattle.reuse_undo.specs.disk.KeptOut.{is_kept_out};
 
 use super::RootFolder;
 use crate::disk::empty_folders::remove_folders;
@@ -18,8 +18,8 @@ use std::fs::File;
 use std::rt::Files;
 
 impl<R: Files<File = File> + AllocGlobal + Clone + Drop> RootFolder<R> {
-    ghost use Rattle.reuse_undo.specs.FolderWrites.{IsCleared, IsPutAt, IsRemovedAt};
-    ghost use Rattle.reuse_undo.specs.Written.{is_kept};
+    ghost use Rattle.reuse_undo.specs.disk.FolderWrites.{IsCleared, IsPutAt, IsRemovedAt};
+    ghost use Rattle.reuse_undo.specs.disk.Written.{is_kept};
     ghost use Rattle.reuse_tree.specs.Parts.{joined};
 
     /// What was seen at the path, if it was the last one that was read. What was seen is forgotten.

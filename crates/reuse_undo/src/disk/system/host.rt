@@ -1,7 +1,7 @@
 //! The system itself. Each method makes the one call that it notes: that it does is not proved, and
 //! has to be read here.
 ghost use Rattle.std.specs.Prelude.{◌≡◌};
-ghost use Rattle.reuse_undo.specs.SystemCall.{made_of};
+ghost use Rattle.reuse_undo.specs.disk.SystemCall.{made_of};
 
 use crate::disk::handle::OpenFolder;
 use crate::disk::system::make_file::make_file;
@@ -24,7 +24,7 @@ pub struct HostSystem<R: Files<File = File> + AllocGlobal + Drop> {
 }
 
 impl<R: Files<File = File> + AllocGlobal + Drop> HostSystem<R> {
-    ghost use Rattle.reuse_undo.specs.SystemCalls.{SystemStart, held_at_start};
+    ghost use Rattle.reuse_undo.specs.disk.SystemCalls.{SystemStart, held_at_start};
 
     /// The system, of which nothing is asked yet.
     pub fn new(rt: R) -> HostSystem<R>
@@ -69,7 +69,7 @@ fn remove_in<R: Files<File = File> + AllocGlobal>(
 }
 
 impl<R: Files<File = File> + AllocGlobal + Drop> System for HostSystem<R> {
-    ghost use Rattle.reuse_undo.specs.SystemCalls.{held_after};
+    ghost use Rattle.reuse_undo.specs.disk.SystemCalls.{held_after};
 
     ghost holds = { λ system. held_after system.noted.files system.noted.fates system.noted.calls };
 

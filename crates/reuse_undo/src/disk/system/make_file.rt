@@ -1,6 +1,6 @@
 //! Making a file.
 ghost use Rattle.std.specs.Prelude.{◌≡◌, IfOk};
-ghost use Rattle.reuse_undo.specs.Asides.{name_in, place_of};
+ghost use Rattle.reuse_undo.specs.disk.Asides.{name_in, place_of};
 
 use crate::disk::handle::OpenFolder;
 use crate::disk::system::Aside;

@@ -2,8 +2,8 @@
 ghost use Rattle.std.specs.Prelude.{◌≡◌, ℕ, Bool, List, [], ◌∷◌};
 ghost use Rattle.std.specs.Borrow.{ftrue};
 ghost use Rattle.std.specs.Coded.{coded_list, coded_ℕ, coded_bool, coded×};
-ghost use Rattle.reuse_undo.specs.HeldFiles.{Place};
-ghost use Rattle.reuse_undo.specs.SystemCall.{SystemCall};
+ghost use Rattle.reuse_undo.specs.disk.HeldFiles.{Place};
+ghost use Rattle.reuse_undo.specs.disk.SystemCall.{SystemCall};
 
 use crate::disk::place::Identity;
 use std::marker::{Model, PhantomData};
@@ -39,7 +39,7 @@ impl Model for SystemRecord {
 }
 
 impl SystemRecord {
-    ghost use Rattle.reuse_undo.specs.SystemCalls.{SystemStart, call_of};
+    ghost use Rattle.reuse_undo.specs.disk.SystemCalls.{SystemStart, call_of};
 
     /// A record of no calls, with any files at the start and any fates of the calls to come.
     pub fn new() -> SystemRecord

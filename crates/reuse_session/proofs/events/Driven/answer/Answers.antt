@@ -1,13 +1,13 @@
 use Rattle.std.proofs.Common.{◌≡◌, ◌<◌, IfErr, arith, ap, sym, subst}
 use Rattle.reuse_tree.specs.Files.{Files}
-use Rattle.reuse_session.specs.Answer.{HasCause}
-use Rattle.reuse_session.specs.JournalFiles.{IsFree}
-use Rattle.reuse_session.specs.Driven.{store_in}
-use Rattle.reuse_session.specs.Stops.{Point, AnswersEvent, AreLeft, MayBeFound}
+use Rattle.reuse_session.specs.session.Answer.{HasCause}
+use Rattle.reuse_session.specs.journal.JournalFiles.{IsFree}
+use Rattle.reuse_session.specs.session.Driven.{store_in}
+use Rattle.reuse_session.specs.session.Stops.{Point, AnswersEvent, AreLeft, MayBeFound}
 use Rattle.reuse_tree.specs.Tree.{undo_folder_of}
 use Rattle.reuse_session.specs.declared.events.Event.{Event}
-use Rattle.reuse_session.proofs.Driving.{left_at, answers_reopen}
-use Rattle.reuse_session.proofs.SafeDriving.{found_in}
+use Rattle.reuse_session.proofs.lemmas.session.Driving.{left_at, answers_reopen}
+use Rattle.reuse_session.proofs.lemmas.session.SafeDriving.{found_in}
 use Rattle.reuse_session.proofs.events.Driven.answer.Goals as goal
 
 pub returns-in-Reopen-clause-answers : goal.returns-in-Reopen-clause-answers

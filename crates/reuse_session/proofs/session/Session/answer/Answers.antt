@@ -1,13 +1,13 @@
 use Rattle.std.proofs.Common.{refl, sym, subst}
-use Rattle.reuse_session.specs.Requests.{IsAnswered}
+use Rattle.reuse_session.specs.session.Requests.{IsAnswered}
 use Rattle.reuse_session.specs.declared.reply.Refusal.{Refusal}
 use Rattle.reuse_session.specs.declared.reply.Reply.{Reply}
 use Rattle.reuse_session.specs.declared.reply.Reply.TheVariants as replies
 use Rattle.reuse_session.specs.declared.request.Request.{Request}
 use Rattle.reuse_session.specs.declared.request.Request.TheVariants as requests
 use Rattle.std.specs.Prelude.{Result}
-use Rattle.reuse_session.proofs.Answering.{answered_look, fails_early, preview_fails, show_fails, log_fails, log_leads}
-use Rattle.reuse_session.proofs.Peeking.{log_peeks, show_peeks}
+use Rattle.reuse_session.proofs.lemmas.session.Answering.{answered_look, fails_early, preview_fails, show_fails, log_fails, log_leads}
+use Rattle.reuse_session.proofs.lemmas.session.Peeking.{log_peeks, show_peeks}
 use Rattle.reuse_session.proofs.session.Session.answer.Goals as goal
 
 pub returns-in-Make : goal.returns-in-Make

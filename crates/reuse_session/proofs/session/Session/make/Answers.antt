@@ -3,23 +3,23 @@ use Rattle.reuse_tree.specs.Files.{Clashes}
 use Rattle.reuse_tree.specs.Tree.{undo_folder_of}
 use Rattle.reuse_tree.specs.declared.way.Way.TheVariants as way
 use Rattle.reuse_tree.specs.declared.journal.head.PendingWay.TheVariants as ways
-use Rattle.reuse_session.specs.Answer.{HasClash, IsNoClash}
-use Rattle.reuse_session.specs.Calls.{files_of}
-use Rattle.reuse_session.specs.JournalFiles.{head_path, entry_path}
-use Rattle.reuse_session.specs.Losses.{IsNextBy, Survives}
-use Rattle.reuse_session.specs.Requests.{replied, IsAnswered}
-use Rattle.reuse_session.specs.RevertCalls.{IsAfterRevert}
-use Rattle.reuse_session.specs.Session.{store_of, memory_of, IsRun, IsSameButTwo, StandsOn}
+use Rattle.reuse_session.specs.session.Answer.{HasClash, IsNoClash}
+use Rattle.reuse_session.specs.session.Calls.{files_of}
+use Rattle.reuse_session.specs.journal.JournalFiles.{head_path, entry_path}
+use Rattle.reuse_session.specs.journal.Losses.{IsNextBy, Survives}
+use Rattle.reuse_session.specs.session.Requests.{replied, IsAnswered}
+use Rattle.reuse_session.specs.session.RevertCalls.{IsAfterRevert}
+use Rattle.reuse_session.specs.session.Session.{store_of, memory_of, IsRun, IsSameButTwo, StandsOn}
 use Rattle.reuse_session.specs.declared.reply.Refusal.{Refusal}
 use Rattle.reuse_session.specs.declared.reply.Reply.{Reply}
 use Rattle.reuse_session.specs.declared.reply.Reply.TheVariants as replies
 use Rattle.reuse_session.specs.declared.request.Call.{Call}
 use Rattle.reuse_session.specs.declared.request.Call.TheVariants as calls
 use Rattle.reuse_session.specs.declared.request.Request.TheVariants as requests
-use Rattle.reuse_session.proofs.Answering.{broken_replied, call_replied, err_replied, told_replied, make_fails, run_is_step, travel_is_step, revert_is_step, revert_stands, revert_doubt, revert_clash, revert_folder, revert_free, travel_doubt}
-use Rattle.reuse_session.proofs.Driving.{stands_early}
-use Rattle.reuse_session.proofs.OnlyReading.{early_files}
-use Rattle.reuse_session.proofs.StepAnswers.{back_no_clash, run_no_clash}
+use Rattle.reuse_session.proofs.lemmas.session.Answering.{broken_replied, call_replied, err_replied, told_replied, make_fails, run_is_step, travel_is_step, revert_is_step, revert_stands, revert_doubt, revert_clash, revert_folder, revert_free, travel_doubt}
+use Rattle.reuse_session.proofs.lemmas.session.Driving.{stands_early}
+use Rattle.reuse_session.proofs.lemmas.session.OnlyReading.{early_files}
+use Rattle.reuse_session.proofs.lemmas.journal.StepAnswers.{back_no_clash, run_no_clash}
 use Rattle.reuse_session.proofs.session.Session.make.Goals as goal
 
 pub returns-in-Run : goal.returns-in-Run

@@ -1,6 +1,6 @@
 use Rattle.std.proofs.Common.{◌≡◌, ◌∙◌}
-use Rattle.reuse_session.specs.Fates.{fates_of}
-use Rattle.reuse_session.proofs.Previewing.{alone_err, alone_looks, alone_ok, alone_where, told_alone}
+use Rattle.reuse_session.specs.session.Fates.{fates_of}
+use Rattle.reuse_session.proofs.lemmas.session.Previewing.{alone_err, alone_looks, alone_ok, alone_where, told_alone}
 use Rattle.reuse_session.proofs.session.Session.preview.Goals as goal
 
 pub returns-clause-broken : goal.returns-clause-broken

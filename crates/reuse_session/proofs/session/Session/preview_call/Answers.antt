@@ -1,7 +1,7 @@
 use Rattle.std.proofs.Common.{sym, subst}
-use Rattle.reuse_session.specs.Requests.{Previews}
+use Rattle.reuse_session.specs.session.Requests.{Previews}
 use Rattle.reuse_session.specs.declared.request.Call.{Call}
-use Rattle.reuse_session.proofs.Peeking.{preview_peeks}
+use Rattle.reuse_session.proofs.lemmas.session.Peeking.{preview_peeks}
 use Rattle.reuse_session.proofs.session.Session.preview_call.Goals as goal
 
 pub returns-in-Run-clause-exact : goal.returns-in-Run-clause-exact

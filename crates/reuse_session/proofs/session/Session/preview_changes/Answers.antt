@@ -1,12 +1,12 @@
 use Rattle.std.proofs.Common.{◌≡◌, ◌∙◌, true, false, None, Err, IfOk, refl, sym, subst}
-use Rattle.reuse_session.specs.Fates.{fates_of, first_refusal}
-use Rattle.reuse_session.specs.Outcome.{edits_of, outcome_of}
-use Rattle.reuse_session.specs.Plan.{IsPlan, Records}
+use Rattle.reuse_session.specs.session.Fates.{fates_of, first_refusal}
+use Rattle.reuse_session.specs.plan.Outcome.{edits_of, outcome_of}
+use Rattle.reuse_session.specs.plan.Plan.{IsPlan, Records}
 use Rattle.reuse_session.specs.declared.fate.Previewed.{Previewed}
 use Rattle.reuse_session.specs.declared.reply.Refusal.TheVariants.{JournalFull}
-use Rattle.reuse_session.proofs.Following.{is_full_alike}
-use Rattle.reuse_session.proofs.Previewing.{alone_fates, alone_refusal, alone_told, run_foretold, run_foretold_on}
-use Rattle.reuse_session.proofs.Running.{full_alike}
+use Rattle.reuse_session.proofs.lemmas.session.Following.{is_full_alike}
+use Rattle.reuse_session.proofs.lemmas.session.Previewing.{alone_fates, alone_refusal, alone_told, run_foretold, run_foretold_on}
+use Rattle.reuse_session.proofs.lemmas.session.Running.{full_alike}
 use Rattle.reuse_session.proofs.session.Session.preview_changes.Goals as goal
 
 pub returns-then-is_full-clause-machine : goal.returns-then-is_full-clause-machine

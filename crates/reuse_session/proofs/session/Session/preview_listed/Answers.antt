@@ -1,19 +1,19 @@
 use Rattle.std.proofs.Common.{◌≡◌, ◌∙◌, List, Some, Ok, Err, ap, refl, sym, subst}
 use Rattle.reuse_tree.specs.Files.{tree_of}
 use Rattle.reuse_tree.specs.declared.change.Change.{Change}
-use Rattle.reuse_session.specs.Answer.{TellsNoFault}
+use Rattle.reuse_session.specs.session.Answer.{TellsNoFault}
 use Rattle.reuse_tree.specs.Entry.{IsEntry}
-use Rattle.reuse_session.specs.History.{remember_moved}
-use Rattle.reuse_session.specs.Journal.{Recorded, changes_ahead}
-use Rattle.reuse_session.specs.JournalFiles.{entry_in}
-use Rattle.reuse_session.specs.Previews.{Foresees}
-use Rattle.reuse_session.specs.Session.{memory_of}
+use Rattle.reuse_session.specs.journal.History.{remember_moved}
+use Rattle.reuse_session.specs.journal.Journal.{Recorded, changes_ahead}
+use Rattle.reuse_session.specs.journal.JournalFiles.{entry_in}
+use Rattle.reuse_session.specs.session.Previews.{Foresees}
+use Rattle.reuse_session.specs.session.Session.{memory_of}
 use Rattle.reuse_session.specs.declared.fate.Previewed.{Previewed}
 use Rattle.reuse_session.specs.declared.reply.Reply.{Reply}
-use Rattle.reuse_session.proofs.OnlyReading.{is_refused}
-use Rattle.reuse_session.proofs.Previewing.{any_told, travel_foretold}
-use Rattle.reuse_session.proofs.StepAnswers.{read_told}
-use Rattle.reuse_session.proofs.Travelling.{next_of, next_says, next_changes}
+use Rattle.reuse_session.proofs.lemmas.session.OnlyReading.{is_refused}
+use Rattle.reuse_session.proofs.lemmas.session.Previewing.{any_told, travel_foretold}
+use Rattle.reuse_session.proofs.lemmas.journal.StepAnswers.{read_told}
+use Rattle.reuse_session.proofs.lemmas.session.Travelling.{next_of, next_says, next_changes}
 use Rattle.reuse_session.proofs.session.Session.preview_listed.Goals as goal
 
 -- the entry can't be read

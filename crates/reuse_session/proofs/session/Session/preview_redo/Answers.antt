@@ -1,7 +1,7 @@
 use Rattle.std.proofs.Common.{◌∙◌, sym, subst}
 use Rattle.reuse_tree.specs.declared.way.Way.TheVariants as go
-use Rattle.reuse_session.specs.Previews.{Foresees}
-use Rattle.reuse_session.proofs.Previewing.{alone_err, alone_looks, alone_where, told_alone}
+use Rattle.reuse_session.specs.session.Previews.{Foresees}
+use Rattle.reuse_session.proofs.lemmas.session.Previewing.{alone_err, alone_looks, alone_where, told_alone}
 use Rattle.reuse_session.proofs.session.Session.preview_redo.Goals as goal
 
 pub returns-clause-broken : goal.returns-clause-broken

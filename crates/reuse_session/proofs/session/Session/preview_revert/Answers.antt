@@ -1,11 +1,11 @@
 use Rattle.std.proofs.Common.{Err, List, inl, inr, ap, sym, subst, ◌∙◌}
-use Rattle.reuse_session.specs.Answer.{TellsNoFault}
-use Rattle.reuse_session.specs.Previews.{run_fates_on}
-use Rattle.reuse_session.specs.Requests.{Peeks}
-use Rattle.reuse_session.specs.RevertCalls.{GivesRevert}
+use Rattle.reuse_session.specs.session.Answer.{TellsNoFault}
+use Rattle.reuse_session.specs.session.Previews.{run_fates_on}
+use Rattle.reuse_session.specs.session.Requests.{Peeks}
+use Rattle.reuse_session.specs.session.RevertCalls.{GivesRevert}
 use Rattle.reuse_session.specs.declared.command.Command.{Command}
 use Rattle.reuse_session.specs.declared.fate.Fate.{Fate}
-use Rattle.reuse_session.proofs.Peeking.{peeks_on, peeks_err, preview_peeks, show_peeks, still_stands, told_again}
+use Rattle.reuse_session.proofs.lemmas.session.Peeking.{peeks_on, peeks_err, preview_peeks, show_peeks, still_stands, told_again}
 use Rattle.reuse_session.proofs.session.Session.preview_revert.Goals as goal
 
 pub returns-in-Ok-clause-exact : goal.returns-in-Ok-clause-exact

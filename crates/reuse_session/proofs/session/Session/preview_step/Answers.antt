@@ -1,9 +1,9 @@
 use Rattle.std.proofs.Common.{Err, ap, sym, subst}
-use Rattle.reuse_session.specs.Previews.{fates_alone, Foresees}
-use Rattle.reuse_session.specs.Session.{memory_of}
-use Rattle.reuse_session.proofs.MemoryLemmas.{none_ahead}
-use Rattle.reuse_session.proofs.Previewing.{step_foretold}
-use Rattle.reuse_session.proofs.Results.{none_unless_some}
+use Rattle.reuse_session.specs.session.Previews.{fates_alone, Foresees}
+use Rattle.reuse_session.specs.session.Session.{memory_of}
+use Rattle.reuse_session.proofs.lemmas.journal.MemoryLemmas.{none_ahead}
+use Rattle.reuse_session.proofs.lemmas.session.Previewing.{step_foretold}
+use Rattle.reuse_session.proofs.lemmas.Results.{none_unless_some}
 use Rattle.reuse_session.proofs.session.Session.preview_step.Goals as goal
 
 pub returns-in_default-clause-exact : goal.returns-in_default-clause-exact

@@ -1,17 +1,17 @@
 use Rattle.std.proofs.Common.{◌≡◌, Err, IfErr, refl, sym, ap, ap₂, subst, ◌∙◌}
-use Rattle.reuse_session.specs.Answer.{IsNoClash, TellsNoFault}
+use Rattle.reuse_session.specs.session.Answer.{IsNoClash, TellsNoFault}
 use Rattle.reuse_tree.specs.Entry.{paths_of}
-use Rattle.reuse_session.specs.RevertCalls.{IsAfterRevert, Reverts, RevertFollows, as_run}
-use Rattle.reuse_session.specs.Losses.{Survives}
-use Rattle.reuse_session.specs.Session.{store_of, IsRun}
+use Rattle.reuse_session.specs.session.RevertCalls.{IsAfterRevert, Reverts, RevertFollows, as_run}
+use Rattle.reuse_session.specs.journal.Losses.{Survives}
+use Rattle.reuse_session.specs.session.Session.{store_of, IsRun}
 use Rattle.reuse_session.specs.declared.command.Command.{Command}
 use Rattle.reuse_session.specs.declared.command.Command.TheVariants.{Revert}
 use Rattle.reuse_session.specs.declared.reply.Refusal.TheVariants.{JournalFull}
-use Rattle.reuse_session.proofs.OnlyReading.{is_refused}
-use Rattle.reuse_session.proofs.Recording.{after_reading}
-use Rattle.reuse_session.proofs.RevertAnswers.{told_run, reverts_step, revert_follows, absent_step, absent_follows, no_step_back, run_leaves, full_revert, unclashed_back}
-use Rattle.reuse_session.proofs.StepDoubt.{reads_are_safe, survives_weaker}
-use Rattle.reuse_session.proofs.StepAnswers.{still_stands}
+use Rattle.reuse_session.proofs.lemmas.session.OnlyReading.{is_refused}
+use Rattle.reuse_session.proofs.lemmas.session.Recording.{after_reading}
+use Rattle.reuse_session.proofs.lemmas.session.RevertAnswers.{told_run, reverts_step, revert_follows, absent_step, absent_follows, no_step_back, run_leaves, full_revert, unclashed_back}
+use Rattle.reuse_session.proofs.lemmas.journal.StepDoubt.{reads_are_safe, survives_weaker}
+use Rattle.reuse_session.proofs.lemmas.journal.StepAnswers.{still_stands}
 use Rattle.reuse_session.proofs.session.Session.revert.Goals as goal
 
 -- there is nothing to be taken back

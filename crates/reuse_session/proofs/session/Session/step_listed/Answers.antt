@@ -1,24 +1,24 @@
 use Rattle.std.proofs.Common.{◌≡◌, Err, ap, sym, subst, ◌∙◌}
 use Rattle.std.specs.List.{All}
 use Rattle.reuse_tree.specs.Files.{tree_of}
-use Rattle.reuse_session.specs.Answer.{TellsNoFault}
-use Rattle.reuse_session.specs.Calls.{LeavesTravel}
+use Rattle.reuse_session.specs.session.Answer.{TellsNoFault}
+use Rattle.reuse_session.specs.session.Calls.{LeavesTravel}
 use Rattle.reuse_tree.specs.Entry.{IsEntry, CanBeMade, IsFirstStuck}
 use Rattle.reuse_tree.specs.Head.{way_of, listed_way}
-use Rattle.reuse_session.specs.Journal.{Recorded, State, Travels, ahead, reply_of}
-use Rattle.reuse_session.specs.JournalFiles.{entry_in, IsKeptIn}
-use Rattle.reuse_session.specs.Losses.{AreSafeOn, IsNextBy, Survives}
-use Rattle.reuse_session.specs.Standing.{IsStep}
-use Rattle.reuse_session.specs.Session.{store_of, StandsOn}
+use Rattle.reuse_session.specs.journal.Journal.{Recorded, State, Travels, ahead, reply_of}
+use Rattle.reuse_session.specs.journal.JournalFiles.{entry_in, IsKeptIn}
+use Rattle.reuse_session.specs.journal.Losses.{AreSafeOn, IsNextBy, Survives}
+use Rattle.reuse_session.specs.journal.Standing.{IsStep}
+use Rattle.reuse_session.specs.session.Session.{store_of, StandsOn}
 use Rattle.reuse_tree.specs.declared.journal.head.Pending.{Pending}
-use Rattle.reuse_session.proofs.Following.{names_path}
+use Rattle.reuse_session.proofs.lemmas.session.Following.{names_path}
 use Rattle.reuse_tree.specs.Asked.{OnlyReads, Leaves}
 use Rattle.reuse_tree.specs.Tree.{undo_folder_of}
 use Rattle.reuse_tree.proofs.AskedLemmas.{reads_more}
-use Rattle.reuse_session.proofs.OnlyReading.{is_refused, read_early, tested_early}
-use Rattle.reuse_session.proofs.StepDoubt.{kept_next, reads_are_safe, safe_entries, survives_early, survives_stop, survives_travel}
-use Rattle.reuse_session.proofs.StepAnswers.{still_stands, read_told, failed_untold}
-use Rattle.reuse_session.proofs.Travelling.{Prepared, same_way, next_of, next_says, next_changes, stuck, ready, step_leaves, stop_leaves}
+use Rattle.reuse_session.proofs.lemmas.session.OnlyReading.{is_refused, read_early, tested_early}
+use Rattle.reuse_session.proofs.lemmas.journal.StepDoubt.{kept_next, reads_are_safe, safe_entries, survives_early, survives_stop, survives_travel}
+use Rattle.reuse_session.proofs.lemmas.journal.StepAnswers.{still_stands, read_told, failed_untold}
+use Rattle.reuse_session.proofs.lemmas.session.Travelling.{Prepared, same_way, next_of, next_says, next_changes, stuck, ready, step_leaves, stop_leaves}
 use Rattle.reuse_session.proofs.session.Session.step_listed.Given.{Over}
 use Rattle.reuse_session.proofs.session.Session.step_listed.Goals.{After-of_listed}
 use Rattle.reuse_session.proofs.session.Session.step_listed.Goals as goal

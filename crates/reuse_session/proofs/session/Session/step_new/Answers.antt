@@ -2,18 +2,18 @@ use Rattle.std.proofs.Common.{◌≡◌, ◌+◌, Ok, Err, length, arith, ap, sy
 use Rattle.reuse_tree.specs.Asked.{Leaves, IsSynced}
 use Rattle.reuse_tree.specs.Tree.{undo_folder_of}
 use Rattle.reuse_tree.specs.declared.journal.head.PendingWay.TheVariants as ways
-use Rattle.reuse_session.specs.Calls.{LeavesRun}
-use Rattle.reuse_session.specs.Journal.{State}
-use Rattle.reuse_session.specs.JournalFiles.{IsKeptIn}
-use Rattle.reuse_session.specs.Losses.{AreSafeOn, Survives}
+use Rattle.reuse_session.specs.session.Calls.{LeavesRun}
+use Rattle.reuse_session.specs.journal.Journal.{State}
+use Rattle.reuse_session.specs.journal.JournalFiles.{IsKeptIn}
+use Rattle.reuse_session.specs.journal.Losses.{AreSafeOn, Survives}
 use Rattle.reuse_tree.specs.Entry.{paths_of}
-use Rattle.reuse_session.specs.Session.{store_of, IsRun, Runs, StandsOn}
+use Rattle.reuse_session.specs.session.Session.{store_of, IsRun, Runs, StandsOn}
 use Rattle.reuse_session.specs.declared.reply.Reply.TheVariants.{Changed}
-use Rattle.reuse_session.proofs.OnlyReading.{is_refused}
-use Rattle.reuse_session.proofs.Recording.{EntryPut, EntryListed, Recording, put_early, can_go, unput_leaves, recording, record_leaves, halt_leaves}
-use Rattle.reuse_session.proofs.RunDoubt.{sure_tree, has_entry, put_is_safe}
-use Rattle.reuse_session.proofs.StepDoubt.{survives_early, survives_stop, synced_is_safe}
-use Rattle.reuse_session.proofs.StepAnswers.{failed_untold, put_fails}
+use Rattle.reuse_session.proofs.lemmas.session.OnlyReading.{is_refused}
+use Rattle.reuse_session.proofs.lemmas.session.Recording.{EntryPut, EntryListed, Recording, put_early, can_go, unput_leaves, recording, record_leaves, halt_leaves}
+use Rattle.reuse_session.proofs.lemmas.session.RunDoubt.{sure_tree, has_entry, put_is_safe}
+use Rattle.reuse_session.proofs.lemmas.journal.StepDoubt.{survives_early, survives_stop, synced_is_safe}
+use Rattle.reuse_session.proofs.lemmas.journal.StepAnswers.{failed_untold, put_fails}
 use Rattle.reuse_session.proofs.session.Session.step_new.Given.{Over}
 use Rattle.reuse_session.proofs.session.Session.step_new.Goals.{After-put_entry, After-step}
 use Rattle.reuse_session.proofs.session.Session.step_new.Goals as goal

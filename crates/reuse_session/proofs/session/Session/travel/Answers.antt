@@ -1,8 +1,8 @@
 use Rattle.std.proofs.Common.{Err, sym, subst}
-use Rattle.reuse_session.specs.Journal.{State, Travels, ahead}
-use Rattle.reuse_session.specs.Session.{StandsOn}
-use Rattle.reuse_session.proofs.Results.{none_unless_some}
-use Rattle.reuse_session.proofs.Travelling.{none_next}
+use Rattle.reuse_session.specs.journal.Journal.{State, Travels, ahead}
+use Rattle.reuse_session.specs.session.Session.{StandsOn}
+use Rattle.reuse_session.proofs.lemmas.Results.{none_unless_some}
+use Rattle.reuse_session.proofs.lemmas.session.Travelling.{none_next}
 use Rattle.reuse_session.proofs.session.Session.travel.Goals as goal
 
 pub returns-in_default-clause-exact : goal.returns-in_default-clause-exact

@@ -3,10 +3,10 @@ use Rattle.std.proofs.lemmas.Result.{err_from_is_err_and}
 use Rattle.reuse_tree.specs.Asked.{Leaves}
 use Rattle.reuse_tree.specs.Files.{tree_of}
 use Rattle.reuse_tree.specs.Tree.{Sets}
-use Rattle.reuse_session.specs.Forgetting.{PutsAndRemoves, PutsAndRemovesSome, RemovesSome}
-use Rattle.reuse_session.specs.JournalFiles.{head_path}
-use Rattle.reuse_session.specs.Losses.{HaveTree}
-use Rattle.reuse_session.proofs.ForgottenFiles.{put_or_not, left_with_head}
+use Rattle.reuse_session.specs.session.Forgetting.{PutsAndRemoves, PutsAndRemovesSome, RemovesSome}
+use Rattle.reuse_session.specs.journal.JournalFiles.{head_path}
+use Rattle.reuse_session.specs.journal.Losses.{HaveTree}
+use Rattle.reuse_session.proofs.lemmas.session.ForgottenFiles.{put_or_not, left_with_head}
 use Rattle.reuse_session.proofs.session.forget.put_and_remove.Given.{Over}
 use Rattle.reuse_session.proofs.session.forget.put_and_remove.Goals.{After-remove_each}
 use Rattle.reuse_session.proofs.session.forget.put_and_remove.Goals as goal

@@ -3,9 +3,9 @@ use Rattle.std.specs.List.{All}
 use Rattle.reuse_tree.specs.Asked.{OnlyReads}
 use Rattle.reuse_tree.specs.Entry.{paths_of}
 use Rattle.reuse_tree.specs.Tree.{undo_folder_of}
-use Rattle.reuse_session.specs.Journal.{Recorded}
-use Rattle.reuse_session.specs.JournalFiles.{number_of, IsKeptIn}
-use Rattle.reuse_session.proofs.LaterSteps.{left_by}
+use Rattle.reuse_session.specs.journal.Journal.{Recorded}
+use Rattle.reuse_session.specs.journal.JournalFiles.{number_of, IsKeptIn}
+use Rattle.reuse_session.proofs.lemmas.session.LaterSteps.{left_by}
 use Rattle.reuse_session.proofs.session.later_steps.touched_paths.Given as goal
 
 -- the store is read alone, and the steps that are left leave of the paths what all of them leave

@@ -1,7 +1,7 @@
 use Rattle.std.proofs.Common.{refl, subst}
 use Rattle.reuse_tree.specs.Asked.{IsWrite}
 use Rattle.reuse_tree.proofs.WrittenInTurn.{one_more}
-use Rattle.reuse_undo.proofs.NotedWrites.{noted}
+use Rattle.reuse_undo.proofs.lemmas.disk.NotedWrites.{noted}
 use Rattle.reuse_undo.proofs.disk.DiskStore.note_made.Goals as goal
 
 pub loop-write-preserved : goal.loop-write-preserved

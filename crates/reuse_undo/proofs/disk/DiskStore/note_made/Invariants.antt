@@ -1,6 +1,6 @@
 use Rattle.std.proofs.Common.{take, Ok}
 use Rattle.reuse_tree.specs.Asked.{AreWrites}
-use Rattle.reuse_undo.proofs.NotedWrites.{noted}
+use Rattle.reuse_undo.proofs.lemmas.disk.NotedWrites.{noted}
 use Rattle.reuse_undo.proofs.disk.DiskStore.note_made.Given as goal
 
 -- the writes so far are noted

@@ -6,9 +6,9 @@ use Rattle.reuse_tree.specs.Files.{AreFiles, Clashes}
 use Rattle.reuse_tree.specs.Parts.{joined}
 use Rattle.reuse_tree.specs.declared.fault.StoreFault.TheVariants.{Clash}
 use Rattle.reuse_tree.specs.declared.record.CallRecord.{CallRecord}
-use Rattle.reuse_undo.specs.Honesty.{files_of, IsHonest, MayBeLeft}
-use Rattle.reuse_undo.proofs.HonestFiles.{after_put}
-use Rattle.reuse_undo.proofs.PutKept.{put_kept}
+use Rattle.reuse_undo.specs.disk.Honesty.{files_of, IsHonest, MayBeLeft}
+use Rattle.reuse_undo.proofs.lemmas.disk.HonestFiles.{after_put}
+use Rattle.reuse_undo.proofs.lemmas.disk.PutKept.{put_kept}
 use Rattle.reuse_undo.proofs.disk.DiskStore.note_put.Goals as goal
 
 pub invariant_of-self : goal.invariant_of-self

@@ -1,7 +1,7 @@
 use Rattle.std.proofs.Common.{subst, arith}
 use Rattle.std.proofs.lemmas.Grind.{common_steps}
 use Rattle.reuse_tree.specs.declared.record.CallRecord.{CallRecord}
-use Rattle.reuse_undo.specs.Honesty.{MayBeLeft}
+use Rattle.reuse_undo.specs.disk.Honesty.{MayBeLeft}
 use Rattle.reuse_undo.proofs.disk.DiskStore.note_removal.Goals as goal
 
 pub returns-clause-removes : goal.returns-clause-removes

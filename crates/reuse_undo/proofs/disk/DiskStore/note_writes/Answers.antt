@@ -1,8 +1,8 @@
 use Rattle.std.proofs.Common.{◌<◌, IfErr, length, sym, subst}
 use Rattle.reuse_tree.specs.Asked.{IsWrite, AreWrites}
 use Rattle.reuse_tree.proofs.WrittenInTurn.{next_fails}
-use Rattle.reuse_undo.specs.FolderFault.{fault_of_store}
-use Rattle.reuse_undo.proofs.NotedWrites.{noted}
+use Rattle.reuse_undo.specs.disk.FolderFault.{fault_of_store}
+use Rattle.reuse_undo.proofs.lemmas.disk.NotedWrites.{noted}
 use Rattle.reuse_undo.proofs.disk.DiskStore.note_writes.Goals as goal
 
 pub returns-in-Err : goal.returns-in-Err

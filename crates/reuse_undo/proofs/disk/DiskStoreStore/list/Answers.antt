@@ -2,8 +2,8 @@ use Rattle.std.proofs.Common.{◌≡◌, ◌≢◌, MatchResult, sym, subst}
 use Rattle.reuse_tree.specs.Listing.{listed_paths}
 use Rattle.reuse_tree.specs.declared.fault.StoreFault.TheVariants.{Clash}
 use Rattle.reuse_tree.specs.declared.record.CallRecord.{CallRecord}
-use Rattle.reuse_undo.specs.Honesty.{files_of, IsHonest}
-use Rattle.reuse_undo.proofs.PrunedFolders.{listing_kept, listing_paths}
+use Rattle.reuse_undo.specs.disk.Honesty.{files_of, IsHonest}
+use Rattle.reuse_undo.proofs.lemmas.disk.PrunedFolders.{listing_kept, listing_paths}
 use Rattle.reuse_undo.proofs.disk.DiskStoreStore.list.Goals as goal
 
 pub returns-clause-kept : goal.returns-clause-kept

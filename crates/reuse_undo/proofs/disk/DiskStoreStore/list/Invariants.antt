@@ -1,5 +1,5 @@
-use Rattle.reuse_undo.specs.Honesty.{files_of}
-use Rattle.reuse_undo.proofs.PrunedFolders.{pruned_in}
+use Rattle.reuse_undo.specs.disk.Honesty.{files_of}
+use Rattle.reuse_undo.proofs.lemmas.disk.PrunedFolders.{pruned_in}
 use Rattle.reuse_undo.proofs.disk.DiskStoreStore.list.Given as goal
 
 -- the folders of the files that are pruned

@@ -3,8 +3,8 @@ use Rattle.std.proofs.lemmas.Grind.{common_steps}
 use Rattle.reuse_tree.specs.Files.{Files}
 use Rattle.reuse_tree.specs.Lasting.{IsCertain}
 use Rattle.reuse_tree.specs.declared.record.CallRecord.{CallRecord}
-use Rattle.reuse_undo.specs.Honesty.{files_of, IsHonest, MayBeLeft}
-use Rattle.reuse_undo.proofs.LeftBySyncs.{no_more, certain}
+use Rattle.reuse_undo.specs.disk.Honesty.{files_of, IsHonest, MayBeLeft}
+use Rattle.reuse_undo.proofs.lemmas.disk.LeftBySyncs.{no_more, certain}
 use Rattle.reuse_undo.proofs.disk.DiskStoreStore.sync.Goals as goal
 
 pub returns-clause-barrier : goal.returns-clause-barrier

@@ -1,5 +1,5 @@
 use Rattle.std.proofs.Common.{refl, sym, ◌∙◌}
-use Rattle.reuse_undo.proofs.NotedWrites.{begin_any}
+use Rattle.reuse_undo.proofs.lemmas.disk.NotedWrites.{begin_any}
 use Rattle.reuse_undo.proofs.disk.DiskStoreStore.write_all.Goals as goal
 
 pub returns : goal.returns

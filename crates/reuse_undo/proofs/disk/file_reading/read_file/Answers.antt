@@ -1,7 +1,7 @@
 use Rattle.std.proofs.Common.{◌<◌, length, take, IfSome, arith}
 use Rattle.std.specs.Option.{option_map}
-use Rattle.reuse_undo.specs.Readings.{IsWholeOf}
-use Rattle.reuse_undo.proofs.ReaderLemmas.{reader_too_long}
+use Rattle.reuse_undo.specs.disk.Readings.{IsWholeOf}
+use Rattle.reuse_undo.proofs.lemmas.disk.ReaderLemmas.{reader_too_long}
 use Rattle.reuse_undo.proofs.disk.file_reading.read_file.Goals as goal
 
 pub returns-then-len-limit-clause-whole : goal.returns-then-len-limit-clause-whole

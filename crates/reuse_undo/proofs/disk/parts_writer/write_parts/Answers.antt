@@ -1,6 +1,6 @@
 use Rattle.std.proofs.Common.{◌++◌, false}
-use Rattle.reuse_undo.specs.Asides.{key_of}
-use Rattle.reuse_undo.proofs.SystemLemmas.{filled_twice, appended_before}
+use Rattle.reuse_undo.specs.disk.Asides.{key_of}
+use Rattle.reuse_undo.proofs.lemmas.disk.SystemLemmas.{filled_twice, appended_before}
 use Rattle.reuse_undo.proofs.disk.parts_writer.write_parts.Goals as goal
 
 pub returns-then-saturating_add-gt-MOST_JOINED : goal.returns-then-saturating_add-gt-MOST_JOINED

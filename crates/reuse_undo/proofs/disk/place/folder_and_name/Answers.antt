@@ -1,5 +1,5 @@
 use Rattle.std.proofs.Common.{rules, MatchOption, ◌≡◌}
-use Rattle.reuse_undo.proofs.SlashLemmas.{name_behind}
+use Rattle.reuse_undo.proofs.lemmas.disk.SlashLemmas.{name_behind}
 use Rattle.reuse_undo.proofs.disk.place.folder_and_name.Goals as goal
 
 pub returns : goal.returns

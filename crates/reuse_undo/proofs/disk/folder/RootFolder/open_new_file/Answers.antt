@@ -1,5 +1,5 @@
 use Rattle.std.proofs.Common.{IsErr}
-use Rattle.reuse_undo.proofs.FolderLemmas.{nothing_cleared, cleared_at_error}
+use Rattle.reuse_undo.proofs.lemmas.disk.FolderLemmas.{nothing_cleared, cleared_at_error}
 use Rattle.reuse_undo.proofs.disk.folder.RootFolder.open_new_file.Goals as goal
 
 pub returns-in_err-make-clause-cleared : goal.returns-in_err-make-clause-cleared

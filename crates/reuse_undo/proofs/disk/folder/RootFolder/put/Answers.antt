@@ -1,5 +1,5 @@
 use Rattle.std.proofs.Common.{rules, ◌≡◌, false, is_ok}
-use Rattle.reuse_undo.proofs.FolderLemmas.{nothing_put}
+use Rattle.reuse_undo.proofs.lemmas.disk.FolderLemmas.{nothing_put}
 use Rattle.reuse_undo.proofs.disk.folder.RootFolder.put.Goals as goal
 
 pub returns-in_err-found-clause-written : goal.returns-in_err-found-clause-written

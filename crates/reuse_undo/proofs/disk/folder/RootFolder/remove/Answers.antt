@@ -1,6 +1,6 @@
 use Rattle.std.proofs.Common.{rules}
-use Rattle.reuse_undo.specs.Names.{IsNameOf}
-use Rattle.reuse_undo.proofs.FolderLemmas.{nothing_removed, removed_at}
+use Rattle.reuse_undo.specs.disk.Names.{IsNameOf}
+use Rattle.reuse_undo.proofs.lemmas.disk.FolderLemmas.{nothing_removed, removed_at}
 use Rattle.reuse_undo.proofs.disk.folder.RootFolder.remove.Goals as goal
 
 pub returns-in_err-look_unless_seen : goal.returns-in_err-look_unless_seen

@@ -1,12 +1,12 @@
 use Rattle.std.proofs.Common.{rules, ◌≡◌, false, is_ok}
 use Rattle.reuse_tree.specs.Parts.{joined}
-use Rattle.reuse_undo.specs.Asides.{IsNewIn, IsNewPlace}
-use Rattle.reuse_undo.specs.HeldFiles.{place_in}
-use Rattle.reuse_undo.specs.Names.{IsNameOf}
-use Rattle.reuse_undo.specs.SystemCalls.{held_after}
-use Rattle.reuse_undo.specs.SystemLaws.{IsAlikeUnless}
-use Rattle.reuse_undo.specs.Written.{IsWritten, is_kept}
-use Rattle.reuse_undo.proofs.FolderLemmas.{nothing_put, cleared_alone, put_at}
+use Rattle.reuse_undo.specs.disk.Asides.{IsNewIn, IsNewPlace}
+use Rattle.reuse_undo.specs.disk.HeldFiles.{place_in}
+use Rattle.reuse_undo.specs.disk.Names.{IsNameOf}
+use Rattle.reuse_undo.specs.disk.SystemCalls.{held_after}
+use Rattle.reuse_undo.specs.disk.SystemLaws.{IsAlikeUnless}
+use Rattle.reuse_undo.specs.disk.Written.{IsWritten, is_kept}
+use Rattle.reuse_undo.proofs.lemmas.disk.FolderLemmas.{nothing_put, cleared_alone, put_at}
 use Rattle.reuse_undo.proofs.disk.folder.RootFolder.write.Goals as goal
 
 pub returns-in_err-note : goal.returns-in_err-note

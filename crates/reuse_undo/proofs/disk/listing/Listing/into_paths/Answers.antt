@@ -1,4 +1,4 @@
-use Rattle.reuse_undo.proofs.Listed.{in_order}
+use Rattle.reuse_undo.proofs.lemmas.disk.Listed.{in_order}
 use Rattle.reuse_undo.proofs.disk.listing.Listing.into_paths.Goals as goal
 
 pub returns-clause-kept_out : goal.returns-clause-kept_out

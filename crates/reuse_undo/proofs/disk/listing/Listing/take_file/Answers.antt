@@ -1,6 +1,6 @@
 use Rattle.std.proofs.Common.{sym, ap, ◌∙◌}
-use Rattle.reuse_undo.specs.KeptOut.{is_kept_out}
-use Rattle.reuse_undo.proofs.Listed.{pushed}
+use Rattle.reuse_undo.specs.disk.KeptOut.{is_kept_out}
+use Rattle.reuse_undo.proofs.lemmas.disk.Listed.{pushed}
 use Rattle.reuse_undo.proofs.disk.listing.Listing.take_file.Goals as goal
 
 pub invariant_of-self : goal.invariant_of-self

@@ -1,5 +1,5 @@
-use Rattle.reuse_undo.specs.SystemLaws.{IsAlikeUnless}
-use Rattle.reuse_undo.specs.Asides.{IsNewIn}
+use Rattle.reuse_undo.specs.disk.SystemLaws.{IsAlikeUnless}
+use Rattle.reuse_undo.specs.disk.Asides.{IsNewIn}
 use Rattle.reuse_undo.proofs.disk.new_file.NewFile.clear.Given as goal
 
 -- so far nothing differs but at names of new files

@@ -1,8 +1,8 @@
 use Rattle.std.proofs.Common.{rules, false}
 use Rattle.reuse_tree.specs.Parts.{joined}
-use Rattle.reuse_undo.specs.Asides.{name_in, IsNewPlace}
-use Rattle.reuse_undo.specs.Written.{IsWritten, is_kept}
-use Rattle.reuse_undo.proofs.SystemLemmas.{written_again}
+use Rattle.reuse_undo.specs.disk.Asides.{name_in, IsNewPlace}
+use Rattle.reuse_undo.specs.disk.Written.{IsWritten, is_kept}
+use Rattle.reuse_undo.proofs.lemmas.disk.SystemLemmas.{written_again}
 use Rattle.reuse_undo.proofs.disk.new_file.NewFile.write.Goals as goal
 
 pub returns-in_err-write_beside-in-Err-clause-written : goal.returns-in_err-write_beside-in-Err-clause-written

@@ -1,6 +1,6 @@
 use Rattle.std.proofs.Common.{◌≡◌, true, ap, ◌∙◌, refl, string_bytes}
-use Rattle.reuse_undo.specs.KeptOut.{is_new_name}
-use Rattle.reuse_undo.proofs.NewNameLemmas.{numbered_is_new}
+use Rattle.reuse_undo.specs.disk.KeptOut.{is_new_name}
+use Rattle.reuse_undo.proofs.lemmas.disk.NewNameLemmas.{numbered_is_new}
 use Rattle.reuse_undo.proofs.disk.new_name.NewName.of_number.Goals as goal
 use Rattle.reuse_undo.proofs.disk.new_name.NewName.of_number.Goals.{then-number-eq0+in_ok-name, else-number-eq0+in_ok-name-2}
 

@@ -1,6 +1,6 @@
 use Rattle.std.proofs.Common.{rules}
-use Rattle.reuse_undo.specs.Asides.{name_in}
-use Rattle.reuse_undo.proofs.HostLemmas.{make_noted}
+use Rattle.reuse_undo.specs.disk.Asides.{name_in}
+use Rattle.reuse_undo.proofs.lemmas.disk.HostLemmas.{make_noted}
 use Rattle.reuse_undo.proofs.disk.system.host.HostSystemSystem.make.Goals as goal
 
 pub returns : goal.returns

@@ -10,7 +10,7 @@ use denote.Shadow.{pure_i}
 use denote.Steps.{nothing}
 use denote.Triple.Entry.{on_entry}
 use denote.Triple.Walked.{says, ends_at}
-use Rattle.reuse_undo.specs.SystemCalls.{SystemStart}
+use Rattle.reuse_undo.specs.disk.SystemCalls.{SystemStart}
 use Rattle.reuse_undo.specs.declared.disk.system.record.SystemRecord.{SystemRecord}
 use Rattle.reuse_undo.specs.contracts.disk.system.record.SystemRecord.{the_row as R}
 use Rattle.reuse_undo.specs.contracts.disk.system.record.SystemRecord.new as f

@@ -16,7 +16,7 @@ use denote.Signature.{plain, types_at}
 use denote.Slice.{shr_slice_vals, shr_slice_Tells}
 use denote.Steps.{opens, closes}
 use denote.Triple.Walked.{says, Stays, stay_ref, stay_none_ref, stay_none_slice, Goes-ref, Goes-none_ref, Goes-none_slice, walk_of, ends_at}
-use Rattle.reuse_undo.specs.SystemCalls.{call_of}
+use Rattle.reuse_undo.specs.disk.SystemCalls.{call_of}
 use Rattle.reuse_undo.specs.declared.disk.system.record.SystemRecord.{SystemRecord}
 use Rattle.reuse_undo.specs.contracts.disk.system.record.SystemRecord.{the_row as R}
 use Rattle.reuse_undo.specs.contracts.disk.system.record.CallKind.{the_row as K}

@@ -1,0 +1,80 @@
+-- How the standing of files changes when a step is carried out.
+use Rattle.std.proofs.Common.{◌≡◌, ◌⊎◌, inl, inr, ⊎_elim, ℕ, ◌+◌, ◌<◌, List, Some, None, codes, refl, sym, subst, ◌∙◌}
+use Rattle.reuse_tree.specs.Path.{journal_folder}
+use Rattle.reuse_tree.specs.Files.{Files, AreFiles, tree_of}
+use Rattle.reuse_session.specs.journal.Carried.{IsCarriedOut, IsStopped}
+use Rattle.reuse_tree.specs.Entry.{IsEntry, LeadsBy, SomeMade}
+use Rattle.reuse_tree.specs.Head.{way_of, IsGoodHead}
+use Rattle.reuse_session.specs.journal.Journal.{Recorded, State}
+use Rattle.reuse_session.specs.journal.JournalFiles.{entry_path, head_of, number_of, IsKeptIn}
+use Rattle.reuse_session.specs.session.Session.{IsSameBut}
+use Rattle.reuse_session.specs.journal.Standing.{IsTree, IsStanding, IsStep, IsUnderWay, InDoubt}
+use Rattle.reuse_tree.specs.Tree.{undo_folder_of}
+use Rattle.reuse_tree.specs.declared.journal.head.PendingWay.{PendingWay}
+use Rattle.reuse_tree.specs.declared.change.Change.{Change}
+use Rattle.reuse_tree.proofs.TreeLemmas.{tree_are_files}
+use Rattle.reuse_tree.proofs.Walk.{leads_once, none_outside}
+use Rattle.reuse_session.proofs.lemmas.journal.JournalLemmas.{entry_in_folder, same_but_in_folder, keeps_beside, keeps_pending, keeps_settled, kept_stays}
+use Rattle.reuse_tree.proofs.MadeLemmas.{reach_ready}
+
+-- the entry's file of the next number changes no standing
+pub after_entry : (files after : Files) (held : State) → IsStanding files held → held.journal.used < 999_999 → IsSameBut (entry_path (held.journal.used + 1)) files after → IsStanding after held
+after_entry files after held standing room same =
+    let sets = same_but_in_folder files after (entry_path (held.journal.used + 1)) (entry_in_folder (held.journal.used + 1)) same in
+    record {
+      tree = sets.1 ∙ standing.tree;
+      good = standing.good;
+      journal = keeps_beside (undo_folder_of files) (undo_folder_of after) held.journal standing.journal room sets.0;
+    }
+
+-- a tree stays one where changes of an entry lead on from it
+pub still_tree : (way : PendingWay) (changes : List Change) (before after : Files) → IsEntry changes → LeadsBy (way_of way) changes before after → IsTree before → AreFiles after → IsTree after
+still_tree way changes before after good leads tree are = record {
+  are_files = are;
+  no_reuse = leads.others (codes ".reuse") (none_outside changes (codes ".reuse") good refl) ∙ tree.no_reuse;
+  no_undo = leads.others journal_folder (none_outside changes journal_folder good refl) ∙ tree.no_undo;
+}
+
+-- where the pending head is put and some changes are made, the step is under way
+pub under_way : (files after : Files) (way : PendingWay) (step : Recorded) (first second : State) → IsStanding files first → IsKeptIn (undo_folder_of files) step → IsStep way step first second → (pending : List ℕ)
+    → IsGoodHead pending (head_of first.journal (Some (record { entry = number_of step; way = way }))) → IsStopped (way_of way) step.changes pending files after → IsUnderWay way step first after
+under_way files after way step first second standing kept is_step pending head out = record {
+  good = standing.good;
+  journal = keeps_pending (undo_folder_of files) (undo_folder_of after) first.journal (record { entry = number_of step; way = way }) pending standing.journal out.sets head;
+  kept = kept_stays (undo_folder_of files) (undo_folder_of after) step pending kept out.sets;
+  partly = record {
+    made = subst (λ tree. SomeMade (way_of way) step.changes tree (tree_of after)) standing.tree out.tree;
+    ready = reach_ready (way_of way) step.changes first.tree second.tree is_step.leads;
+  };
+}
+
+module _ (files after : Files) (way : PendingWay) (step : Recorded) (first second : State) (standing : IsStanding files first) (kept : IsKeptIn (undo_folder_of files) step) (is_step : IsStep way step first second) (good : IsEntry step.changes) (are : AreFiles after) where
+  start : LeadsBy (way_of way) step.changes (tree_of files) second.tree
+  start = subst (λ tree. LeadsBy (way_of way) step.changes tree second.tree) (sym standing.tree) is_step.leads
+
+  -- once the step is carried out, the standing is the next
+  pub carried : (settled : List ℕ) → IsCarriedOut (way_of way) step.changes settled files after → IsGoodHead settled (head_of second.journal None) → IsStanding after second
+  carried settled out head =
+      let tree : tree_of after ≡ second.tree = leads_once (way_of way) step.changes (tree_of files) (tree_of after) second.tree out.tree start in
+      record {
+        tree = tree;
+        good = still_tree way step.changes first.tree second.tree good is_step.leads standing.good (subst AreFiles tree (tree_are_files after are));
+        journal = keeps_settled (undo_folder_of files) (undo_folder_of after) first.journal second.journal None way step settled standing.journal kept is_step.moves out.sets head;
+      }
+
+  -- where that stops, the files are in doubt between the two
+  pub stopped : (pending settled : List ℕ) → (after ≡ files) ⊎ IsStopped (way_of way) step.changes pending files after ⊎ IsCarriedOut (way_of way) step.changes settled files after
+      → IsGoodHead pending (head_of first.journal (Some (record { entry = number_of step; way = way }))) → IsGoodHead settled (head_of second.journal None) → InDoubt first second after
+  stopped pending settled case pending_head settled_head =
+      ⊎_elim
+      (λ (same : after ≡ files). inl (subst (λ f. IsStanding f first) (sym same) standing))
+      (λ rest. ⊎_elim
+      (λ (out : IsStopped (way_of way) step.changes pending files after). inr (inr (
+        way,
+        step,
+        is_step,
+        under_way files after way step first second standing kept is_step pending pending_head out,
+      )))
+      (λ (out : IsCarriedOut (way_of way) step.changes settled files after). inr (inl (carried settled out settled_head)))
+      rest)
+      case

@@ -1,0 +1,183 @@
+-- What the functions of a step answer, from what they call.
+use Rattle.std.proofs.Common.{◌≡◌, ◌≢◌, inl, inr, ℕ, ◌+◌, ◌<◌, ◌≤◌, Bool, true, false, ◌||◌, List, [], ◌∷◌, ◌++◌, length, map, reverse, get_or, cond, None, is_some, Result, Ok, Err, IfErr, refl, sym, ap, subst, ◌∙◌, arith, IsErrAnd}
+use Rattle.std.proofs.lemmas.Bool.{false≢true, or_from}
+use Rattle.std.proofs.lemmas.List.{length-append, length-map, length-reverse, get_or-append-add, append-nil}
+use Rattle.std.specs.FinMap.{get}
+use Rattle.reuse_tree.specs.Path.{lies_under}
+use Rattle.reuse_tree.specs.Files.{Files, Clashes, tree_of}
+use Rattle.reuse_session.specs.declared.failure.Fault.TheVariants as faults
+use Rattle.reuse_session.specs.session.Answer.{IsEarly, TellsNoFault, IsReadRefusal, IsFailure, HasClash, IsNoClash, IsEarlyFailure}
+use Rattle.reuse_tree.specs.Head.{IsSoundHead}
+use Rattle.reuse_session.specs.journal.History.{Memory}
+use Rattle.reuse_session.specs.journal.Journal.{Recorded, Journal, State, ahead, moved_on}
+use Rattle.reuse_session.specs.session.Machine.{is_full}
+use Rattle.reuse_session.specs.journal.JournalFiles.{head_path, entry_path, head_of, number_of, EntrySays, IsFree, IsJournalPath}
+use Rattle.reuse_tree.specs.declared.journal.entry.Entry.{Entry}
+use Rattle.reuse_session.specs.session.Session.{store_of, memory_of, listed_as, listed_count, IsSameBut, Remembers, StandsOn}
+use Rattle.reuse_session.specs.journal.Standing.{IsTree, IsStanding}
+use Rattle.reuse_tree.specs.Tree.{undo_folder_of}
+use Rattle.reuse_session.specs.declared.session.Session.{Session}
+use Rattle.reuse_tree.specs.declared.way.Way.{Way}
+use Rattle.reuse_tree.specs.declared.way.Way.TheVariants.{Do, Undo}
+use Rattle.reuse_tree.specs.declared.cause.Cause.TheVariants as causes
+use Rattle.reuse_session.specs.declared.reply.Reply.{Reply}
+use Rattle.reuse_session.specs.declared.reply.Refusal.{Refusal}
+use Rattle.reuse_session.specs.declared.failure.Failure.TheVariants.{Memory as OutOfMemory, Fault, Interrupted}
+use Rattle.reuse_session.specs.declared.reply.Refusal.TheVariants.{BadJournal, Failed}
+use Rattle.reuse_session.proofs.lemmas.session.OnlyReading.{is_refused}
+use Rattle.reuse_session.proofs.lemmas.journal.HeadMoves.{below}
+use Rattle.reuse_session.proofs.lemmas.journal.JournalLemmas.{clash_beneath, entry_in_folder, like, paths_apart}
+use Rattle.reuse_tree.proofs.OfTree.{get-folder}
+use Rattle.reuse_session.proofs.lemmas.journal.Standings.{after_entry}
+use Rattle.reuse_session.proofs.lemmas.journal.Stepping.{last_number}
+
+-- ---- sessions
+
+-- where no file has changed, a session stands where it stood
+pub still_stands : {S : Type 0} (files : S → Files) (session : Session S) (store : S) (held : State) → files store ≡ files (store_of session) → StandsOn files session held
+    → StandsOn files (record session { store = store }) held
+still_stands files session store held same stands = record {
+  whole = stands.whole;
+  standing = subst (λ f. IsStanding f held) (sym same) stands.standing;
+  remembers = stands.remembers;
+}
+
+-- nor does the file of the next entry change where it stands
+pub stands_beside : {S : Type 0} (files : S → Files) (session : Session S) (store : S) (held : State) → (memory_of session).used < 999_999
+    → IsSameBut (entry_path ((memory_of session).used + 1)) (files (store_of session)) (files store) → StandsOn files session held → StandsOn files (record session { store = store }) held
+stands_beside files session store held room same stands = record {
+  whole = stands.whole;
+  standing = after_entry (files (store_of session)) (files store) held stands.standing (omega (arith, room, stands.remembers.used))
+      (subst (λ n. IsSameBut (entry_path (n + 1)) (files (store_of session)) (files store)) stands.remembers.used same);
+  remembers = stands.remembers;
+}
+
+-- ---- refusals of a listed entry's step
+
+-- none of these is told without a fault
+pub read_told : (refusal : Refusal) → IsReadRefusal refusal → TellsNoFault {A = Reply} (Err refusal) → ((path : List ℕ) → refusal ≡ BadJournal path → ⊥) → ⊥
+read_told (Failed failure) is told never = told
+read_told (BadJournal path) is told never = never path refl
+read_told refusal is told never = is
+
+failure_told : (refusal : Refusal) → IsFailure refusal → TellsNoFault {A = Reply} (Err refusal) → ⊥
+failure_told (Failed failure) is told = told
+failure_told refusal is told = is
+
+-- nor is a call that failed so
+pub failed_untold : (refusal : Refusal) (result : Result Reply Refusal) → IsErrAnd result (λ given. given ≡ refusal) → IsFailure refusal → TellsNoFault result → ⊥
+failed_untold refusal result is fails told = failure_told refusal fails (subst TellsNoFault (is_refused result is) told)
+
+pub put_fails : (refusal : Refusal) → IsEarlyFailure refusal → IsFailure refusal
+put_fails (Failed OutOfMemory) is = tt
+put_fails (Failed (Fault fault)) is = tt
+put_fails refusal is = absurd is
+
+-- an entry's file that was put is in the folder of the journal
+pub kept_put : (files : Files) (number : ℕ) (entry : Entry) → EntrySays (get files (entry_path number)) entry → EntrySays (get (undo_folder_of files) (entry_path number)) entry
+kept_put files number entry says =
+    let here : get (undo_folder_of files) (entry_path number) ≡ get files (entry_path number) =
+    get-folder files (entry_path number) ∙ ap (λ b. cond b (get files (entry_path number)) None) (entry_in_folder number) in
+    subst (λ file. EntrySays file entry) (sym here) says
+
+-- ---- clashes
+
+module _ (entry head : Type 0) where
+  -- a refusal before a stop tells a clash as a fault of the store alone
+  pub fault_clash : (refusal : Refusal) → IsEarly refusal → (refusal ≡ Failed (Fault faults.Clash) → entry) → HasClash entry head refusal
+  fault_clash (Failed (Fault faults.Clash)) early clash = clash refl
+  fault_clash (Failed (Interrupted cause)) early clash = absurd early
+  fault_clash refusal early clash = tt
+
+  -- a clash that is told of some paths is told of others that clash then
+  pub clash_of : (other more : Type 0) → (entry → other) → (head → more) → (refusal : Refusal) → HasClash entry head refusal → HasClash other more refusal
+  clash_of other more on_entry on_head (Failed (Fault faults.Clash)) clash = on_entry clash
+  clash_of other more on_entry on_head (Failed (Interrupted causes.Clash)) clash = on_head clash
+  clash_of other more on_entry on_head (Failed (Interrupted causes.Moved)) clash = clash
+  clash_of other more on_entry on_head refusal clash = tt
+
+  -- where neither can be, none is told
+  pub never_clashes : (entry → ⊥) → (head → ⊥) → (answer : Result Reply Refusal) → IfErr answer (HasClash entry head) → IfErr answer IsNoClash
+  never_clashes no_entry no_head (Ok reply) clash = tt
+  never_clashes no_entry no_head (Err (Failed (Fault faults.Clash))) clash = no_entry clash
+  never_clashes no_entry no_head (Err (Failed (Interrupted causes.Clash))) clash = no_head clash
+  never_clashes no_entry no_head (Err (Failed (Interrupted causes.Moved))) clash = clash
+  never_clashes no_entry no_head (Err refusal) clash = tt
+
+-- no path of a file of the journal clashes where none is a folder
+pub no_clash_at : (files : Files) (path : List ℕ) → IsTree (tree_of files) → IsJournalPath path → IsFree (undo_folder_of files) → Clashes files path → ⊥
+no_clash_at files path tree is free clash =
+    let beneath = clash_beneath files path tree (like path is) clash in
+    free path beneath.0 is beneath.1 beneath.2
+
+-- the file of an entry makes no folder of the head
+pub head_clash_before : (files put : Files) (number : ℕ) → IsSameBut (entry_path number) files put → Clashes put head_path → Clashes files head_path
+head_clash_before files put number same clash =
+    let apart : (lies_under (entry_path number) head_path || lies_under head_path (entry_path number)) ≡ false =
+    or_from _ _ (paths_apart (entry_path number) head_path (inr (number, refl)) (inl refl)) (paths_apart head_path (entry_path number) (inl refl) (inr (number, refl))) in
+    let other : clash.other ≢ entry_path number = λ is. false≢true (sym apart ∙ ap (λ p. lies_under p head_path || lies_under head_path p) (sym is) ∙ clash.nested) in
+    record { other = clash.other; is_file = ap is_some (sym (same clash.other other)) ∙ clash.is_file; nested = clash.nested }
+
+pub tree_of_standing : (files : Files) (held : State) → IsStanding files held → IsTree (tree_of files)
+tree_of_standing files held standing = subst IsTree (sym standing.tree) standing.good
+
+-- where no path of a file of the journal is a folder, a call tells no clash
+module _ (files : Files) (held : State) (standing : IsStanding files held) (free : IsFree (undo_folder_of files)) (answer : Result Reply Refusal) where
+  head_free : Clashes files head_path → ⊥
+  head_free clash = no_clash_at files head_path (tree_of_standing files held standing) (inl refl) free clash
+
+  -- a run puts an entry only where the journal isn't full, so that its number is given out
+  pub run_no_clash : (done used : ℕ) → (is_full done used ≡ true → IfErr answer IsNoClash)
+      → IfErr answer (HasClash (Clashes files (entry_path (used + 1))) (Clashes files head_path)) → IfErr answer IsNoClash
+  run_no_clash done used full told = test (is_full done used) refl
+    where
+      entry_free : is_full done used ≡ false → Clashes files (entry_path (used + 1)) → ⊥
+      entry_free room = no_clash_at files (entry_path (used + 1)) (tree_of_standing files held standing) (inr (used + 1, omega arith, omega (arith, (below done used room).1), refl)) free
+
+      test : (b : Bool) → is_full done used ≡ b → IfErr answer IsNoClash
+      test true is = full is
+      test false room = never_clashes (Clashes files (entry_path (used + 1))) (Clashes files head_path) (entry_free room) head_free answer told
+
+  pub back_no_clash : IfErr answer (HasClash ⊥ (Clashes files head_path)) → IfErr answer IsNoClash
+  back_no_clash told = never_clashes ⊥ (Clashes files head_path) (λ none. none) head_free answer told
+
+-- ---- numbers
+
+-- the number of a listed step is in range
+pub low_of : (way : Way) (step : Recorded) (steps : List Recorded) (old : Journal) → ahead way old ≡ step ∷ steps → IsSoundHead (head_of old None) → number_of step ≤ 999_999
+low_of Undo step steps old list sound =
+    let undone = map number_of (reverse old.undone) in
+    let done : map number_of (reverse old.done) ≡ map number_of (reverse (step ∷ steps)) = ap (λ steps. map number_of (reverse steps)) list in
+    let here = last_number steps step undone in
+    let i = length (map number_of (reverse steps)) in
+    let count : length (map number_of (reverse (step ∷ steps)) ++ undone) ≡ length steps + 1 + length undone =
+    length-append (map number_of (reverse (step ∷ steps))) undone ∙ ap (λ n. n + length undone) (length-map (reverse (step ∷ steps)) number_of ∙ length-reverse (step ∷ steps) ∙ omega arith) in
+    let lt : i < length (map number_of (reverse old.done) ++ undone) = omega (arith, count, ap (λ ns. length (ns ++ undone)) done, length-map (reverse steps) number_of, length-reverse steps) in
+    let given = sound.given_out i 0 lt in
+    let at : get_or (map number_of (reverse old.done) ++ undone) i 0 ≡ number_of step = ap (λ ns. get_or (ns ++ undone) i 0) done ∙ here in
+    omega (arith, given.1, at, sound.next.1)
+low_of Do step steps old list sound =
+    let front = map number_of (reverse old.done) in
+    let undone : map number_of (reverse old.undone) ≡ map number_of (reverse (step ∷ steps)) = ap (λ steps. map number_of (reverse steps)) list in
+    let i = length front + length (map number_of (reverse steps)) in
+    let here : get_or (front ++ map number_of (reverse (step ∷ steps))) i 0 ≡ number_of step =
+    get_or-append-add front (map number_of (reverse (step ∷ steps))) (length (map number_of (reverse steps))) 0
+    ∙ ap (λ ns. get_or ns (length (map number_of (reverse steps))) 0) (sym (append-nil (map number_of (reverse (step ∷ steps)))))
+    ∙ last_number steps step [] in
+    let count : length (front ++ map number_of (reverse (step ∷ steps))) ≡ length front + (length steps + 1) =
+    length-append front (map number_of (reverse (step ∷ steps))) ∙ ap (λ n. length front + n) (length-map (reverse (step ∷ steps)) number_of ∙ length-reverse (step ∷ steps) ∙ omega arith) in
+    let lt : i < length (front ++ map number_of (reverse old.undone)) = omega (arith, count, ap (λ ns. length (front ++ ns)) undone, length-map (reverse steps) number_of, length-reverse steps) in
+    let given = sound.given_out i 0 lt in
+    let at : get_or (front ++ map number_of (reverse old.undone)) i 0 ≡ number_of step = ap (λ ns. get_or (front ++ ns) i 0) undone ∙ here in
+    omega (arith, given.1, at, sound.next.1)
+
+-- a listed step that moves leaves as many listed
+pub counted : (memory : Memory) (journal : Journal) → Remembers memory journal → listed_count memory ≡ length journal.done + length journal.undone
+counted memory journal r =
+    ap (λ es. length es + length memory.undone) r.done ∙ ap (λ es. length (map listed_as (reverse journal.done)) + length es) r.undone
+    ∙ omega (arith, length-map (reverse journal.done) listed_as, length-reverse journal.done, length-map (reverse journal.undone) listed_as, length-reverse journal.undone)
+
+pub as_many : (way : Way) (step : Recorded) (steps : List Recorded) (old : Journal) (memory moved : Memory) → ahead way old ≡ step ∷ steps → Remembers memory old
+    → Remembers moved (moved_on way step steps old) → listed_count moved ≡ listed_count memory
+as_many Undo step steps old memory moved list r s = omega (arith, counted moved (moved_on Undo step steps old) s, counted memory old r, ap length list)
+as_many Do step steps old memory moved list r s = omega (arith, counted moved (moved_on Do step steps old) s, counted memory old r, ap length list)

@@ -1,0 +1,217 @@
+-- Which paths are gone through where files are chosen.
+use Rattle.std.proofs.Common.{◌≡◌, ◌↔◌, ◌⊎◌, inl, inr, ℕ, Bool, true, false, not, ◌&&◌, ◌||◌, cond, List, [], ◌∷◌, Option, Some, None, filter, refl, sym, ap, subst, ◌∙◌, arith, suc}
+use Rattle.std.specs.Prelude.{flat_map}
+use Rattle.std.specs.Str.{chars}
+use Rattle.std.specs.List.{Contains, list_any}
+use Rattle.std.specs.FinMap.{keys}
+use Rattle.std.specs.Cmp.Lexicographic.{nat_list_eq_equiv}
+use Rattle.std.proofs.lemmas.Bool.{false≢true, false_from_ne_true, or_parts}
+use Rattle.std.proofs.lemmas.List.Elements.{All-nil, All-cons}
+use Rattle.std.proofs.lemmas.Map.Views.{Contains-from_any, list_any-from_Contains}
+use Rattle.std.proofs.lemmas.Slice.Eq.{bytes_eq-Decides}
+use Rattle.reuse_dep5.specs.declared.glob.GlobPiece.{GlobPiece}
+use Rattle.reuse_dep5.specs.GlobMatch.{GlobMatches, matches_glob}
+use Rattle.reuse_dep5.proofs.GlobTests.{match_from_test, test_from_match}
+use Rattle.reuse_dep5.proofs.ReadGlobLemmas.{both_parts, both_true}
+use Rattle.reuse_notice.specs.Sets.{set_of}
+use Rattle.reuse_notice.proofs.ClassLemmas.{In-append, In-left, In-right}
+use Rattle.reuse_notice.proofs.SetLemmas.{In, In-from_contains, Contains-from_in, In-set_of, set_of-has, sorted-set_of}
+use Rattle.reuse_tree.specs.Path.{lies_under}
+use Rattle.reuse_tree.specs.Files.{Files}
+use Rattle.reuse_tree.specs.Path.{folders_above}
+use Rattle.reuse_session.specs.plan.Choice.{leaves_out, is_listed, matches_one, is_chosen}
+use Rattle.reuse_session.specs.plan.Chosen.{IsNamed, StandsBeneath, IsListed, LeavesIn, MatchesNone, IsAskedFor}
+use Rattle.reuse_session.specs.session.Command.{has_root, paths_among}
+use Rattle.reuse_session.specs.plan.Covered.{is_covered}
+use Rattle.reuse_tree.specs.Listing.{ArePaths, is_folder}
+use Rattle.reuse_session.specs.plan.Worked.{expanded, worked_paths}
+use Rattle.reuse_session.specs.declared.command.Place.{Place}
+use Rattle.reuse_session.specs.declared.command.Place.TheVariants.{Root, Path}
+use Rattle.reuse_session.specs.declared.command.Scope.{Scope}
+use Rattle.reuse_session.proofs.lemmas.plan.FoldersAbove.{above_under, under_above}
+use Rattle.reuse_session.proofs.lemmas.Members.{In-filter, filter-has, any_has, any_from}
+
+-- ---- what stands in the place of places
+
+module _ (scope : Scope) (tree : Files) (t : List ℕ) where
+  abbrev Named : List Place → Type 0
+  Named places = In t (paths_among places) × (is_folder tree t ≡ false)
+
+  abbrev Beneath : List Place → Type 0
+  Beneath places = In t (keys tree) × ((has_root places ≡ true) ⊎ ((folder : List ℕ) × In folder (paths_among places) × (lies_under t folder ≡ true)))
+
+  abbrev Worked : List Place → Type 0
+  Worked places = Named places ⊎ (Beneath places × (is_chosen scope t ≡ true))
+
+  abbrev for_folder : List ℕ → Bool → List (List ℕ)
+  for_folder path b = cond b (filter (is_chosen scope) (filter (λ other. lies_under other path) (keys tree))) (path ∷ [])
+
+  behind_root : (places : List Place) → Worked places → Worked (Root ∷ places)
+  behind_root places (inl named) = inl named
+  behind_root places (inr (there, chosen)) = inr ((there.0, inl refl), chosen)
+
+  behind_path : (path : List ℕ) (places : List Place) → Worked places → Worked (Path path ∷ places)
+  behind_path path places (inl named) = inl (inr named.0, named.1)
+  behind_path path places (inr (there, chosen)) = inr ((there.0, elim there.1 [ inl root ↦ inl root | inr found ↦ inr (found.0, inr found.1, found.2) ]), chosen)
+
+  at_path : (path : List ℕ) (places : List Place) (b : Bool) → is_folder tree path ≡ b → In t (for_folder path b) → Worked (Path path ∷ places)
+  at_path path places true e h =
+      let f = In-filter (is_chosen scope) t (filter (λ other. lies_under other path) (keys tree)) h in
+      let g = In-filter (λ other. lies_under other path) t (keys tree) f.0 in
+      inr ((g.0, inr (path, inl refl, g.1)), f.1)
+  at_path path places false e (inl is) = inl (inl is, ap (is_folder tree) is ∙ e)
+  at_path path places false e (inr h) = absurd h
+
+  pub from_expanded : (places : List Place) → In t (flat_map (expanded scope tree) places) → Worked places
+  from_expanded [] h = absurd h
+  from_expanded (Root ∷ places) h = elim (In-append (filter (is_chosen scope) (keys tree)) (flat_map (expanded scope tree) places) t h) [
+    | inl k ↦ (let f = In-filter (is_chosen scope) t (keys tree) k in inr ((f.0, inl refl), f.1))
+    | inr k ↦ behind_root places (from_expanded places k)
+  ]
+  from_expanded (Path path ∷ places) h = elim (In-append (for_folder path (is_folder tree path)) (flat_map (expanded scope tree) places) t h) [
+    | inl k ↦ at_path path places (is_folder tree path) refl k
+    | inr k ↦ behind_path path places (from_expanded places k)
+  ]
+
+  named_expanded : (places : List Place) → In t (paths_among places) → is_folder tree t ≡ false → In t (flat_map (expanded scope tree) places)
+  named_expanded [] h e = absurd h
+  named_expanded (Root ∷ places) h e = In-right (filter (is_chosen scope) (keys tree)) (flat_map (expanded scope tree) places) t (named_expanded places h e)
+  named_expanded (Path path ∷ places) (inl is) e =
+      In-left (for_folder path (is_folder tree path)) (flat_map (expanded scope tree) places) t
+      (subst (λ b. In t (for_folder path b)) (sym (ap (is_folder tree) (sym is) ∙ e)) (inl is))
+  named_expanded (Path path ∷ places) (inr h) e =
+      In-right (for_folder path (is_folder tree path)) (flat_map (expanded scope tree) places) t (named_expanded places h e)
+
+  root_expanded : (places : List Place) → has_root places ≡ true → In t (keys tree) → is_chosen scope t ≡ true → In t (flat_map (expanded scope tree) places)
+  root_expanded [] root there chosen = absurd (false≢true root)
+  root_expanded (Root ∷ places) root there chosen =
+      In-left (filter (is_chosen scope) (keys tree)) (flat_map (expanded scope tree) places) t (filter-has (is_chosen scope) t (keys tree) there chosen)
+  root_expanded (Path path ∷ places) root there chosen =
+      In-right (for_folder path (is_folder tree path)) (flat_map (expanded scope tree) places) t (root_expanded places root there chosen)
+
+  beneath_expanded : (places : List Place) (folder : List ℕ) → In folder (paths_among places) → lies_under t folder ≡ true → In t (keys tree) → is_chosen scope t ≡ true
+      → In t (flat_map (expanded scope tree) places)
+  beneath_expanded [] folder h under there chosen = absurd h
+  beneath_expanded (Root ∷ places) folder h under there chosen =
+      In-right (filter (is_chosen scope) (keys tree)) (flat_map (expanded scope tree) places) t (beneath_expanded places folder h under there chosen)
+  beneath_expanded (Path path ∷ places) folder (inl is) under there chosen =
+      let under' : lies_under t path ≡ true = ap (lies_under t) (sym is) ∙ under in
+      In-left (for_folder path (is_folder tree path)) (flat_map (expanded scope tree) places) t
+      (subst (λ b. In t (for_folder path b)) (sym (any_has (λ other. lies_under other path) t (keys tree) there under'))
+      (filter-has (is_chosen scope) t (filter (λ other. lies_under other path) (keys tree)) (filter-has (λ other. lies_under other path) t (keys tree) there under') chosen))
+  beneath_expanded (Path path ∷ places) folder (inr h) under there chosen =
+      In-right (for_folder path (is_folder tree path)) (flat_map (expanded scope tree) places) t (beneath_expanded places folder h under there chosen)
+
+  to_expanded : (places : List Place) → Worked places → In t (flat_map (expanded scope tree) places)
+  to_expanded places (inl named) = named_expanded places named.0 named.1
+  to_expanded places (inr (there, chosen)) = elim there.1 [
+    | inl root ↦ root_expanded places root there.0 chosen
+    | inr found ↦ beneath_expanded places found.0 found.1 found.2 there.0 chosen
+  ]
+
+-- ---- which files are asked for
+
+pub listed_from_test : (listed : Option (List (List ℕ))) (path : List ℕ) → is_listed listed path ≡ true → IsListed listed path
+listed_from_test None path e = tt
+listed_from_test (Some paths) path e = Contains-from_any (λ x y k. (bytes_eq-Decides x y).0 k) path paths e
+
+pub test_from_listed : (listed : Option (List (List ℕ))) (path : List ℕ) → IsListed listed path → is_listed listed path ≡ true
+test_from_listed None path h = refl
+test_from_listed (Some paths) path h = list_any-from_Contains nat_list_eq_equiv path paths h
+
+module _ (glob : List GlobPiece) (path : List ℕ) where
+  above : List ℕ → Bool
+  above folder = matches_glob glob (chars folder)
+
+  in_from_test : leaves_out glob path ≡ false → LeavesIn glob path
+  unfolding above
+  in_from_test e =
+      let parts = or_parts (above path) (list_any above (folders_above path)) e in (
+        λ m. false≢true (sym parts.0 ∙ test_from_match glob (chars path) m),
+        λ folder under m. false≢true (sym parts.1 ∙ any_has above folder (folders_above path) (under_above path folder under) (test_from_match glob (chars folder) m)),
+      )
+
+  test_from_in : LeavesIn glob path → leaves_out glob path ≡ false
+  unfolding above
+  test_from_in h = false_from_ne_true _ (λ e.
+      let found = any_from above (path ∷ folders_above path) e in
+      at_one found.0 found.1 (match_from_test glob (chars found.0) found.2))
+    where
+      at_one : (t : List ℕ) → In t (path ∷ folders_above path) → GlobMatches glob (chars t) → ⊥
+      at_one t (inl is) m = h.0 (subst (λ p. GlobMatches glob (chars p)) is m)
+      at_one t (inr k) m = h.1 t (above_under path t k) m
+
+pub none_from_test : (globs : List (List GlobPiece)) (path : List ℕ) → not (matches_one globs path) ≡ true → MatchesNone globs path
+none_from_test [] path e = All-nil (λ glob. LeavesIn glob path)
+none_from_test (glob ∷ globs) path e = of_test (leaves_out glob path) refl e (none_from_test globs path)
+  where
+    of_test : (b : Bool) → leaves_out glob path ≡ b → not (b || matches_one globs path) ≡ true → (not (matches_one globs path) ≡ true → MatchesNone globs path) → MatchesNone (glob ∷ globs) path
+    of_test true is h rest = absurd (false≢true h)
+    of_test false is h rest = All-cons (λ g. LeavesIn g path) glob globs (in_from_test glob path is) (rest h)
+
+pub test_from_none : (globs : List (List GlobPiece)) (path : List ℕ) → MatchesNone globs path → not (matches_one globs path) ≡ true
+test_from_none [] path h = refl
+test_from_none (glob ∷ globs) path h =
+    let rest : not (matches_one globs path) ≡ true = test_from_none globs path (λ k d low. h (suc k) d (omega (arith, low))) in
+    ap (λ b. not (b || matches_one globs path)) (test_from_in glob path (h 0 glob (omega arith))) ∙ rest
+
+asked_from_test : (scope : Scope) (path : List ℕ) → is_chosen scope path ≡ true → IsAskedFor scope path
+asked_from_test scope path e =
+    let parts = both_parts (is_covered path && is_listed scope.listed path) (not (matches_one scope.excluded path)) e in
+    let first = both_parts (is_covered path) (is_listed scope.listed path) parts.0 in
+    (first.0, listed_from_test scope.listed path first.1, none_from_test scope.excluded path parts.1)
+
+test_from_asked : (scope : Scope) (path : List ℕ) → IsAskedFor scope path → is_chosen scope path ≡ true
+test_from_asked scope path h =
+    both_true (is_covered path && is_listed scope.listed path) (not (matches_one scope.excluded path))
+    (both_true (is_covered path) (is_listed scope.listed path) h.0 (test_from_listed scope.listed path h.1)) (test_from_none scope.excluded path h.2)
+
+-- ---- laws
+
+-- the root, or a folder of which this holds
+under_as : {Root : Type 0} {Under : List ℕ → Type 0} (Has Had : List ℕ → Type 0) → ((p : List ℕ) → Had p → Has p) → Root ⊎ ((p : List ℕ) × Had p × Under p) → Root ⊎ ((p : List ℕ) × Has p × Under p)
+under_as Has Had turn (inl root) = inl root
+under_as Has Had turn (inr under) = inr (under.0, turn under.0 under.1, under.2)
+
+module _ (scope : Scope) (places : List Place) (tree : Files) (path : List ℕ) (recursive : scope.recursive ≡ true) where
+  worked_is : worked_paths scope places tree ≡ set_of (flat_map (expanded scope tree) places)
+  worked_is = ap (λ b. set_of (cond b (flat_map (expanded scope tree) places) (paths_among places))) recursive
+
+  found : Worked scope tree path places → IsNamed places tree path ⊎ (StandsBeneath places tree path × IsAskedFor scope path)
+  found (inl named) = inl (Contains-from_in (paths_among places) path named.0, named.1)
+  found (inr (there, chosen)) = inr ((Contains-from_in (keys tree) path there.0, under_as (λ p. Contains (paths_among places) p) (λ p. In p (paths_among places)) (λ p. Contains-from_in (paths_among places) p) there.1), asked_from_test scope path chosen)
+
+  given : IsNamed places tree path ⊎ (StandsBeneath places tree path × IsAskedFor scope path) → Worked scope tree path places
+  given (inl named) = inl (In-from_contains (paths_among places) path named.0, named.1)
+  given (inr (there, asked)) = inr ((In-from_contains (keys tree) path there.0, under_as (λ p. In p (paths_among places)) (λ p. Contains (paths_among places) p) (λ p. In-from_contains (paths_among places) p) there.1), test_from_asked scope path asked)
+
+  pub worked_exactly : Contains (worked_paths scope places tree) path ↔ (IsNamed places tree path ⊎ (StandsBeneath places tree path × IsAskedFor scope path))
+  worked_exactly = (
+    λ h. found (from_expanded scope tree path places (In-set_of (flat_map (expanded scope tree) places) path
+        (In-from_contains (set_of (flat_map (expanded scope tree) places)) path (subst (λ ps. Contains ps path) worked_is h)))),
+    λ h. subst (λ ps. Contains ps path) (sym worked_is) (Contains-from_in (set_of (flat_map (expanded scope tree) places)) path
+        (set_of-has (flat_map (expanded scope tree) places) path (to_expanded scope tree path places (given h)))),
+  )
+
+and_true : (b : Bool) → (b && true) ≡ b
+and_true true = refl
+and_true false = refl
+
+pub all_chosen : (scope : Scope) (path : List ℕ) → scope.listed ≡ None → scope.excluded ≡ [] → is_chosen scope path ≡ is_covered path
+all_chosen scope path unlisted none =
+    ap (λ globs. is_covered path && is_listed scope.listed path && not (matches_one globs path)) none
+    ∙ and_true (is_covered path && is_listed scope.listed path)
+    ∙ ap (λ listed. is_covered path && is_listed listed path) unlisted
+    ∙ and_true (is_covered path)
+
+-- without going through folders
+module _ (scope : Scope) (places : List Place) (tree : Files) where
+  pub given_exactly : (path : List ℕ) → scope.recursive ≡ false → Contains (worked_paths scope places tree) path ↔ Contains (paths_among places) path
+  given_exactly path alone =
+      let worked : worked_paths scope places tree ≡ set_of (paths_among places) = ap (λ b. set_of (cond b (flat_map (expanded scope tree) places) (paths_among places))) alone in (
+        λ h. Contains-from_in (paths_among places) path (In-set_of (paths_among places) path (In-from_contains (set_of (paths_among places)) path (subst (λ ps. Contains ps path) worked h))),
+        λ h. subst (λ ps. Contains ps path) (sym worked) (Contains-from_in (set_of (paths_among places)) path (set_of-has (paths_among places) path (In-from_contains (paths_among places) path h))),
+      )
+
+  pub worked_ascend : ArePaths (worked_paths scope places tree)
+  worked_ascend = sorted-set_of (cond scope.recursive (flat_map (expanded scope tree) places) (paths_among places))

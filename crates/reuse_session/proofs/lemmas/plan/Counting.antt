@@ -1,0 +1,93 @@
+-- What a call counts while it plans.
+use Rattle.std.proofs.Common.{◌≡◌, ◌∙◌, ℕ, suc, Bool, true, false, cond, List, [], ◌∷◌, ◌++◌, length, filter, map, Result, Ok, Err, IfOk, refl, sym, ap}
+use Rattle.reuse_tree.specs.Files.{Files, tree_of}
+use Rattle.reuse_tree.specs.declared.store.Store.{Ghosts}
+use Rattle.reuse_session.specs.session.Calls.{LeavesRun}
+use Rattle.reuse_session.specs.plan.Counted.{skipped_count, skipped_planned}
+use Rattle.reuse_session.specs.plan.Edit.{Edit}
+use Rattle.reuse_session.specs.session.Fates.{fate_of, fates_of, limit_fates}
+use Rattle.reuse_session.specs.journal.Journal.{State}
+use Rattle.reuse_session.specs.plan.Outcome.{edits_of, path_edits_of, is_too_many}
+use Rattle.reuse_session.specs.plan.PathPlans.{ArePlansOf, fate_planned}
+use Rattle.reuse_session.specs.session.Session.{store_of, StandsOn}
+use Rattle.reuse_session.specs.declared.command.Command.{Command}
+use Rattle.reuse_session.specs.declared.plan.counts.Counts.{Counts}
+use Rattle.reuse_session.specs.declared.fate.Fate.{Fate}
+use Rattle.reuse_session.specs.declared.fate.Fate.TheVariants as fate
+use Rattle.reuse_session.specs.declared.plan.path_plan.PathPlan.{PathPlan}
+use Rattle.reuse_session.specs.declared.plan.path_plan.PathPlan.TheVariants as plan
+use Rattle.reuse_session.specs.declared.plan.path_plan.Policy.{Policy}
+use Rattle.reuse_session.specs.declared.reply.Refusal.{Refusal}
+use Rattle.reuse_session.specs.declared.reply.Refusal.TheVariants as refusals
+use Rattle.reuse_session.specs.declared.reply.Reply.{Reply}
+use Rattle.reuse_session.specs.declared.session.Session.{Session}
+use Rattle.reuse_session.proofs.lemmas.plan.PathPlanning.{fates_are}
+
+-- ---- files that are skipped
+
+skips_planned : (plans : List PathPlan) → skipped_planned plans ≡ skipped_count (map fate_planned plans)
+skips_planned [] = refl
+skips_planned (plan.Change change ∷ plans) = skips_planned plans
+skips_planned (plan.Unchanged path ∷ plans) = skips_planned plans
+skips_planned (plan.Skipped path ∷ plans) = ap suc (skips_planned plans)
+skips_planned (plan.Refused refusal ∷ plans) = skips_planned plans
+
+-- no file is skipped since the edits are too many
+none_at_limit : (given : Result (List Edit) Refusal) → skipped_count (limit_fates given) ≡ 0
+none_at_limit (Err refusal) = refl
+none_at_limit (Ok edits) = by_size (is_too_many edits)
+  where
+    by_size : (b : Bool) → skipped_count (cond b (fate.Refused refusals.TooMany ∷ []) []) ≡ 0
+    by_size true = refl
+    by_size false = refl
+
+none_behind : (fates others : List Fate) → skipped_count others ≡ 0 → skipped_count (fates ++ others) ≡ skipped_count fates
+none_behind [] others none = none
+none_behind (fate.Changes path ∷ fates) others none = none_behind fates others none
+none_behind (fate.Unchanged path ∷ fates) others none = none_behind fates others none
+none_behind (fate.Skipped path ∷ fates) others none = ap suc (none_behind fates others none)
+none_behind (fate.Refused refusal ∷ fates) others none = none_behind fates others none
+
+-- the plans of a command skip as many files as its fates say
+pub skips_are : (policy : Policy) (command : Command) (tree : Files) (plans : List PathPlan) → ArePlansOf policy tree (path_edits_of command tree) plans → skipped_planned plans ≡ skipped_count (fates_of command tree)
+unfolding fates_of
+skips_are policy command tree plans are =
+    let all = path_edits_of command tree in
+    skips_planned plans ∙ ap skipped_count (fates_are policy tree all plans are)
+    ∙ sym (none_behind (map fate_of all) (limit_fates (edits_of command tree)) (none_at_limit (edits_of command tree)))
+
+-- ---- sessions
+
+-- what a session counted is no part of what it stands at
+pub still_counted : {S : Type 0} (files : S → Files) (session : Session S) (counted : Counts) (held : State) → StandsOn files session held → StandsOn files (record session { counts = counted }) held
+still_counted files session counted held stands = record {
+  whole = stands.whole;
+  standing = stands.standing;
+  remembers = stands.remembers;
+}
+
+-- nor of what a run leaves
+pub leaves_counted : {S : Type 0} (store : Ghosts S) (old new : Session S) (counted : Counts) (command : Command) (when : ℕ) (result : Result Reply Refusal)
+    → LeavesRun store command when result (record old { counts = counted }) new → LeavesRun store command when result old new
+leaves_counted store old new counted command when result leaves = record {
+  unchanged = leaves.unchanged;
+  stands = λ honest held stands. leaves.stands honest held (still held stands);
+  early = λ honest held stands. leaves.early honest held (still held stands);
+  doubt = λ honest held stands. leaves.doubt honest held (still held stands);
+  late = leaves.late;
+  folder = leaves.folder;
+  texts = leaves.texts;
+  written = λ honest held stands. leaves.written honest held (still held stands);
+  moves = leaves.moves;
+  begins = leaves.begins;
+  clash = leaves.clash;
+  free = leaves.free;
+}
+  where
+    still : (held : State) → StandsOn store.files old held → StandsOn store.files (record old { counts = counted }) held
+    still held stands = still_counted store.files old counted held stands
+
+-- what is so of each answer is so of one that is no refusal
+pub if_ok : {A B : Type 0} (result : Result A B) (Claim : Type 0) → Claim → IfOk result (λ value. Claim)
+if_ok (Ok value) Claim is = is
+if_ok (Err refusal) Claim is = tt

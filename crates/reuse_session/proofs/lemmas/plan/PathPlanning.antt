@@ -1,0 +1,232 @@
+-- Plans of paths: what a walk has planned so far, and what is made of its plans.
+use Rattle.std.proofs.Common.{◌≡◌, Bool, true, false, ◌||◌, cond, List, [], ◌∷◌, ◌++◌, map, Option, Some, None, Result, Ok, Err, refl, sym, ap, ap₂, subst, ◌∙◌, append_assoc, length, arith, ◌⊎◌, inl, inr, IfOk, IfErr}
+use Rattle.std.specs.List.{cons_option, list_any}
+use Rattle.std.specs.Option.{option_to_list}
+use Rattle.std.proofs.lemmas.Bool.{false≢true}
+use Rattle.std.proofs.lemmas.List.{append-nil}
+use Rattle.std.proofs.lemmas.List.Elements.{filter_map-append}
+use Rattle.reuse_tree.specs.Files.{Files}
+use Rattle.reuse_tree.specs.declared.change.Change.{Change}
+use Rattle.reuse_session.specs.plan.Edit.{Edit}
+use Rattle.reuse_session.specs.session.Fates.{fate_by, fate_of, limit_fates}
+use Rattle.std.specs.declared.vec.Vec.{Vec}
+use Rattle.reuse_session.specs.plan.PathEdits.{PathEdit, edited_at, refused_alone, all_or_none, with_edit, or_first, edits_in}
+use Rattle.reuse_session.specs.plan.PathPlans.{IsPlanOf, ArePlansOf, AnswersPlans, EndsWalk, change_planned, changes_planned, fate_planned, is_refusal, limit_planned}
+use Rattle.reuse_session.specs.session.Answer.{IsEarlyFailure}
+use Rattle.reuse_session.specs.session.Previews.{IsTold}
+use Rattle.reuse_session.specs.plan.Plan.{MakesEach, MakesEdits, IsRefusalOf}
+use Rattle.reuse_session.specs.declared.fate.Fate.TheVariants as fate
+use Rattle.reuse_session.specs.declared.plan.path_plan.PathPlan.{PathPlan}
+use Rattle.reuse_session.specs.declared.plan.path_plan.PathPlan.TheVariants as plan
+use Rattle.reuse_session.specs.declared.plan.path_plan.Policy.{Policy}
+use Rattle.reuse_session.specs.declared.plan.path_plan.Policy.TheVariants.{Stop, Collect}
+use Rattle.reuse_session.specs.declared.reply.Refusal.{Refusal}
+use Rattle.reuse_session.specs.declared.failure.Failure.TheVariants as failures
+use Rattle.reuse_session.specs.declared.reply.Refusal.TheVariants as refusals
+use Rattle.reuse_session.proofs.lemmas.plan.Planning.{same_many}
+
+-- ---- one path
+
+-- a plan that isn't a refusal is one under each policy
+pub each_policy : (policy : Policy) (tree : Files) (here : PathEdit) (one : PathPlan) → IsPlanOf Stop tree here one → IsPlanOf policy tree here one
+each_policy policy tree here (plan.Change change) is = is
+each_policy policy tree here (plan.Unchanged path) is = is
+each_policy policy tree here (plan.Skipped path) is = is
+each_policy policy tree here (plan.Refused refusal) is = absurd (cc is.2)
+
+-- ---- one path after the other
+
+pub one_more : (policy : Policy) (tree : Files) (done : List PathEdit) (plans : List PathPlan) (here : PathEdit) (one : PathPlan) → ArePlansOf policy tree done plans → IsPlanOf policy tree here one
+    → ArePlansOf policy tree (done ++ here ∷ []) (plans ++ one ∷ [])
+one_more policy tree [] [] here one are is = (is, tt)
+one_more policy tree (first ∷ done) (p ∷ plans) here one are is = (are.0, one_more policy tree done plans here one are.1 is)
+one_more policy tree [] (p ∷ plans) here one are is = absurd are
+one_more policy tree (first ∷ done) [] here one are is = absurd are
+
+-- the plans so far are of the paths that are done; these are left
+pub record WalkedSoFar (policy : Policy) (tree : Files) (all left : List PathEdit) (plans : List PathPlan) : Type 0 where
+  pub done : List PathEdit
+  pub are : ArePlansOf policy tree done plans
+  pub same : done ++ left ≡ all
+
+-- a path at which the walk stops has its first refusal
+stops_at : (tree : Files) (done : List PathEdit) (plans : List PathPlan) (here : PathEdit) (rest : List PathEdit) (refusal : Refusal) → ArePlansOf Stop tree done plans → here.edit ≡ Err refusal
+    → edits_in (done ++ here ∷ rest) ≡ Err refusal
+stops_at tree [] [] here rest refusal are e = ap (λ r. or_first r (edits_in rest)) e
+stops_at tree (first ∷ done) (plan.Change change ∷ plans) here rest refusal are e =
+    ap₂ or_first are.0.1 (stops_at tree done plans here rest refusal are.1 e)
+stops_at tree (first ∷ done) (plan.Unchanged path ∷ plans) here rest refusal are e =
+    ap₂ or_first are.0.1 (stops_at tree done plans here rest refusal are.1 e)
+stops_at tree (first ∷ done) (plan.Skipped path ∷ plans) here rest refusal are e =
+    ap₂ or_first are.0.1 (stops_at tree done plans here rest refusal are.1 e)
+stops_at tree (first ∷ done) (plan.Refused other ∷ plans) here rest refusal are e = absurd (cc are.0.2)
+stops_at tree [] (p ∷ plans) here rest refusal are e = absurd are
+stops_at tree (first ∷ done) [] here rest refusal are e = absurd are
+
+ends_at : (policy : Policy) (tree : Files) (done : List PathEdit) (plans : List PathPlan) (here : PathEdit) (rest : List PathEdit) (refusal : Refusal) → ArePlansOf policy tree done plans
+    → EndsWalk policy refusal → IsRefusalOf here.edit refusal → IsRefusalOf (edits_in (done ++ here ∷ rest)) refusal
+ends_at policy tree done plans here rest (refusals.Failed failures.Memory) are ends is = tt
+ends_at policy tree done plans here rest (refusals.Failed (failures.Fault fault)) are ends is = tt
+ends_at Stop tree done plans here rest refusal are ends is = stops_at tree done plans here rest refusal are is
+ends_at Collect tree done plans here rest refusal are ends is = absurd ends
+
+module _ (policy : Policy) (tree : Files) (all : List PathEdit) where
+  pub at_start : WalkedSoFar policy tree all all []
+  at_start = record { done = []; are = tt; same = refl }
+
+  pub after_plan : (here : PathEdit) (left : List PathEdit) (plans : List PathPlan) (one : PathPlan) → WalkedSoFar policy tree all (here ∷ left) plans → IsPlanOf policy tree here one
+      → WalkedSoFar policy tree all left (plans ++ one ∷ [])
+  after_plan here left plans one so is = record {
+    done = so.done ++ here ∷ [];
+    are = one_more policy tree so.done plans here one so.are is;
+    same = append_assoc so.done (here ∷ []) left ∙ so.same;
+  }
+
+  pub at_refusal : (here : PathEdit) (left : List PathEdit) (plans : List PathPlan) (refusal : Refusal) → WalkedSoFar policy tree all (here ∷ left) plans → EndsWalk policy refusal → IsRefusalOf here.edit refusal
+      → IsRefusalOf (edits_in all) refusal
+  at_refusal here left plans refusal so ends is = subst (λ es. IsRefusalOf (edits_in es) refusal) so.same (ends_at policy tree so.done plans here left refusal so.are ends is)
+
+  pub at_end : (plans : List PathPlan) → WalkedSoFar policy tree all [] plans → ArePlansOf policy tree all plans
+  at_end plans so = subst (λ es. ArePlansOf policy tree es plans) (sym (append-nil so.done) ∙ so.same) so.are
+
+-- ---- what ends each walk
+
+pub look_refusal : {A : Type 0} (given : Result A Refusal) (refusal : Refusal) → IsEarlyFailure refusal → IsRefusalOf given refusal
+look_refusal given (refusals.Failed failures.Memory) is = tt
+look_refusal given (refusals.Failed (failures.Fault fault)) is = tt
+look_refusal given refusal is = absurd is
+
+pub look_ends : (policy : Policy) (refusal : Refusal) → IsEarlyFailure refusal → EndsWalk policy refusal
+look_ends Stop (refusals.Failed failures.Memory) is = tt
+look_ends Stop (refusals.Failed (failures.Fault fault)) is = tt
+look_ends Stop refusal is = absurd is
+look_ends Collect refusal is = is
+
+pub is_refusal_of : {A : Type 0} (given : Result A Refusal) (refusal : Refusal) → given ≡ Err refusal → IsRefusalOf given refusal
+is_refusal_of given (refusals.Failed failures.Memory) e = tt
+is_refusal_of given (refusals.Failed (failures.Fault fault)) e = tt
+is_refusal_of given refusal e = e
+
+-- a refusal that is told is that of the outcome
+pub told_is : {A : Type 0} (given : Result A Refusal) (refusal : Refusal) → IsTold refusal → IsRefusalOf given refusal → given ≡ Err refusal
+told_is given (refusals.Failed failure) told is = absurd told
+told_is given refusal told is = is
+
+-- a refusal alone, which tells of another result
+pub alone_as : {A B : Type 0} (policy : Policy) (tree : Files) (given : Result A Refusal) (all : List PathEdit) (refusal : Refusal) (result : Result (Vec PathPlan B) Refusal) → IsRefusalOf given refusal
+    → (given ≡ Err refusal → all ≡ refused_alone refusal) → IfOk result (λ plans. IsTold refusal) → IfErr result (λ ended. (ended ≡ refusals.Failed failures.Memory) ⊎ (ended ≡ refusal))
+    → AnswersPlans policy tree (refused_alone refusal) result → AnswersPlans policy tree all result
+alone_as policy tree given all refusal (Ok plans) is alone told same answers =
+    subst (λ es. ArePlansOf policy tree es plans.items) (sym (alone (told_is given refusal told is))) answers
+alone_as policy tree given all refusal (Err ended) is alone told (inl memory) answers = subst (IsRefusalOf (edits_in all)) (sym memory) tt
+alone_as policy tree given all refusal (Err ended) is alone told (inr same) answers = subst (IsRefusalOf (edits_in all)) (sym same) (passes refusal alone is)
+  where
+    passes : (r : Refusal) → (given ≡ Err r → all ≡ refused_alone r) → IsRefusalOf given r → IsRefusalOf (edits_in all) r
+    passes (refusals.Failed failures.Memory) k e = tt
+    passes (refusals.Failed (failures.Fault fault)) k e = tt
+    passes r k e = ap edits_in (k e)
+
+-- ---- changes together
+
+pub all_are : (policy : Policy) (tree : Files) (changes : List Change) (edits : List Edit) → MakesEach tree changes edits → ArePlansOf policy tree (map edited_at edits) (map plan.Change changes)
+all_are policy tree [] [] each = tt
+all_are policy tree (c ∷ changes) (e ∷ edits) each = ((e, refl, each.0), all_are policy tree changes edits each.1)
+all_are policy tree [] (e ∷ edits) each = absurd each
+all_are policy tree (c ∷ changes) [] each = absurd each
+
+pub all_made : (policy : Policy) (tree : Files) (given : Result (List Edit) Refusal) (changes : List Change) → MakesEdits tree given changes → ArePlansOf policy tree (all_or_none given) (map plan.Change changes)
+all_made policy tree given changes made = subst (λ g. ArePlansOf policy tree (all_or_none g) (map plan.Change changes)) (sym made.1) (all_are policy tree changes made.0 made.2)
+
+-- ---- what is made of plans
+
+pub none_refused : (tree : Files) (all : List PathEdit) (plans : List PathPlan) → ArePlansOf Stop tree all plans → list_any is_refusal plans ≡ false
+none_refused tree [] [] are = refl
+none_refused tree (here ∷ all) (plan.Change change ∷ plans) are = none_refused tree all plans are.1
+none_refused tree (here ∷ all) (plan.Unchanged path ∷ plans) are = none_refused tree all plans are.1
+none_refused tree (here ∷ all) (plan.Skipped path ∷ plans) are = none_refused tree all plans are.1
+none_refused tree (here ∷ all) (plan.Refused refusal ∷ plans) are = absurd (cc are.0.2)
+none_refused tree [] (p ∷ plans) are = absurd are
+none_refused tree (here ∷ all) [] are = absurd are
+
+module _ (policy : Policy) (tree : Files) where
+  -- where nothing is refused, the changes are those of the edits
+  pub changes_made : (all : List PathEdit) (plans : List PathPlan) → ArePlansOf policy tree all plans → list_any is_refusal plans ≡ false → MakesEdits tree (edits_in all) (changes_planned plans)
+  changes_made [] [] are none = ([], refl, tt)
+  changes_made (here ∷ all) (plan.Change change ∷ plans) are none =
+      let rest = changes_made all plans are.1 none in
+      (are.0.0 ∷ rest.0, ap₂ or_first are.0.1 rest.1, (are.0.2, rest.2))
+  changes_made (here ∷ all) (plan.Unchanged path ∷ plans) are none = let rest = changes_made all plans are.1 none in (rest.0, ap₂ or_first are.0.1 rest.1, rest.2)
+  changes_made (here ∷ all) (plan.Skipped path ∷ plans) are none = let rest = changes_made all plans are.1 none in (rest.0, ap₂ or_first are.0.1 rest.1, rest.2)
+  changes_made (here ∷ all) (plan.Refused refusal ∷ plans) are none = absurd (false≢true (sym none))
+  changes_made [] (p ∷ plans) are none = absurd are
+  changes_made (here ∷ all) [] are none = absurd are
+
+  behind : (first : Option Edit) (rest : Result (List Edit) Refusal) → ((refusal : Refusal) × (rest ≡ Err refusal)) → (refusal : Refusal) × (with_edit first rest ≡ Err refusal)
+  behind first rest is = (is.0, ap (with_edit first) is.1)
+
+  -- where one is refused, so are the edits
+  pub edits_refused : (all : List PathEdit) (plans : List PathPlan) → ArePlansOf policy tree all plans → list_any is_refusal plans ≡ true → (refusal : Refusal) × (edits_in all ≡ Err refusal)
+  edits_refused [] [] are some = absurd (false≢true some)
+  edits_refused (here ∷ all) (plan.Change change ∷ plans) are some =
+      let rest = edits_refused all plans are.1 some in (rest.0, ap₂ or_first are.0.1 rest.1)
+  edits_refused (here ∷ all) (plan.Unchanged path ∷ plans) are some = let rest = edits_refused all plans are.1 some in (rest.0, ap₂ or_first are.0.1 rest.1)
+  edits_refused (here ∷ all) (plan.Skipped path ∷ plans) are some = let rest = edits_refused all plans are.1 some in (rest.0, ap₂ or_first are.0.1 rest.1)
+  edits_refused (here ∷ all) (plan.Refused refusal ∷ plans) are some = (refusal, ap (λ r. or_first r (edits_in all)) are.0.0)
+  edits_refused [] (p ∷ plans) are some = absurd are
+  edits_refused (here ∷ all) [] are some = absurd are
+
+  fate_is : (here : PathEdit) (one : PathPlan) → IsPlanOf policy tree here one → fate_planned one ≡ fate_of here
+  fate_is here (plan.Change change) is = ap fate.Changes is.2.path ∙ sym (ap (fate_by here.path here.skipped) is.1)
+  fate_is here (plan.Unchanged path) is = ap fate.Unchanged is.0 ∙ sym (ap₂ (fate_by here.path) is.2 is.1)
+  fate_is here (plan.Skipped path) is = ap fate.Skipped is.0 ∙ sym (ap₂ (fate_by here.path) is.2 is.1)
+  fate_is here (plan.Refused refusal) is = sym (ap (fate_by here.path here.skipped) is.0)
+
+  pub fates_are : (all : List PathEdit) (plans : List PathPlan) → ArePlansOf policy tree all plans → map fate_planned plans ≡ map fate_of all
+  fates_are [] [] are = refl
+  fates_are (here ∷ all) (one ∷ plans) are = ap₂ (λ f fs. f ∷ fs) (fate_is here one are.0) (fates_are all plans are.1)
+  fates_are [] (p ∷ plans) are = absurd are
+  fates_are (here ∷ all) [] are = absurd are
+
+  pub limit_is : (all : List PathEdit) (plans : List PathPlan) → ArePlansOf policy tree all plans → limit_planned (list_any is_refusal plans) (changes_planned plans) ≡ limit_fates (edits_in all)
+  limit_is all plans are = by_refusal (list_any is_refusal plans) refl
+    where
+      by_refusal : (b : Bool) → list_any is_refusal plans ≡ b → limit_planned b (changes_planned plans) ≡ limit_fates (edits_in all)
+      by_refusal true e = sym (ap limit_fates (edits_refused all plans are e).1)
+      by_refusal false e =
+          let made = changes_made all plans are e in
+          ap (λ b. cond b (fate.Refused refusals.TooMany ∷ []) []) (same_many tree (changes_planned plans) made.0 made.2) ∙ sym (ap limit_fates made.1)
+
+-- ---- one plan more
+
+of_one : {A : Type 0} (o : Option A) → cons_option o [] ≡ option_to_list o
+of_one None = refl
+of_one (Some x) = refl
+
+pub fates_more : (plans : List PathPlan) (one : PathPlan) → map fate_planned (plans ++ one ∷ []) ≡ map fate_planned plans ++ fate_planned one ∷ []
+fates_more [] one = refl
+fates_more (p ∷ plans) one = ap (λ fs. fate_planned p ∷ fs) (fates_more plans one)
+
+pub changes_more : (plans : List PathPlan) (one : PathPlan) → changes_planned (plans ++ one ∷ []) ≡ changes_planned plans ++ option_to_list (change_planned one)
+changes_more plans one = filter_map-append change_planned plans (one ∷ []) ∙ ap (λ cs. changes_planned plans ++ cs) (of_one (change_planned one))
+
+pub refused_more : (plans : List PathPlan) (one : PathPlan) → list_any is_refusal (plans ++ one ∷ []) ≡ (list_any is_refusal plans || is_refusal one)
+refused_more [] one = by_test (is_refusal one)
+  where
+    by_test : (b : Bool) → (b || false) ≡ (false || b)
+    by_test true = refl
+    by_test false = refl
+refused_more (p ∷ plans) one = ap (λ b. is_refusal p || b) (refused_more plans one) ∙ sym (or_assoc (is_refusal p) (list_any is_refusal plans) (is_refusal one))
+  where
+    or_assoc : (a b c : Bool) → ((a || b) || c) ≡ (a || (b || c))
+    or_assoc true b c = refl
+    or_assoc false b c = refl
+
+-- no plans are of no paths
+pub none_of : (policy : Policy) (tree : Files) (all : List PathEdit) (plans : List PathPlan) → ArePlansOf policy tree all plans → plans ≡ [] → all ≡ []
+none_of policy tree [] plans are none = refl
+none_of policy tree (here ∷ all) [] are none = absurd are
+none_of policy tree (here ∷ all) (p ∷ plans) are none = absurd (cc none)
+
+pub no_plans : (plans : List PathPlan) → length plans ≡ 0 → plans ≡ []
+no_plans [] e = refl
+no_plans (p ∷ plans) e = absurd (omega (arith, e))

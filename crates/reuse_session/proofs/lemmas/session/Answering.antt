@@ -1,0 +1,285 @@
+-- How a session answers a request, from what its calls say.
+use Rattle.std.proofs.Common.{◌≡◌, ◌↔◌, ◌⊎◌, inl, inr, ⊎_elim, ◌+◌, ℕ, Bool, true, false, List, [], ◌∷◌, Result, Ok, Err, IfOk, IfErr, refl, sym, ap, subst, ◌∙◌}
+use Rattle.std.proofs.lemmas.Bool.{false≢true}
+use Rattle.std.specs.FinMap.{get}
+use Rattle.std.specs.List.{Contains}
+use Rattle.reuse_tree.specs.Asked.{OnlyReads}
+use Rattle.reuse_tree.specs.Files.{Files, Clashes}
+use Rattle.reuse_tree.specs.Tree.{undo_folder_of}
+use Rattle.reuse_tree.specs.declared.change.Change.{Change}
+use Rattle.reuse_tree.specs.declared.journal.entry.Entry.{Entry}
+use Rattle.reuse_tree.specs.declared.journal.head.PendingWay.{PendingWay}
+use Rattle.reuse_tree.specs.declared.store.Store.{Ghosts}
+use Rattle.reuse_tree.specs.declared.way.Way.{Way}
+use Rattle.reuse_tree.specs.declared.way.Way.TheVariants as way
+use Rattle.reuse_tree.specs.declared.cause.Cause.{Cause}
+use Rattle.reuse_session.specs.session.Answer.{IsBrokenOrMemory, IsEarly, IsStop, IsNoClash, IsRunAnswer, HasCause, HasClash, RefusedAsRead, TellsNoFault}
+use Rattle.reuse_session.specs.session.Calls.{files_of, folder_of, IsCall, LeavesRun}
+use Rattle.reuse_session.specs.journal.Journal.{Recorded, State, Travels, rows_in}
+use Rattle.reuse_session.specs.journal.JournalFiles.{head_path, entry_in, entry_path, number_of, EntrySays, IsFree}
+use Rattle.reuse_session.specs.journal.Losses.{AreSafeOn, IsNextBy, Survives}
+use Rattle.reuse_session.specs.session.Requests.{IsLook, MayFail, IfFailed, replied, LeadsTo, IsAfter, IsStopped, HasCallClash, KeepsFolder, SurvivesRequest, as_step, IsAnswered, Peeks}
+use Rattle.reuse_session.specs.session.RevertCalls.{IsAfterRevert, LeavesRevert, Reverts, as_run, touched_later}
+use Rattle.reuse_session.specs.session.Session.{store_of, is_broken, memory_of, IsKept, IsRun, IsSameBut, IsSameButTwo, Remembers, StandsOn, StopsAfter, StopsAfterRun}
+use Rattle.reuse_session.specs.session.Showing.{lists}
+use Rattle.reuse_session.specs.journal.Standing.{InDoubt, IsStanding, IsStep}
+use Rattle.reuse_session.specs.declared.command.Command.TheVariants.{Revert}
+use Rattle.reuse_session.specs.declared.failure.Fault.TheVariants as stores
+use Rattle.reuse_session.specs.declared.failure.Failure.TheVariants.{Fault, Memory, Interrupted}
+use Rattle.reuse_session.specs.declared.reply.Refusal.{Refusal}
+use Rattle.reuse_session.specs.declared.reply.Refusal.TheVariants.{Broken, NoSuchStep, Failed}
+use Rattle.reuse_session.specs.declared.reply.Reply.{Reply}
+use Rattle.reuse_session.specs.declared.reply.Reply.TheVariants as replies
+use Rattle.reuse_session.specs.declared.reply.Reverted.{Reverted}
+use Rattle.reuse_session.specs.declared.reply.Row.{Row}
+use Rattle.reuse_session.specs.declared.request.Call.{Call}
+use Rattle.reuse_session.specs.declared.request.Request.{Request}
+use Rattle.reuse_session.specs.declared.request.Request.TheVariants as requests
+use Rattle.reuse_session.specs.declared.session.Session.{Session}
+use Rattle.reuse_tree.specs.declared.cause.Cause.TheVariants as causes
+use Rattle.reuse_session.proofs.lemmas.journal.JournalLemmas.{same_entry}
+use Rattle.reuse_session.proofs.lemmas.session.Peeking.{refused, same_refusal, peek_call, peek_unclashed, still_stands, unclashed_read}
+use Rattle.reuse_session.proofs.lemmas.journal.StepDoubt.{reads_are_safe}
+use Rattle.reuse_session.proofs.lemmas.session.StepsByNumber.{done_step, says_step}
+
+-- ---- answers as replies
+
+-- what holds of a refusal holds of it as a reply's
+pub err_replied : {A : Type 0} (reply : A → Reply) (answer : Result A Refusal) (P : Refusal → Type 0) → IfErr answer P → IfErr (replied reply answer) P
+err_replied reply (Ok value) P h = tt
+err_replied reply (Err refusal) P h = h
+
+pub told_replied : {A : Type 0} (reply : A → Reply) (answer : Result A Refusal) → TellsNoFault (replied reply answer) → TellsNoFault answer
+told_replied reply (Ok value) told = tt
+told_replied reply (Err (Failed failure)) told = absurd told
+told_replied reply (Err refusal) told = tt
+
+is_replied : {A : Type 0} (reply : A → Reply) (answer : Result A Refusal) (refusal : Refusal) → replied reply answer ≡ Err refusal → answer ≡ Err refusal
+is_replied reply (Ok value) refusal is = absurd (cc)
+is_replied {A} reply (Err other) refusal is = ap (refused A) (same_refusal Reply other refusal is)
+
+pub broken_replied : {A : Type 0} (reply : A → Reply) (answer : Result A Refusal) (P : Type 0) → (answer ≡ Err Broken ↔ P) → (replied reply answer ≡ Err Broken ↔ P)
+broken_replied reply answer P h = (λ is. h.0 (is_replied reply answer Broken is), λ p. ap (replied reply) (h.1 p))
+
+pub call_replied : {A S : Type 0} (store : Ghosts S) (reply : A → Reply) (answer : Result A Refusal) (old new : Session S) → IsCall store answer old new → IsCall store (replied reply answer) old new
+call_replied store reply (Ok value) old new call = record { refused = tt; interrupted = tt; fault = tt; later = call.later }
+call_replied store reply (Err refusal) old new call = record { refused = call.refused; interrupted = call.interrupted; fault = call.fault; later = call.later }
+
+-- ---- what only looks
+
+safe_look : {S : Type 0} (store : Ghosts S) (request : Request) (earlier held : State) (answer : Result Reply Refusal) (new : S) → IsLook request → AreSafeOn store earlier held new
+    → SurvivesRequest store request earlier held answer new
+safe_look store (requests.Make call when) earlier held answer new look safe = absurd look
+safe_look store (requests.Preview call) earlier held answer new look safe = safe
+safe_look store requests.Log earlier held answer new look safe = safe
+safe_look store (requests.Show number) earlier held answer new look safe = safe
+
+clash_look : (request : Request) (held : State) (files : Files) (refusal : Refusal) → IsLook request → IsNoClash refusal → HasCallClash request held files refusal
+clash_look (requests.Make call when) held files refusal look none = absurd look
+clash_look (requests.Preview call) held files refusal look none = none
+clash_look requests.Log held files refusal look none = none
+clash_look (requests.Show number) held files refusal look none = none
+
+folder_look : (request : Request) (held : State) (before after : Files) → IsLook request → after ≡ before → KeepsFolder request held before after
+folder_look (requests.Make call when) held before after look same = absurd look
+folder_look (requests.Preview call) held before after look same = same
+folder_look requests.Log held before after look same = same
+folder_look (requests.Show number) held before after look same = same
+
+-- a look that isn't a log fails early
+pub fails_early : (request : Request) → ((refusal : Refusal) → IsEarly refusal → IfFailed (MayFail request) refusal) → {A : Type 0} (answer : Result A Refusal) → IfErr answer IsEarly → IfErr answer (IfFailed (MayFail request))
+fails_early request may (Ok value) early = tt
+fails_early request may (Err refusal) early = may refusal early
+
+pub preview_fails : (call : Call) (refusal : Refusal) → IsEarly refusal → IfFailed (MayFail (requests.Preview call)) refusal
+preview_fails call (Failed (Interrupted cause)) early = early
+preview_fails call (Failed (Fault fault)) early = tt
+preview_fails call (Failed Memory) early = tt
+preview_fails call refusal early = tt
+
+pub show_fails : (number : ℕ) (refusal : Refusal) → IsEarly refusal → IfFailed (MayFail (requests.Show number)) refusal
+show_fails number (Failed (Interrupted cause)) early = early
+show_fails number (Failed (Fault fault)) early = tt
+show_fails number (Failed Memory) early = tt
+show_fails number refusal early = tt
+
+-- a log fails for want of memory alone, and answers its rows
+pub log_fails : (answer : Result (List Row) Refusal) → IfErr answer IsBrokenOrMemory → IfErr answer (IfFailed (MayFail requests.Log))
+log_fails (Ok rows) is = tt
+log_fails (Err Broken) is = tt
+log_fails (Err (Failed Memory)) is = tt
+log_fails (Err refusal) is = absurd is
+
+pub log_leads : {S : Type 0} (files : S → Files) (session : Session S) (held : State) (answer : Result (List Row) Refusal) → StandsOn files session held → (answer ≡ Err Broken → is_broken session ≡ true)
+    → IfOk answer (λ rows. rows ≡ rows_in held.journal) → IfErr answer IsBrokenOrMemory → TellsNoFault answer → LeadsTo requests.Log held (replied replies.Log answer) held
+log_leads files session held (Ok rows) stands broken is kinds told = (ap (λ (rs : List Row). Ok (replies.Log rs)) is, refl)
+log_leads files session held (Err Broken) stands broken is kinds told = absurd (false≢true (sym stands.whole ∙ broken refl))
+log_leads files session held (Err (Failed Memory)) stands broken is kinds told = absurd told
+log_leads files session held (Err refusal) stands broken is kinds told = absurd kinds
+
+module _ {S A : Type 0} (store : Ghosts S) (request : Request) (look : IsLook request) (reply : A → Reply) (answer : Result A Refusal) (old new : Session S) (peeks : Peeks store answer old new)
+    (broken : answer ≡ Err Broken ↔ (is_broken old ≡ true)) (fails : IfErr answer (IfFailed (MayFail request)))
+    (exact : store.honest (store_of new) → (held : State) → StandsOn store.files old held → TellsNoFault answer → LeadsTo request held (replied reply answer) held)
+  where
+    early_stands : (answer : Result Reply Refusal) (held : State) → StandsOn store.files new held → IfErr answer (λ refusal. IsEarly refusal → StandsOn store.files new held)
+    early_stands (Ok value) held stands = tt
+    early_stands (Err refusal) held stands = λ early. stands
+
+    no_stop : (P : Type 0) (answer : Result A Refusal) → IfErr answer IsEarly → IfErr (replied reply answer) (λ refusal. IsStop refusal → P)
+    no_stop P (Ok value) early = tt
+    no_stop P (Err (Failed (Interrupted cause))) early = absurd early
+    no_stop P (Err refusal) early = λ stop. absurd stop
+
+    clashes : (held : State) (answer : Result A Refusal) → IfErr answer IsNoClash → IfErr (replied reply answer) (HasCallClash request held (files_of store old))
+    clashes held (Ok value) none = tt
+    clashes held (Err refusal) none = clash_look request held (files_of store old) refusal look none
+
+    pub answered_look : IsAnswered store request (replied reply answer) old new
+    answered_look = record {
+      broken = broken_replied reply answer _ broken;
+      exact = λ honest held stands told. (held, still_stands store answer old new held peeks honest stands, exact honest held stands (told_replied reply answer told));
+      stands = λ honest held stands. early_stands (replied reply answer) held (still_stands store answer old new held peeks honest stands);
+      doubt = λ honest held stands. no_stop _ answer peeks.unstopped;
+      fails = err_replied reply answer _ fails;
+      survives = λ honest earlier held stands safe. safe_look store request earlier held (replied reply answer) (store_of new) look (reads_are_safe store earlier held (store_of old) (store_of new) peeks.reads safe);
+      looks = λ is. peeks.reads;
+      kept = λ is. peeks.kept;
+      clash = λ honest held stands. clashes held answer (peek_unclashed store answer old new peeks honest);
+      unclashed = λ honest held stands free. err_replied reply answer IsNoClash (peek_unclashed store answer old new peeks honest);
+      free = λ honest free. subst (λ (f : Files). IsFree (undo_folder_of f)) (sym (peeks.reads.files honest)) free;
+      folder = λ honest held stands. folder_look request held (files_of store old) (files_of store new) look (peeks.reads.files honest);
+      call = call_replied store reply answer old new (peek_call store answer old new peeks);
+    }
+
+-- ---- a run, an undo and a redo
+
+pub make_fails : {A : Type 0} (call : Call) (when : ℕ) (answer : Result A Refusal) → IfErr answer (IfFailed (MayFail (requests.Make call when)))
+make_fails call when (Ok value) = tt
+make_fails call when (Err (Failed failure)) = tt
+make_fails call when (Err refusal) = tt
+
+-- their answers are steps as they are
+pub run_is_step : (answer : Result Reply Refusal) → IsRunAnswer answer → as_step answer ≡ answer
+run_is_step (Ok (replies.Reverted reverted)) is = absurd is
+run_is_step (Ok reply) is = refl
+run_is_step (Err refusal) is = refl
+
+-- a reply of an undo or a redo is no revert's
+no_revert : (go : Way) (steps : List Recorded) (held left : State) (reverted : Reverted) → Travels go steps held (Ok (replies.Reverted reverted)) left → ⊥
+no_revert way.Undo [] held left reverted travels = let is = travels.0 in cc
+no_revert way.Do [] held left reverted travels = let is = travels.0 in cc
+no_revert way.Undo (step ∷ steps) held left reverted travels = let is = travels.0 in cc
+no_revert way.Do (step ∷ steps) held left reverted travels = let is = travels.0 in cc
+
+pub travel_is_step : (go : Way) (steps : List Recorded) (held : State) (Stands : State → Type 0) (answer : Result Reply Refusal) → (TellsNoFault answer → (left : State) × Stands left × Travels go steps held answer left)
+    → as_step answer ≡ answer
+travel_is_step go steps held Stands (Ok (replies.Reverted reverted)) exact = let e = exact tt in absurd (no_revert go steps held e.0 reverted e.2)
+travel_is_step go steps held Stands (Ok reply) exact = refl
+travel_is_step go steps held Stands (Err refusal) exact = refl
+
+-- where an undo or a redo stopped, the next state is that after its step
+pub travel_doubt : (way : PendingWay) (held : State) (files : Files) (answer : Result Reply Refusal) → IfErr answer (λ refusal. IsStop refusal → StopsAfter way held files)
+    → IfErr answer (λ refusal. IsStop refusal → (second : State) × IsNextBy way held second × InDoubt held second files)
+travel_doubt way held files (Ok reply) doubt = tt
+travel_doubt way held files (Err refusal) doubt = λ stop. let left = doubt stop in (left.0, (left.1, left.2), left.3)
+
+-- ---- a revert
+
+-- its answer is a step as that of its run
+pub revert_is_step : (answer : Result Reverted Refusal) → as_step (replied replies.Reverted answer) ≡ as_run answer
+revert_is_step (Ok reverted) = refl
+revert_is_step (Err refusal) = refl
+
+-- refused after readings alone, or as a run of the command that takes back what an entry says
+abbrev ReadAlone : {S : Type 0} → Ghosts S → Result Reverted Refusal → Session S → Session S → Type 0
+ReadAlone store result old new = (refusal : Refusal) × (result ≡ Err refusal) × IsEarly refusal × OnlyReads store (store_of old) (store_of new) × RefusedAsRead store (store_of old) (store_of new) result
+
+abbrev RunBack : {S : Type 0} → Ghosts S → ℕ → Bool → ℕ → Result Reverted Refusal → Session S → Session S → Type 0
+RunBack store number skip_moved when result old new =
+    (entry : Entry) × (store.honest (store_of new) → EntrySays (get (folder_of store old) (entry_path number)) entry)
+    × (touched : List (List ℕ))
+    × (store.honest (store_of new) → (held : State) → StandsOn store.files old held → touched ≡ touched_later number held.journal.done entry.changes)
+    × LeavesRun store (Revert entry.changes touched skip_moved) when (as_run result) old new
+
+-- an answer that isn't that of an absent step is of a step that is done
+is_listed : {S : Type 0} (number : ℕ) (old : Session S) (answer : Result Reverted Refusal) → is_broken old ≡ false
+    → ((is_broken old ≡ false) × (lists (memory_of old).done number ≡ false) → answer ≡ Err (NoSuchStep number)) → ¬ (answer ≡ Err (NoSuchStep number)) → lists (memory_of old).done number ≡ true
+is_listed number old answer whole absent other = by_test (lists (memory_of old).done number) refl
+  where
+    by_test : (b : Bool) → lists (memory_of old).done number ≡ b → lists (memory_of old).done number ≡ true
+    by_test true e = e
+    by_test false e = absurd (other (absent (whole, e)))
+
+-- the step that an entry of the number says, where one is listed as done
+listed_step : {S : Type 0} (files : S → Files) (session : Session S) (held : State) → StandsOn files session held → (number : ℕ) → lists (memory_of session).done number ≡ true → (entry : Entry)
+    → EntrySays (get (undo_folder_of (files (store_of session))) (entry_path number)) entry → (step : Recorded) × Contains held.journal.done step × (number_of step ≡ number) × (entry.changes ≡ step.changes)
+listed_step files session held stands number listed entry says =
+    let at = done_step (memory_of session) held.journal number stands.remembers listed in
+    let is = says_step (undo_folder_of (files (store_of session))) held.journal stands.standing.journal true at.0 number at.1 at.2 in
+    (at.0, at.1, at.2, ap (λ (e : Entry). e.changes) (same_entry _ entry (entry_in at.0) says is))
+
+is_no_absence : (cause : Cause) (number : ℕ) → refused Reverted (Failed (Interrupted cause)) ≡ refused Reverted (NoSuchStep number) → ⊥
+is_no_absence cause number is = cc
+
+no_early_stop : (cause : Cause) (refusal : Refusal) → refused Reverted (Failed (Interrupted cause)) ≡ refused Reverted refusal → IsEarly refusal → ⊥
+no_early_stop cause refusal is early = subst IsEarly (sym (same_refusal Reverted (Failed (Interrupted cause)) refusal is)) early
+
+module _ {S : Type 0} (store : Ghosts S) (number : ℕ) (skip_moved : Bool) (when : ℕ) (old new : Session S) where
+  -- where a run of the command that takes the step back stopped, the next state is that after the revert
+  after_revert : (held : State) (left : Files) (step : Recorded) → Contains held.journal.done step → number_of step ≡ number
+      → StopsAfterRun (Revert step.changes (touched_later number held.journal.done step.changes) skip_moved) when held left
+      → (second : State) × IsAfterRevert number skip_moved when held second × InDoubt held second left
+  after_revert held left step is_done numbered stopped = (stopped.0, (step, is_done, numbered, stopped.1), stopped.2)
+
+  pub revert_stands : (answer : Result Reverted Refusal) (held : State) → store.honest (store_of new) → StandsOn store.files old held → LeavesRevert store number skip_moved when answer old new
+      → IfErr answer (λ refusal. IsEarly refusal → IsKept old new) → IfErr (replied replies.Reverted answer) (λ refusal. IsEarly refusal → StandsOn store.files new held)
+  revert_stands (Ok reverted) held honest stands leaves kept = tt
+  revert_stands (Err refusal) held honest stands leaves kept = λ early.
+      ⊎_elim (λ (read : ReadAlone store (Err refusal) old new).
+      record {
+        whole = (kept early).1 ∙ stands.whole;
+        standing = subst (λ f. IsStanding f held) (sym (read.3.files honest)) stands.standing;
+        remembers = subst (λ m. Remembers m held.journal) (sym (kept early).0) stands.remembers;
+      })
+      (λ (run : RunBack store number skip_moved when (Err refusal) old new). run.4.stands honest held stands early) leaves
+
+  pub revert_doubt : (answer : Result Reverted Refusal) (held : State) → store.honest (store_of new) → StandsOn store.files old held
+      → ((is_broken old ≡ false) × (lists (memory_of old).done number ≡ false) → answer ≡ Err (NoSuchStep number)) → LeavesRevert store number skip_moved when answer old new
+      → IfErr (replied replies.Reverted answer) (λ refusal. IsStop refusal → (second : State) × IsAfterRevert number skip_moved when held second × InDoubt held second (files_of store new))
+  revert_doubt (Ok reverted) held honest stands absent leaves = tt
+  revert_doubt (Err (Failed (Interrupted cause))) held honest stands absent leaves = λ stop.
+      ⊎_elim (λ (read : ReadAlone store (Err (Failed (Interrupted cause))) old new). absurd (no_early_stop cause read.0 read.1 read.2))
+      (λ (run : RunBack store number skip_moved when (Err (Failed (Interrupted cause))) old new).
+      let listed = is_listed number old (Err (Failed (Interrupted cause))) stands.whole absent (is_no_absence cause number) in
+      let step = listed_step store.files old held stands number listed run.0 (run.1 honest) in
+      let Stops = (λ (cs : List Change) (late : List (List ℕ)). StopsAfterRun (Revert cs late skip_moved) when held (store.files (store_of new))) in
+      after_revert held (files_of store new) step.0 step.1 step.2
+      (subst (λ cs. Stops cs (touched_later number held.journal.done cs)) step.3 (subst (Stops run.0.changes) (run.3 honest held stands) (run.4.doubt honest held stands tt)))) leaves
+  revert_doubt (Err refusal) held honest stands absent leaves = λ stop. absurd stop
+
+  -- a clash that a revert tells is that of the path that is put
+  pub revert_clash : (answer : Result Reverted Refusal) → store.honest (store_of new) → LeavesRevert store number skip_moved when answer old new
+      → IfErr (replied replies.Reverted answer) (HasClash (Clashes (files_of store old) (entry_path ((memory_of old).used + 1))) (Clashes (files_of store old) head_path))
+  revert_clash (Ok reverted) honest leaves = tt
+  revert_clash (Err refusal) honest leaves =
+      ⊎_elim (λ (read : ReadAlone store (Err refusal) old new).
+      no_clash_of _ _ refusal (unclashed_read refusal (λ is. read.4.clash honest (ap (λ r. Err r) is)) (let same : read.0 ≡ refusal = sym (same_refusal Reverted refusal read.0 read.1) in subst IsEarly same read.2)))
+      (λ (run : RunBack store number skip_moved when (Err refusal) old new). run.4.clash honest) leaves
+    where
+      no_clash_of : (entry head : Type 0) (refusal : Refusal) → IsNoClash refusal → HasClash entry head refusal
+      no_clash_of entry head (Failed (Fault stores.Clash)) none = absurd none
+      no_clash_of entry head (Failed (Interrupted causes.Clash)) none = absurd none
+      no_clash_of entry head (Failed (Interrupted causes.Moved)) none = none
+      no_clash_of entry head refusal none = tt
+
+  -- and of the journal's files it puts none but that of the next entry and the head
+  pub revert_folder : (answer : Result Reverted Refusal) → store.honest (store_of new) → LeavesRevert store number skip_moved when answer old new
+      → IsSameButTwo (entry_path ((memory_of old).used + 1)) head_path (folder_of store old) (folder_of store new)
+  revert_folder answer honest leaves =
+      ⊎_elim (λ (read : ReadAlone store answer old new). λ other no_entry no_head. ap (λ f. get (undo_folder_of f) other) (read.3.files honest))
+      (λ (run : RunBack store number skip_moved when answer old new). run.4.folder honest) leaves
+
+  pub revert_free : (answer : Result Reverted Refusal) → store.honest (store_of new) → LeavesRevert store number skip_moved when answer old new → IsFree (folder_of store old) → IsFree (folder_of store new)
+  revert_free answer honest leaves free =
+      ⊎_elim (λ (read : ReadAlone store answer old new). subst (λ (f : Files). IsFree (undo_folder_of f)) (sym (read.3.files honest)) free)
+      (λ (run : RunBack store number skip_moved when answer old new). run.4.free honest free) leaves

@@ -1,0 +1,214 @@
+-- A driven session: what one event makes of the point where it stands, and what many make of it.
+use Rattle.std.proofs.Common.{◌≡◌, ◌⊎◌, inl, inr, ⊎_elim, ℕ, Bool, true, false, List, [], ◌∷◌, length, Option, Some, None, Result, Ok, Err, IfErr, refl, sym, ap, subst, ◌∙◌, arith}
+use Rattle.std.specs.FinMap.{get}
+use Rattle.std.proofs.lemmas.Option.{none-some}
+use Rattle.reuse_tree.specs.Files.{Files}
+use Rattle.reuse_tree.specs.declared.way.Way.TheVariants as way
+use Rattle.reuse_session.specs.declared.command.Command.{Command}
+use Rattle.reuse_session.specs.declared.events.Driven.{Driven}
+use Rattle.reuse_session.specs.declared.events.Driven.TheVariants.{Open, Closed}
+use Rattle.reuse_session.specs.declared.events.Event.TheVariants as asked
+use Rattle.reuse_tree.specs.declared.journal.head.Head.{Head}
+use Rattle.reuse_tree.specs.declared.journal.head.Pending.{Pending}
+use Rattle.reuse_tree.specs.declared.journal.head.PendingWay.{PendingWay}
+use Rattle.reuse_tree.specs.declared.journal.head.PendingWay.TheVariants as pending
+use Rattle.reuse_tree.specs.declared.cause.Cause.{Cause}
+use Rattle.reuse_session.specs.declared.reply.Reply.{Reply}
+use Rattle.reuse_session.specs.declared.reply.Reply.TheVariants.{Opened}
+use Rattle.reuse_session.specs.declared.reply.Refusal.{Refusal}
+use Rattle.reuse_session.specs.declared.failure.Failure.TheVariants.{Memory, Fault, Interrupted}
+use Rattle.reuse_session.specs.declared.reply.Refusal.TheVariants.{Failed}
+use Rattle.reuse_session.specs.declared.request.Request.{Request}
+use Rattle.reuse_session.specs.declared.session.Session.{Session}
+use Rattle.reuse_session.specs.session.Answer.{IsEarly, IsFailure, TellsNoFault}
+use Rattle.reuse_tree.specs.Entry.{LeadsBy}
+use Rattle.reuse_session.specs.journal.Journal.{Recorded, Journal, State}
+use Rattle.reuse_session.specs.journal.JournalFiles.{head_path, head_of, number_of}
+use Rattle.reuse_session.specs.journal.Losses.{IsNextBy}
+use Rattle.reuse_session.specs.session.Machine.{Kept, Snapshots, ran_by, undone, redone}
+use Rattle.reuse_session.specs.session.Model.{Gives}
+use Rattle.reuse_session.specs.journal.Opening.{OpensOn}
+use Rattle.reuse_session.specs.session.Requests.{IfFailed, MayFail}
+use Rattle.reuse_session.specs.session.Session.{store_of, Remembers, LeadUpTo, LeadOn, HoldsSnapshots, StandsOn, StandsAt, IsKept, IsRun, StopsAfterRun}
+use Rattle.reuse_session.specs.journal.Standing.{IsStanding, IsStep, IsUnderWay, InDoubt, Moves}
+use Rattle.reuse_session.specs.session.Driven.{IsAt, store_in}
+use Rattle.reuse_session.specs.session.Stops.{Point, open_at, closed, Reopens, Continues, AnswersEvent, AreLeft}
+use Rattle.reuse_tree.specs.Tree.{undo_folder_of}
+use Rattle.reuse_session.proofs.lemmas.session.Following.{back_from, on_from}
+use Rattle.reuse_session.proofs.lemmas.journal.OpeningLemmas.{same_head}
+use Rattle.reuse_session.proofs.lemmas.session.RunFollowing.{step_follows}
+use Rattle.reuse_tree.proofs.Walk.{leads_once}
+
+-- ---- the state after a step that stopped
+
+module _ (held : State) (state : Snapshots) (holds : HoldsSnapshots held state) (second : State) where
+  pub ran_on : (command : Command) (when : ℕ) (files : Files) → IsStanding files held → IsRun command when held second → HoldsSnapshots second (ran_by state command when).1
+  ran_on command when files good run = (step_follows held state holds command when second run good.good.are_files).1
+
+  undone_by : (recorded : Recorded) (steps : List Recorded) (past : List Kept) → LeadUpTo state.tree (recorded ∷ steps) past → LeadsBy way.Undo recorded.changes held.tree second.tree
+      → second.journal ≡ record { done = steps; undone = recorded ∷ held.journal.undone; used = held.journal.used } → HoldsSnapshots second (undone state past).1
+  undone_by recorded steps [] h leads moved = absurd h
+  undone_by recorded steps (kept ∷ past) h leads moved =
+      let back = back_from held state holds recorded.changes kept.tree h.1.leads in
+      record {
+        tree = leads_once way.Undo recorded.changes held.tree second.tree kept.tree leads back;
+        past = subst (λ j. LeadUpTo kept.tree j.done past) (sym moved) h.2;
+        future = subst (λ j. LeadOn kept.tree j.undone (record { label = kept.label; tree = state.tree } ∷ state.future)) (sym moved) (h.0, h.1, holds.future);
+        used = ap (λ j. j.used) moved ∙ holds.used;
+      }
+
+  redone_by : (recorded : Recorded) (steps : List Recorded) (future : List Kept) → LeadOn state.tree (recorded ∷ steps) future → LeadsBy way.Do recorded.changes held.tree second.tree
+      → second.journal ≡ record { done = recorded ∷ held.journal.done; undone = steps; used = held.journal.used } → HoldsSnapshots second (redone state future).1
+  redone_by recorded steps [] h leads moved = absurd h
+  redone_by recorded steps (kept ∷ future) h leads moved =
+      let on = on_from held state holds recorded.changes kept.tree h.1.leads in
+      record {
+        tree = leads_once way.Do recorded.changes held.tree second.tree kept.tree leads on;
+        past = subst (λ j. LeadUpTo kept.tree j.done (record { label = kept.label; tree = state.tree } ∷ state.past)) (sym moved) (h.0, h.1, holds.past);
+        future = subst (λ j. LeadOn kept.tree j.undone future) (sym moved) h.2;
+        used = ap (λ j. j.used) moved ∙ holds.used;
+      }
+
+  pub undo_next : IsNextBy pending.Undo held second → HoldsSnapshots second (undone state state.past).1
+  undo_next next =
+      let moves = next.1.moves in
+      undone_by next.0 moves.0 state.past (subst (λ steps. LeadUpTo state.tree steps state.past) moves.1 holds.past) next.1.leads moves.2
+
+  pub redo_next : IsNextBy pending.Redo held second → HoldsSnapshots second (redone state state.future).1
+  redo_next next =
+      let moves = next.1.moves in
+      redone_by next.0 moves.0 state.future (subst (λ steps. LeadOn state.tree steps state.future) moves.1 holds.future) next.1.leads moves.2
+
+module _ (held : State) (state : Snapshots) (holds : HoldsSnapshots held state) (files : Files) where
+  pub run_left : (before : Files) (command : Command) (when : ℕ) → IsStanding before held → StopsAfterRun command when held files → AreLeft files state (Some (ran_by state command when).1)
+  run_left before command when good left = (held, left.0, holds, ran_on held state holds left.0 command when before good left.1, left.2)
+
+-- ---- opening
+
+-- no step leads from a journal to itself
+pub no_step : (way : PendingWay) (recorded : Recorded) (journal : Journal) → Moves way recorded journal journal → ⊥
+no_step pending.Do recorded journal moves = omega (arith, ap (λ (j : Journal). j.used) moves.1)
+no_step pending.Undo recorded journal moves = omega (arith, ap length moves.1, ap (λ (j : Journal). length j.done) moves.2)
+no_step pending.Redo recorded journal moves = omega (arith, ap length moves.1, ap (λ (j : Journal). length j.undone) moves.2)
+
+-- files in doubt between a standing and itself are it
+one_standing : (files : Files) (held : State) → InDoubt held held files → IsStanding files held
+one_standing files held doubt =
+    ⊎_elim (λ (first : IsStanding files held). first)
+    (λ (rest : IsStanding files held ⊎ ((way : PendingWay) × (step : Recorded) × IsStep way step held held × IsUnderWay way step held files)).
+    ⊎_elim (λ (second : IsStanding files held). second)
+    (λ (under : (way : PendingWay) × (step : Recorded) × IsStep way step held held × IsUnderWay way step held files). absurd (no_step under.0 under.1 held.journal under.2.moves)) rest) doubt
+
+-- where a session opens, it stands on one of the states
+pub reached : {S : Type 0} (files : S → Files) (before : Files) (session : Session S) (state : Snapshots) (next : Option Snapshots) → AreLeft before state next
+    → ((first second : State) → InDoubt first second before → StandsOn files session first ⊎ StandsOn files session second)
+    → (s : Snapshots) × ((state ≡ s) ⊎ (next ≡ Some s)) × StandsAt files session s
+reached files before session state None left settles =
+    (state, inl refl, record { held = left.0; stands = ⊎_elim (λ (stands : StandsOn files session left.0). stands) (λ (stands : StandsOn files session left.0). stands) (settles left.0 left.0 (inl left.1)); holds = left.2 })
+reached files before session state (Some next) left settles =
+    ⊎_elim (λ (stands : StandsOn files session left.0). (state, inl refl, record { held = left.0; stands = stands; holds = left.2 }))
+    (λ (stands : StandsOn files session left.1). (next, inr refl, record { held = left.1; stands = stands; holds = left.3 })) (settles left.0 left.1 left.4)
+
+pub opens : {S : Type 0} (files : S → Files) (before : Files) (session : Session S) (old : Point) → AreLeft before old.state old.next
+    → ((first second : State) → InDoubt first second before → StandsOn files session first ⊎ StandsOn files session second)
+    → (new : Point) × Reopens (Ok Opened) old new × IsAt files (Open session) new
+opens files before session old left settles =
+    let r = reached files before session old.state old.next left settles in
+    (open_at r.0, (r.0, r.1, refl), (refl, r.2))
+
+-- where it fails the files are left as they were
+left_again : (before after : Files) (state : Snapshots) (next : Option Snapshots) → AreLeft before state next
+    → ((first second : State) → InDoubt first second before → InDoubt first second after) → AreLeft after state next
+left_again before after state None left settles = (left.0, one_standing after left.0 (settles left.0 left.0 (inl left.1)), left.2)
+left_again before after state (Some next) left settles = (left.0, left.1, left.2, left.3, settles left.0 left.1 left.4)
+
+-- files that are left have standings
+pub some_doubt : (before : Files) (state : Snapshots) (next : Option Snapshots) → AreLeft before state next → (first : State) × (second : State) × InDoubt first second before
+some_doubt before state None left = (left.0, left.0, inl left.1)
+some_doubt before state (Some next) left = (left.0, left.1, left.4)
+
+pub left_out : (refusal : Refusal) (old : Point) → IsFailure refusal → Reopens (Err refusal) old (closed old)
+left_out (Failed how) old failure = refl
+left_out refusal old failure = absurd failure
+
+pub stays_closed : {S : Type 0} (files : S → Files) (before : Files) (store : S) (refusal : Refusal) (old : Point) → AreLeft before old.state old.next
+    → ((first second : State) → InDoubt first second before → IsFailure refusal × InDoubt first second (files store))
+    → (new : Point) × Reopens (Err refusal) old new × IsAt files (Closed store) new
+stays_closed files before store refusal old left settles =
+    let some = some_doubt before old.state old.next left in
+    (closed old, left_out refusal old (settles some.0 some.1 some.2).0, (refl, left_again before (files store) old.state old.next left (λ first second doubt. (settles first second doubt).1)))
+
+-- no step is under way where nothing is pending
+pub none_under_way : (files : Files) (held : State) (way : PendingWay) (recorded : Recorded) (first : State) → IsStanding files held → IsUnderWay way recorded first files → ⊥
+none_under_way files held way recorded first good under =
+    let pending : Pending = record { entry = number_of recorded; way = way } in
+    none-some pending (ap (λ (h : Head). h.pending) (same_head (get (undo_folder_of files) head_path) (head_of held.journal None) (head_of first.journal (Some pending)) good.journal.head under.journal.head))
+
+-- a standing stays when it is opened
+pub stays_open : (before after : Files) (held first : State) → IsStanding before held → OpensOn before first after → after ≡ before
+stays_open before after held first good opened =
+    ⊎_elim (λ (same : IsStanding before first × (after ≡ before)). same.1)
+    (λ (under : (way : PendingWay) × (step : Recorded) × IsUnderWay way step first before × IsStanding after first). absurd (none_under_way before held under.0 under.1 first good under.2)) opened
+
+-- ---- a request to an open session
+
+-- a session that is kept stands where it stood
+pub stands_still : {S : Type 0} (files : S → Files) (old new : Session S) (held : State) → StandsOn files old held → IsKept old new → files (store_of new) ≡ files (store_of old) → StandsOn files new held
+stands_still files old new held stands kept same = record {
+  whole = kept.1 ∙ stands.whole;
+  standing = subst (λ f. IsStanding f held) (sym same) stands.standing;
+  remembers = subst (λ m. Remembers m held.journal) (sym kept.0) stands.remembers;
+}
+
+pub stands_early : {S : Type 0} (files : S → Files) (old new : Session S) (held : State) (answer : Result Reply Refusal) → StandsOn files old held
+    → IfErr answer (λ refusal. IsEarly refusal → IsKept old new) → IfErr answer (λ refusal. IsEarly refusal → files (store_of new) ≡ files (store_of old))
+    → IfErr answer (λ refusal. IsEarly refusal → StandsOn files new held)
+stands_early files old new held (Ok reply) stands kept same = kept
+stands_early files old new held (Err refusal) stands kept same = λ early. stands_still files old new held stands (kept early) (same early)
+
+pub on_same_state : {S : Type 0} (files : S → Files) (old new : Session S) (state : Snapshots) (answer : Result Reply Refusal) (stands : StandsAt files old state)
+    → IfErr answer (λ refusal. IsEarly refusal → StandsOn files new stands.held) → IfErr answer (λ refusal. IsEarly refusal → StandsAt files new state)
+on_same_state files old new state (Ok reply) stands kept = kept
+on_same_state files old new state (Err refusal) stands kept = λ early. record { held = stands.held; stands = kept early; holds = stands.holds }
+
+-- one that wasn't interrupted leaves the session open
+pub goes_on : {S : Type 0} (files : S → Files) (request : Request) (answer : Result Reply Refusal) (state : Snapshots) (session : Session S)
+    → (TellsNoFault answer → (next : Snapshots) × Gives state request answer next × StandsAt files session next) → IfErr answer (λ refusal. IsEarly refusal → StandsAt files session state)
+    → IfErr answer (IfFailed (MayFail request)) → ((cause : Cause) → answer ≡ Err (Failed (Interrupted cause)) → ⊥)
+    → (new : Point) × Continues request answer (open_at state) new × IsAt files (Open session) new
+goes_on files request (Ok reply) state session follows stands fails other = let f = follows tt in (open_at f.0, (f.0, f.1, refl), (refl, f.2))
+goes_on files request (Err (Failed (Fault fault))) state session follows stands fails other = (open_at state, (fails, refl), (refl, stands tt))
+goes_on files request (Err (Failed Memory)) state session follows stands fails other = (open_at state, (fails, refl), (refl, stands tt))
+goes_on files request (Err (Failed (Interrupted cause))) state session follows stands fails other = absurd (other cause refl)
+goes_on files request (Err refusal) state session follows stands fails other = let f = follows tt in (open_at f.0, (f.0, f.1, refl), (refl, f.2))
+
+-- one that was closes it
+pub closes : {S : Type 0} (files : S → Files) (request : Request) (answer : Result Reply Refusal) (state : Snapshots) (store : S) (cause : Cause) → answer ≡ Err (Failed (Interrupted cause))
+    → IfErr answer (IfFailed (MayFail request)) → (given : Result Reply Refusal) × (next : Snapshots) × Gives state request given next × AreLeft (files store) state (Some next)
+    → (new : Point) × Continues request answer (open_at state) new × IsAt files (Closed store) new
+closes files request answer state store cause is fails left =
+    let new : Point = record { is_open = false; state = state; next = Some left.1 } in (
+      new,
+      subst (λ a. Continues request a (open_at state) new) (sym is) (subst (λ a. IfErr a (IfFailed (MayFail request))) is fails, left.0, left.1, left.2, refl),
+      (refl, left.3),
+    )
+
+-- ---- an event
+
+pub answers_reopen : (is_open : Bool) (answer : Result Reply Refusal) (old new : Point) → Reopens answer old new → AnswersEvent is_open asked.Reopen answer old new
+answers_reopen true answer old new h = h
+answers_reopen false answer old new h = h
+
+pub at_open : {S : Type 0} (files : S → Files) (driven : Driven S) (session : Session S) (point : Point) → driven ≡ Open session → IsAt files driven point
+    → (point ≡ open_at point.state) × StandsAt files session point.state
+at_open files driven session point is at = subst (λ d. IsAt files d point) is at
+
+pub at_closed : {S : Type 0} (files : S → Files) (driven : Driven S) (store : S) (point : Point) → driven ≡ Closed store → IsAt files driven point
+    → (point.is_open ≡ false) × AreLeft (files store) point.state point.next
+at_closed files driven store point is at = subst (λ d. IsAt files d point) is at
+
+-- what the store of a driven session holds
+pub left_at : {S : Type 0} (files : S → Files) (driven : Driven S) (point : Point) → IsAt files driven point → AreLeft (files (store_in driven)) point.state point.next
+left_at files (Open session) point at =
+    subst (λ next. AreLeft (files (store_of session)) point.state next) (sym (ap (λ (p : Point). p.next) at.0)) (at.1.held, at.1.stands.standing, at.1.holds)
+left_at files (Closed store) point at = at.1

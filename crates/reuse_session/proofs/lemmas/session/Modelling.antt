@@ -1,0 +1,170 @@
+-- What a session answers from a committed state is what the model gives in the state that this holds.
+use Rattle.std.proofs.Common.{◌≡◌, ◌⊎◌, inl, inr, ⊎_elim, ◌∙◌, ℕ, Bool, cond, List, [], ◌∷◌, Some, Result, Ok, Err, IfOk, ◌<◌, refl, sym, ap, subst, length, get_or, zero, suc, arith}
+use Rattle.std.specs.List.{Contains}
+use Rattle.reuse_tree.specs.Files.{Files}
+use Rattle.reuse_tree.specs.Entry.{paths_of}
+use Rattle.reuse_tree.specs.declared.change.Change.{Change}
+use Rattle.reuse_session.specs.session.Fates.{fates_of}
+use Rattle.reuse_session.specs.journal.Journal.{State, Recorded}
+use Rattle.reuse_session.specs.journal.JournalFiles.{number_of}
+use Rattle.reuse_session.specs.session.Machine.{Kept, Snapshots, is_full, ran_by, undone, redone, run_fates}
+use Rattle.reuse_session.specs.session.Model.{AreOf, IsUnkept, ShowsBy, command_back, as_reverted, RevertsTo, PreviewsBack, MakesTo, PreviewsTo, Gives}
+use Rattle.reuse_session.specs.session.Previews.{run_fates_on}
+use Rattle.reuse_session.specs.session.Requests.{replied, PreviewsRevert, Previews, Makes, LeadsTo, IsAfterCall, IsAfter, IsStopped}
+use Rattle.reuse_session.specs.session.RevertCalls.{Reverts, TakesBack, IsAfterRevert, as_run, changed_or_none, left_of, touched_later}
+use Rattle.reuse_session.specs.session.Session.{HoldsSnapshots, IsRun, LeadOn, Runs}
+use Rattle.reuse_session.specs.session.Showing.{IsUnused, ShowsIn, LedTo}
+use Rattle.reuse_session.specs.journal.Standing.{IsStanding}
+use Rattle.reuse_session.specs.session.Stops.{AreLeft}
+use Rattle.reuse_session.specs.declared.command.Command.{Command}
+use Rattle.reuse_session.specs.declared.command.Command.TheVariants.{Revert}
+use Rattle.reuse_session.specs.declared.fate.Fate.{Fate}
+use Rattle.reuse_session.specs.declared.reply.Reply.{Reply}
+use Rattle.reuse_session.specs.declared.reply.Reply.TheVariants as replies
+use Rattle.reuse_session.specs.declared.reply.Reverted.{Reverted}
+use Rattle.reuse_session.specs.declared.reply.Shown.{Shown}
+use Rattle.reuse_session.specs.declared.reply.Refusal.{Refusal}
+use Rattle.reuse_session.specs.declared.reply.Refusal.TheVariants.{JournalFull, NoSuchStep}
+use Rattle.reuse_session.specs.declared.request.Call.{Call}
+use Rattle.reuse_session.specs.declared.request.Call.TheVariants as calls
+use Rattle.reuse_session.specs.declared.request.Request.{Request}
+use Rattle.reuse_session.specs.declared.request.Request.TheVariants as requests
+use Rattle.reuse_session.proofs.lemmas.session.Driving.{ran_on, undo_next, redo_next}
+use Rattle.reuse_session.proofs.lemmas.session.Following.{undo_follows, redo_follows, log_follows, is_full_alike}
+use Rattle.reuse_session.proofs.lemmas.session.LaterSteps.{later_as_machine}
+use Rattle.reuse_session.proofs.lemmas.session.Previewing.{undo_foretold, redo_foretold}
+use Rattle.reuse_session.proofs.lemmas.session.RunFollowing.{runs_as_machine}
+use Rattle.reuse_session.proofs.lemmas.session.StepsByNumber.{led_to_tree, shows_at, unkept}
+
+-- ---- reverts
+
+-- what a revert answers: that no such step is done, or what it takes back
+pub reverts_one : (number : ℕ) (skip_moved : Bool) (when : ℕ) (old : State) (answer : Result Reverted Refusal) (new : State) → Reverts number skip_moved when old answer new
+    → ((answer ≡ Err (NoSuchStep number)) × IsUnused number old.journal.done × (new ≡ old)) ⊎ TakesBack number skip_moved when old answer new
+reverts_one number skip_moved when old (Ok reverted) new back = inr back
+reverts_one number skip_moved when old (Err (NoSuchStep other)) new none = inl (ap (λ n. Err (NoSuchStep n)) none.0, none.1, none.2)
+reverts_one number skip_moved when old (Err refusal) new back = inr back
+
+-- its reply is that of the run, with the other paths of the step
+module _ (changes : List Change) where
+  by_paths : (paths skipped : List (List ℕ)) → skipped ≡ left_of (paths_of changes) paths
+      → Ok (replies.Reverted (record { changed = paths; skipped = skipped })) ≡ as_reverted changes (Ok (changed_or_none paths))
+  by_paths [] skipped is = ap (λ (s : List (List ℕ)). Ok (replies.Reverted (record { changed = []; skipped = s }))) is
+  by_paths (path ∷ paths) skipped is = ap (λ (s : List (List ℕ)). Ok (replies.Reverted (record { changed = path ∷ paths; skipped = s }))) is
+
+  reverted_as_run : (answer : Result Reverted Refusal) → IfOk answer (λ (reverted : Reverted). reverted.skipped ≡ left_of (paths_of changes) reverted.changed)
+      → replied replies.Reverted answer ≡ as_reverted changes (as_run answer)
+  reverted_as_run (Ok reverted) is = by_paths reverted.changed reverted.skipped is
+  reverted_as_run (Err refusal) is = refl
+
+-- no step that leads on from the tree has the number
+unkept_on : (number : ℕ) (tree : Files) (steps : List Recorded) (future : List Kept) → LeadOn tree steps future → IsUnused number steps → IsUnkept number future
+unkept_on number tree steps future on none k d low same = at tree steps future on none k low same
+  where
+    at : (tree : Files) (steps : List Recorded) (future : List Kept) → LeadOn tree steps future → IsUnused number steps → (k : ℕ) → k < length future → (get_or future k d).label.number ≡ number → ⊥
+    at tree [] [] on none k low same = omega (arith, low)
+    at tree [] (kept ∷ future) on none k low same = on
+    at tree (s ∷ steps) [] on none k low same = on
+    at tree (s ∷ steps) (kept ∷ future) on none zero low same = none 0 s (omega arith) (sym (ap (λ l. l.number) on.0) ∙ same)
+    at tree (s ∷ steps) (kept ∷ future) on none (suc k) low same = at kept.tree steps future on.2 (λ i x lt. none (suc i) x (omega (arith, lt))) k (omega (arith, low)) same
+
+module _ (held : State) (state : Snapshots) (holds : HoldsSnapshots held state) where
+  -- ---- what only looks
+
+  -- a step that is shown
+  shown_by : (number : ℕ) (shown : Result Shown Refusal) → ShowsIn held.journal number shown → ShowsBy state number shown
+  shown_by number (Ok shown) shows = shows_at held state holds number shown shows
+  shown_by number (Err refusal) none =
+      (none.0, unkept number state.tree held.journal.done state.past holds.past none.1, unkept_on number state.tree held.journal.undone state.future holds.future none.2)
+
+  -- what a run would do
+  run_alike : (command : Command) → run_fates_on held command ≡ run_fates state command
+  run_alike command =
+      sym (ap (λ b. cond b (Err JournalFull) (Ok (fates_of command held.tree))) (is_full_alike held state holds))
+      ∙ ap (λ t. cond (is_full (length state.past) state.used) (Err JournalFull) (Ok (fates_of command t))) holds.tree
+
+  -- what a revert would do
+  previews_back : (number : ℕ) (skip_moved : Bool) (answer : Result (List Fate) Refusal) → PreviewsRevert number skip_moved held answer → PreviewsBack state number skip_moved answer
+  previews_back number skip_moved answer previews =
+      ⊎_elim (λ (none : (answer ≡ Err (NoSuchStep number)) × IsUnused number held.journal.done). inl (none.0, unkept number state.tree held.journal.done state.past holds.past none.1))
+      (λ (back : (step : Recorded) × Contains held.journal.done step × (number_of step ≡ number) × (answer ≡ run_fates_on held (Revert step.changes (touched_later number held.journal.done step.changes) skip_moved))).
+      let changes = back.0.changes in
+      inr (
+        changes,
+        led_to_tree held state holds back.0 number back.1 back.2,
+        back.3 ∙ run_alike (Revert changes (touched_later number held.journal.done changes) skip_moved)
+            ∙ ap (λ late. run_fates state (Revert changes late skip_moved)) (later_as_machine held state holds number changes),
+      )) previews
+
+  pub previews_to : (call : Call) (fates : Result (List Fate) Refusal) → Previews call held fates → PreviewsTo state call fates
+  previews_to (calls.Run command) fates previews = previews ∙ run_alike command
+  previews_to calls.Undo fates previews = undo_foretold held state holds fates previews
+  previews_to calls.Redo fates previews = redo_foretold held state holds fates previews
+  previews_to (calls.Revert number skip_moved) fates previews = previews_back number skip_moved fates previews
+
+  -- ---- what is made
+
+  module _ (files : Files) (standing : IsStanding files held) where
+    reverts_to : (number : ℕ) (skip_moved : Bool) (when : ℕ) (answer : Result Reverted Refusal) (left : State) → Reverts number skip_moved when held answer left
+        → (next : Snapshots) × RevertsTo state number skip_moved when (replied replies.Reverted answer) next × HoldsSnapshots left next
+    reverts_to number skip_moved when answer left reverts =
+        ⊎_elim (λ (none : (answer ≡ Err (NoSuchStep number)) × IsUnused number held.journal.done × (left ≡ held)).
+        (state, inl (ap (replied replies.Reverted) none.0, unkept number state.tree held.journal.done state.past holds.past none.1, refl), subst (λ s. HoldsSnapshots s state) (sym none.2) holds))
+        (λ (back : TakesBack number skip_moved when held answer left).
+        let changes = back.step.changes in
+        let runs = subst (λ late. Runs (Revert changes late skip_moved) when held (as_run answer) left) (later_as_machine held state holds number changes) back.runs in
+        let ran = runs_as_machine held state holds (command_back state number skip_moved changes) when (as_run answer) left standing.good.are_files runs in (
+          (ran_by state (command_back state number skip_moved changes) when).1,
+          inr (changes, led_to_tree held state holds back.step number back.is_done back.numbered, (reverted_as_run changes answer back.skipped ∙ ap (as_reverted changes) ran.0, refl)),
+          ran.1,
+        )) (reverts_one number skip_moved when held answer left reverts)
+
+    makes_to : (call : Call) (when : ℕ) (answer : Result Reply Refusal) (left : State) → Makes call when held answer left → (next : Snapshots) × MakesTo state call when answer next × HoldsSnapshots left next
+    makes_to (calls.Run command) when answer left makes =
+        let ran = runs_as_machine held state holds command when answer left standing.good.are_files makes in ((ran_by state command when).1, (ran.0, refl), ran.1)
+    makes_to calls.Undo when answer left makes = let did = undo_follows held state holds left answer makes in ((undone state state.past).1, (did.0, refl), did.1)
+    makes_to calls.Redo when answer left makes = let did = redo_follows held state holds left answer makes in ((redone state state.future).1, (did.0, refl), did.1)
+    makes_to (calls.Revert number skip_moved) when answer left makes =
+        let to = reverts_to number skip_moved when makes.0 left makes.2 in
+        (to.0, subst (λ a. RevertsTo state number skip_moved when a to.0) (sym makes.1) to.1, to.2)
+
+    -- the same of a request
+    pub gives_to : (request : Request) (answer : Result Reply Refusal) (left : State) → LeadsTo request held answer left → (next : Snapshots) × Gives state request answer next × HoldsSnapshots left next
+    gives_to (requests.Make call when) answer left leads = makes_to call when answer left leads
+    gives_to (requests.Preview call) answer left leads =
+        (state, (leads.0, leads.1, previews_to call leads.0 leads.2, refl), subst (λ s. HoldsSnapshots s state) (sym leads.3) holds)
+    gives_to requests.Log answer left leads =
+        (state, (leads.0 ∙ ap (λ rows. Ok (replies.Log rows)) (log_follows held state holds), refl), subst (λ s. HoldsSnapshots s state) (sym leads.1) holds)
+    gives_to (requests.Show number) answer left leads =
+        (state, (leads.0, leads.1, shown_by number leads.0 leads.2, refl), subst (λ s. HoldsSnapshots s state) (sym leads.3) holds)
+
+    -- ---- where it stops
+
+    after_revert : (number : ℕ) (skip_moved : Bool) (when : ℕ) (second : State) → IsAfterRevert number skip_moved when held second
+        → (given : Result Reply Refusal) × (next : Snapshots) × RevertsTo state number skip_moved when given next × HoldsSnapshots second next
+    after_revert number skip_moved when second after =
+        let changes = after.0.changes in
+        let command = command_back state number skip_moved changes in
+        let run = subst (λ late. IsRun (Revert changes late skip_moved) when held second) (later_as_machine held state holds number changes) after.3 in (
+          as_reverted changes (ran_by state command when).0,
+          (ran_by state command when).1,
+          inr (changes, led_to_tree held state holds after.0 number after.1 after.2, (refl, refl)),
+          ran_on held state holds second command when files standing run,
+        )
+
+    after_call : (call : Call) (when : ℕ) (second : State) → IsAfterCall call when held second → (given : Result Reply Refusal) × (next : Snapshots) × MakesTo state call when given next × HoldsSnapshots second next
+    after_call (calls.Run command) when second after = ((ran_by state command when).0, (ran_by state command when).1, (refl, refl), ran_on held state holds second command when files standing after)
+    after_call calls.Undo when second after = ((undone state state.past).0, (undone state state.past).1, (refl, refl), undo_next held state holds second after)
+    after_call calls.Redo when second after = ((redone state state.future).0, (redone state state.future).1, (refl, refl), redo_next held state holds second after)
+    after_call (calls.Revert number skip_moved) when second after = after_revert number skip_moved when second after
+
+    pub after_as_model : (request : Request) (second : State) → IsAfter request held second → (given : Result Reply Refusal) × (next : Snapshots) × Gives state request given next × HoldsSnapshots second next
+    after_as_model (requests.Make call when) second after = after_call call when second after
+    after_as_model (requests.Preview call) second after = absurd after
+    after_as_model requests.Log second after = absurd after
+    after_as_model (requests.Show number) second after = absurd after
+
+    pub stopped_near : (request : Request) (left : Files) → IsStopped request held left → (given : Result Reply Refusal) × (next : Snapshots) × Gives state request given next × AreLeft left state (Some next)
+    stopped_near request left stopped =
+        let after = after_as_model request stopped.0 stopped.1 in
+        (after.0, after.1, after.2, (held, stopped.0, holds, after.3, stopped.2))

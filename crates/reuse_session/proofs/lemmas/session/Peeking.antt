@@ -1,0 +1,172 @@
+-- Calls of a session that only look.
+use Rattle.std.proofs.Common.{◌≡◌, ◌≢◌, ◌∙◌, ◌<◌, ℕ, Bool, true, false, Result, Ok, Err, IfErr, refl, sym, ap, subst, arith}
+use Rattle.std.proofs.lemmas.Bool.{false≢true}
+use Rattle.reuse_tree.specs.Asked.{OnlyReads}
+use Rattle.reuse_tree.proofs.AskedLemmas.{later_reads, reads_more, reads_none}
+use Rattle.reuse_session.specs.declared.failure.Fault.TheVariants as stores
+use Rattle.reuse_tree.specs.declared.store.Store.{Ghosts}
+use Rattle.reuse_session.specs.session.Answer.{TellsNoFault, IsBrokenOrMemory, IsEarly, IsStop, HasCause, IsNoClash, RefusedAsRead}
+use Rattle.reuse_session.specs.journal.Journal.{State}
+use Rattle.reuse_session.specs.session.Calls.{IsCall}
+use Rattle.reuse_session.specs.session.Previews.{OnlyLooks, IsPreviewRefusal}
+use Rattle.reuse_session.specs.session.Requests.{Peeks}
+use Rattle.reuse_session.specs.session.Session.{store_of, is_broken, StandsOn, IsKept}
+use Rattle.reuse_tree.specs.declared.cause.Cause.TheVariants as causes
+use Rattle.reuse_session.specs.declared.reply.Refusal.{Refusal}
+use Rattle.reuse_session.specs.declared.failure.Failure.TheVariants.{Fault as StoreFailed, Memory, Interrupted}
+use Rattle.reuse_session.specs.declared.reply.Refusal.TheVariants.{Broken, Failed}
+use Rattle.reuse_session.specs.declared.session.Session.{Session}
+use Rattle.reuse_session.proofs.lemmas.session.Driving.{stands_still}
+
+-- a refusal as an answer
+abbrev pub refused : (A : Type 0) → Refusal → Result A Refusal
+refused A refusal = Err refusal
+
+pub same_refusal : (A : Type 0) (one other : Refusal) → refused A one ≡ refused A other → one ≡ other
+same_refusal A one other is = cc
+
+-- a fault that has one cause has the other that follows
+pub caused : {A : Type 0} (Rose Higher : Type 0) → (Rose → Higher) → (answer : Result A Refusal) → IfErr answer (HasCause Rose) → IfErr answer (HasCause Higher)
+caused Rose Higher on (Ok reply) h = tt
+caused Rose Higher on (Err (Failed (StoreFailed stores.Device))) h = on h
+caused Rose Higher on (Err (Failed (Interrupted causes.Device))) h = on h
+caused Rose Higher on (Err refusal) h = tt
+
+-- ---- calls that only look
+
+pub unclashed_read : (refusal : Refusal) → (refusal ≢ Failed (StoreFailed stores.Clash)) → IsEarly refusal → IsNoClash refusal
+unclashed_read (Failed (StoreFailed stores.Clash)) none early = absurd (none refl)
+unclashed_read (Failed (Interrupted cause)) none early = absurd early
+unclashed_read refusal none early = tt
+
+-- what only looks tells no clash
+pub peek_unclashed : {S A : Type 0} (store : Ghosts S) (answer : Result A Refusal) (old new : Session S) → Peeks store answer old new → store.honest (store_of new)
+    → IfErr answer IsNoClash
+peek_unclashed store (Ok value) old new peeks honest = tt
+peek_unclashed store (Err refusal) old new peeks honest =
+    unclashed_read refusal (λ is. peeks.fails.clash honest (ap (λ r. Err r) is)) peeks.unstopped
+
+-- a step that is shown only looks
+pub show_peeks : {S A : Type 0} (store : Ghosts S) (answer : Result A Refusal) (old new : Session S) → (is_broken old ≡ true → answer ≡ Err Broken) → OnlyReads store (store_of old) (store_of new)
+    → IsKept old new → RefusedAsRead store (store_of old) (store_of new) answer → IsCall store answer old new → Peeks store answer old new
+show_peeks {S} {A} store answer old new broken reads kept fails call =
+    record { reads = reads; kept = kept; fails = fails; unstopped = never_stops answer (is_broken old) refl broken call.interrupted; caused = call.fault }
+  where
+    never_stops : (answer : Result A Refusal) (b : Bool) → is_broken old ≡ b → (is_broken old ≡ true → answer ≡ Err Broken) → IfErr answer (λ refusal. IsStop refusal → is_broken new ≡ true) → IfErr answer IsEarly
+    never_stops (Ok value) b is broken stops = tt
+    never_stops (Err (Failed (Interrupted cause))) true is broken stops = subst (λ a. IfErr a IsEarly) (sym (broken is)) tt
+    never_stops (Err (Failed (Interrupted cause))) false is broken stops = absurd (false≢true (sym is ∙ sym kept.1 ∙ stops tt))
+    never_stops (Err refusal) b is broken stops = tt
+
+-- the same of an answer that tells no fault, and of a refusal that is handed on
+pub peeks_ok : {S A B : Type 0} (store : Ghosts S) (first : Result A Refusal) (value : B) (old new : Session S) → Peeks store first old new → Peeks {A = B} store (Ok value) old new
+peeks_ok store first value old new peeks =
+    record {
+      reads = peeks.reads;
+      kept = peeks.kept;
+      fails = record { device = λ is. absurd (ok_is_no_err value _ is); clash = λ honest is. ok_is_no_err value _ is };
+      unstopped = tt;
+      caused = tt;
+    }
+  where
+    ok_is_no_err : {B : Type 0} (value : B) (refusal : Refusal) → Ok value ≡ Err refusal → ⊥
+    ok_is_no_err value refusal is = cc
+
+pub peeks_err : {S A B : Type 0} (store : Ghosts S) (refusal : Refusal) (old new : Session S) → Peeks {A = A} store (Err refusal) old new → Peeks {A = B} store (Err refusal) old new
+peeks_err {S} {A} {B} store refusal old new peeks =
+    record {
+      reads = peeks.reads;
+      kept = peeks.kept;
+      fails =
+          record {
+            device = λ is. peeks.fails.device (ap (refused A) (same_refusal B refusal _ is));
+            clash = λ honest is. peeks.fails.clash honest (ap (refused A) (same_refusal B refusal _ is));
+          };
+      unstopped = peeks.unstopped;
+      caused = peeks.caused;
+    }
+
+-- the session still stands
+pub still_stands : {S A : Type 0} (store : Ghosts S) (answer : Result A Refusal) (old new : Session S) (held : State) → Peeks store answer old new → store.honest (store_of new)
+    → StandsOn store.files old held → StandsOn store.files new held
+still_stands store answer old new held peeks honest stands = stands_still store.files old new held stands peeks.kept (peeks.reads.files honest)
+
+-- a preview looks
+pub preview_peeks : {S A : Type 0} (store : Ghosts S) (answer : Result A Refusal) (old new : Session S) → OnlyLooks store answer old new → IfErr answer IsPreviewRefusal → Peeks store answer old new
+preview_peeks store answer old new looks is =
+    record {
+      reads = looks.reads;
+      kept = looks.kept;
+      fails = looks.fails;
+      unstopped = unstopped answer is;
+      caused = caused_by answer looks.fails is;
+    }
+  where
+    unstopped : {A : Type 0} (answer : Result A Refusal) → IfErr answer IsPreviewRefusal → IfErr answer IsEarly
+    unstopped (Ok value) is = tt
+    unstopped (Err (Failed (Interrupted cause))) is = absurd is
+    unstopped (Err refusal) is = tt
+
+    caused_by : {A S : Type 0} {store : Ghosts S} {old new : S} (answer : Result A Refusal) → RefusedAsRead store old new answer → IfErr answer IsPreviewRefusal
+        → IfErr answer (HasCause (store.failures old < store.failures new))
+    caused_by (Ok value) fails is = tt
+    caused_by (Err (Failed (StoreFailed stores.Device))) fails is = fails.device refl
+    caused_by (Err (Failed (Interrupted cause))) fails is = absurd is
+    caused_by (Err refusal) fails is = tt
+
+-- a refusal that tells no fault as one answer tells none as another
+pub told_again : (A B : Type 0) (refusal : Refusal) → TellsNoFault (refused A refusal) → TellsNoFault (refused B refusal)
+told_again A B (Failed failure) told = absurd told
+told_again A B refusal told = tt
+
+-- what a look at an earlier one makes of it: one look, and then another
+pub peeks_on : {S A B : Type 0} (store : Ghosts S) (first : Result A Refusal) (second : Result B Refusal) (old mid new : Session S) → Peeks store first old mid → Peeks store second mid new
+    → Peeks store second old new
+peeks_on store first second old mid new one two =
+    record {
+      reads = reads_more store (store_of old) (store_of mid) (store_of new) one.reads two.reads;
+      kept = (two.kept.0 ∙ one.kept.0, two.kept.1 ∙ one.kept.1);
+      fails =
+          record {
+            device = λ is. let rise = two.fails.device is in omega (arith, rise, one.reads.failures);
+            clash = two.fails.clash;
+          };
+      unstopped = two.unstopped;
+      caused = caused _ _ (λ rise. omega (arith, rise, one.reads.failures)) second two.caused;
+    }
+
+-- a log looks
+pub log_peeks : {S A : Type 0} (store : Ghosts S) (answer : Result A Refusal) (session : Session S) → IfErr answer IsBrokenOrMemory → Peeks store answer session session
+log_peeks {S} {A} store answer session is =
+    record {
+      reads = reads_none store (store_of session);
+      kept = (refl, refl);
+      fails = record { device = λ e. absurd (subst (λ a. IfErr a IsBrokenOrMemory) e is); clash = λ honest e. subst (λ a. IfErr a IsBrokenOrMemory) e is };
+      unstopped = early answer is;
+      caused = caused_none _ answer is;
+    }
+  where
+    early : (answer : Result A Refusal) → IfErr answer IsBrokenOrMemory → IfErr answer IsEarly
+    early (Ok value) is = tt
+    early (Err (Failed (Interrupted cause))) is = absurd is
+    early (Err refusal) is = tt
+
+    caused_none : (Rose : Type 0) (answer : Result A Refusal) → IfErr answer IsBrokenOrMemory → IfErr answer (HasCause Rose)
+    caused_none Rose (Ok value) is = tt
+    caused_none Rose (Err (Failed Memory)) is = tt
+    caused_none Rose (Err Broken) is = tt
+    caused_none Rose (Err refusal) is = absurd is
+
+-- what any call leaves, of one that looks
+pub peek_call : {S A : Type 0} (store : Ghosts S) (answer : Result A Refusal) (old new : Session S) → Peeks store answer old new → IsCall store answer old new
+peek_call {S} {A} store answer old new peeks =
+    record { refused = kept answer; interrupted = stopped answer peeks.unstopped; fault = peeks.caused; later = later_reads store (store_of old) (store_of new) peeks.reads }
+  where
+    kept : (answer : Result A Refusal) → IfErr answer (λ refusal. IsEarly refusal → IsKept old new)
+    kept (Ok value) = tt
+    kept (Err refusal) = λ early. peeks.kept
+
+    stopped : (answer : Result A Refusal) → IfErr answer IsEarly → IfErr answer (λ refusal. IsStop refusal → is_broken new ≡ true)
+    stopped (Ok value) early = tt
+    stopped (Err (Failed (Interrupted cause))) early = absurd early
+    stopped (Err refusal) early = λ stop. absurd stop

@@ -1,0 +1,211 @@
+-- What a revert answers and leaves, from the run that it makes.
+use Rattle.std.proofs.Common.{◌≡◌, ◌≢◌, ◌⊎◌, inl, inr, ℕ, ◌<◌, Bool, true, false, List, [], ◌∷◌, Result, Ok, Err, IfOk, IfErr, refl, sym, ap, ap₂, subst, ◌∙◌, arith}
+use Rattle.std.specs.List.{Contains}
+use Rattle.std.specs.List.Sorted.{IsStrictlySortedBy}
+use Rattle.std.specs.FinMap.{get}
+use Rattle.reuse_tree.specs.Asked.{OnlyReads}
+use Rattle.reuse_tree.specs.Files.{Files}
+use Rattle.reuse_tree.specs.declared.change.Change.{Change}
+use Rattle.reuse_session.specs.declared.failure.Fault.TheVariants as faults
+use Rattle.reuse_tree.specs.declared.store.Store.{Ghosts}
+use Rattle.reuse_tree.proofs.AskedLemmas.{later_more, later_reads}
+use Rattle.reuse_session.specs.session.Answer.{IsEarly, IsNoClash, IsReadRefusal, IsRunAnswer, RefusedAsRead, TellsNoFault}
+use Rattle.reuse_session.specs.session.Calls.{folder_of, IsCall, LeavesRun}
+use Rattle.reuse_tree.specs.Entry.{paths_of}
+use Rattle.reuse_session.specs.journal.Journal.{State}
+use Rattle.reuse_session.specs.journal.JournalFiles.{entry_path, EntrySays}
+use Rattle.reuse_tree.specs.Listing.{ArePaths}
+use Rattle.reuse_session.specs.session.Machine.{Snapshots}
+use Rattle.reuse_session.specs.session.RevertCalls.{changed_or_none, as_run, left_of, touched_later, changed_later, IsBackOf, LeavesRevert, Reverts, RevertFollows, TakesBack}
+use Rattle.reuse_session.specs.session.Session.{store_of, memory_of, StandsOn, StandsAt, Runs}
+use Rattle.reuse_session.specs.session.Showing.{lists, IsUnused}
+use Rattle.reuse_session.specs.declared.command.Command.{Command}
+use Rattle.reuse_session.specs.declared.command.Command.TheVariants.{Revert}
+use Rattle.reuse_tree.specs.declared.journal.entry.Entry.{Entry}
+use Rattle.reuse_session.specs.declared.reply.Refusal.{Refusal}
+use Rattle.reuse_session.specs.declared.failure.Failure.TheVariants.{Fault}
+use Rattle.reuse_session.specs.declared.reply.Refusal.TheVariants.{BadJournal, JournalFull, NoSuchStep, Failed}
+use Rattle.reuse_session.specs.declared.reply.Reply.{Reply}
+use Rattle.reuse_session.specs.declared.reply.Reply.TheVariants.{Changed, NothingChanged}
+use Rattle.reuse_session.specs.declared.reply.Reverted.{Reverted}
+use Rattle.reuse_session.specs.declared.session.Session.{Session}
+use Rattle.reuse_tree.proofs.DifferingPaths.{changed_ascend}
+use Rattle.reuse_session.proofs.lemmas.session.OnlyReading.{read_early, still_caused}
+use Rattle.reuse_session.proofs.lemmas.session.Peeking.{unclashed_read}
+use Rattle.reuse_session.proofs.lemmas.session.LaterSteps.{later_as_machine}
+use Rattle.reuse_session.proofs.lemmas.session.RunFollowing.{follows_exact}
+use Rattle.reuse_session.proofs.lemmas.journal.StepAnswers.{read_told}
+use Rattle.reuse_session.proofs.lemmas.session.StepsByNumber.{led_to_tree, unkept, unused}
+
+-- ---- answers
+
+pub told_run : (result : Result Reverted Refusal) → TellsNoFault result → TellsNoFault (as_run result)
+told_run (Ok reverted) told = tt
+told_run (Err refusal) told = told
+
+-- an answer of a run isn't that of a step that isn't there
+pub run_has_step : (number : ℕ) (answer : Result Reply Refusal) → IsRunAnswer answer → answer ≡ Err (NoSuchStep number) → ⊥
+run_has_step number answer is e = subst IsRunAnswer e is
+
+-- what is told of a run that changed these paths
+pub told_changed : (changed : List (List ℕ)) → IsRunAnswer (Ok (Changed changed)) → changed_or_none changed ≡ Changed changed
+told_changed [] is = absurd is
+told_changed (path ∷ paths) is = refl
+
+-- what is told of another run
+pub told_other : (reply : Reply) → ((changed : List (List ℕ)) → reply ≡ Changed changed → ⊥) → IsRunAnswer (Ok reply) → NothingChanged ≡ reply
+told_other NothingChanged other is = refl
+told_other (Changed []) other is = absurd is
+told_other (Changed (path ∷ paths)) other is = absurd (other (path ∷ paths) refl)
+told_other reply other is = absurd is
+
+-- a call whose answer is that of a run
+pub call_as_run : {S : Type 0} (store : Ghosts S) (result : Result Reverted Refusal) (answer : Result Reply Refusal) (old new : Session S) → as_run result ≡ answer → IsCall store answer old new → IsCall store result old new
+call_as_run store result answer old new same call = by_result result (subst (λ r. IsCall store r old new) (sym same) call)
+  where
+    by_result : (r : Result Reverted Refusal) → IsCall store (as_run r) old new → IsCall store r old new
+    by_result (Ok reverted) c = record { refused = tt; interrupted = tt; fault = tt; later = c.later }
+    by_result (Err refusal) c = record { refused = c.refused; interrupted = c.interrupted; fault = c.fault; later = c.later }
+
+-- a call that reads before
+pub call_after_reading : {S : Type 0} (store : Ghosts S) (result : Result Reverted Refusal) (old : Session S) (read : S) (new : Session S) → OnlyReads store (store_of old) read
+    → IsCall store result (record old { store = read }) new → IsCall store result old new
+call_after_reading {S} store result old read new reads call = by_result result call
+  where
+    by_result : (r : Result Reverted Refusal) → IsCall store r (record old { store = read }) new → IsCall store r old new
+    by_result (Ok reverted) c = record { refused = tt; interrupted = tt; fault = tt; later = later_more store _ _ _ (later_reads store _ _ reads) c.later }
+    by_result (Err refusal) c = record {
+      refused = c.refused;
+      interrupted = c.interrupted;
+      fault = still_caused refusal (store.failures read < store.failures (store_of new)) (store.failures (store_of old) < store.failures (store_of new)) (λ rise. omega (arith, reads.failures, rise)) c.fault;
+      later = later_more store _ _ _ (later_reads store _ _ reads) c.later;
+    }
+
+-- ---- the step that is taken back
+
+no_paths : ArePaths []
+unfolding IsStrictlySortedBy
+no_paths = tt
+
+ascend_changed : (command : Command) (when : ℕ) (held left : State) (changed : List (List ℕ)) → Runs command when held (Ok (changed_or_none changed)) left → ArePaths changed
+ascend_changed command when held left [] runs = no_paths
+ascend_changed command when held left (path ∷ paths) runs = subst ArePaths (sym runs.0) (changed_ascend held.tree left.tree)
+
+reverts_of : (number : ℕ) (skip : Bool) (when : ℕ) (held left : State) (result : Result Reverted Refusal) → IsRunAnswer (as_run result) → TakesBack number skip when held result left → Reverts number skip when held result left
+reverts_of number skip when held left (Ok reverted) is back = back
+reverts_of number skip when held left (Err (NoSuchStep other)) is back = absurd is
+reverts_of number skip when held left (Err refusal) is back = back
+
+module _ (held left : State) (number : ℕ) (skip : Bool) (when : ℕ) (changes : List Change) (touched : List (List ℕ)) (back : IsBackOf number held.journal changes touched)
+    (paths : List (List ℕ)) (is_paths : paths ≡ paths_of changes)
+    (answer : Result Reply Refusal) (kinds : IsRunAnswer answer) (result : Result Reverted Refusal) (same : as_run result ≡ answer)
+    (skipped : IfOk result (λ reverted. ArePaths reverted.changed → reverted.skipped ≡ left_of paths reverted.changed))
+    (runs : Runs (Revert changes touched skip) when held answer left)
+  where
+    abbrev of_step : Command
+    of_step = Revert back.step.changes (touched_later number held.journal.done back.step.changes) skip
+
+    run_of_step : Runs of_step when held (as_run result) left
+    run_of_step =
+        subst (λ r. Runs of_step when held r left) (sym same)
+        (subst (λ (k : Command). Runs k when held answer left) (ap₂ (λ cs ts. Revert cs ts skip) back.changes back.touched) runs)
+
+    left_out : (r : Result Reverted Refusal) → Runs of_step when held (as_run r) left → IfOk r (λ reverted. ArePaths reverted.changed → reverted.skipped ≡ left_of paths reverted.changed)
+        → IfOk r (λ reverted. reverted.skipped ≡ left_of (paths_of back.step.changes) reverted.changed)
+    left_out (Ok reverted) ran h = h (ascend_changed of_step when held left reverted.changed ran) ∙ ap (λ ps. left_of ps reverted.changed) (is_paths ∙ ap paths_of back.changes)
+    left_out (Err refusal) ran h = tt
+
+    pub reverts_step : Reverts number skip when held result left
+    reverts_step = reverts_of number skip when held left result (subst IsRunAnswer (sym same) kinds) (record {
+      step = back.step;
+      is_done = back.is_done;
+      numbered = back.numbered;
+      runs = run_of_step;
+      skipped = left_out result run_of_step skipped;
+    })
+
+    pub revert_follows : {S : Type 0} (files : S → Files) (session new : Session S) (state : Snapshots) (stands_at : StandsAt files session state) → held ≡ stands_at.held → StandsOn files new left
+        → RevertFollows files number skip when state result new
+    revert_follows files session new state stands_at is_held stands_left =
+        let cs = back.step.changes in
+        let h = subst (λ (s : State). Contains s.journal.done back.step) is_held back.is_done in
+        let late = ap (λ (s : State). touched_later number s.journal.done back.step.changes) is_held ∙ later_as_machine stands_at.held state stands_at.holds number back.step.changes in
+        let ran = subst (λ ts. Runs (Revert back.step.changes ts skip) when held (as_run result) left) late run_of_step in
+        inr (
+          cs,
+          led_to_tree stands_at.held state stands_at.holds back.step number h back.numbered,
+          follows_exact files new state stands_at (Revert cs (changed_later number state.tree state.past cs) skip) when (as_run result) (
+            left,
+            stands_left,
+            subst (λ (s : State). Runs (Revert back.step.changes (changed_later number state.tree state.past back.step.changes) skip) when s (as_run result) left) is_held ran,
+          ),
+        )
+
+-- no step that is done has the number
+pub absent_step : {S : Type 0} (files : S → Files) (session : Session S) (held : State) → StandsOn files session held → (number : ℕ) → lists (memory_of session).done number ≡ false → IsUnused number held.journal.done
+absent_step files session held stands number none = unused (memory_of session) held.journal number stands.remembers true none
+
+pub absent_follows : {S : Type 0} (files : S → Files) (session : Session S) (state : Snapshots) (stands_at : StandsAt files session state) (number : ℕ) (skip : Bool) (when : ℕ) → lists (memory_of session).done number ≡ false
+    → RevertFollows files number skip when state (Err (NoSuchStep number)) session
+absent_follows files session state stands_at number skip when none =
+    inl (refl, unkept number state.tree stands_at.held.journal.done state.past stands_at.holds.past (absent_step files session stands_at.held stands_at.stands number none), stands_at)
+
+-- where nothing can be taken back and no fault is told, there is no such step
+pub no_step_back : (number : ℕ) (refusal : Refusal) → (refusal ≡ NoSuchStep number) ⊎ IsReadRefusal refusal → TellsNoFault {A = Reply} (Err refusal) → ((path : List ℕ) → refusal ≡ BadJournal path → ⊥) → refusal ≡ NoSuchStep number
+no_step_back number refusal (inl e) told good = e
+no_step_back number refusal (inr is) told good = absurd (read_told refusal is told good)
+
+-- the refusal tells no fault of the store
+abbrev pub IsNoFaultOfStore : Refusal → Type 0
+IsNoFaultOfStore (Failed (Fault fault)) = ⊥
+IsNoFaultOfStore refusal = Unit {0}
+
+-- a refusal before the run
+pub unrun_leaves : {S : Type 0} (store : Ghosts S) (number : ℕ) (skip : Bool) (when : ℕ) (refusal : Refusal) (old new : Session S) → IsEarly refusal → OnlyReads store (store_of old) (store_of new)
+    → RefusedAsRead {A = Reverted} store (store_of old) (store_of new) (Err refusal) → LeavesRevert store number skip when (Err refusal) old new
+unrun_leaves store number skip when refusal old new early reads fails = inl (refusal, refl, early, reads, fails)
+
+same_refusal : (A : Type 0) (one other : Refusal) → ◌≡◌ {A = Result A Refusal} (Err one) (Err other) → one ≡ other
+same_refusal A one other e = cc
+
+-- a refusal that tells no fault of the store
+pub no_fault : {A S : Type 0} (store : Ghosts S) (old new : S) (refusal : Refusal) → IsNoFaultOfStore refusal → RefusedAsRead {A = A} store old new (Err refusal)
+no_fault {A} store old new refusal is = record {
+  device = λ e. absurd (subst IsNoFaultOfStore (same_refusal A refusal (Failed (Fault faults.Device)) e) is);
+  clash = λ honest e. subst IsNoFaultOfStore (same_refusal A refusal (Failed (Fault faults.Clash)) e) is;
+}
+
+-- a reading's refusal, told as a revert's
+pub fails_too : {A B S : Type 0} (store : Ghosts S) (old new : S) (refusal : Refusal) → RefusedAsRead {A = A} store old new (Err refusal) → RefusedAsRead {A = B} store old new (Err refusal)
+fails_too {A} {B} store old new refusal fails = record {
+  device = λ e. fails.device (ap (λ r. Err r) (same_refusal B refusal (Failed (Fault faults.Device)) e));
+  clash = λ honest e. fails.clash honest (ap (λ r. Err r) (same_refusal B refusal (Failed (Fault faults.Clash)) e));
+}
+
+-- what the run leaves
+pub run_leaves : {S : Type 0} (store : Ghosts S) (number : ℕ) (skip : Bool) (when : ℕ) (result : Result Reverted Refusal) (answer : Result Reply Refusal) (old new : Session S) (entry : Entry) (changes : List Change)
+    (touched : List (List ℕ)) → (store.honest (store_of new) → EntrySays (get (folder_of store old) (entry_path number)) entry) → changes ≡ entry.changes
+    → (store.honest (store_of new) → (held : State) → StandsOn store.files old held → IsBackOf number held.journal changes touched) → as_run result ≡ answer
+    → LeavesRun store (Revert changes touched skip) when answer old new → LeavesRevert store number skip when result old new
+run_leaves store number skip when result answer old new entry changes touched says is_changes back same leaves = inr (
+  entry,
+  says,
+  touched,
+  λ honest held stands.
+      let of = back honest held stands in
+      of.touched ∙ ap (touched_later number held.journal.done) (sym of.changes ∙ is_changes),
+  subst (λ r. LeavesRun store (Revert entry.changes touched skip) when r old new) (sym same) (subst (λ cs. LeavesRun store (Revert cs touched skip) when answer old new) is_changes leaves),
+)
+
+-- a revert whose run was refused since the journal is full tells no clash
+pub full_revert : (result : Result Reverted Refusal) → as_run result ≡ Err JournalFull → IfErr result IsNoClash
+full_revert (Ok reverted) is = tt
+full_revert (Err refusal) is = subst IsNoClash (sym (same_refusal refusal is)) tt
+  where
+    same_refusal : (refusal : Refusal) → as_run (Err refusal) ≡ Err JournalFull → refusal ≡ JournalFull
+    same_refusal refusal is = cc
+
+-- where nothing was taken back, no clash is told either
+pub unclashed_back : (number : ℕ) (refusal : Refusal) → (refusal ≡ NoSuchStep number) ⊎ IsReadRefusal refusal → (refusal ≢ Failed (Fault faults.Clash)) → IsNoClash refusal
+unclashed_back number refusal (inl e) none = subst IsNoClash (sym e) tt
+unclashed_back number refusal (inr is) none = unclashed_read refusal none (read_early refusal is)

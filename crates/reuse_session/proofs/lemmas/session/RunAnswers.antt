@@ -1,0 +1,33 @@
+-- What a run answers.
+use Rattle.std.proofs.Common.{◌≡◌, ◌<◌, List, [], ◌∷◌, length, Result, Ok, Err, IfOk, IfErr, sym, subst, arith}
+use Rattle.reuse_tree.specs.declared.change.Change.{Change}
+use Rattle.reuse_session.specs.session.Answer.{IsFailure, IsOfPlan, IsRunAnswer}
+use Rattle.reuse_tree.specs.Entry.{paths_of}
+use Rattle.reuse_session.specs.declared.reply.Reply.{Reply}
+use Rattle.reuse_session.specs.declared.reply.Reply.TheVariants.{Changed}
+use Rattle.reuse_session.specs.declared.reply.Refusal.{Refusal}
+use Rattle.reuse_session.specs.declared.reply.Refusal.TheVariants.{NothingToUndo, NothingToRedo, NoSuchStep, BadJournal}
+
+-- a refusal of the plan
+pub planned_answer : (refusal : Refusal) → IsOfPlan refusal → IsRunAnswer (Err refusal)
+planned_answer NothingToUndo of = of
+planned_answer NothingToRedo of = of
+planned_answer (NoSuchStep number) of = of
+planned_answer (BadJournal path) of = of
+planned_answer refusal of = tt
+
+failed_answer : (refusal : Refusal) → IsFailure refusal → IsRunAnswer (Err refusal)
+failed_answer NothingToUndo is = is
+failed_answer NothingToRedo is = is
+failed_answer (NoSuchStep number) is = is
+failed_answer (BadJournal path) is = is
+failed_answer refusal is = tt
+
+changed_answer : (changes : List Change) → 0 < length changes → IsRunAnswer (Ok (Changed (paths_of changes)))
+changed_answer [] some = absurd (omega (arith, some))
+changed_answer (change ∷ changes) some = tt
+
+-- the step
+pub step_answer : (changes : List Change) → 0 < length changes → (result : Result Reply Refusal) → IfOk result (λ reply. reply ≡ Changed (paths_of changes)) → IfErr result IsFailure → IsRunAnswer result
+step_answer changes some (Ok reply) changed fails = subst (λ (r : Reply). IsRunAnswer (Ok r)) (sym changed) (changed_answer changes some)
+step_answer changes some (Err refusal) changed fails = failed_answer refusal fails

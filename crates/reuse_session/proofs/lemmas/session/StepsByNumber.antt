@@ -1,0 +1,267 @@
+-- A step by its number: what is remembered of it, and what its entry says.
+use Rattle.std.proofs.Common.{◌≡◌, ◌⊎◌, inl, inr, ℕ, zero, suc, ◌<◌, Bool, true, false, cond, ◌==◌, ◌||◌, eqb-true, eq-eqb, List, [], ◌∷◌, length, map, reverse, get_or, Option, Some, None, is_some, refl, sym, ap, subst, ◌∙◌, arith}
+use Rattle.std.specs.List.{All, Contains}
+use Rattle.std.specs.FinMap.{get}
+use Rattle.std.proofs.lemmas.Bool.{false≢true, or_parts}
+use Rattle.std.proofs.lemmas.Option.{none-some, same_Some}
+use Rattle.std.proofs.lemmas.List.{reverse-append, reverse-reverse}
+use Rattle.std.proofs.lemmas.List.Elements.{Contains-append_left, Contains-append_right, Contains-get_or, Contains-push_cases}
+use Rattle.std.proofs.lemmas.List.Folds.{list_any_at, Any-from_list_any}
+use Rattle.reuse_tree.specs.Files.{Files}
+use Rattle.reuse_session.specs.session.Answer.{IsReadRefusal}
+use Rattle.reuse_tree.specs.Entry.{IsEntry, LeadsAll}
+use Rattle.reuse_session.specs.journal.History.{Memory, row_listing}
+use Rattle.reuse_session.specs.journal.Journal.{Recorded, Journal, State, rows_in}
+use Rattle.reuse_session.specs.journal.JournalFiles.{entry_path, entry_in, number_of, EntrySays, IsKeptIn, KeepsJournal}
+use Rattle.reuse_session.specs.session.Machine.{Kept, Snapshots, row_of}
+use Rattle.reuse_session.specs.session.Session.{store_of, memory_of, listed_as, Remembers, StandsOn, HoldsSnapshots, Connects, LeadUpTo, LeadOn}
+use Rattle.reuse_session.specs.session.Showing.{entry_of, row_among, row_in, lists, steps_in, IsUnused, Shows, ShowsAt, LedTo, LedOn}
+use Rattle.reuse_tree.specs.Tree.{undo_folder_of}
+use Rattle.reuse_session.specs.declared.journal.history.ListedEntry.{ListedEntry}
+use Rattle.reuse_tree.specs.declared.journal.entry.Entry.{Entry}
+use Rattle.reuse_session.specs.declared.reply.Refusal.{Refusal}
+use Rattle.reuse_session.specs.declared.reply.Refusal.TheVariants.{NoSuchStep}
+use Rattle.reuse_session.specs.declared.reply.Row.{Row}
+use Rattle.reuse_session.specs.declared.reply.Shown.{Shown}
+use Rattle.reuse_session.specs.declared.session.Session.{Session}
+use Rattle.reuse_session.proofs.lemmas.session.Following.{log_follows}
+use Rattle.reuse_session.proofs.lemmas.journal.JournalLemmas.{same_entry}
+
+-- ---- lists
+
+-- what a list has is its first element or is among the others
+first_or_later : {X : Type 0} (y : X) (xs : List X) (x : X) → Contains (y ∷ xs) x → (y ≡ x) ⊎ Contains xs x
+first_or_later {X} y xs x h = at h.0 h.1 h.2
+  where
+    at : (k : ℕ) → k < length (y ∷ xs) → get_or (y ∷ xs) k x ≡ x → (y ≡ x) ⊎ Contains xs x
+    at zero low is = inl is
+    at (suc k) low is = inr (k, omega (arith, low), is)
+
+later : {X : Type 0} (y : X) (xs : List X) (x : X) → Contains xs x → Contains (y ∷ xs) x
+later y xs x h = (suc h.0, omega (arith, h.1), h.2)
+
+pub in_map : {X Y : Type 0} (f : X → Y) (xs : List X) (y : Y) → Contains (map f xs) y → (x : X) × Contains xs x × (y ≡ f x)
+in_map f [] y h = absurd (omega (arith, h.1))
+in_map f (x ∷ xs) y h = elim (first_or_later (f x) (map f xs) y h) [
+  | inl here ↦ (x, (0, omega arith, refl), sym here)
+  | inr behind ↦ let r = in_map f xs y behind in (r.0, later x xs r.0 r.1, r.2)
+]
+
+pub to_map : {X Y : Type 0} (f : X → Y) (xs : List X) (x : X) → Contains xs x → Contains (map f xs) (f x)
+to_map f [] x h = absurd (omega (arith, h.1))
+to_map f (y ∷ xs) x h = elim (first_or_later y xs x h) [ inl here ↦ (0, omega arith, ap f here) | inr behind ↦ later (f y) (map f xs) (f x) (to_map f xs x behind) ]
+
+pub in_reverse : {X : Type 0} (xs : List X) (x : X) → Contains (reverse xs) x → Contains xs x
+in_reverse {X} [] x h = absurd (omega (arith, h.1))
+in_reverse {X} (y ∷ xs) x h = elim (Contains-push_cases (reverse xs) y x (subst (λ l. Contains l x) (reverse-append (y ∷ []) xs) h)) [
+  | inl before ↦ later y xs x (in_reverse xs x before)
+  | inr same ↦ (0, omega arith, same)
+]
+
+pub to_reverse : {X : Type 0} (xs : List X) (x : X) → Contains xs x → Contains (reverse xs) x
+to_reverse xs x h = in_reverse (reverse xs) x (subst (λ l. Contains l x) (sym (reverse-reverse xs)) h)
+
+-- ---- what is remembered
+
+-- the entries that are done, or those that are undone
+abbrev pub listed_in : Bool → Memory → List ListedEntry
+listed_in true memory = memory.done
+listed_in false memory = memory.undone
+
+found_listed : (entries : List ListedEntry) (number : ℕ) → is_some (entry_of entries number) ≡ lists entries number
+found_listed [] number = refl
+found_listed (e ∷ entries) number = of_test (e.number == number) (found_listed entries number)
+  where
+    of_test : (b : Bool) → is_some (entry_of entries number) ≡ lists entries number → is_some (cond b (Some e) (entry_of entries number)) ≡ (b || lists entries number)
+    of_test true rest = refl
+    of_test false rest = rest
+
+some_row : (a b : Option ListedEntry) → is_some (row_among a b) ≡ (is_some a || is_some b)
+some_row (Some a) b = refl
+some_row None (Some b) = refl
+some_row None None = refl
+
+-- a row is found exactly where an entry has the number
+pub row_listed : (memory : Memory) (number : ℕ) → is_some (row_in memory number) ≡ (lists memory.done number || lists memory.undone number)
+row_listed memory number =
+    some_row (entry_of memory.done number) (entry_of memory.undone number)
+    ∙ ap (λ b. b || is_some (entry_of memory.undone number)) (found_listed memory.done number)
+    ∙ ap (λ b. lists memory.done number || b) (found_listed memory.undone number)
+
+found_in : (entries : List ListedEntry) (number : ℕ) (entry : ListedEntry) → entry_of entries number ≡ Some entry → Contains entries entry × (entry.number ≡ number)
+found_in [] number entry e = absurd (none-some entry e)
+found_in (x ∷ entries) number entry e = of_test (x.number == number) refl e (found_in entries number entry)
+  where
+    of_test : (b : Bool) → (x.number == number) ≡ b → cond b (Some x) (entry_of entries number) ≡ Some entry → (entry_of entries number ≡ Some entry → Contains entries entry × (entry.number ≡ number))
+        → Contains (x ∷ entries) entry × (entry.number ≡ number)
+    of_test true is h rest = let same = same_Some x entry h in ((0, omega arith, same), ap (λ (y : ListedEntry). y.number) (sym same) ∙ eqb-true x.number number is)
+    of_test false is h rest = let r = rest h in ((suc r.0.0, omega (arith, r.0.1), r.0.2), r.1)
+
+-- the row is that of an entry of the number
+pub record IsRowOf (memory : Memory) (number : ℕ) (shown : Row) : Type 0 where
+  pub entry : ListedEntry
+  pub is_in : Contains (listed_in shown.done memory) entry
+  pub numbered : entry.number ≡ number
+  pub row : shown ≡ row_listing shown.done entry
+
+pub row_found : (memory : Memory) (number : ℕ) (shown : Row) → row_in memory number ≡ Some shown → IsRowOf memory number shown
+row_found memory number shown e = by_entry (entry_of memory.done number) (entry_of memory.undone number) refl refl e
+  where
+    by_entry : (a b : Option ListedEntry) → entry_of memory.done number ≡ a → entry_of memory.undone number ≡ b → row_among a b ≡ Some shown → IsRowOf memory number shown
+    by_entry (Some a) b is_a is_b h =
+        let found = found_in memory.done number a is_a in
+        subst (IsRowOf memory number) (same_Some (row_listing true a) shown h) (record { entry = a; is_in = found.0; numbered = found.1; row = refl })
+    by_entry None (Some b) is_a is_b h =
+        let found = found_in memory.undone number b is_b in
+        subst (IsRowOf memory number) (same_Some (row_listing false b) shown h) (record { entry = b; is_in = found.0; numbered = found.1; row = refl })
+    by_entry None None is_a is_b h = absurd (none-some shown h)
+
+pub lists_of : (entries : List ListedEntry) (entry : ListedEntry) (number : ℕ) → Contains entries entry → entry.number ≡ number → lists entries number ≡ true
+lists_of entries entry number h e =
+    list_any_at (λ (x : ListedEntry). x.number == number) entries h.0 entry h.1 (ap (λ (x : ListedEntry). x.number == number) h.2 ∙ eq-eqb entry.number number e)
+
+-- ---- the steps of a journal
+
+remembered : (memory : Memory) (journal : Journal) → Remembers memory journal → (done : Bool) → listed_in done memory ≡ map listed_as (reverse (steps_in done journal))
+remembered memory journal remembers true = remembers.done
+remembered memory journal remembers false = remembers.undone
+
+-- an entry that is remembered is that of a step
+pub step_of : (memory : Memory) (journal : Journal) → Remembers memory journal → (done : Bool) (entry : ListedEntry) → Contains (listed_in done memory) entry
+    → (step : Recorded) × Contains (steps_in done journal) step × (entry ≡ listed_as step)
+step_of memory journal remembers done entry h =
+    let found = in_map listed_as (reverse (steps_in done journal)) entry (subst (λ es. Contains es entry) (remembered memory journal remembers done) h) in
+    (found.0, in_reverse (steps_in done journal) found.0 found.1, found.2)
+
+-- where no entry has the number, no step has it
+pub unused : (memory : Memory) (journal : Journal) (number : ℕ) → Remembers memory journal → (done : Bool) → lists (listed_in done memory) number ≡ false → IsUnused number (steps_in done journal)
+unused memory journal number remembers done none k d low same =
+    let steps = steps_in done journal in
+    let step = get_or (steps_in done journal) k d in
+    let there = to_map listed_as (reverse steps) step (to_reverse steps step (Contains-get_or steps k d low)) in
+    let listed = subst (λ es. Contains es (listed_as (get_or (steps_in done journal) k d))) (sym (remembered memory journal remembers done)) there in
+    false≢true (sym none ∙ lists_of (listed_in done memory) (listed_as step) number listed same)
+
+-- where an entry that is done has it, a step that is done has it
+pub done_step : (memory : Memory) (journal : Journal) (number : ℕ) → Remembers memory journal → lists memory.done number ≡ true → (step : Recorded) × Contains journal.done step × (number_of step ≡ number)
+done_step memory journal number remembers e =
+    let found = Any-from_list_any (λ (x : ListedEntry). x.number == number) memory.done e in
+    let at = step_of memory journal remembers true found.1 (found.0, found.2, found.3) in
+    (at.0, at.1, ap (λ (x : ListedEntry). x.number) (sym at.2) ∙ eqb-true found.1.number number found.4)
+
+kept_steps : (folder : Files) (journal : Journal) → KeepsJournal folder journal None → (done : Bool) → All (IsKeptIn folder) (steps_in done journal)
+kept_steps folder journal keeps true = keeps.done
+kept_steps folder journal keeps false = keeps.undone
+
+-- the file of the number says the step
+pub says_step : (folder : Files) (journal : Journal) → KeepsJournal folder journal None → (done : Bool) (step : Recorded) (number : ℕ) → Contains (steps_in done journal) step → number_of step ≡ number
+    → EntrySays (get folder (entry_path number)) (entry_in step)
+says_step folder journal keeps done step number h e =
+    subst (λ n. EntrySays (get folder (entry_path n)) (entry_in step)) e (subst (IsKeptIn folder) h.2 (kept_steps folder journal keeps done h.0 step h.1))
+
+-- ---- what is shown
+
+module _ {S : Type 0} (files : S → Files) (session : Session S) (held : State) (stands : StandsOn files session held) (number : ℕ) where
+  abbrev folder : Files
+  folder = undo_folder_of (files (store_of session))
+
+  pub shows : (row : Row) (entry : Entry) → row_in (memory_of session) number ≡ Some row → EntrySays (get folder (entry_path number)) entry → (shown : Shown) → shown.row ≡ row → shown.changes ≡ entry.changes
+      → Shows held.journal number shown
+  shows row entry found says shown is_row is_changes =
+      let of = row_found (memory_of session) number shown.row (found ∙ ap (λ r. Some r) (sym is_row)) in
+      let at = step_of (memory_of session) held.journal stands.remembers shown.row.done of.entry of.is_in in
+      let numbered = ap (λ (x : ListedEntry). x.number) (sym at.2) ∙ of.numbered in
+      let same = same_entry (get folder (entry_path number)) entry (entry_in at.0) says (says_step folder held.journal stands.standing.journal shown.row.done at.0 number at.1 numbered) in
+      record {
+        step = at.0;
+        is_in = at.1;
+        numbered = numbered;
+        row = of.row ∙ ap (row_listing shown.row.done) at.2;
+        changes = is_changes ∙ ap (λ (x : Entry). x.changes) same;
+      }
+
+  pub row_says : (row : Row) → row_in (memory_of session) number ≡ Some row → (entry : Entry) × EntrySays (get folder (entry_path number)) entry
+  row_says row found =
+      let of = row_found (memory_of session) number row found in
+      let at = step_of (memory_of session) held.journal stands.remembers row.done of.entry of.is_in in
+      let numbered = ap (λ (x : ListedEntry). x.number) (sym at.2) ∙ of.numbered in
+      (entry_in at.0, says_step folder held.journal stands.standing.journal row.done at.0 number at.1 numbered)
+
+-- the file of the number says a step that is done
+pub done_says : {S : Type 0} (files : S → Files) (session : Session S) (held : State) → StandsOn files session held → (number : ℕ) → lists (memory_of session).done number ≡ true
+    → (entry : Entry) × EntrySays (get (undo_folder_of (files (store_of session))) (entry_path number)) entry
+done_says files session held stands number listed =
+    let at = done_step (memory_of session) held.journal number stands.remembers listed in
+    (entry_in at.0, says_step (undo_folder_of (files (store_of session))) held.journal stands.standing.journal true at.0 number at.1 at.2)
+
+is_none_of : (o : Option Row) → o ≡ None → is_some o ≡ false
+is_none_of o e = ap is_some e
+
+pub none_listed : (memory : Memory) (number : ℕ) → row_in memory number ≡ None → (lists memory.done number || lists memory.undone number) ≡ false
+none_listed memory number e = sym (row_listed memory number) ∙ is_none_of (row_in memory number) e
+
+pub some_listed : (memory : Memory) (number : ℕ) (row : Row) → row_in memory number ≡ Some row → (lists memory.done number || lists memory.undone number) ≡ true
+some_listed memory number row e = sym (row_listed memory number) ∙ ap is_some e
+
+pub unused_both : (memory : Memory) (journal : Journal) (number : ℕ) → Remembers memory journal → row_in memory number ≡ None → IsUnused number journal.done × IsUnused number journal.undone
+unused_both memory journal number remembers e =
+    let none = or_parts (lists memory.done number) (lists memory.undone number) (none_listed memory number e) in
+    (unused memory journal number remembers true none.0, unused memory journal number remembers false none.1)
+
+-- reading an entry is never refused as a step that isn't there
+pub read_is_no_absence : (refusal : Refusal) → IsReadRefusal refusal → (number : ℕ) → refusal ≡ NoSuchStep number → ⊥
+read_is_no_absence refusal is number e = subst IsReadRefusal e is
+
+-- ---- the machine
+
+-- a step that connects two trees has the number and leads from the one to the other
+connected : (number : ℕ) (step found : Recorded) (kept : Kept) (before after : Files) → kept.label ≡ found.label → Connects found before after → found ≡ step → number_of step ≡ number
+    → (kept.label.number ≡ number) × IsEntry step.changes × LeadsAll step.changes before after
+connected number step found kept before after label connects same e =
+    subst (λ (x : Recorded). (kept.label.number ≡ number) × IsEntry x.changes × LeadsAll x.changes before after) same (ap (λ l. l.number) label ∙ ap number_of same ∙ e, connects.good, connects.leads)
+
+led_to : (number : ℕ) (step : Recorded) (tree : Files) (steps : List Recorded) (past : List Kept) → LeadUpTo tree steps past → Contains steps step → number_of step ≡ number → LedTo number step.changes tree past
+led_to number step tree [] past up h e = absurd (omega (arith, h.1))
+led_to number step tree (s ∷ steps) [] up h e = absurd up
+led_to number step tree (s ∷ steps) (kept ∷ past) up h e = elim (first_or_later s steps step h) [
+  | inl same ↦ inl (connected number step s kept kept.tree tree up.0 up.1 same e)
+  | inr behind ↦ inr (led_to number step kept.tree steps past up.2 behind e)
+]
+
+led_on : (number : ℕ) (step : Recorded) (tree : Files) (steps : List Recorded) (future : List Kept) → LeadOn tree steps future → Contains steps step → number_of step ≡ number → LedOn number step.changes tree future
+led_on number step tree [] future on h e = absurd (omega (arith, h.1))
+led_on number step tree (s ∷ steps) [] on h e = absurd on
+led_on number step tree (s ∷ steps) (kept ∷ future) on h e = elim (first_or_later s steps step h) [
+  | inl same ↦ inl (connected number step s kept tree kept.tree on.0 on.1 same e)
+  | inr behind ↦ inr (led_on number step kept.tree steps future on.2 behind e)
+]
+
+-- no tree that is kept has the number
+pub unkept : (number : ℕ) (tree : Files) (steps : List Recorded) (past : List Kept) → LeadUpTo tree steps past → IsUnused number steps → All (λ (kept : Kept). ¬ (kept.label.number ≡ number)) past
+unkept number tree steps past up none k d low same = at tree steps past up none k low same
+  where
+    at : (tree : Files) (steps : List Recorded) (past : List Kept) → LeadUpTo tree steps past → IsUnused number steps → (k : ℕ) → k < length past → (get_or past k d).label.number ≡ number → ⊥
+    at tree [] [] up none k low same = omega (arith, low)
+    at tree [] (kept ∷ past) up none k low same = up
+    at tree (s ∷ steps) [] up none k low same = up
+    at tree (s ∷ steps) (kept ∷ past) up none zero low same = none 0 s (omega arith) (sym (ap (λ l. l.number) up.0) ∙ same)
+    at tree (s ∷ steps) (kept ∷ past) up none (suc k) low same = at kept.tree steps past up.2 (λ i x lt. none (suc i) x (omega (arith, lt))) k (omega (arith, low)) same
+
+pub led_to_tree : (held : State) (state : Snapshots) → HoldsSnapshots held state → (step : Recorded) (number : ℕ) → Contains held.journal.done step → number_of step ≡ number → LedTo number step.changes state.tree state.past
+led_to_tree held state holds step number h e = led_to number step state.tree held.journal.done state.past holds.past h e
+
+-- what is shown is of the machine
+pub shows_at : (held : State) (state : Snapshots) → HoldsSnapshots held state → (number : ℕ) (shown : Shown) → Shows held.journal number shown → ShowsAt state number shown
+shows_at held state holds number shown found = record {
+  row = subst (λ rows. Contains rows shown.row) (log_follows held state holds) (subst (Contains (rows_in held.journal)) (sym found.row) (by_end shown.row.done found.is_in));
+  numbered = ap (λ (r : Row). r.number) found.row ∙ found.numbered;
+  changes = subst (λ cs. LedTo number cs state.tree state.past ⊎ LedOn number cs state.tree state.future) (sym found.changes) (led shown.row.done found.is_in);
+}
+  where
+    by_end : (done : Bool) → Contains (steps_in done held.journal) found.step → Contains (rows_in held.journal) (row_of found.step.label (length found.step.changes) done)
+    by_end true h = Contains-append_left _ _ _ (to_map (λ (step : Recorded). row_of step.label (length step.changes) true) (reverse held.journal.done) found.step (to_reverse held.journal.done found.step h))
+    by_end false h = Contains-append_right _ _ _ (to_map (λ (step : Recorded). row_of step.label (length step.changes) false) held.journal.undone found.step h)
+
+    led : (done : Bool) → Contains (steps_in done held.journal) found.step → LedTo number found.step.changes state.tree state.past ⊎ LedOn number found.step.changes state.tree state.future
+    led true h = inl (led_to number found.step state.tree held.journal.done state.past holds.past h found.numbered)
+    led false h = inr (led_on number found.step state.tree held.journal.undone state.future holds.future h found.numbered)

@@ -1,0 +1,14 @@
+use Rattle.std.proofs.Common.{◌∙◌, Some, sym, ap₂, subst}
+use Rattle.std.specs.Str.{bytes_eq}
+use Rattle.reuse_tree.specs.declared.change.Change.{Change}
+use Rattle.reuse_tree.specs.declared.change.Change.TheVariants.{Make}
+use Rattle.reuse_session.specs.plan.Plan.{MakesEdit}
+use Rattle.reuse_session.specs.plan.Reverting.{taken_back}
+use Rattle.reuse_session.proofs.lemmas.plan.RevertPlanning.{found, drop_makes}
+use Rattle.reuse_session.proofs.plan.revert.drop_made.Goals as goal
+
+pub returns : goal.returns
+returns c tree after here short =
+    subst (λ (x : Change). MakesEdit tree (found (taken_back (Make c.args.path.now c.args.new.now after) (Some c.args.file))) (Some x)) (sym c.sealed_drop.ensures)
+    (drop_makes tree c.args.path.now c.args.file c.args.new.now after c.in_ok-try_clone.field-0 c.in_ok-try_clone.ensures here short
+    (ap₂ bytes_eq (sym c.as_slice.ensures) (sym c.as_slice-2.ensures) ∙ sym c.is_same.ensures ∙ c.if-not-is_same.false))

@@ -1,0 +1,19 @@
+use Rattle.std.proofs.Common.{◌≡◌, take}
+use Rattle.std.specs.Prelude.{flat_map}
+use Rattle.std.specs.List.{All}
+use Rattle.reuse_tree.specs.Asked.{OnlyReads}
+use Rattle.reuse_tree.specs.Files.{tree_of}
+use Rattle.reuse_tree.specs.Listing.{ArePaths}
+use Rattle.reuse_session.specs.plan.Shown.{ShowsPlace}
+use Rattle.reuse_session.specs.plan.Worked.{expanded}
+use Rattle.reuse_session.proofs.plan.select.expanded.Given as goal
+
+-- nothing but readings so far, and what stands in the place of the places so far
+abbrev pub invariant-loop-place : goal.invariant-loop-place
+invariant-loop-place g l =
+    let store = g.S.Store in
+    record {
+      reads : OnlyReads store l.fn.store l.store;
+      found : store.honest l.store → ArePaths l.paths → All (ShowsPlace l.scope l.paths (tree_of (store.files l.fn.store))) l.places
+          → l.found.items ≡ flat_map (expanded l.scope (tree_of (store.files l.fn.store))) (take l.place-index l.places);
+    }

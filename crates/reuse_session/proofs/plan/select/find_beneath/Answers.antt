@@ -1,0 +1,64 @@
+use Rattle.std.proofs.Common.{◌≡◌, ◌∙◌, Ok, Err, sym, ap, subst}
+use Rattle.std.specs.Prelude.{flat_map}
+use Rattle.std.specs.List.{All}
+use Rattle.reuse_notice.specs.Sets.{set_of}
+use Rattle.reuse_tree.specs.Files.{tree_of}
+use Rattle.reuse_tree.specs.Listing.{ArePaths, listed_paths}
+use Rattle.reuse_tree.proofs.TreeLemmas.{tree_are_files}
+use Rattle.reuse_session.specs.plan.Choice.{is_passed_over}
+use Rattle.reuse_session.specs.plan.Shown.{folders_for, ShowsEach, ShowsPlace}
+use Rattle.reuse_session.specs.plan.Worked.{expanded}
+use Rattle.reuse_session.specs.declared.plan.select.Listing.TheVariants.{Listed}
+use Rattle.std.proofs.lemmas.Result.{err_from_is_err_and}
+use Rattle.reuse_tree.proofs.AskedLemmas.{reads_more}
+use Rattle.reuse_session.specs.session.Answer.{IsEarlyFailure}
+use Rattle.reuse_session.proofs.lemmas.Asking.{told, failed, later, look_faults}
+use Rattle.reuse_session.proofs.lemmas.plan.SelectedLemmas.{listed, listed_ascend, shows_each_place, shows_worked}
+use Rattle.reuse_session.proofs.plan.select.find_beneath.Given.{Over}
+use Rattle.reuse_session.proofs.plan.select.find_beneath.Goals.{In_ok-expanded}
+use Rattle.reuse_session.proofs.plan.select.find_beneath.Goals as goal
+
+module _ (g : Over) (c : In_ok-expanded g) (honest : g.S.Store.honest c.expanded.new.store) where
+  before : g.S.Store.honest c.list_selected.new.store
+  before = c.expanded.ensures.reads.was_honest honest
+
+  listed_is : c.in_ok-listed.listed.items ≡ listed c.args.scope.now c.args.places.now (tree_of (g.S.Store.files c.args.store.now))
+  listed_is =
+      c.in_ok-listed.ensures.listed before
+      ∙ ap (λ given. listed_paths (tree_of (g.S.Store.files c.args.store.now)) (folders_for c.args.places.now given) (is_passed_over c.args.scope.now given)) (c.deref.ensures.value ∙ c.in_ok-given.ensures)
+
+  found : c.in_ok-expanded.field-0.items ≡ flat_map (expanded c.args.scope.now (tree_of (g.S.Store.files c.args.store.now))) c.args.places.now
+  found =
+      let scope = c.args.scope.now in
+      let places = c.args.places.now in
+      let tree = tree_of (g.S.Store.files c.args.store.now) in
+      let same = c.list_selected.ensures.asks.reads.files before in
+      let is : c.deref-2.result.now ≡ listed scope places tree = c.deref-2.ensures.value ∙ listed_is in
+      let sorted : ArePaths c.deref-2.result.now = subst ArePaths (sym is) (listed_ascend scope places tree) in
+      let each : All (ShowsPlace scope c.deref-2.result.now tree) places = subst (λ ps. All (ShowsPlace scope ps tree) places) (sym is) (shows_each_place scope places tree) in
+      subst (λ f. c.in_ok-expanded.field-0.items ≡ flat_map (expanded c.args.scope.now (tree_of f)) c.args.places.now) same
+      (c.in_ok-expanded.ensures.found honest sorted (subst (λ f. All (ShowsPlace scope c.deref-2.result.now (tree_of f)) places) (sym same) each))
+
+pub returns-clause-paths : goal.returns-clause-paths
+returns-clause-paths g c honest = c.sorted-paths.ensures ∙ ap set_of (found g (goal.at.returns-clause-paths g c).In_ok-expanded honest)
+
+pub returns-clause-shown : goal.returns-clause-shown
+returns-clause-shown g c honest =
+    let at = (goal.at.returns-clause-shown g c).In_ok-expanded in
+    let files = g.S.Store.files c.args.store.now in
+    let tree = tree_of files in
+    let scope = c.args.scope.now in
+    let places = c.args.places.now in
+    let start = c.list_selected.ensures.asks.reads.was_honest (before g at honest) in
+    subst (λ ps. ShowsEach (Listed ps) tree c.sorted-paths.result.items) (sym (c.new.ensures ∙ listed_is g at honest))
+    (subst (ShowsEach (Listed (listed scope places tree)) tree) (sym (c.sorted-paths.ensures ∙ ap set_of (found g at honest)))
+    (shows_worked scope places tree (tree_are_files files (g.met.S.Store.are_files c.args.store.now start))))
+
+pub returns-clause-asks : goal.returns-clause-asks
+returns-clause-asks g c = told g.S.Store IsEarlyFailure _ _ (Ok _) tt tt (reads_more g.S.Store _ _ _ c.list_selected.ensures.asks.reads c.expanded.ensures.reads)
+
+pub returns-in_err-expanded-clause-asks : goal.returns-in_err-expanded-clause-asks
+returns-in_err-expanded-clause-asks g c =
+    let p = err_from_is_err_and c.from_residual-in_err-expanded.result c.from_residual-in_err-expanded.ensures.1 in
+    later g.S.Store IsEarlyFailure _ _ _ _ c.list_selected.ensures.asks.reads
+    (failed g.S.Store IsEarlyFailure _ _ c.in_err-expanded.field-0.0 _ (p.1 ∙ ap (λ r. Err r) p.2) (look_faults c.in_err-expanded.field-0.0) c.in_err-expanded.ensures.fails c.in_err-expanded.ensures.reads)

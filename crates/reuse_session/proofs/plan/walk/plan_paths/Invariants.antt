@@ -1,0 +1,16 @@
+use Rattle.std.proofs.Common.{drop, map}
+use Rattle.reuse_session.specs.plan.Shown.{ShowsEach}
+use Rattle.reuse_tree.specs.Files.{tree_of}
+use Rattle.reuse_tree.specs.Asked.{OnlyReads}
+use Rattle.reuse_session.specs.plan.Asked.{at_by}
+use Rattle.reuse_session.proofs.lemmas.plan.PathPlanning.{WalkedSoFar}
+use Rattle.reuse_session.proofs.plan.walk.plan_paths.Given as goal
+
+-- the store is read alone, and the plans so far are of the paths so far
+abbrev pub invariant-loop-path : goal.invariant-loop-path
+invariant-loop-path g l = record {
+  reads : OnlyReads g.S.Store l.initial.store l.store;
+  so_far : g.S.Store.honest l.store → ShowsEach l.listing (tree_of (g.S.Store.files l.initial.store)) l.worked
+      → WalkedSoFar l.policy (tree_of (g.S.Store.files l.initial.store)) (map (at_by l.asked (tree_of (g.S.Store.files l.initial.store))) l.worked)
+      (map (at_by l.asked (tree_of (g.S.Store.files l.initial.store))) (drop l.path-index l.worked)) l.plans.items;
+}

@@ -1,6 +1,0 @@
-use Rattle.std.proofs.Common.{◌≡◌, map}
-use Rattle.reuse_session.specs.DownloadPlan.{made_at}
-use Rattle.reuse_session.proofs.plan_download.made_files.Given as goal
-
-abbrev pub invariant-loop-path : goal.invariant-loop-path
-invariant-loop-path l = l.changes.items ≡ map (made_at l.texts) l.yielded

@@ -1,0 +1,86 @@
+-- The journal: what was done and what was undone, as changes.
+use Rattle.std.specs.Prelude.{◌≡◌, ℕ, true, false, List, [], ◌∷◌, ◌++◌, length, map, reverse, Option, Some, None, Result, Ok, Err}
+use Rattle.std.specs.List.{All}
+use Rattle.reuse_tree.specs.Files.{Files}
+use Rattle.reuse_tree.specs.declared.change.Change.{Change}
+use Rattle.reuse_tree.specs.Entry.{paths_of, LeadsBy, CanBeMade, IsFirstStuck}
+use Rattle.reuse_session.specs.session.Machine.{Label, row_of}
+use Rattle.reuse_tree.specs.declared.way.Way.{Way}
+use Rattle.reuse_tree.specs.declared.way.Way.TheVariants as way
+use Rattle.reuse_session.specs.declared.reply.Row.{Row}
+use Rattle.reuse_session.specs.declared.reply.Reply.{Reply}
+use Rattle.reuse_session.specs.declared.reply.Reply.TheVariants as reply
+use Rattle.reuse_session.specs.declared.reply.Refusal.{Refusal}
+use Rattle.reuse_session.specs.declared.reply.Refusal.TheVariants.{Moved, NothingToUndo, NothingToRedo}
+
+-- a step that the journal keeps: its changes, and what names it
+pub record Recorded : Type 0 where
+  pub label : Label
+  pub changes : List Change
+
+-- the steps done (the newest first), those undone (the next to be redone first), and how many numbers are used
+pub record Journal : Type 0 where
+  pub done : List Recorded
+  pub undone : List Recorded
+  pub used : ℕ
+
+-- a tree, and the journal beside it
+pub record State : Type 0 where
+  pub tree : Files
+  pub journal : Journal
+
+-- Each change of the step can be made this way, and they are made. Or the first that can't be names the refusal, and
+-- nothing changes.
+abbrev pub GoesOneStep : Way → Recorded → (List (List ℕ) → Reply) → Journal → State → Result Reply Refusal → State → Type 0
+GoesOneStep way step reply moved old (Ok given) new =
+    (given ≡ reply (paths_of step.changes)) × All (CanBeMade way old.tree) step.changes × LeadsBy way step.changes old.tree new.tree × (new.journal ≡ moved)
+GoesOneStep way step reply moved old (Err refusal) new =
+    ((path : List ℕ) × (refusal ≡ Moved path) × IsFirstStuck way old.tree step.changes path) × (new ≡ old)
+
+-- the steps that a way goes on with, the next first: back over those done, and on over those undone
+abbrev pub ahead : Way → Journal → List Recorded
+ahead way.Undo journal = journal.done
+ahead way.Do journal = journal.undone
+
+-- how many changes the first of them has
+abbrev pub next_count : List Recorded → ℕ
+next_count [] = 0
+next_count (step ∷ steps) = length step.changes
+
+-- the changes of the first of them
+abbrev pub changes_ahead : List Recorded → Option (List Change)
+changes_ahead [] = None
+changes_ahead (step ∷ steps) = Some step.changes
+
+-- the journal after the first of them, which is the first behind then
+abbrev pub moved_on : Way → Recorded → List Recorded → Journal → Journal
+moved_on way.Undo step steps old = record { done = steps; undone = step ∷ old.undone; used = old.used }
+moved_on way.Do step steps old = record { done = step ∷ old.done; undone = steps; used = old.used }
+
+-- the answer with a step's paths, and that where there is no step
+abbrev pub reply_of : Way → List (List ℕ) → Reply
+reply_of way.Undo = reply.Undone
+reply_of way.Do = reply.Redone
+
+abbrev pub end_of : Way → Refusal
+end_of way.Undo = NothingToUndo
+end_of way.Do = NothingToRedo
+
+-- what a call answers and leaves that goes one step this way
+abbrev pub Travels : Way → List Recorded → State → Result Reply Refusal → State → Type 0
+Travels way [] old result new = (result ≡ Err (end_of way)) × (new ≡ old)
+Travels way (step ∷ steps) old result new = GoesOneStep way step (reply_of way) (moved_on way step steps old.journal) old result new
+
+-- what undo answers and leaves: the last step done is taken back, and is the next to be redone
+abbrev pub Undoes : List Recorded → State → Result Reply Refusal → State → Type 0
+Undoes = Travels way.Undo
+
+-- what redo answers and leaves: the next step undone is made again, and is the last done
+abbrev pub Redoes : List Recorded → State → Result Reply Refusal → State → Type 0
+Redoes = Travels way.Do
+
+-- the rows of a log: the steps done, the oldest first, then those undone, the next to be redone first
+abbrev pub rows_in : Journal → List Row
+rows_in journal =
+    map (λ step. row_of step.label (length step.changes) true) (reverse journal.done)
+    ++ map (λ step. row_of step.label (length step.changes) false) journal.undone

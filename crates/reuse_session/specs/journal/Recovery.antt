@@ -1,0 +1,145 @@
+-- Recovering: a pending step is set back wherever it can be, and its other paths are left as they are.
+use Rattle.std.specs.Prelude.{◌≡◌, ◌⊎◌, ◌↔◌, ℕ, Bool, false, List, [], ◌∷◌, ◌++◌, filter, not, Some, None, Result, Err}
+use Rattle.std.specs.List.{All}
+use Rattle.std.specs.FinMap.{get}
+use Rattle.reuse_tree.specs.Change.{path_of}
+use Rattle.reuse_tree.specs.Entry.{touches, opposite, TurnsBy, IsReady, IsEntry, CanBeMade, CanBeSetBack}
+use Rattle.reuse_tree.specs.Files.{Files, tree_of}
+use Rattle.reuse_tree.specs.Head.{way_of}
+use Rattle.reuse_tree.specs.Listing.{is_among}
+use Rattle.reuse_tree.specs.Tree.{undo_folder_of}
+use Rattle.reuse_tree.specs.declared.change.Change.{Change}
+use Rattle.reuse_tree.specs.declared.journal.head.PendingWay.{PendingWay}
+use Rattle.reuse_tree.specs.declared.way.Way.{Way}
+use Rattle.reuse_session.specs.journal.Journal.{Recorded, Journal, State}
+use Rattle.reuse_session.specs.journal.JournalFiles.{head_path, number_of, IsKeptIn, KeepsJournal}
+use Rattle.reuse_session.specs.journal.Opening.{NoFileAbove, IsFirstBad, IsStuckAt}
+use Rattle.reuse_session.specs.session.Session.{IsSameBut}
+use Rattle.reuse_session.specs.journal.Standing.{IsStanding, IsTree}
+use Rattle.reuse_session.specs.declared.reply.Recovered.{Recovered}
+use Rattle.reuse_session.specs.declared.reply.Refusal.{Refusal}
+use Rattle.reuse_session.specs.declared.reply.Refusal.TheVariants.{BadJournal, Moved}
+
+-- ---- the paths
+
+-- the paths of the changes at which the first holds, in their order; at every other change the second holds
+abbrev pub Picks : (Yes No : Change → Type 0) → List Change → List (List ℕ) → Type 0
+Picks Yes No [] paths = paths ≡ []
+Picks Yes No (change ∷ changes) paths =
+    (Yes change × (rest : List (List ℕ)) × (paths ≡ path_of change ∷ rest) × Picks Yes No changes rest)
+    ⊎ (No change × Picks Yes No changes paths)
+
+-- the paths at which the changes are made this way, and can be set back
+abbrev pub AreMade : Way → Files → List Change → List (List ℕ) → Type 0
+AreMade way tree changes paths = Picks (CanBeMade (opposite way) tree) (λ change. ¬ (CanBeMade (opposite way) tree change)) changes paths
+
+-- the paths at which they can't be set back: the file is neither as before the change nor as after it, or a file that would be made again clashes
+abbrev pub AreStuck : Way → Files → List Change → List (List ℕ) → Type 0
+AreStuck way tree changes paths = Picks (λ change. ¬ (CanBeSetBack way tree change)) (CanBeSetBack way tree) changes paths
+
+-- ---- the tree
+
+-- What recovering makes of the path of a change. As before the change it stays; where the change is made and can be set back, it is; and where
+-- it can't be, the path stays.
+abbrev pub RecoversAt : Way → (before after : Files) → Change → Type 0
+RecoversAt way before after change =
+    (IsReady way change (get before (path_of change)) × (get after (path_of change) ≡ get before (path_of change)))
+    ⊎ (CanBeMade (opposite way) before change × TurnsBy (opposite way) change (get before (path_of change)) (get after (path_of change)))
+    ⊎ (¬ (CanBeSetBack way before change) × (get after (path_of change) ≡ get before (path_of change)))
+
+-- so it is at each path of the changes, and no other path differs
+pub record RecoversTree (way : Way) (changes : List Change) (before after : Files) : Type 0 where
+  pub each : All (RecoversAt way before after) changes
+  pub others : (path : List ℕ) → touches changes path ≡ false → get after path ≡ get before path
+
+-- ---- the files
+
+-- the journal is without fault, and no step is pending in it
+pub record HasNonePending (journal : Journal) (files : Files) : Type 0 where
+  pub above : NoFileAbove files
+  pub keeps : KeepsJournal (undo_folder_of files) journal None
+
+-- the journal is without fault, and this step is pending in it
+pub record HasPending (way : PendingWay) (step : Recorded) (journal : Journal) (files : Files) : Type 0 where
+  pub above : NoFileAbove files
+  pub keeps : KeepsJournal (undo_folder_of files) journal (Some (record { entry = number_of step; way = way }))
+  pub kept : IsKeptIn (undo_folder_of files) step
+
+-- the tree is recovered, the same steps are listed, and none is pending; nothing else of the journal's folder differs
+pub record IsRecovered (way : PendingWay) (step : Recorded) (journal : Journal) (before after : Files) : Type 0 where
+  pub tree : RecoversTree (way_of way) step.changes (tree_of before) (tree_of after)
+  pub stands : IsStanding after (record { tree = tree_of after; journal = journal })
+  pub folder : IsSameBut head_path (undo_folder_of before) (undo_folder_of after)
+
+-- the step is pending, and recovering these files leads to the committed state
+pub record RecoversTo (way : PendingWay) (step : Recorded) (held : State) (files : Files) : Type 0 where
+  pub good : IsTree held.tree
+  pub pending : HasPending way step held.journal files
+  pub tree : RecoversTree (way_of way) step.changes (tree_of files) held.tree
+
+-- the answer tells the step, and each path that was set back or left; no path is left where that wasn't asked for
+pub record TellsRecovery (skip_moved : Bool) (way : PendingWay) (step : Recorded) (files : Files) (told : Recovered) : Type 0 where
+  pub number : told.number ≡ Some (number_of step)
+  pub changed : AreMade (way_of way) (tree_of files) step.changes told.changed
+  pub skipped : AreStuck (way_of way) (tree_of files) step.changes told.skipped
+  pub none : skip_moved ≡ false → told.skipped ≡ []
+
+-- the answer where no step was pending
+abbrev pub nothing_recovered : Recovered
+nothing_recovered = record { number = None; changed = []; skipped = [] }
+
+-- what is answered and left: nothing, where no step was pending; and else the step is recovered
+abbrev pub RecoversFiles : Bool → (before after : Files) → Recovered → Type 0
+RecoversFiles skip_moved before after told =
+    ((journal : Journal) × HasNonePending journal before × (told ≡ nothing_recovered) × (after ≡ before))
+    ⊎ ((way : PendingWay) × (step : Recorded) × (journal : Journal)
+    × HasPending way step journal before × TellsRecovery skip_moved way step before told × IsRecovered way step journal before after)
+
+-- some of the paths that can be set back are, and no other path differs
+pub record SomeRecovered (way : Way) (changes : List Change) (before after : Files) : Type 0 where
+  pub each : All (λ change. (get after (path_of change) ≡ get before (path_of change))
+      ⊎ (CanBeMade (opposite way) before change × TurnsBy (opposite way) change (get before (path_of change)) (get after (path_of change)))) changes
+  pub others : (path : List ℕ) → touches changes path ≡ false → get after path ≡ get before path
+
+-- the step is pending still, and each of its paths is as it was or is set back
+pub record IsHalfway (way : PendingWay) (step : Recorded) (journal : Journal) (before after : Files) : Type 0 where
+  pub pending : HasPending way step journal after
+  pub tree : SomeRecovered (way_of way) step.changes (tree_of before) (tree_of after)
+
+-- where recovering stops: the step is recovered, or halfway
+abbrev pub StopsRecovering : (before after : Files) → Type 0
+StopsRecovering before after =
+    (way : PendingWay) × (step : Recorded) × (journal : Journal) × HasPending way step journal before
+    × (IsRecovered way step journal before after ⊎ IsHalfway way step journal before after)
+
+-- Unless a fault of the store or want of memory is told, recovering is refused as a bad journal exactly at the first path at fault, and as moved
+-- exactly at the first path that is stuck, where none is to be skipped.
+pub record RefusesRecovery (skip_moved : Bool) (files : Files) (answer : Result Recovered Refusal) : Type 0 where
+  pub bad : (path : List ℕ) → (answer ≡ Err (BadJournal path)) ↔ IsFirstBad files path
+  pub moved : (path : List ℕ) → (answer ≡ Err (Moved path)) ↔ ((skip_moved ≡ false) × IsStuckAt files path)
+
+-- ---- for private clauses
+
+-- what is found of some changes: the paths that can be set back, and those that are stuck
+pub record AreFound (way : Way) (tree : Files) (changes : List Change) (changed skipped : List (List ℕ)) : Type 0 where
+  pub made : AreMade way tree changes changed
+  pub stuck : AreStuck way tree changes skipped
+
+-- one path more
+abbrev pub IsLonger : List (List ℕ) → Change → List (List ℕ) → Type 0
+IsLonger old change new = new ≡ old ++ path_of change ∷ []
+
+-- what one change more adds: nothing where it isn't made, else its path to the ones or to the others
+abbrev pub FindsNext : Way → Files → Change → (made more_made stuck more_stuck : List (List ℕ)) → Type 0
+FindsNext way tree change made more_made stuck more_stuck =
+    (IsReady way change (get tree (path_of change)) × (more_made ≡ made) × (more_stuck ≡ stuck))
+    ⊎ (¬ (IsReady way change (get tree (path_of change))) × CanBeMade (opposite way) tree change × IsLonger made change more_made × (more_stuck ≡ stuck))
+    ⊎ (¬ (CanBeSetBack way tree change) × (more_made ≡ made) × IsLonger stuck change more_stuck)
+
+-- the changes of which none is of these paths
+abbrev pub changes_besides : List (List ℕ) → List Change → List Change
+changes_besides paths changes = filter (λ change. not (is_among paths (path_of change))) changes
+
+-- the changes are some of an entry's, perhaps none
+abbrev pub ArePart : List Change → Type 0
+ArePart changes = (changes ≡ []) ⊎ IsEntry changes

@@ -1,0 +1,30 @@
+-- What a call counts while it plans: how many of the path outcomes of its command are of files that are skipped.
+use Rattle.std.specs.Prelude.{ℕ, Bool, true, false, List, length, filter}
+use Rattle.reuse_session.specs.declared.plan.counts.Counts.{Counts}
+use Rattle.reuse_session.specs.declared.fate.Fate.{Fate}
+use Rattle.reuse_session.specs.declared.fate.Fate.TheVariants.{Skipped}
+use Rattle.reuse_session.specs.declared.plan.path_plan.PathPlan.{PathPlan}
+use Rattle.reuse_session.specs.declared.plan.path_plan.PathPlan.TheVariants as plan
+use Rattle.reuse_session.specs.declared.session.Session.{Session}
+
+abbrev pub is_skip : Fate → Bool
+is_skip (Skipped path) = true
+is_skip fate = false
+
+-- how many of the fates are of files that are skipped
+abbrev pub skipped_count : List Fate → ℕ
+skipped_count fates = length (filter is_skip fates)
+
+-- what the last run of a session counted, which is no part of what it stands at
+abbrev pub counts_of : {S : Type 0} → Session S → Counts
+counts_of session = session.counts
+
+-- ---- for private clauses
+
+abbrev pub is_skip_planned : PathPlan → Bool
+is_skip_planned (plan.Skipped path) = true
+is_skip_planned other = false
+
+-- how many of the plans skip their file
+abbrev pub skipped_planned : List PathPlan → ℕ
+skipped_planned plans = length (filter is_skip_planned plans)

@@ -1,0 +1,11 @@
+-- The changes of a download.
+use Rattle.std.specs.Prelude.{ℕ, List, [], unwrap_or}
+use Rattle.reuse_tree.specs.declared.change.Change.{Change}
+use Rattle.reuse_tree.specs.Change.{sealed_make}
+use Rattle.reuse_session.specs.plan.Licence.{licence_id}
+use Rattle.reuse_session.specs.plan.Downloads.{text_for}
+use Rattle.reuse_session.specs.declared.plan.licence.LicenceText.{LicenceText}
+
+-- the text of the licence that stands at a path is made a file
+abbrev pub made_at : List LicenceText → List ℕ → Change
+made_at texts path = sealed_make path (unwrap_or (text_for texts (licence_id path)) [])

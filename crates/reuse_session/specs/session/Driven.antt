@@ -1,0 +1,47 @@
+-- Where a driven session is, for private clauses.
+use Rattle.std.specs.Prelude.{◌≡◌, false, Some, Result, Err}
+use Rattle.reuse_tree.specs.Files.{Files}
+use Rattle.reuse_tree.specs.declared.store.Store.{Ghosts}
+use Rattle.reuse_session.specs.journal.Journal.{State}
+use Rattle.reuse_session.specs.journal.Losses.{AreSafeOn}
+use Rattle.reuse_session.specs.session.Machine.{Snapshots}
+use Rattle.reuse_session.specs.session.Model.{Gives}
+use Rattle.reuse_session.specs.session.Session.{store_of, StandsAt}
+use Rattle.reuse_session.specs.session.Stops.{Point, open_at, AreLeft, MayBeFound}
+use Rattle.reuse_session.specs.declared.request.Request.{Request}
+use Rattle.reuse_session.specs.declared.reply.Refusal.{Refusal}
+use Rattle.reuse_session.specs.declared.failure.Failure.TheVariants.{Interrupted}
+use Rattle.reuse_session.specs.declared.reply.Refusal.TheVariants.{Failed}
+use Rattle.reuse_session.specs.declared.reply.Reply.{Reply}
+use Rattle.reuse_session.specs.declared.session.Session.{Session}
+use Rattle.reuse_session.specs.declared.events.Driven.{Driven}
+use Rattle.reuse_session.specs.declared.events.Driven.TheVariants.{Open, Closed}
+
+-- the store of an open session, or that where none is open
+abbrev pub store_in : {S : Type 0} → Driven S → S
+store_in (Open session) = store_of session
+store_in (Closed store) = store
+
+-- a session is open and stands at the state, or none is and the files are left so
+abbrev pub IsAt : {S : Type 0} → (S → Files) → Driven S → Point → Type 0
+IsAt files (Open session) point = (point ≡ open_at point.state) × StandsAt files session point.state
+IsAt files (Closed store) point = (point.is_open ≡ false) × AreLeft (files store) point.state point.next
+
+-- the session stands at the state, and all that a loss of power may leave is safe on its standing
+pub record StandsSafely {S : Type 0} (store : Ghosts S) (session : Session S) (state : Snapshots) : Type 0 where
+  pub at : StandsAt store.files session state
+  pub earlier : State
+  pub safe : AreSafeOn store earlier at.held (store_of session)
+
+-- a session is open and stands safely at the state, or none is and a loss of power may leave this
+abbrev pub IsSafelyAt : {S : Type 0} → Ghosts S → Driven S → Point → Type 0
+IsSafelyAt store (Open session) point = (point ≡ open_at point.state) × StandsSafely store session point.state
+IsSafelyAt store (Closed new) point = (point.is_open ≡ false) × MayBeFound store new point.state point.next
+
+-- What a request leaves of an open session that stood safely at the state. It stands safely there still, or at the model's next, or was stopped on
+-- the way.
+abbrev pub GoesSafely : {S : Type 0} → Ghosts S → Request → Result Reply Refusal → Snapshots → Session S → Type 0
+GoesSafely store request (Err (Failed (Interrupted cause))) state new =
+    (given : Result Reply Refusal) × (next : Snapshots) × Gives state request given next × MayBeFound store (store_of new) state (Some next)
+GoesSafely store request (Err (Failed failure)) state new = StandsSafely store new state
+GoesSafely store request answer state new = (next : Snapshots) × Gives state request answer next × StandsSafely store new next

@@ -1,0 +1,188 @@
+-- Forgetting: steps are taken out of the history, and the tree stays.
+use Rattle.std.specs.Prelude.{◌≡◌, ◌≢◌, ◌⊎◌, ◌↔◌, ◌==◌, ◌||◌, ◌<◌, ◌≤◌, ◌+◌, ℕ, Bool, not, List, [], ◌∷◌, ◌++◌, length, map, reverse, filter, find, Option, Some, None, Result, Ok, Err, IfOk, IfErr}
+use Rattle.std.specs.List.{All, Contains, list_any}
+use Rattle.std.specs.List.Sorted.{IsStrictlyIncreasing}
+use Rattle.std.specs.FinMap.{get}
+use Rattle.reuse_tree.specs.Asked.{Leaves}
+use Rattle.reuse_tree.specs.Files.{Files, Clashes, tree_of}
+use Rattle.reuse_tree.specs.Tree.{Sets}
+use Rattle.reuse_tree.specs.declared.store.Store.{Ghosts}
+use Rattle.reuse_session.specs.session.Answer.{IsStop, HasClash}
+use Rattle.reuse_session.specs.session.Calls.{files_of, folder_of}
+use Rattle.reuse_session.specs.journal.History.{Memory}
+use Rattle.reuse_session.specs.journal.Journal.{Recorded, Journal, State}
+use Rattle.reuse_session.specs.journal.JournalFiles.{head_path, entry_path, number_of, IsFree}
+use Rattle.reuse_session.specs.journal.Losses.{IsSafeOn, AreSafeOn}
+use Rattle.reuse_session.specs.session.Machine.{Kept, Snapshots}
+use Rattle.reuse_session.specs.session.Session.{store_of, memory_of, listed_count, head_room, HasHeadText, StandsOn}
+use Rattle.reuse_session.specs.session.Showing.{lists}
+use Rattle.reuse_session.specs.journal.Standing.{IsStanding}
+use Rattle.reuse_session.specs.declared.journal.history.ListedEntry.{ListedEntry}
+use Rattle.reuse_session.specs.declared.reply.Refusal.{Refusal}
+use Rattle.reuse_session.specs.declared.failure.Failure.TheVariants as failures
+use Rattle.reuse_session.specs.declared.reply.Refusal.TheVariants as refusals
+use Rattle.reuse_session.specs.declared.session.Session.{Session}
+
+-- ---- numbers
+
+-- whether the number is one of these
+abbrev pub is_one_of : List ℕ → ℕ → Bool
+is_one_of numbers number = list_any (λ other. other == number) numbers
+
+-- the second are the first, ascending, each once
+pub record AreInOrder (numbers ordered : List ℕ) : Type 0 where
+  pub ascending : IsStrictlyIncreasing ordered
+  pub all : (number : ℕ) → Contains numbers number → Contains ordered number
+  pub only : (number : ℕ) → Contains ordered number → Contains numbers number
+
+-- ---- a journal
+
+-- whether a step that is done or undone has the number
+abbrev pub has_step : Journal → ℕ → Bool
+has_step journal number = list_any (λ (step : Recorded). number_of step == number) journal.done || list_any (λ (step : Recorded). number_of step == number) journal.undone
+
+-- the numbers of all steps
+abbrev pub numbers_in : Journal → List ℕ
+numbers_in journal = map number_of (reverse journal.done) ++ map number_of (reverse journal.undone)
+
+-- the first of the numbers that no step has
+abbrev pub first_absent : Journal → List ℕ → Option ℕ
+first_absent journal numbers = find (λ number. not (has_step journal number)) numbers
+
+-- the steps whose number is none of these
+abbrev pub steps_besides : List ℕ → List Recorded → List Recorded
+steps_besides numbers steps = filter (λ (step : Recorded). not (is_one_of numbers (number_of step))) steps
+
+-- the journal without the steps of these numbers, of which none is given out again
+abbrev pub journal_besides : List ℕ → Journal → Journal
+journal_besides numbers journal = record { done = steps_besides numbers journal.done; undone = steps_besides numbers journal.undone; used = journal.used }
+
+-- the same tree, beside that journal
+abbrev pub state_besides : List ℕ → State → State
+state_besides numbers state = record { tree = state.tree; journal = journal_besides numbers state.journal }
+
+-- what forgetting answers and leaves: each number is that of a step, and they are gone then; or the first that isn't is refused, and all stays
+abbrev pub Forgets : List ℕ → State → Result (List ℕ) Refusal → State → Type 0
+Forgets numbers old (Ok forgotten) new = (first_absent old.journal numbers ≡ None) × AreInOrder numbers forgotten × (new ≡ state_besides numbers old)
+Forgets numbers old (Err (refusals.NoSuchStep number)) new = (first_absent old.journal numbers ≡ Some number) × (new ≡ old)
+Forgets numbers old (Err refusal) new = ⊥
+
+-- ---- the machine
+
+-- the numbers are those of the oldest trees that are kept, and the next state is the same without these trees
+pub record IsWithoutOldest (numbers : List ℕ) (state next : Snapshots) : Type 0 where
+  pub oldest : List Kept
+  pub past : state.past ≡ next.past ++ oldest
+  pub theirs : (number : ℕ) → Contains numbers number ↔ Contains (map (λ (kept : Kept). kept.label.number) oldest) number
+  pub tree : next.tree ≡ state.tree
+  pub future : next.future ≡ state.future
+  pub used : next.used ≡ state.used
+
+-- the state with no other tree than that now
+abbrev pub alone : Snapshots → Snapshots
+alone state = record { tree = state.tree; past = []; future = []; used = state.used }
+
+-- ---- what is remembered
+
+-- whether an entry that is done or undone has the number
+abbrev pub is_listed : Memory → ℕ → Bool
+is_listed memory number = lists memory.done number || lists memory.undone number
+
+-- the first of the numbers that no entry has
+abbrev pub first_unlisted : Memory → List ℕ → Option ℕ
+first_unlisted memory numbers = find (λ number. not (is_listed memory number)) numbers
+
+-- the entries whose number is none of these
+abbrev pub entries_besides : List ℕ → List ListedEntry → List ListedEntry
+entries_besides numbers entries = filter (λ (entry : ListedEntry). not (is_one_of numbers entry.number)) entries
+
+abbrev pub memory_besides : List ℕ → Memory → Memory
+memory_besides numbers memory = record { done = entries_besides numbers memory.done; undone = entries_besides numbers memory.undone; used = memory.used }
+
+-- the numbers of all entries
+abbrev pub all_numbers : Memory → List ℕ
+all_numbers memory = map (λ (entry : ListedEntry). entry.number) memory.done ++ map (λ (entry : ListedEntry). entry.number) memory.undone
+
+-- ---- the files
+
+-- the files of the entries of these numbers are gone
+abbrev pub AreGone : List ℕ → Files → Type 0
+AreGone numbers files = All (λ number. get files (entry_path number) ≡ None) numbers
+
+-- those of the highest numbers are gone, and those of the others are as they were
+abbrev pub AreGoneFromTheTop : List ℕ → (before after : Files) → Type 0
+AreGoneFromTheTop numbers before after =
+    (low : List ℕ) × (high : List ℕ) × AreInOrder numbers (low ++ high)
+    × AreGone high after × All (λ number. get after (entry_path number) ≡ get before (entry_path number)) low
+
+-- of the journal's files none but the head holds something else, and those of the entries of these numbers hold what they did or are gone
+abbrev pub IsSameButGone : List ℕ → (before after : Files) → Type 0
+IsSameButGone numbers before after =
+    (path : List ℕ) → path ≢ head_path
+    → (get after path ≡ get before path) ⊎ ((number : ℕ) × Contains numbers number × (path ≡ entry_path number) × (get after path ≡ None))
+
+-- ---- what a call leaves
+
+-- the refusals of forgetting
+abbrev pub IsForgetRefusal : Refusal → Type 0
+IsForgetRefusal refusals.Broken = Unit {0}
+IsForgetRefusal (refusals.NoSuchStep number) = Unit {0}
+IsForgetRefusal (refusals.Failed failures.Memory) = Unit {0}
+IsForgetRefusal (refusals.Failed (failures.Interrupted cause)) = Unit {0}
+IsForgetRefusal refusal = ⊥
+
+-- what forgetting leaves, whatever it answers
+pub record LeavesForgetting {S : Type 0} (store : Ghosts S) (numbers : List ℕ) (result : Result (List ℕ) Refusal) (old new : Session S) : Type 0 where
+  -- the tree stays, and of the journal's files none but the head's and those of the numbers differs
+  pub tree : store.honest (store_of new) → tree_of (files_of store new) ≡ tree_of (files_of store old)
+  pub folder : store.honest (store_of new) → IsSameButGone numbers (folder_of store old) (folder_of store new)
+  -- behind it the head is the very text of what is remembered then, and the entries are gone
+  pub texts : store.honest (store_of new) → numbers ≢ [] → IfOk result (λ forgotten. HasHeadText (memory_of new) (files_of store new) × AreGone numbers (files_of store new))
+  -- Where it stops all files are as they were; or the head is put, and then the entries are gone from the highest number on. So the files are the
+  -- standing before the call or that after it.
+  pub stops : store.honest (store_of new) → (held : State) → StandsOn store.files old held
+      → IfErr result (λ refusal. IsStop refusal → (files_of store new ≡ files_of store old)
+      ⊎ (HasHeadText (memory_besides numbers (memory_of old)) (files_of store new) × AreGoneFromTheTop numbers (files_of store old) (files_of store new)))
+  pub doubt : store.honest (store_of new) → (held : State) → StandsOn store.files old held
+      → IfErr result (λ refusal. IsStop refusal → IsStanding (files_of store new) held ⊎ IsStanding (files_of store new) (state_besides numbers held))
+  pub late : IfErr result (λ refusal. IsStop refusal → store.moves (store_of old) < store.moves (store_of new))
+  -- it takes at most a head of the entries that are left, and asks for one put, and for at most one removal for each number
+  pub written : store.honest (store_of new) → (held : State) → StandsOn store.files old held
+      → store.written (store_of new) ≤ store.written (store_of old) + head_room (listed_count (memory_besides numbers (memory_of old)))
+  pub moves : store.moves (store_of new) ≤ store.moves (store_of old) + 1 + length numbers
+  -- a clash is told only where the head's path clashes; where no path of a file of the journal is a folder, none becomes one
+  pub clash : store.honest (store_of new) → IfErr result (HasClash ⊥ (Clashes (files_of store old) head_path))
+  pub free : store.honest (store_of new) → IsFree (folder_of store old) → IsFree (folder_of store new)
+
+-- What a loss of power may leave after forgetting, of what was safe on the standing: behind it each is the standing without the steps; where it stops
+-- each is that, or safe on the standing before it; and else all is as it was.
+abbrev pub SurvivesForgetting : {S : Type 0} → Ghosts S → List ℕ → (earlier held : State) → Result (List ℕ) Refusal → S → Type 0
+SurvivesForgetting store numbers earlier held (Ok []) new = AreSafeOn store earlier held new
+SurvivesForgetting store numbers earlier held (Ok (number ∷ more)) new = Leaves store new (λ left. IsStanding left (state_besides numbers held))
+SurvivesForgetting store numbers earlier held (Err (refusals.Failed (failures.Interrupted cause))) new = Leaves store new (λ left. IsSafeOn earlier held left ⊎ IsStanding left (state_besides numbers held))
+SurvivesForgetting store numbers earlier held (Err refusal) new = AreSafeOn store earlier held new
+
+-- so it is from whatever standing all that might be left before was safe on
+abbrev pub SurvivesToForget : {S : Type 0} → Ghosts S → List ℕ → Result (List ℕ) Refusal → Session S → Session S → Type 0
+SurvivesToForget store numbers result old new =
+    store.honest (store_of new) → (earlier held : State) → StandsOn store.files old held → AreSafeOn store earlier held (store_of old)
+    → SurvivesForgetting store numbers earlier held result (store_of new)
+
+-- ---- for private clauses
+
+-- the paths hold nothing then, and each other path what it held
+pub record Removes (paths : List (List ℕ)) (before after : Files) : Type 0 where
+  pub here : (path : List ℕ) → Contains paths path → get after path ≡ None
+  pub elsewhere : (other : List ℕ) → ¬ (Contains paths other) → get after other ≡ get before other
+
+-- some of the paths hold nothing then, and each other path what it held
+abbrev pub RemovesSome : List (List ℕ) → (before after : Files) → Type 0
+RemovesSome paths before after = (some : List (List ℕ)) × ((path : List ℕ) → Contains some path → Contains paths path) × Removes some before after
+
+-- the path of the head has this text then, and after that these paths hold nothing; each other path holds what it held
+abbrev pub PutsAndRemoves : List ℕ → List (List ℕ) → (before after : Files) → Type 0
+PutsAndRemoves text paths before after = (mid : Files) × Sets head_path (Some text) before mid × Removes paths mid after
+
+-- or some of the paths
+abbrev pub PutsAndRemovesSome : List ℕ → List (List ℕ) → (before after : Files) → Type 0
+PutsAndRemovesSome text paths before after = (mid : Files) × Sets head_path (Some text) before mid × RemovesSome paths mid after

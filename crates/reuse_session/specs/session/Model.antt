@@ -1,0 +1,106 @@
+-- What the model answers to a request, and the state in which it is then. What a step changed it tells by the trees before it and after it, so
+-- that a show and a revert of a step go by some changes that lead from the one to the other; all else is one answer.
+use Rattle.std.specs.Prelude.{◌≡◌, ◌⊎◌, ℕ, Bool, List, [], ◌∷◌, Result, Ok, Err}
+use Rattle.std.specs.List.{All}
+use Rattle.reuse_tree.specs.Entry.{paths_of}
+use Rattle.reuse_tree.specs.declared.change.Change.{Change}
+use Rattle.reuse_session.specs.session.Machine.{Kept, Snapshots, Step, ran_by, undone, redone, rows_of, run_fates, undo_fates, redo_fates}
+use Rattle.reuse_session.specs.session.Requests.{replied}
+use Rattle.reuse_session.specs.session.RevertCalls.{changed_later, left_of}
+use Rattle.reuse_session.specs.session.Showing.{LedTo, ShowsAt}
+use Rattle.reuse_session.specs.declared.command.Command.{Command}
+use Rattle.reuse_session.specs.declared.command.Command.TheVariants.{Revert}
+use Rattle.reuse_session.specs.declared.events.Event.{Event}
+use Rattle.reuse_session.specs.declared.events.Event.TheVariants as events
+use Rattle.reuse_session.specs.declared.fate.Fate.{Fate}
+use Rattle.reuse_session.specs.declared.reply.Reply.{Reply}
+use Rattle.reuse_session.specs.declared.reply.Reply.TheVariants as replies
+use Rattle.reuse_session.specs.declared.reply.Refusal.{Refusal}
+use Rattle.reuse_session.specs.declared.reply.Refusal.TheVariants.{NoSuchStep}
+use Rattle.reuse_session.specs.declared.reply.Shown.{Shown}
+use Rattle.reuse_session.specs.declared.request.Call.{Call}
+use Rattle.reuse_session.specs.declared.request.Call.TheVariants as calls
+use Rattle.reuse_session.specs.declared.request.Request.{Request}
+use Rattle.reuse_session.specs.declared.request.Request.TheVariants as requests
+
+-- the answer and the state are those of the step
+abbrev pub AreOf : Step → Result Reply Refusal → Snapshots → Type 0
+AreOf given answer next = (answer ≡ given.0) × (next ≡ given.1)
+
+-- ---- steps by their numbers
+
+-- none of the steps has the number
+abbrev pub IsUnkept : ℕ → List Kept → Type 0
+IsUnkept number steps = All (λ (kept : Kept). ¬ (kept.label.number ≡ number)) steps
+
+-- what is shown is a step of the model, or no step has the number
+abbrev pub ShowsBy : Snapshots → ℕ → Result Shown Refusal → Type 0
+ShowsBy state number (Ok shown) = ShowsAt state number shown
+ShowsBy state number (Err refusal) = (refusal ≡ NoSuchStep number) × IsUnkept number state.past × IsUnkept number state.future
+
+-- the command that takes these changes of the step of the number back, but where a later step changed the path
+abbrev pub command_back : Snapshots → ℕ → Bool → List Change → Command
+command_back state number skip_moved changes = Revert changes (changed_later number state.tree state.past changes) skip_moved
+
+-- how that run is answered: by the paths that changed, and the others of the step
+abbrev pub as_reverted : List Change → Result Reply Refusal → Result Reply Refusal
+as_reverted changes (Ok (replies.Changed paths)) = Ok (replies.Reverted (record { changed = paths; skipped = left_of (paths_of changes) paths }))
+as_reverted changes (Ok reply) = Ok (replies.Reverted (record { changed = []; skipped = left_of (paths_of changes) [] }))
+as_reverted changes (Err refusal) = Err refusal
+
+-- a revert is the run that takes back what the step of the number changed, or no step that is done has the number
+abbrev pub RevertsTo : Snapshots → ℕ → Bool → ℕ → Result Reply Refusal → Snapshots → Type 0
+RevertsTo state number skip_moved when answer next =
+    ((answer ≡ Err (NoSuchStep number)) × IsUnkept number state.past × (next ≡ state))
+    ⊎ ((changes : List Change) × LedTo number changes state.tree state.past
+    × (let ran = ran_by state (command_back state number skip_moved changes) when in AreOf (as_reverted changes ran.0, ran.1) answer next))
+
+-- what it would do is what that run would do
+abbrev pub PreviewsBack : Snapshots → ℕ → Bool → Result (List Fate) Refusal → Type 0
+PreviewsBack state number skip_moved answer =
+    ((answer ≡ Err (NoSuchStep number)) × IsUnkept number state.past)
+    ⊎ ((changes : List Change) × LedTo number changes state.tree state.past × (answer ≡ run_fates state (command_back state number skip_moved changes)))
+
+-- ---- requests
+
+-- the call at this moment
+abbrev pub MakesTo : Snapshots → Call → ℕ → Result Reply Refusal → Snapshots → Type 0
+MakesTo state (calls.Run command) when answer next = AreOf (ran_by state command when) answer next
+MakesTo state calls.Undo when answer next = AreOf (undone state state.past) answer next
+MakesTo state calls.Redo when answer next = AreOf (redone state state.future) answer next
+MakesTo state (calls.Revert number skip_moved) when answer next = RevertsTo state number skip_moved when answer next
+
+-- what the call would do
+abbrev pub PreviewsTo : Snapshots → Call → Result (List Fate) Refusal → Type 0
+PreviewsTo state (calls.Run command) answer = answer ≡ run_fates state command
+PreviewsTo state calls.Undo answer = answer ≡ undo_fates state.tree state.past
+PreviewsTo state calls.Redo answer = answer ≡ redo_fates state.tree state.future
+PreviewsTo state (calls.Revert number skip_moved) answer = PreviewsBack state number skip_moved answer
+
+-- asked this in the state, the model gives the answer and is in the next state then
+abbrev pub Gives : Snapshots → Request → Result Reply Refusal → Snapshots → Type 0
+Gives state (requests.Make call when) answer next = MakesTo state call when answer next
+Gives state (requests.Preview call) answer next = (fates : Result (List Fate) Refusal) × (answer ≡ replied replies.Preview fates) × PreviewsTo state call fates × (next ≡ state)
+Gives state requests.Log answer next = (answer ≡ Ok (replies.Log (rows_of state))) × (next ≡ state)
+Gives state (requests.Show number) answer next = (shown : Result Shown Refusal) × (answer ≡ replied replies.Shown shown) × ShowsBy state number shown × (next ≡ state)
+
+-- a request that the model answers by its trees alone: no step is named by its number
+abbrev pub IsByTrees : Request → Type 0
+IsByTrees (requests.Make (calls.Revert number skip_moved) when) = ⊥
+IsByTrees (requests.Preview (calls.Revert number skip_moved)) = ⊥
+IsByTrees (requests.Show number) = ⊥
+IsByTrees request = Unit {0}
+
+-- ---- events
+
+-- a request, or to be opened again
+abbrev pub GivesEvent : Snapshots → Event → Result Reply Refusal → Snapshots → Type 0
+GivesEvent state (events.Ask request) answer next = Gives state request answer next
+GivesEvent state events.Reopen answer next = (answer ≡ Ok replies.Opened) × (next ≡ state)
+
+-- the model gives the answers to the events, one after the other, from the one state to the other
+abbrev pub AnswersAll : List Event → List (Result Reply Refusal) → (state end : Snapshots) → Type 0
+AnswersAll [] [] state end = end ≡ state
+AnswersAll (event ∷ events) (answer ∷ answers) state end = (next : Snapshots) × GivesEvent state event answer next × AnswersAll events answers next end
+AnswersAll [] (answer ∷ answers) state end = ⊥
+AnswersAll (event ∷ events) [] state end = ⊥

@@ -1,0 +1,174 @@
+-- What a session answers to a request from a committed state, and what it leaves.
+use Rattle.std.specs.Prelude.{◌≡◌, ◌↔◌, ◌⊎◌, ◌+◌, ◌<◌, ℕ, Bool, true, List, Result, Ok, Err, IfErr}
+use Rattle.std.specs.List.{Contains}
+use Rattle.reuse_tree.specs.Asked.{OnlyReads}
+use Rattle.reuse_tree.specs.Files.{Files, Clashes}
+use Rattle.reuse_tree.specs.Tree.{undo_folder_of}
+use Rattle.reuse_tree.specs.declared.journal.head.PendingWay.TheVariants as ways
+use Rattle.reuse_tree.specs.declared.store.Store.{Ghosts}
+use Rattle.reuse_tree.specs.declared.way.Way.TheVariants as go
+use Rattle.reuse_session.specs.session.Answer.{IsEarly, IsStop, HasCause, HasClash, IsNoClash, RefusedAsRead, TellsNoFault}
+use Rattle.reuse_session.specs.session.Calls.{files_of, folder_of, IsCall}
+use Rattle.reuse_session.specs.journal.Journal.{Recorded, State, Undoes, Redoes, rows_in}
+use Rattle.reuse_session.specs.journal.JournalFiles.{head_path, entry_path, number_of, IsFree}
+use Rattle.reuse_session.specs.journal.Losses.{AreSafeOn, Survives, IsNextBy}
+use Rattle.reuse_session.specs.session.Previews.{run_fates_on, Foresees}
+use Rattle.reuse_session.specs.session.RevertCalls.{IsAfterRevert, Reverts, changed_or_none, touched_later}
+use Rattle.reuse_session.specs.session.Session.{store_of, is_broken, IsKept, IsRun, IsSameBut, IsSameButTwo, Runs, StandsOn}
+use Rattle.reuse_session.specs.session.Showing.{IsUnused, ShowsIn}
+use Rattle.reuse_session.specs.journal.Standing.{InDoubt, IsStanding}
+use Rattle.reuse_session.specs.declared.command.Command.TheVariants.{Revert}
+use Rattle.reuse_session.specs.declared.failure.Failure.{Failure}
+use Rattle.reuse_session.specs.declared.failure.Failure.TheVariants.{Interrupted, Memory}
+use Rattle.reuse_session.specs.declared.fate.Fate.{Fate}
+use Rattle.reuse_session.specs.declared.reply.Refusal.{Refusal}
+use Rattle.reuse_session.specs.declared.reply.Refusal.TheVariants.{Broken, Failed, NoSuchStep}
+use Rattle.reuse_session.specs.declared.reply.Reply.{Reply}
+use Rattle.reuse_session.specs.declared.reply.Reply.TheVariants as replies
+use Rattle.reuse_session.specs.declared.reply.Reverted.{Reverted}
+use Rattle.reuse_session.specs.declared.reply.Shown.{Shown}
+use Rattle.reuse_session.specs.declared.request.Call.{Call}
+use Rattle.reuse_session.specs.declared.request.Call.TheVariants as calls
+use Rattle.reuse_session.specs.declared.request.Request.{Request}
+use Rattle.reuse_session.specs.declared.request.Request.TheVariants as requests
+use Rattle.reuse_session.specs.declared.session.Session.{Session}
+
+-- what changes nothing: a preview, a log, or a step that is shown
+abbrev pub IsLook : Request → Type 0
+IsLook (requests.Make call when) = ⊥
+IsLook request = Unit {0}
+
+-- how a request may fail: what only looks never stops, and a log fails for want of memory alone
+abbrev pub MayFail : Request → Failure → Type 0
+MayFail (requests.Make call when) failure = Unit {0}
+MayFail requests.Log Memory = Unit {0}
+MayFail requests.Log failure = ⊥
+MayFail (requests.Preview call) (Interrupted cause) = ⊥
+MayFail (requests.Preview call) failure = Unit {0}
+MayFail (requests.Show number) (Interrupted cause) = ⊥
+MayFail (requests.Show number) failure = Unit {0}
+
+abbrev pub IfFailed : (Failure → Type 0) → Refusal → Type 0
+IfFailed Claim (Failed failure) = Claim failure
+IfFailed Claim refusal = Unit {0}
+
+-- the value as a reply, or the refusal
+abbrev pub replied : {A : Type 0} → (A → Reply) → Result A Refusal → Result Reply Refusal
+replied reply (Ok value) = Ok (reply value)
+replied reply (Err refusal) = Err refusal
+
+-- ---- what is answered, and which committed state is left
+
+-- a preview of a revert answers what a run would do that takes the changes of the step back, or that no such step is done
+abbrev pub PreviewsRevert : ℕ → Bool → State → Result (List Fate) Refusal → Type 0
+PreviewsRevert number skip_moved old answer =
+    ((answer ≡ Err (NoSuchStep number)) × IsUnused number old.journal.done)
+    ⊎ ((step : Recorded) × Contains old.journal.done step × (number_of step ≡ number) × (answer ≡ run_fates_on old (Revert step.changes (touched_later number old.journal.done step.changes) skip_moved)))
+
+-- what a preview of a call answers
+abbrev pub Previews : Call → State → Result (List Fate) Refusal → Type 0
+Previews (calls.Run command) old answer = answer ≡ run_fates_on old command
+Previews calls.Undo old answer = Foresees go.Undo old.journal.done old.tree answer
+Previews calls.Redo old answer = Foresees go.Do old.journal.undone old.tree answer
+Previews (calls.Revert number skip_moved) old answer = PreviewsRevert number skip_moved old answer
+
+-- what a call answers, and which state it leaves
+abbrev pub Makes : Call → ℕ → State → Result Reply Refusal → State → Type 0
+Makes (calls.Run command) when old answer new = Runs command when old answer new
+Makes calls.Undo when old answer new = Undoes old.journal.done old answer new
+Makes calls.Redo when old answer new = Redoes old.journal.undone old answer new
+Makes (calls.Revert number skip_moved) when old answer new =
+    (reverted : Result Reverted Refusal) × (answer ≡ replied replies.Reverted reverted) × Reverts number skip_moved when old reverted new
+
+-- the same of a request; what only looks leaves the state
+abbrev pub LeadsTo : Request → State → Result Reply Refusal → State → Type 0
+LeadsTo (requests.Make call when) old answer new = Makes call when old answer new
+LeadsTo (requests.Preview call) old answer new = (fates : Result (List Fate) Refusal) × (answer ≡ replied replies.Preview fates) × Previews call old fates × (new ≡ old)
+LeadsTo requests.Log old answer new = (answer ≡ Ok (replies.Log (rows_in old.journal))) × (new ≡ old)
+LeadsTo (requests.Show number) old answer new = (shown : Result Shown Refusal) × (answer ≡ replied replies.Shown shown) × ShowsIn old.journal number shown × (new ≡ old)
+
+-- ---- where it stops
+
+-- the state is that after a call
+abbrev pub IsAfterCall : Call → ℕ → State → State → Type 0
+IsAfterCall (calls.Run command) when old new = IsRun command when old new
+IsAfterCall calls.Undo when old new = IsNextBy ways.Undo old new
+IsAfterCall calls.Redo when old new = IsNextBy ways.Redo old new
+IsAfterCall (calls.Revert number skip_moved) when old new = IsAfterRevert number skip_moved when old new
+
+-- the state is that after a request that makes a step
+abbrev pub IsAfter : Request → State → State → Type 0
+IsAfter (requests.Make call when) old new = IsAfterCall call when old new
+IsAfter request old new = ⊥
+
+-- a request that stopped leaves files in doubt between the state before it and that after it
+abbrev pub IsStopped : Request → State → Files → Type 0
+IsStopped request old files = (new : State) × IsAfter request old new × InDoubt old new files
+
+-- What a request is answered and leaves. One that failed early leaves the state.
+abbrev pub Meets : Request → State → Result Reply Refusal → Files → Type 0
+Meets request old (Err (Failed (Interrupted cause))) files = MayFail request (Interrupted cause) × IsStopped request old files
+Meets request old (Err (Failed failure)) files = MayFail request failure × IsStanding files old
+Meets request old answer files = (new : State) × LeadsTo request old answer new × IsStanding files new
+
+-- ---- what it leaves, whatever it answers
+
+-- A clash that is told is that of the path that is put: of the next entry, which a run and a revert alone put, or of the head. What only looks
+-- tells none.
+abbrev pub HasCallClash : Request → State → Files → Refusal → Type 0
+HasCallClash (requests.Make (calls.Run command) when) old files = HasClash (Clashes files (entry_path (old.journal.used + 1))) (Clashes files head_path)
+HasCallClash (requests.Make (calls.Revert number skip_moved) when) old files = HasClash (Clashes files (entry_path (old.journal.used + 1))) (Clashes files head_path)
+HasCallClash (requests.Make calls.Undo when) old files = HasClash ⊥ (Clashes files head_path)
+HasCallClash (requests.Make calls.Redo when) old files = HasClash ⊥ (Clashes files head_path)
+HasCallClash request old files = IsNoClash
+
+-- Of the journal's files none but these holds something else: a run and a revert put the next entry and the head, an undo and a redo the head.
+-- What only looks leaves every file.
+abbrev pub KeepsFolder : Request → State → Files → Files → Type 0
+KeepsFolder (requests.Make (calls.Run command) when) old before after = IsSameButTwo (entry_path (old.journal.used + 1)) head_path (undo_folder_of before) (undo_folder_of after)
+KeepsFolder (requests.Make (calls.Revert number skip_moved) when) old before after = IsSameButTwo (entry_path (old.journal.used + 1)) head_path (undo_folder_of before) (undo_folder_of after)
+KeepsFolder (requests.Make calls.Undo when) old before after = IsSameBut head_path (undo_folder_of before) (undo_folder_of after)
+KeepsFolder (requests.Make calls.Redo when) old before after = IsSameBut head_path (undo_folder_of before) (undo_folder_of after)
+KeepsFolder request old before after = after ≡ before
+
+-- the answer as that of a run, by which paths changed
+abbrev pub as_step : Result Reply Refusal → Result Reply Refusal
+as_step (Ok (replies.Reverted reverted)) = Ok (changed_or_none reverted.changed)
+as_step answer = answer
+
+-- After a loss of power, at any moment of a call, what is left is the state before it or that after it. What only looks leaves what was safe.
+abbrev pub SurvivesRequest : {S : Type 0} → Ghosts S → Request → (earlier held : State) → Result Reply Refusal → S → Type 0
+SurvivesRequest store (requests.Make call when) earlier held answer new = Survives store (IsAfterCall call when held) earlier held (as_step answer) new
+SurvivesRequest store request earlier held answer new = AreSafeOn store earlier held new
+
+-- how a session answers a request
+pub record IsAnswered {S : Type 0} (store : Ghosts S) (request : Request) (answer : Result Reply Refusal) (old new : Session S) : Type 0 where
+  -- a session that was interrupted answers nothing more
+  pub broken : (answer ≡ Err Broken) ↔ (is_broken old ≡ true)
+  -- unless it fails, the answer and the state that is left are those of the request
+  pub exact : store.honest (store_of new) → (held : State) → StandsOn store.files old held
+      → TellsNoFault answer → (left : State) × StandsOn store.files new left × LeadsTo request held answer left
+  -- one that failed early, or was refused, leaves the state, and one that stopped files in doubt
+  pub stands : store.honest (store_of new) → (held : State) → StandsOn store.files old held → IfErr answer (λ refusal. IsEarly refusal → StandsOn store.files new held)
+  pub doubt : store.honest (store_of new) → (held : State) → StandsOn store.files old held → IfErr answer (λ refusal. IsStop refusal → IsStopped request held (files_of store new))
+  pub fails : IfErr answer (IfFailed (MayFail request))
+  pub survives : store.honest (store_of new) → (earlier held : State) → StandsOn store.files old held
+      → AreSafeOn store earlier held (store_of old) → SurvivesRequest store request earlier held answer (store_of new)
+  -- what only looks reads alone
+  pub looks : IsLook request → OnlyReads store (store_of old) (store_of new)
+  pub kept : IsLook request → IsKept old new
+  pub clash : store.honest (store_of new) → (held : State) → StandsOn store.files old held → IfErr answer (HasCallClash request held (files_of store old))
+  -- where no path of a file of the journal is a folder, no clash is told, and none becomes one
+  pub unclashed : store.honest (store_of new) → (held : State) → StandsOn store.files old held → IsFree (folder_of store old) → IfErr answer IsNoClash
+  pub free : store.honest (store_of new) → IsFree (folder_of store old) → IsFree (folder_of store new)
+  pub folder : store.honest (store_of new) → (held : State) → StandsOn store.files old held → KeepsFolder request held (files_of store old) (files_of store new)
+  -- what any call leaves
+  pub call : IsCall store answer old new
+
+-- how a session is looked at: the store is read alone, what is remembered stays, and the call doesn't stop; a fault has its cause
+pub record Peeks {S A : Type 0} (store : Ghosts S) (answer : Result A Refusal) (old new : Session S) : Type 0 where
+  pub reads : OnlyReads store (store_of old) (store_of new)
+  pub kept : IsKept old new
+  pub fails : RefusedAsRead store (store_of old) (store_of new) answer
+  pub unstopped : IfErr answer IsEarly
+  pub caused : IfErr answer (HasCause (store.failures (store_of old) < store.failures (store_of new)))

@@ -1,0 +1,173 @@
+-- When a session stands at a state of the machine.
+use Rattle.std.specs.Prelude.{◌≡◌, ◌≢◌, ℕ, ◌+◌, ◌*◌, ◌≤◌, Bool, true, false, List, [], ◌∷◌, length, map, reverse, Some, None, Result, Ok, Err}
+use Rattle.std.specs.FinMap.{get}
+use Rattle.reuse_tree.specs.Files.{Files, AreFiles}
+use Rattle.reuse_session.specs.session.Command.{name_of}
+use Rattle.reuse_tree.specs.Entry.{IsEntry, LeadsAll}
+use Rattle.reuse_tree.specs.EntryText.{entry_text}
+use Rattle.reuse_tree.specs.Head.{head_text}
+use Rattle.reuse_tree.specs.declared.change.Change.{Change}
+use Rattle.reuse_session.specs.declared.reply.Refusal.TheVariants.{JournalFull}
+use Rattle.reuse_session.specs.journal.History.{Memory, head_listing}
+use Rattle.reuse_session.specs.journal.Journal.{Recorded, Journal, State}
+use Rattle.reuse_session.specs.journal.JournalFiles.{head_path, entry_path, number_of, IsKeptIn}
+use Rattle.reuse_session.specs.session.Machine.{Kept, Snapshots, Step, is_full}
+use Rattle.reuse_session.specs.plan.Outcome.{edits_of, outcome_of}
+use Rattle.reuse_session.specs.plan.Plan.{IsPlan, Records}
+use Rattle.reuse_session.specs.journal.Standing.{IsStanding, IsStep, InDoubt}
+use Rattle.reuse_tree.specs.Tree.{changed_paths}
+use Rattle.reuse_session.specs.declared.command.Command.{Command}
+use Rattle.reuse_session.specs.declared.journal.history.ListedEntry.{ListedEntry}
+use Rattle.reuse_tree.specs.declared.journal.entry.Entry.{Entry}
+use Rattle.reuse_tree.specs.declared.journal.head.Pending.{Pending}
+use Rattle.reuse_tree.specs.declared.journal.head.PendingWay.{PendingWay}
+use Rattle.reuse_tree.specs.declared.journal.head.PendingWay.TheVariants as ways
+use Rattle.reuse_session.specs.declared.session.Session.{Session}
+use Rattle.reuse_session.specs.declared.reply.Reply.{Reply}
+use Rattle.reuse_session.specs.declared.reply.Reply.TheVariants.{Changed, NothingChanged}
+use Rattle.reuse_session.specs.declared.reply.Refusal.{Refusal}
+
+-- the store of a session
+abbrev pub store_of : {S : Type 0} → Session S → S
+store_of session = session.store
+
+-- whether an earlier call of the session was interrupted
+abbrev pub is_broken : {S : Type 0} → Session S → Bool
+is_broken session = session.broken
+
+-- what a session remembers of the journal
+abbrev pub memory_of : {S : Type 0} → Session S → Memory
+memory_of session = session.history
+
+-- a step as an entry that the head lists
+abbrev pub listed_as : Recorded → ListedEntry
+listed_as step = record { number = step.label.number; when = step.label.when; command = step.label.command; count = length step.changes }
+
+-- this is remembered of the journal
+pub record Remembers (memory : Memory) (journal : Journal) : Type 0 where
+  pub done : memory.done ≡ map listed_as (reverse journal.done)
+  pub undone : memory.undone ≡ map listed_as (reverse journal.undone)
+  pub used : memory.used ≡ journal.used
+
+-- the session isn't broken, its store's files are the standing, and it remembers its journal
+pub record StandsOn {S : Type 0} (files : S → Files) (session : Session S) (held : State) : Type 0 where
+  pub whole : is_broken session ≡ false
+  pub standing : IsStanding (files (store_of session)) held
+  pub remembers : Remembers (memory_of session) held.journal
+
+-- what the session remembers, and whether it is broken, are as they were
+abbrev pub IsKept : {S : Type 0} → Session S → Session S → Type 0
+IsKept old new = (memory_of new ≡ memory_of old) × (is_broken new ≡ is_broken old)
+
+-- no path but this one holds something else
+abbrev pub IsSameBut : List ℕ → Files → Files → Type 0
+IsSameBut path before after = (other : List ℕ) → other ≢ path → get after other ≡ get before other
+
+-- no path but these two holds something else
+abbrev pub IsSameButTwo : (one two : List ℕ) → Files → Files → Type 0
+IsSameButTwo one two before after = (other : List ℕ) → other ≢ one → other ≢ two → get after other ≡ get before other
+
+-- the head's file is the very text that lists what is remembered, with nothing pending
+abbrev pub HasHeadText : Memory → Files → Type 0
+HasHeadText memory files = get files head_path ≡ Some (head_text (head_listing memory None))
+
+-- the file of this number is the very text of the entry
+abbrev pub HasEntryText : ℕ → Entry → Files → Type 0
+HasEntryText number entry files = get files (entry_path number) ≡ Some (entry_text entry)
+
+-- the step leads from one tree to the other
+pub record Connects (step : Recorded) (before after : Files) : Type 0 where
+  pub good : IsEntry step.changes
+  pub leads : LeadsAll step.changes before after
+  pub are_files : AreFiles before × AreFiles after
+
+-- the steps, the newest first, lead to the tree through these earlier ones
+abbrev pub LeadUpTo : Files → List Recorded → List Kept → Type 0
+LeadUpTo tree [] [] = Unit {0}
+LeadUpTo tree (step ∷ steps) (kept ∷ past) = (kept.label ≡ step.label) × Connects step kept.tree tree × LeadUpTo kept.tree steps past
+LeadUpTo tree [] (kept ∷ past) = ⊥
+LeadUpTo tree (step ∷ steps) [] = ⊥
+
+-- the undone steps, the next to be redone first, lead on from the tree through these
+abbrev pub LeadOn : Files → List Recorded → List Kept → Type 0
+LeadOn tree [] [] = Unit {0}
+LeadOn tree (step ∷ steps) (kept ∷ future) = (kept.label ≡ step.label) × Connects step tree kept.tree × LeadOn kept.tree steps future
+LeadOn tree [] (kept ∷ future) = ⊥
+LeadOn tree (step ∷ steps) [] = ⊥
+
+-- a tree and a journal hold a state of the machine: the same tree, and the steps lead through the trees that are kept
+pub record HoldsSnapshots (held : State) (state : Snapshots) : Type 0 where
+  pub tree : held.tree ≡ state.tree
+  pub past : LeadUpTo state.tree held.journal.done state.past
+  pub future : LeadOn state.tree held.journal.undone state.future
+  pub used : held.journal.used ≡ state.used
+
+-- the session stands on a standing that holds the state
+pub record StandsAt {S : Type 0} (files : S → Files) (session : Session S) (state : Snapshots) : Type 0 where
+  pub held : State
+  pub stands : StandsOn files session held
+  pub holds : HoldsSnapshots held state
+
+-- the call answers as the machine does, and the session stands at its state
+abbrev pub Follows : {S : Type 0} → (S → Files) → Result Reply Refusal → Session S → Step → Type 0
+Follows files result session step = (result ≡ step.0) × StandsAt files session step.1
+
+-- the second standing is that after a run of the command
+pub record IsRun (command : Command) (when : ℕ) (first second : State) : Type 0 where
+  pub step : Recorded
+  pub label : step.label ≡ record { number = first.journal.used + 1; when = when; command = name_of command }
+  pub room : is_full (length first.journal.done) first.journal.used ≡ false
+  pub outcome : outcome_of command first.tree ≡ Ok second.tree
+  pub entry : IsEntry step.changes
+  pub recorded : Records first.tree (edits_of command first.tree) step.changes
+  pub are_files : AreFiles second.tree
+  pub is_step : IsStep ways.Do step first second
+
+-- what a run answers and leaves: a command that gives another tree is one step, and its paths are answered; one that gives the same
+-- tree leaves all, and so does a refusal, which is that of a full journal or the command's own
+abbrev pub Runs : Command → ℕ → State → Result Reply Refusal → State → Type 0
+Runs command when old (Ok (Changed paths)) new = (paths ≡ changed_paths old.tree new.tree) × IsRun command when old new
+Runs command when old (Ok NothingChanged) new = (is_full (length old.journal.done) old.journal.used ≡ false) × (outcome_of command old.tree ≡ Ok old.tree) × (new ≡ old)
+Runs command when old (Err JournalFull) new = (is_full (length old.journal.done) old.journal.used ≡ true) × (new ≡ old)
+Runs command when old (Err refusal) new = (is_full (length old.journal.done) old.journal.used ≡ false) × (outcome_of command old.tree ≡ Err refusal) × (new ≡ old)
+Runs command when old (Ok reply) new = ⊥
+
+-- an entry of a run of the command, which records what it changes on the tree
+abbrev pub IsRecordOf : Command → ℕ → Files → Entry → Type 0
+IsRecordOf command when tree entry = (entry.command ≡ name_of command) × (entry.when ≡ when) × Records tree (edits_of command tree) entry.changes
+
+-- a call that stopped on the way to the next standing: the files are in doubt between the two
+abbrev pub StopsAfterRun : Command → ℕ → State → Files → Type 0
+StopsAfterRun command when first files = (second : State) × IsRun command when first second × InDoubt first second files
+
+abbrev pub StopsAfter : PendingWay → State → Files → Type 0
+StopsAfter way first files = (second : State) × (step : Recorded) × IsStep way step first second × InDoubt first second files
+
+-- the bytes that a head of so many entries takes at most
+abbrev pub head_room : ℕ → ℕ
+head_room entries = 128 + 7 * entries
+
+-- how many entries are remembered
+abbrev pub listed_count : Memory → ℕ
+listed_count memory = length memory.done + length memory.undone
+
+-- ---- for private clauses
+
+-- the changes are some, and are those that a run of the command makes on the tree
+pub record IsPlanned (command : Command) (tree : Files) (changes : List Change) : Type 0 where
+  pub entry : IsEntry changes
+  pub plan : IsPlan (outcome_of command tree) tree changes
+  pub recorded : Records tree (edits_of command tree) changes
+
+-- the changes are those of a step from the first standing, whose journal is in the folder, to the second; the step is pending so, and
+-- what is remembered after it is this
+pub record IsStepOf (folder : Files) (made : List Change) (pending : Pending) (moved : Memory) (first second : State) : Type 0 where
+  pub step : Recorded
+  pub changes : step.changes ≡ made
+  pub number : pending.entry ≡ number_of step
+  pub entry : IsEntry made
+  pub kept : IsKeptIn folder step
+  pub low : number_of step ≤ 999_999
+  pub is_step : IsStep pending.way step first second
+  pub remembers : Remembers moved second.journal
+  pub room : pending.way ≡ ways.Do → is_full (length first.journal.done) first.journal.used ≡ false

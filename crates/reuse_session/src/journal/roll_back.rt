@@ -1,0 +1,130 @@
+//! Rolls a pending step back: its files are as they were before it, and the head tells it no more.
+ghost use Rattle.std.specs.Prelude.{◌≡◌, ◌≢◌, ◌<◌, ◌≤◌, ◌+◌, ℕ, List, IfErr, OnOk, OnErr, IsErrOf, length, true, false};
+ghost use Rattle.std.specs.List.{All};
+ghost use Rattle.reuse_tree.specs.Files.{Files, AreFiles, Clashes, tree_of};
+ghost use Rattle.reuse_session.specs.session.Answer.{told_of, HasCause, IsEarly, IsNoClash, IsRollBackRefusal};
+ghost use Rattle.reuse_session.specs.journal.Carried.{IsRolledBack, StopsBack, StopsRollingBack};
+ghost use Rattle.reuse_tree.specs.Turn.{NotesMoves};
+ghost use Rattle.reuse_tree.specs.Entry.{IsEntry, SomeMade, ArePartlyMade, CanBeSetBack, IsFirstWithout};
+ghost use Rattle.reuse_session.specs.session.Session.{IsSameBut};
+ghost use Rattle.reuse_tree.specs.Tree.{undo_folder_of};
+ghost use Rattle.reuse_session.specs.journal.JournalFiles.{head_path};
+ghost use Rattle.reuse_tree.specs.declared.cause.Cause.{Cause};
+ghost use Rattle.reuse_session.specs.declared.failure.Failure.TheVariants as failures;
+ghost use Rattle.reuse_session.specs.declared.reply.Refusal.TheVariants as refusals;
+ghost use Rattle.reuse_tree.specs.Asked.{OnlyReads, IsLater, IsSynced, Leaves};
+ghost use Rattle.reuse_tree.specs.Lasting.{IsMidway};
+ghost use Rattle.reuse_session.specs.journal.Losses.{StopsBackWithDoubt};
+
+use crate::failure::{Failure, Fault};
+use crate::journal::files::{NewHead, put_head};
+use crate::journal::prepare::{Aim, test_each};
+use crate::reply::Refusal;
+use reuse_tree::turn::set_back;
+use reuse_tree::{Cause, Change, Store, Way};
+use std::alloc::Global;
+
+/// Tests that each change of a step that is pending this way is made or not, and can be taken back
+/// where it is made. Then takes back those that are made, and puts the head. It is refused as
+/// `Moved` at the first path where that can't be.
+///
+/// A barrier stands before the first change that is taken back, so that the pending head is lasting
+/// then; one stands behind the last change, before the head is put; and one behind the head.
+pub fn roll_back<S: Store>(
+    alloc: Global,
+    store: &mut S,
+    changes: &[Change],
+    way: Way,
+    head: &NewHead<'_>,
+) -> Result<(), Refusal>
+    ensures done { S.honest store.new → IsEntry changes.now → OnOk result (IsRolledBack way changes.now head.now.text.now (S.files store.old) (S.files store.new)) }
+    ensures moved { S.honest store.new → IsEntry changes.now → (path : List ℕ) → result ≡ Err (Refusal.Moved path)
+        → IsFirstWithout (CanBeSetBack way (tree_of (S.files store.old))) changes.now path }
+    // From a tree on which some of the changes were made, it stops on the way back to that tree.
+    ensures stopped { S.honest store.new → IsEntry changes.now → (start : Files) → ArePartlyMade way changes.now start (tree_of (S.files store.old))
+        → (cause : Cause) → result ≡ Err (refusals.Failed (failures.Interrupted cause)) → StopsRollingBack way changes.now head.now.text.now start (S.files store.old) (S.files store.new) }
+    // It is never refused on the way from a tree.
+    ensures settles { S.honest store.new → IsEntry changes.now → (start : Files) → AreFiles start → ArePartlyMade way changes.now start (tree_of (S.files store.old))
+        → (path : List ℕ) → result ≢ Err (Refusal.Moved path) }
+    // A loss of power leaves what is there once it is done. Where it stops, some of the changes are
+    // still made, or the last head is put or not. That holds if each tree that might be left before
+    // is the start with some of the changes made.
+    ensures lasting { S.honest store.new → IsEntry changes.now → (start : Files) → ArePartlyMade way changes.now start (tree_of (S.files store.old))
+        → Leaves S.Store store.old (λ kept. SomeMade way changes.now start (tree_of kept)) → OnOk result (IsSynced S.Store store.new) }
+    ensures left { S.honest store.new → IsEntry changes.now → (start : Files) → ArePartlyMade way changes.now start (tree_of (S.files store.old))
+        → Leaves S.Store store.old (λ kept. SomeMade way changes.now start (tree_of kept))
+        → (cause : Cause) → result ≡ Err (refusals.Failed (failures.Interrupted cause)) → StopsBackWithDoubt S.Store way changes.now head.now.text.now start (S.files store.old) store.new }
+    // Where it stops, each path is as it was or is set back.
+    ensures back { S.honest store.new → IsEntry changes.now → (cause : Cause) → result ≡ Err (refusals.Failed (failures.Interrupted cause))
+        → StopsBack way changes.now head.now.text.now (S.files store.old) (S.files store.new) }
+    ensures refusal { IfErr result IsRollBackRefusal }
+    ensures clash { S.honest store.new → IsEntry changes.now → ¬ (Clashes (S.files store.old) head_path) → IfErr result IsNoClash }
+    // It stops only where each change isn't made or can be taken back.
+    ensures tested { S.honest store.new → IsEntry changes.now → (cause : Cause) → result ≡ Err (refusals.Failed (failures.Interrupted cause))
+        → All (CanBeSetBack way (tree_of (S.files store.old))) changes.now }
+    ensures folder { S.honest store.new → IsEntry changes.now → IsSameBut head_path (undo_folder_of (S.files store.old)) (undo_folder_of (S.files store.new)) }
+    // It is refused before it has moved anything, and stops after that; one that tells a file that
+    // changed since it was tested may stop before.
+    ensures early { IfErr result (λ refusal. IsEarly refusal → OnlyReads S.Store store.old store.new) }
+    ensures late { (cause : Cause) → result ≡ Err (refusals.Failed (failures.Interrupted cause)) → cause ≢ Cause.Moved → S.moves store.old < S.moves store.new }
+    ensures fault { IfErr result (HasCause (S.failures store.old < S.failures store.new)) }
+    ensures written { IsEntry changes.now → S.written store.new ≤ S.written store.old + length head.now.text.now }
+    ensures moves { S.moves store.new ≤ S.moves store.old + length changes.now + 1 }
+    ensures later { IsLater S.Store store.old store.new }
+{
+    test_each(alloc, store, changes, way, Aim::SetBack)?;
+    store.sync(alloc, &[])?;
+    let mut started = false;
+    match set_all_back(alloc, store, changes, way, head, &mut started) {
+        Ok(()) => Ok(()),
+        Err(cause) => Err(told(started, cause)),
+    }
+}
+
+/// What is told of a cause: a stop once a put or a removal has started.
+pub fn told(started: bool, cause: Cause) -> Refusal
+    ensures { result ≡ told_of started cause }
+{
+    Refusal::Failed(match (started, cause) {
+        (false, Cause::Device) => Failure::Fault(Fault::Device),
+        (false, Cause::Clash) => Failure::Fault(Fault::Clash),
+        (false, Cause::Memory) => Failure::Memory,
+        (_, cause) => Failure::Interrupted(cause),
+    })
+}
+
+// Takes back each change that is made, and behind a barrier puts the head. It notes that puts and
+// removals have started before it calls one.
+fn set_all_back<S: Store>(
+    alloc: Global,
+    store: &mut S,
+    changes: &[Change],
+    way: Way,
+    head: &NewHead<'_>,
+    started: &mut bool,
+) -> Result<(), Cause>
+    ensures done { S.honest store.new → IsEntry changes.now → OnOk result (IsRolledBack way changes.now head.now.text.now (S.files store.old) (S.files store.new)) }
+    ensures stopped { S.honest store.new → IsEntry changes.now → (start : Files) → ArePartlyMade way changes.now start (tree_of (S.files store.old))
+        → OnErr result (StopsRollingBack way changes.now head.now.text.now start (S.files store.old) (S.files store.new)) }
+    ensures lasting { S.honest store.new → IsEntry changes.now → (start : Files) → ArePartlyMade way changes.now start (tree_of (S.files store.old))
+        → Leaves S.Store store.old (IsMidway way changes.now start (undo_folder_of (S.files store.old))) → OnOk result (IsSynced S.Store store.new) }
+    ensures left { S.honest store.new → IsEntry changes.now → (start : Files) → ArePartlyMade way changes.now start (tree_of (S.files store.old))
+        → Leaves S.Store store.old (IsMidway way changes.now start (undo_folder_of (S.files store.old)))
+        → OnErr result (StopsBackWithDoubt S.Store way changes.now head.now.text.now start (S.files store.old) store.new) }
+    ensures back { S.honest store.new → IsEntry changes.now → OnErr result (StopsBack way changes.now head.now.text.now (S.files store.old) (S.files store.new)) }
+    ensures cause { S.honest store.new → IsEntry changes.now → All (CanBeSetBack way (tree_of (S.files store.old))) changes.now
+        → ¬ (Clashes (S.files store.old) head_path) → (result ≢ Err Cause.Moved) × (result ≢ Err Cause.Clash) }
+    ensures folder { S.honest store.new → IsEntry changes.now → IsSameBut head_path (undo_folder_of (S.files store.old)) (undo_folder_of (S.files store.new)) }
+    ensures notes { NotesMoves S.Store started.old started.new store.old store.new }
+    ensures device { IsErrOf result Cause.Device → S.failures store.old < S.failures store.new }
+    ensures written { IsEntry changes.now → S.written store.new ≤ S.written store.old + length head.now.text.now }
+    ensures moves { S.moves store.new ≤ S.moves store.old + length changes.now + 1 }
+    ensures later { IsLater S.Store store.old store.new }
+{
+    for change in changes {
+        set_back(alloc, store, change, way, started)?;
+    }
+    store.sync(alloc, changes)?;
+    *started = true;
+    put_head(alloc, store, head.path, head.text)
+}

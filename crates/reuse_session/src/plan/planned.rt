@@ -1,0 +1,99 @@
+//! What is made of the plans of a command: the changes of a run, and what a preview tells.
+ghost use Rattle.std.specs.Prelude.{◌≡◌, ◌++◌, ◌∷◌, [], ◌||◌, map, IfOk, OnOk};
+ghost use Rattle.std.specs.Option.{option_to_list};
+ghost use Rattle.std.specs.List.{list_any};
+ghost use Rattle.reuse_session.specs.plan.PathPlans.{change_planned, changes_planned, fate_planned, is_refusal};
+ghost use Rattle.reuse_session.specs.plan.Counted.{is_skip_planned, skipped_planned};
+
+use crate::fate::Fate;
+use crate::plan::path_plan::PathPlan;
+use reuse_tree::Change;
+use std::alloc::{AllocError, Global};
+
+/// What a preview tells of each path, and the changes beside that.
+#[derive(Drop)]
+pub(crate) struct Planned {
+    pub(crate) fates: Vec<Fate>,
+    pub(crate) changes: Vec<Change>,
+    /// Whether one of the fates is a refusal.
+    pub(crate) is_refused: bool,
+}
+
+impl Planned {
+    /// What the plans tell.
+    pub(crate) fn of(alloc: Global, plans: Vec<PathPlan>) -> Result<Planned, AllocError>
+        ensures fates { IfOk result (λ planned. planned.fates.items ≡ map fate_planned plans.items) }
+        ensures changes { IfOk result (λ planned. planned.changes.items ≡ changes_planned plans.items) }
+        ensures refused { IfOk result (λ planned. planned.is_refused ≡ list_any is_refusal plans.items) }
+    {
+        let mut planned = Planned {
+            fates: Vec::with_capacity(alloc, plans.len())?,
+            changes: Vec::new(alloc),
+            is_refused: false,
+        };
+        for plan in plans {
+            planned.push(alloc, plan)?;
+        }
+        Ok(planned)
+    }
+
+    // Adds what a plan tells.
+    fn push(&mut self, alloc: Global, plan: PathPlan) -> Result<(), AllocError>
+        ensures fates { OnOk result (self.new.fates.items ≡ self.old.fates.items ++ fate_planned plan ∷ []) }
+        ensures changes { OnOk result (self.new.changes.items ≡ self.old.changes.items ++ option_to_list (change_planned plan)) }
+        ensures refused { OnOk result (self.new.is_refused ≡ (self.old.is_refused || is_refusal plan)) }
+    {
+        let fate = match plan {
+            PathPlan::Change(change) => {
+                let path = change.path().try_clone(alloc)?;
+                self.changes.push(change)?;
+                Fate::Changes(path)
+            }
+            PathPlan::Unchanged(path) => Fate::Unchanged(path),
+            PathPlan::Skipped(path) => Fate::Skipped(path),
+            PathPlan::Refused(refusal) => {
+                self.is_refused = true;
+                Fate::Refused(refusal)
+            }
+        };
+        self.fates.push(fate)?;
+        Ok(())
+    }
+}
+
+/// The changes among the plans.
+pub(crate) fn changes_planned(
+    alloc: Global,
+    plans: Vec<PathPlan>,
+) -> Result<Vec<Change>, AllocError>
+    ensures { IfOk result (λ changes. changes.items ≡ changes_planned plans.items) }
+{
+    let mut changes = Vec::new(alloc);
+    for plan in plans {
+        push_change(&mut changes, plan)?;
+    }
+    Ok(changes)
+}
+
+// Adds the change that is planned, if there is one.
+fn push_change(changes: &mut Vec<Change>, plan: PathPlan) -> Result<(), AllocError>
+    ensures { OnOk result (changes.new.items ≡ changes.old.items ++ option_to_list (change_planned plan)) }
+{
+    if let PathPlan::Change(change) = plan {
+        changes.push(change)?;
+    }
+    Ok(())
+}
+
+/// How many of the plans skip their file.
+pub(crate) fn skipped_planned(plans: &[PathPlan]) -> usize
+    ensures { result ≡ skipped_planned plans.now }
+{
+    plans.iter().filter(|plan| is_skip(plan)).count()
+}
+
+fn is_skip(plan: &PathPlan) -> bool
+    ensures { result ≡ is_skip_planned plan.now }
+{
+    matches!(plan, PathPlan::Skipped(_))
+}

@@ -1,0 +1,100 @@
+//! The changes of a run and what it counts, and what a preview tells: both are made of the plans of
+//! one walk.
+ghost use Rattle.std.specs.Prelude.{◌≡◌, ◌++◌, None, IfOk, IfErr};
+ghost use Rattle.std.specs.List.Sorted.{IsPermutation, IsSortedBy};
+ghost use Rattle.reuse_session.specs.plan.Counted.{skipped_count};
+ghost use Rattle.reuse_session.specs.session.Fates.{fates_of, first_refusal};
+ghost use Rattle.reuse_session.specs.plan.Outcome.{outcome_of, edits_of};
+ghost use Rattle.reuse_session.specs.plan.PathPlans.{limit_planned};
+ghost use Rattle.reuse_session.specs.plan.Plan.{IsPlan, IsRefusalOf, Records, is_before};
+ghost use Rattle.reuse_session.specs.session.Answer.{IsEarlyFailure};
+ghost use Rattle.reuse_session.specs.session.Reading.{tree_of, IsOfPlan, OnlyReads, RefusedAsRead};
+
+use crate::command::Command;
+use crate::fate::{Fate, Fates, Previewed};
+use crate::plan::counts::Counts;
+use crate::plan::path_plan::Policy;
+use crate::plan::planned::{Planned, changes_planned, skipped_planned};
+use crate::plan::walk::plan_command;
+use crate::reply::Refusal;
+use reuse_tree::{Change, Changes, Store, is_too_many};
+use std::alloc::{AllocError, Global};
+
+/// The changes of a command on the tree that the store has, in byte order of their paths, or the
+/// command's first refusal. Where there is none, what the walk counted is put into the counts.
+pub(crate) fn plan<S: Store>(
+    alloc: Global,
+    store: &mut S,
+    command: &Command,
+    counts: &mut Counts,
+) -> Result<Vec<Change>, Refusal>
+    ensures changes { S.honest store.new → IfOk result (λ changes. IsPlan (outcome_of command.now (tree_of (S.files store.old))) (tree_of (S.files store.old)) changes.items) }
+    // The changes hold what the command removes and writes at each path, and no more.
+    ensures recorded { S.honest store.new → IfOk result (λ changes. Records (tree_of (S.files store.old)) (edits_of command.now (tree_of (S.files store.old))) changes.items) }
+    ensures skipped { S.honest store.new → IfOk result (λ changes. counts.new.skipped ≡ skipped_count (fates_of command.now (tree_of (S.files store.old)))) }
+    ensures refusal { S.honest store.new → IfErr result (λ refusal. IsRefusalOf (outcome_of command.now (tree_of (S.files store.old))) refusal) }
+    ensures fails { RefusedAsRead S.Store store.old store.new result }
+    ensures reads { OnlyReads S.Store store.old store.new }
+    ensures planned { IfErr result IsOfPlan }
+{
+    let plans = plan_command(alloc, store, command, Policy::Stop)?;
+    counts.skipped = skipped_planned(&plans);
+    let changes = sorted(changes_planned(alloc, plans)?);
+    if is_too_many(&changes) {
+        return Err(Refusal::TooMany);
+    }
+    Ok(changes)
+}
+
+// The changes in byte order of their paths. A neighbour's need not be that of its file.
+fn sorted(changes: Vec<Change>) -> Vec<Change>
+    ensures moved { IsPermutation changes.items result.items }
+    ensures sorted { IsSortedBy is_before result.items }
+{
+    let mut changes = changes;
+    changes.sort_unstable_by(|one, other| one.path().cmp(other.path()));
+    changes
+}
+
+/// What a run of the command would do on the tree that the store has: the fates of its paths, and
+/// its changes in byte order of their paths.
+pub(crate) fn plan_preview<S: Store>(
+    alloc: Global,
+    store: &mut S,
+    command: &Command,
+) -> Result<Previewed, Refusal>
+    ensures fates { S.honest store.new → IfOk result (λ previewed. previewed.fates ≡ fates_of command.now (tree_of (S.files store.old))) }
+    // Where none of the fates is a refusal, the changes are those of a run.
+    ensures changes { S.honest store.new → IfOk result (λ previewed. first_refusal previewed.fates ≡ None
+        → IsPlan (outcome_of command.now (tree_of (S.files store.old))) (tree_of (S.files store.old)) previewed.changes) }
+    ensures recorded { S.honest store.new → IfOk result (λ previewed. first_refusal previewed.fates ≡ None
+        → Records (tree_of (S.files store.old)) (edits_of command.now (tree_of (S.files store.old))) previewed.changes) }
+    ensures fails { RefusedAsRead S.Store store.old store.new result }
+    ensures reads { OnlyReads S.Store store.old store.new }
+    ensures refusal { IfErr result IsEarlyFailure }
+{
+    let plans = plan_command(alloc, store, command, Policy::Collect)?;
+    Ok(with_limit(Planned::of(alloc, plans)?)?)
+}
+
+// What is planned. Behind the fates stands, where none is a refusal, that the changes are too many
+// together.
+fn with_limit(planned: Planned) -> Result<Previewed, AllocError>
+    ensures fates { IfOk result (λ previewed. previewed.fates ≡ planned.fates.items ++ limit_planned planned.is_refused planned.changes.items) }
+    ensures moved { IfOk result (λ previewed. IsPermutation planned.changes.items previewed.changes) }
+    ensures sorted { IfOk result (λ previewed. IsSortedBy is_before previewed.changes) }
+{
+    let over = !planned.is_refused && is_too_many(&planned.changes);
+    let Planned {
+        mut fates,
+        changes,
+        is_refused: _,
+    } = planned;
+    if over {
+        fates.push(Fate::Refused(Refusal::TooMany))?;
+    }
+    Ok(Previewed {
+        fates: Fates::new(fates),
+        changes: Changes::new(sorted(changes)),
+    })
+}

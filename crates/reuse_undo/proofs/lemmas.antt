@@ -1,0 +1,5 @@
+-- Lemmas that several proofs share, by rooms.
+pub mod cli
+pub mod disk
+pub mod print
+pub mod run

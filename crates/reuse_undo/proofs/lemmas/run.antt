@@ -1,0 +1,12 @@
+-- Lemmas of what a line asks for.
+pub mod AfterStopLemmas
+pub mod CallLemmas
+pub mod CarriedInside
+pub mod DiffLemmas
+pub mod DrawnLemmas
+pub mod DrawnLines
+pub mod ForeseenLemmas
+pub mod ForgettingLemmas
+pub mod ModelLemmas
+pub mod TextLemmas
+pub mod TreeDiffLemmas

@@ -1,0 +1,90 @@
+-- What a request is answered behind a stop, and lines one after the other.
+use Rattle.std.proofs.Common.{◌≡◌, ◌⊎◌, inl, inr, ⊎_elim, ℕ, Bool, false, List, [], ◌∷◌, Option, Some, None, Result, Ok, Err, refl, sym, subst}
+use Rattle.reuse_tree.specs.Files.{Files}
+use Rattle.reuse_tree.specs.declared.store.Store.{Ghosts}
+use Rattle.reuse_session.specs.journal.Journal.{State}
+use Rattle.reuse_session.specs.session.Machine.{Snapshots}
+use Rattle.reuse_session.specs.session.Requests.{Meets}
+use Rattle.reuse_session.specs.session.Session.{HoldsSnapshots}
+use Rattle.reuse_session.specs.journal.Standing.{IsStanding, InDoubt}
+use Rattle.reuse_session.specs.session.Stops.{Point, open_at, closed, AreLeft}
+use Rattle.reuse_session.specs.declared.reply.Reply.{Reply}
+use Rattle.reuse_session.specs.declared.reply.Refusal.{Refusal}
+use Rattle.reuse_session.specs.declared.failure.Failure.TheVariants.{Fault as StoreFailed, Memory, Interrupted}
+use Rattle.reuse_session.specs.declared.reply.Refusal.TheVariants.{Failed}
+use Rattle.reuse_session.specs.declared.request.Request.{Request}
+use Rattle.reuse_session.proofs.lemmas.session.Driving.{stays_closed}
+use Rattle.reuse_session.proofs.lemmas.session.Modelling.{gives_to, stopped_near}
+use Rattle.reuse_undo.specs.run.AfterStops.{EndsRequest, AnswersAfterStop}
+use Rattle.reuse_undo.specs.run.LinesInTurn.{AreInTurn, CarriedLine, HoldsSame, RunAsModel}
+use Rattle.reuse_undo.specs.run.RunLine.{AnswersOn, IsMade, IsUnopened, RequestLeaves, TellsAnswer}
+use Rattle.reuse_undo.specs.declared.run.fault.Fault.{Fault}
+use Rattle.reuse_undo.specs.declared.run.fault.Fault.TheVariants as faults
+use Rattle.reuse_undo.specs.declared.cli.line.Telling.{Telling}
+
+-- ---- a request to a session that opened at a state
+
+module _ (held : State) (state : Snapshots) (holds : HoldsSnapshots held state) (before after : Files) (standing : IsStanding before held) (request : Request) where
+  went : (answer : Result Reply Refusal) (next : Snapshots) → EndsRequest state request answer (closed (open_at next)) → (left : State) → IsStanding after left → HoldsSnapshots left next
+      → (end : Point) × EndsRequest state request answer end × AreLeft after end.state end.next
+  went answer next ends left standing holds = (closed (open_at next), ends, (left, standing, holds))
+
+  met : (answer : Result Reply Refusal) → Meets request held answer after → (end : Point) × EndsRequest state request answer end × AreLeft after end.state end.next
+  met (Ok reply) meets =
+      let to = gives_to held state holds before standing request (Ok reply) meets.0 meets.1 in
+      went (Ok reply) to.0 (open_at to.0, (to.0, to.1, refl), refl) meets.0 meets.2 to.2
+  met (Err (Failed (StoreFailed fault))) meets = went (Err (Failed (StoreFailed fault))) state (open_at state, (meets.0, refl), refl) held meets.1 holds
+  met (Err (Failed Memory)) meets = went (Err (Failed Memory)) state (open_at state, (meets.0, refl), refl) held meets.1 holds
+  met (Err (Failed (Interrupted cause))) meets =
+      let stopped = stopped_near held state holds before standing request after meets.1 in
+      let left : Point = record { is_open = false; state = state; next = Some stopped.1 } in
+      (closed left, (left, (meets.0, stopped.0, stopped.1, stopped.2, refl), refl), stopped.3)
+  met (Err refusal) meets =
+      let to = gives_to held state holds before standing request (Err refusal) meets.0 meets.1 in
+      went (Err refusal) to.0 (open_at to.0, (to.0, to.1, refl), refl) meets.0 meets.2 to.2
+
+-- ---- a request behind a stop
+
+-- a session that opens on files that are left so stands at one of the states
+reached : (before : Files) (request : Request) (answer : Result Reply Refusal) (after : Files) (state : Snapshots) (next : Option Snapshots) → AreLeft before state next
+    → ((first second : State) → InDoubt first second before → AnswersOn request first answer after ⊎ AnswersOn request second answer after)
+    → (s : Snapshots) × ((state ≡ s) ⊎ (next ≡ Some s)) × ((held : State) × HoldsSnapshots held s × AnswersOn request held answer after)
+reached before request answer after state None left settles =
+    (state, inl refl, (left.0, left.2, ⊎_elim (λ (on : AnswersOn request left.0 answer after). on) (λ (on : AnswersOn request left.0 answer after). on) (settles left.0 left.0 (inl left.1))))
+reached before request answer after state (Some next) left settles =
+    ⊎_elim (λ (on : AnswersOn request left.0 answer after). (state, inl refl, (left.0, left.2, on))) (λ (on : AnswersOn request left.1 answer after). (next, inr refl, (left.1, left.3, on)))
+    (settles left.0 left.1 left.4)
+
+pub answers_after_stop : (before : Files) (request : Request) (answer : Result Reply Refusal) (after : Files) (start : Point) → AreLeft before start.state start.next
+    → RequestLeaves before request answer after → (end : Point) × AnswersAfterStop request answer start end × AreLeft after end.state end.next
+answers_after_stop before request answer after start left carries =
+    ⊎_elim (λ (refused : (refusal : Refusal) × (answer ≡ Err refusal) × IsUnopened before refusal after).
+    let c = stays_closed (λ (f : Files). f) before after refused.0 start left refused.2.settles in
+    (c.0, inl (refused.0, refused.1, c.1), c.2.1))
+    (λ (made : IsMade before request answer after).
+    let r = reached before request answer after start.state start.next left made.settles in
+    let on = r.2.2 in
+    let m = met r.2.0 r.0 r.2.1 on.0 after on.1 request answer on.2 in
+    (m.0, inr (r.0, r.1, m.1), m.2)) carries
+
+-- what is told of an answer that leads to some end is told of that end
+pub told_of_end : {X : Type 0} (telling : Telling) (IsAnswer : X → Result Reply Refusal → Type 0) (Ends : X → Type 0) (old new : List ℕ) (result : Result ℕ Fault)
+    → TellsAnswer telling (λ answer. (end : X) × IsAnswer end answer × Ends end) old new result → (end : X) × TellsAnswer telling (IsAnswer end) old new result × Ends end
+told_of_end telling IsAnswer Ends old new (Ok count) told = (told.1.0, (told.0, told.1.1, told.2, told.3, told.4), told.1.2)
+told_of_end telling IsAnswer Ends old new (Err (faults.Refused refusal)) told = (told.0.0, (told.0.1, told.1), told.0.2)
+told_of_end telling IsAnswer Ends old new (Err (faults.WouldRefuse fates)) told = (told.0.0, (told.0.1, told.1, told.2), told.0.2)
+told_of_end telling IsAnswer Ends old new (Err (faults.NoDiff refusal)) told = let is = told.0.1 in (is.0, ((told.0.0, is.1, told.0.2), told.1), is.2)
+told_of_end telling IsAnswer Ends old new (Err faults.InUse) told = absurd told
+told_of_end telling IsAnswer Ends old new (Err faults.Write) told = (told.1.0, (told.0, told.1.1, told.2, told.3, told.4), told.1.2)
+told_of_end telling IsAnswer Ends old new (Err faults.Memory) told = let is = told.0.1 in (is.0, ((told.0.0, is.1), told.1), is.2)
+
+-- ---- lines one after the other
+
+module _ {S O : Type 0} (store : Ghosts S) (contents : O → List ℕ) (has_failed : O → Bool) where
+  pub stopped_in_turn : (lines : List (CarriedLine S O)) (first last : S) (start : Point) → AreInTurn (HoldsSame store) store contents has_failed first lines last
+      → AreLeft (store.files first) start.state start.next → (end : Point) × RunAsModel contents lines start end × AreLeft (store.files last) end.state end.next
+  stopped_in_turn [] first last start turn left = (start, refl, subst (λ s. AreLeft (store.files s) start.state start.next) (sym turn) left)
+  stopped_in_turn (line ∷ lines) first last start turn left =
+      let one = turn.2.after_stop turn.1 start (subst (λ f. AreLeft f start.state start.next) (sym turn.0) left) in
+      let rest = stopped_in_turn lines line.new last one.0 turn.3 one.2 in
+      (rest.0, (one.0, one.1, rest.1), rest.2)

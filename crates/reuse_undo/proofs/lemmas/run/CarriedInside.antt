@@ -1,0 +1,95 @@
+-- What is carried out on a store that hands each call on to one inside it is carried out on that one.
+use Rattle.std.proofs.Common.{◌≡◌, ◌∙◌, ◌<◌, ℕ, Bool, List, Result, Ok, Err, sym, subst, arith}
+use Rattle.reuse_tree.specs.Asked.{OnlyReads}
+use Rattle.reuse_tree.specs.Files.{Files}
+use Rattle.reuse_tree.specs.declared.store.Store.{Ghosts}
+use Rattle.reuse_session.specs.session.Answer.{HasCause}
+use Rattle.reuse_session.specs.journal.Standing.{IsStanding}
+use Rattle.reuse_session.specs.session.Stops.{HoldState, AreLeft}
+use Rattle.reuse_session.specs.declared.reply.Refusal.{Refusal}
+use Rattle.reuse_undo.specs.run.CarriedOut.{CarriesOut}
+use Rattle.reuse_session.specs.session.Requests.{HasCallClash}
+use Rattle.reuse_undo.specs.run.RunLine.{RequestLeaves, FollowsModel, TellsAnswer, IfRefused, IfNoDiff}
+use Rattle.reuse_undo.specs.print.WriterFaults.{IsUndrawn}
+use Rattle.reuse_undo.specs.declared.run.fault.Fault.{Fault}
+use Rattle.reuse_undo.specs.declared.run.fault.Fault.TheVariants as faults
+use Rattle.reuse_undo.specs.declared.cli.line.Telling.{Telling}
+use Rattle.reuse_session.specs.declared.request.Request.{Request}
+
+-- the one holds what the other holds, a loss of power leaves the same, and they count and are honest alike
+pub record IsSameStore {W S : Type 0} (outer : Ghosts W) (inner : Ghosts S) (whole : W) (inside : S) : Type 0 where
+  pub files : outer.files whole ≡ inner.files inside
+  pub failures : outer.failures whole ≡ inner.failures inside
+  pub written : outer.written whole ≡ inner.written inside
+  pub moves : outer.moves whole ≡ inner.moves inside
+  pub gives : inner.honest inside → outer.honest whole
+  pub takes : outer.honest whole → inner.honest inside
+  pub gives_left : (left : Files) → inner.may_be inside left → outer.may_be whole left
+  pub takes_left : (left : Files) → outer.may_be whole left → inner.may_be inside left
+
+reads_inside : {W S : Type 0} (outer : Ghosts W) (inner : Ghosts S) (before after : W) (old new : S) → IsSameStore outer inner before old → IsSameStore outer inner after new
+    → OnlyReads outer before after → OnlyReads inner old new
+reads_inside outer inner before after old new b a reads =
+    record {
+      was_honest = λ honest. b.takes (reads.was_honest (a.gives honest));
+      files = λ honest. sym a.files ∙ reads.files (a.gives honest) ∙ b.files;
+      may = λ left is. b.takes_left left (reads.may left (a.gives_left left is));
+      failures = omega (arith, reads.failures, b.failures, a.failures);
+      written = sym a.written ∙ reads.written ∙ b.written;
+      moves = sym a.moves ∙ reads.moves ∙ b.moves;
+    }
+
+undrawn_inside : {W S : Type 0} (outer : Ghosts W) (inner : Ghosts S) (before after : W) (old new : S) → IsSameStore outer inner before old → IsSameStore outer inner after new
+    → (refusal : Refusal) → IsUndrawn outer before after refusal → IsUndrawn inner old new refusal
+undrawn_inside outer inner before after old new b a refusal is =
+    record {
+      device = λ e. let rose = is.device e in omega (arith, rose, b.failures, a.failures);
+      clash = λ honest. is.clash (a.gives honest);
+      kind = λ honest. is.kind (a.gives honest);
+    }
+
+no_diff_as : {T : Type 0} (P Q : Refusal → Type 0) (Same : Type 0) (result : Result T Fault) → ((refusal : Refusal) → P refusal → Q refusal) → IfNoDiff result (λ refusal. P refusal × Same)
+    → IfNoDiff result (λ refusal. Q refusal × Same)
+no_diff_as P Q Same (Ok value) also is = tt
+no_diff_as P Q Same (Err (faults.NoDiff refusal)) also is = (also refusal is.0, is.1)
+no_diff_as P Q Same (Err fault) also is = tt
+
+rose_inside : {T : Type 0} (result : Result T Fault) (a b c d : ℕ) → a ≡ c → b ≡ d → IfRefused result (HasCause (a < b)) → IfRefused result (HasCause (c < d))
+rose_inside result a b c d old new told = subst (λ n. IfRefused result (HasCause (c < n))) new (subst (λ n. IfRefused result (HasCause (n < b))) old told)
+
+same_inside : {W S O : Type 0} (outer : Ghosts W) (inner : Ghosts S) (contents : O → List ℕ) (has_failed : O → Bool) (request : Request) (telling : Telling)
+    (before after : W) (old new : S) (out left : O) (result : Result ℕ Fault) → IsSameStore outer inner before old → IsSameStore outer inner after new
+    → CarriesOut outer contents has_failed request telling before after out left result → CarriesOut inner contents has_failed request telling old new out left result
+same_inside outer inner contents has_failed request telling before after old new out left result b a carried =
+    record {
+      exact = λ honest.
+          subst (λ f. TellsAnswer telling (λ answer. RequestLeaves f request answer (inner.files new)) (contents out) (contents left) result) b.files
+          (subst (λ f. TellsAnswer telling (λ answer. RequestLeaves (outer.files before) request answer f) (contents out) (contents left) result) a.files
+          (carried.exact (a.gives honest)));
+      machine = λ honest state held.
+          subst (λ f. TellsAnswer telling (λ answer. FollowsModel state request answer f) (contents out) (contents left) result) a.files
+          (carried.machine (a.gives honest) state (subst (λ f. HoldState f state) (sym b.files) held));
+      after_stop = λ honest start found.
+          let at = carried.after_stop (a.gives honest) start (subst (λ f. AreLeft f start.state start.next) (sym b.files) found) in
+          (at.0, at.1, subst (λ f. AreLeft f (at.0).state (at.0).next) a.files at.2);
+      drawn = λ honest held standing. carried.drawn (a.gives honest) held (subst (λ f. IsStanding f held) (sym b.files) standing);
+      looks = λ honest look held standing.
+          reads_inside outer inner before after old new b a (carried.looks (a.gives honest) look held (subst (λ f. IsStanding f held) (sym b.files) standing));
+      quiet = carried.quiet;
+      failed = carried.failed;
+      fault = rose_inside result (outer.failures before) (outer.failures after) (inner.failures old) (inner.failures new) b.failures a.failures carried.fault;
+      clash = λ honest held standing.
+          subst (λ f. IfRefused result (HasCallClash request held f)) b.files (carried.clash (a.gives honest) held (subst (λ f. IsStanding f held) (sym b.files) standing));
+      undrawn = no_diff_as (IsUndrawn outer before after) (IsUndrawn inner old new) (left ≡ out) result (undrawn_inside outer inner before after old new b a) carried.undrawn;
+      failures = omega (arith, carried.failures, b.failures, a.failures);
+      was_honest = λ honest. b.takes (carried.was_honest (a.gives honest));
+    }
+
+-- where each whole store is as the one inside it
+pub carried_inside : {W S O : Type 0} (outer : Ghosts W) (inner : Ghosts S) (contents : O → List ℕ) (has_failed : O → Bool) (request : Request) (telling : Telling)
+    (before after : W) (old new : S) (out left : O) (result : Result ℕ Fault) → CarriesOut outer contents has_failed request telling before after out left result
+    → (inside : W → S) → ((whole : W) → IsSameStore outer inner whole (inside whole)) → inside before ≡ old → inside after ≡ new
+    → CarriesOut inner contents has_failed request telling old new out left result
+carried_inside outer inner contents has_failed request telling before after old new out left result carried inside same was is =
+    same_inside outer inner contents has_failed request telling before after old new out left result (subst (IsSameStore outer inner before) was (same before))
+    (subst (IsSameStore outer inner after) is (same after)) carried

@@ -1,0 +1,85 @@
+-- Behind the lines of a dry run stands the diff of two trees.
+use Rattle.std.proofs.Common.{◌≡◌, inl, inr, ℕ, List, Result, Ok, Err, IfOk, IsOkAnd, subst}
+use Rattle.std.specs.declared.vec.Vec.{Vec}
+use Rattle.reuse_tree.specs.Files.{Files}
+use Rattle.reuse_session.specs.journal.Journal.{State}
+use Rattle.reuse_session.specs.session.Requests.{IsLook, Meets, replied}
+use Rattle.reuse_session.specs.declared.fate.Fate.{Fate}
+use Rattle.reuse_session.specs.declared.reply.Refusal.{Refusal}
+use Rattle.reuse_session.specs.declared.reply.Reply.TheVariants as replies
+use Rattle.reuse_undo.specs.run.Drawn.{IsDiffOfCall, IsDrawnText, IsTreeDiff, WouldLeave}
+use Rattle.reuse_undo.specs.print.Outputs.{AddsSome}
+use Rattle.reuse_undo.specs.run.RunLine.{RequestLeaves}
+use Rattle.reuse_undo.specs.print.Told.{Finishes, HasBehind, IsForeseen, IsWanted, WouldBeMade}
+use Rattle.reuse_undo.specs.declared.run.fault.Fault.{Fault}
+use Rattle.reuse_undo.specs.declared.cli.line.OutputFormat.TheVariants.{Diff}
+use Rattle.reuse_undo.specs.declared.cli.line.Telling.{Telling}
+use Rattle.reuse_session.specs.declared.request.Request.{Request}
+use Rattle.reuse_session.specs.declared.request.Request.TheVariants as requests
+use Rattle.reuse_session.specs.declared.reply.Reply.{Reply}
+
+-- ---- where a diff is wanted
+
+-- what would leave a tree only looks
+would_look : (request : Request) (held : State) (tree : Files) → WouldLeave request held tree → IsLook request
+would_look (requests.Preview call) held tree would = tt
+would_look request held tree would = absurd would
+
+-- what holds of a value for each thing that something holds of
+when_ok : {T E I : Type 0} (result : Result T E) (Given : I → Type 0) (Holds : I → T → Type 0) → ((i : I) → Given i → IfOk result (Holds i)) → IfOk result (λ value. (i : I) → Given i → Holds i value)
+when_ok (Ok value) Given Holds all = all
+when_ok (Err fault) Given Holds all = tt
+
+-- what is drawn for each tree that the call would leave is its diff
+pub diff_of_call : {A : Type 0} (request : Request) (held : State) (diff : Result (Vec ℕ A) Fault)
+    → ((after : Files) → WouldLeave request held after → IfOk diff (λ text. IsTreeDiff held.tree after text.items)) → IfOk diff (λ text. IsDiffOfCall request held text.items)
+diff_of_call {A} request held diff all = when_ok diff (λ after. WouldLeave request held after) (λ after (text : Vec ℕ A). IsTreeDiff held.tree after text.items) all
+
+-- of the tree that the call would leave
+pub told_diff : {A : Type 0} (request : Request) (held : State) (tree : Files) (diff : Result (Vec ℕ A) Fault) → WouldLeave request held tree
+    → IfOk diff (λ text. IsDiffOfCall request held text.items) → IfOk diff (λ text. IsTreeDiff held.tree tree text.items)
+told_diff request held tree (Ok text) would all = all tree would
+told_diff request held tree (Err fault) would all = tt
+
+pub drawn_where_wanted : {A : Type 0} (telling : Telling) (request : Request) (held : State) (answer : Result Reply Refusal) (diff : Result (Vec ℕ A) Fault)
+    → (IsWanted telling answer → IsLook request → IfOk diff (λ text. IsDiffOfCall request held text.items))
+    → IfOk answer (λ told. IsForeseen telling told → IfOk diff (λ text. IsDiffOfCall request held text.items))
+drawn_where_wanted telling request held (Err refusal) diff drawn = tt
+drawn_where_wanted telling request held (Ok told) diff drawn =
+    λ wanted. diff_of_call request held diff (λ after would. told_diff request held after diff would (drawn wanted (would_look request held after would)))
+
+-- ---- what a dry run tells
+
+-- a reply, as an answer
+abbrev answered : Reply → Result Reply Refusal
+answered told = Ok told
+
+told_fates : (told : Reply) (fates : Result (List Fate) Refusal) → answered told ≡ replied replies.Preview fates → (f : List Fate) × (told ≡ replies.Preview f)
+told_fates told (Ok fates) is = (fates, cc)
+told_fates told (Err refusal) is = absurd (cc)
+
+meets_tells : (request : Request) (held found : State) (tree after : Files) (told : Reply) → WouldLeave request held tree → Meets request found (Ok told) after
+    → (fates : List Fate) × (told ≡ replies.Preview fates)
+meets_tells (requests.Preview call) held found tree after told would meets = told_fates told meets.1.0 meets.1.1
+meets_tells request held found tree after told would meets = absurd would
+
+-- the dry run of a call that would leave a tree tells fates
+pub previews_tell : (request : Request) (held : State) (tree before after : Files) (told : Reply) → WouldLeave request held tree → RequestLeaves before request (Ok told) after
+    → (fates : List Fate) × (told ≡ replies.Preview fates)
+previews_tell request held tree before after told would (inl unopened) = let e = unopened.1 in absurd (cc)
+previews_tell request held tree before after told would (inr made) = meets_tells request held (made.made).0 tree after told would (made.made).3
+
+-- ---- lines and diff
+
+pub drawn_in_lines : {A : Type 0} (telling : Telling) (before after : Files) (told : Reply) (fates : List Fate) (old new : List ℕ) (outcome : Result ℕ Fault) (diff : Result (Vec ℕ A) Fault)
+    → told ≡ replies.Preview fates → telling.format ≡ Diff → Finishes telling told old new outcome
+    → (IsForeseen telling told → IfOk outcome (λ count. IsOkAnd diff (λ text. AddsSome old new (HasBehind telling.names told text.items))))
+    → (IsForeseen telling told → IfOk diff (λ text. IsTreeDiff before after text.items)) → IfOk outcome (λ count. AddsSome old new (IsDrawnText telling.names before after))
+drawn_in_lines telling before after told fates old new (Err fault) diff is wants finishes behind drawn = tt
+drawn_in_lines telling before after told fates old new (Ok count) (Err fault) is wants finishes behind drawn =
+    absurd (behind (wants, fates, is, subst WouldBeMade is (finishes.1).1))
+drawn_in_lines telling before after told fates old new (Ok count) (Ok diff) is wants finishes behind drawn =
+    let foreseen : IsForeseen telling told = (wants, fates, is, subst WouldBeMade is (finishes.1).1) in
+    let adds = behind foreseen in
+    let has = subst (λ (answer : Reply). HasBehind telling.names answer diff.items adds.0) is adds.1.0 in
+    (adds.0, (record { fates = fates; lines = has.0; diff = diff.items; told = has.1; drawn = drawn foreseen; whole = has.2 }, adds.1.1))

@@ -1,0 +1,92 @@
+-- What comes of a session's one call from a state of the model, and what is told of it.
+use Rattle.std.proofs.Common.{◌≡◌, ◌⊎◌, inl, inr, ⊎_elim, ℕ, List, Result, Ok, Err, refl, sym, subst}
+use Rattle.reuse_tree.specs.Files.{Files}
+use Rattle.reuse_session.specs.session.Answer.{IsFailure}
+use Rattle.reuse_session.specs.journal.Journal.{State}
+use Rattle.reuse_session.specs.session.Machine.{Snapshots}
+use Rattle.reuse_session.specs.session.Requests.{Meets}
+use Rattle.reuse_session.specs.session.Session.{HoldsSnapshots}
+use Rattle.reuse_session.specs.journal.Standing.{IsStanding}
+use Rattle.reuse_session.specs.session.Stops.{Point, open_at, closed, Reopens, HoldState, AreLeft}
+use Rattle.reuse_session.specs.declared.reply.Reply.{Reply}
+use Rattle.reuse_session.specs.declared.reply.Refusal.{Refusal}
+use Rattle.reuse_session.specs.declared.failure.Failure.TheVariants.{Fault as StoreFailed, Memory, Interrupted}
+use Rattle.reuse_session.specs.declared.reply.Refusal.TheVariants.{Failed}
+use Rattle.reuse_session.specs.declared.request.Request.{Request}
+use Rattle.reuse_session.proofs.lemmas.session.Driving.{stays_closed}
+use Rattle.reuse_session.proofs.lemmas.session.Modelling.{gives_to, stopped_near}
+use Rattle.reuse_undo.specs.declared.run.fault.Fault.{Fault}
+use Rattle.reuse_undo.specs.declared.run.fault.Fault.TheVariants as faults
+use Rattle.reuse_undo.specs.declared.cli.line.Telling.{Telling}
+use Rattle.reuse_undo.specs.print.Outputs.{AddsSome}
+use Rattle.reuse_undo.specs.run.RunLine.{AnswersOn, IsUnopened, IsMade, RequestLeaves, FollowsModel, TellsAnswer, IfRefused}
+use Rattle.reuse_undo.specs.print.Told.{IsToldText, Finishes}
+
+-- ---- from a state of the model
+
+-- a request is answered as by the model
+module _ (held : State) (state : Snapshots) (holds : HoldsSnapshots held state) (before after : Files) (standing : IsStanding before held) (request : Request) where
+  met : (answer : Result Reply Refusal) → Meets request held answer after → FollowsModel state request answer after
+  met (Ok reply) meets = let to = gives_to held state holds before standing request (Ok reply) meets.0 meets.1 in (to.0, to.1, (meets.0, meets.2, to.2))
+  met (Err (Failed (StoreFailed fault))) meets = (held, meets.1, holds)
+  met (Err (Failed Memory)) meets = (held, meets.1, holds)
+  met (Err (Failed (Interrupted cause))) meets = inr (stopped_near held state holds before standing request after meets.1)
+  met (Err refusal) meets = let to = gives_to held state holds before standing request (Err refusal) meets.0 meets.1 in (to.0, to.1, (meets.0, meets.2, to.2))
+
+-- an opening that fails changes nothing where no step is in doubt
+unopened : (refusal : Refusal) (state : Snapshots) (new : Point) → Reopens (Err refusal) (closed (open_at state)) new → new ≡ closed (open_at state)
+unopened (Failed failure) state new h = h
+unopened refusal state new h = absurd h
+
+still_held : (state : Snapshots) (before : Files) (refusal : Refusal) (after : Files) → HoldState before state → IsUnopened before refusal after → HoldState after state
+still_held state before refusal after held refused =
+    let point = stays_closed (λ (f : Files). f) before after refusal (closed (open_at state)) held refused.settles in
+    subst (λ (p : Point). AreLeft after p.state p.next) (unopened refusal state point.0 point.1) point.2.1
+
+failed : (state : Snapshots) (request : Request) (refusal : Refusal) (after : Files) → IsFailure refusal → HoldState after state → FollowsModel state request (Err refusal) after
+failed state request (Failed (StoreFailed fault)) after failure held = held
+failed state request (Failed Memory) after failure held = held
+failed state request (Failed (Interrupted cause)) after failure held = inl held
+failed state request refusal after failure held = absurd failure
+
+pub carries_step : (state : Snapshots) (before : Files) (request : Request) (answer : Result Reply Refusal) (after : Files) → HoldState before state → RequestLeaves before request answer after
+    → FollowsModel state request answer after
+carries_step state before request answer after held carries =
+    let first = held.0 in
+    ⊎_elim (λ (refused : (refusal : Refusal) × (answer ≡ Err refusal) × IsUnopened before refusal after).
+    subst (λ a. FollowsModel state request a after) (sym refused.1)
+    (failed state request refused.0 after (refused.2.settles first first (inl held.1)).0 (still_held state before refused.0 after held refused.2)))
+    (λ (made : IsMade before request answer after).
+    let on = ⊎_elim (λ (on : AnswersOn request first answer after). on) (λ (on : AnswersOn request first answer after). on) (made.settles first first (inl held.1)) in
+    met first state held.2 before after held.1 request answer on.2) carries
+
+-- the same, of an equal answer
+pub carries_as : (before after : Files) (request : Request) (answer same : Result Reply Refusal) → RequestLeaves before request answer after → answer ≡ same → RequestLeaves before request same after
+carries_as before after request answer same carries is = subst (λ (a : Result Reply Refusal). RequestLeaves before request a after) is carries
+
+-- ---- what is told
+
+-- of an answer that is printed
+pub told_of : (telling : Telling) (IsAnswer : Result Reply Refusal → Type 0) (told : Reply) (old new : List ℕ) (result : Result ℕ Fault) → IsAnswer (Ok told)
+    → Finishes telling told old new result → TellsAnswer telling IsAnswer old new result
+told_of telling IsAnswer told old new (Ok count) is finished = (told, is, finished.1.1, finished.0, finished.1.0)
+told_of telling IsAnswer told old new (Err (faults.WouldRefuse fates)) is finished = (
+  subst (λ t. IsAnswer (Ok t)) finished.1.0 is,
+  finished.1.1,
+  subst (λ t. AddsSome old new (IsToldText telling t)) finished.1.0 finished.0,
+)
+told_of telling IsAnswer told old new (Err (faults.NoDiff refusal)) is finished = ((told, is, finished.0), finished.1)
+told_of telling IsAnswer told old new (Err faults.Write) is finished = (told, is, finished.0, finished.1, finished.2)
+told_of telling IsAnswer told old new (Err faults.Memory) is finished = ((told, is), finished)
+told_of telling IsAnswer told old new (Err (faults.Refused refusal)) is finished = absurd finished.1
+told_of telling IsAnswer told old new (Err faults.InUse) is finished = absurd finished.1
+
+-- what is printed is no refusal
+pub no_refusal : (telling : Telling) (told : Reply) (old new : List ℕ) (result : Result ℕ Fault) (Claim : Refusal → Type 0) → Finishes telling told old new result → IfRefused result Claim
+no_refusal telling told old new (Ok count) Claim finished = tt
+no_refusal telling told old new (Err (faults.WouldRefuse fates)) Claim finished = tt
+no_refusal telling told old new (Err (faults.NoDiff refusal)) Claim finished = tt
+no_refusal telling told old new (Err faults.Write) Claim finished = tt
+no_refusal telling told old new (Err faults.Memory) Claim finished = tt
+no_refusal telling told old new (Err (faults.Refused refusal)) Claim finished = absurd finished.1
+no_refusal telling told old new (Err faults.InUse) Claim finished = absurd finished.1

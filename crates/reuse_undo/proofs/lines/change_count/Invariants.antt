@@ -1,7 +1,0 @@
-use Rattle.std.proofs.Common.{◌≡◌, take, count_by}
-use Rattle.reuse_undo.specs.Lines.{would_change}
-use Rattle.reuse_undo.proofs.lines.change_count.Given as goal
-
--- so many of the paths so far would change
-abbrev pub invariant-loop-fate : goal.invariant-loop-fate
-invariant-loop-fate l = l.count ≡ count_by would_change (take l.fate-index l.fates)

@@ -1,0 +1,8 @@
+-- One more line of both is the same.
+use Rattle.std.proofs.Common.{arith, []}
+use Rattle.reuse_undo.proofs.lemmas.print.LineLists.{above-more}
+use Rattle.reuse_undo.proofs.print.diff.compare.common_above.Goals as goal
+
+pub loop-count-preserved : goal.loop-count-preserved
+loop-count-preserved c =
+    above-more c.args.old.now c.args.new.now c.loop-count.count (record { ref_ptr = (0, 0); now = [] }) (omega arith) (omega arith) c.loop-count.invariant (c.is_same.ensures.0 c.if-not-is_same.false)

@@ -1,0 +1,7 @@
+use Rattle.std.proofs.Common.{◌≡◌, take, count_by}
+use Rattle.reuse_undo.specs.print.Lines.{would_change}
+use Rattle.reuse_undo.proofs.print.lines.change_count.Given as goal
+
+-- so many of the paths so far would change
+abbrev pub invariant-loop-fate : goal.invariant-loop-fate
+invariant-loop-fate l = l.count ≡ count_by would_change (take l.fate-index l.fates)

@@ -1,0 +1,13 @@
+use Rattle.std.proofs.Common.{◌≡◌, take}
+use Rattle.reuse_tree.specs.Asked.{OnlyReads}
+use Rattle.reuse_tree.specs.Files.{Files, tree_of}
+use Rattle.reuse_undo.specs.run.Drawn.{AreDiffs, AreSmallSteps}
+use Rattle.reuse_undo.proofs.run.line.drawn.draw_all.Given as goal
+
+-- so far was only read, and the diffs of the changes so far are drawn
+abbrev pub invariant-loop-change : goal.invariant-loop-change
+invariant-loop-change g l = record {
+  reads : OnlyReads g.S.Store l.initial.store l.store;
+  drawn : g.S.Store.honest l.store → (before after : Files) → tree_of (g.S.Store.files l.initial.store) ≡ before → AreSmallSteps l.way l.changes before after
+      → AreDiffs before after (take l.change-index l.changes) l.text.items;
+}

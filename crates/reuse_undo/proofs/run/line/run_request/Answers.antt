@@ -1,0 +1,75 @@
+use Rattle.std.proofs.Common.{◌≡◌, ◌<◌, Ok, Err, IfOk, IfErr, refl, subst}
+use Rattle.std.proofs.lemmas.Result.{IfOk-at_ok}
+use Rattle.reuse_session.specs.session.Answer.{HasCause}
+use Rattle.reuse_session.specs.session.Stops.{Point, AreLeft}
+use Rattle.reuse_undo.specs.run.AfterStops.{AnswersAfterStop}
+use Rattle.reuse_undo.specs.run.Drawn.{IsDiffOfCall}
+use Rattle.reuse_session.specs.session.Requests.{HasCallClash}
+use Rattle.reuse_undo.specs.run.RunLine.{RequestLeaves, FollowsModel}
+use Rattle.reuse_undo.specs.print.Told.{IsForeseen}
+use Rattle.reuse_undo.specs.print.WriterFaults.{IsUndrawn}
+use Rattle.reuse_session.specs.declared.reply.Reply.{Reply}
+use Rattle.reuse_undo.proofs.lemmas.run.AfterStopLemmas.{answers_after_stop, told_of_end}
+use Rattle.reuse_undo.proofs.lemmas.run.DiffLemmas.{undrawn_told}
+use Rattle.reuse_undo.proofs.lemmas.run.DrawnLines.{drawn_in_lines, previews_tell, told_diff}
+use Rattle.reuse_undo.proofs.lemmas.run.ModelLemmas.{carries_as, carries_step, told_of, no_refusal}
+use Rattle.reuse_undo.proofs.run.line.run_request.Goals as goal
+
+pub returns-in-Ok : goal.returns-in-Ok
+returns-in-Ok g c =
+    let store = c.args.store in
+    let left = c.call-store.result.0 in
+    let before = g.S.Store.files store in
+    let after = g.S.Store.files left in
+    let request = c.args.request.now in
+    let old = g.O.Sink.contents c.args.out.now in
+    let new = g.O.Sink.contents c.finish.new.out in
+    let outcome = c.finish.result in
+    let told = c.finish.ensures.told in
+    let carries = λ (honest : g.S.Store.honest left). carries_as before after request c.call-store.result.1 (Ok c.in-Ok.told) (c.call-store.ensures.carries honest) c.in-Ok.is in
+    record {
+      exact = λ honest. told_of c.args.telling (λ answer. RequestLeaves before request answer after) c.in-Ok.told old new outcome (carries honest) told;
+      machine = λ honest state held.
+          told_of c.args.telling (λ answer. FollowsModel state request answer after) c.in-Ok.told old new outcome (carries_step state before request (Ok c.in-Ok.told) after held (carries honest)) told;
+      after_stop = λ honest start found.
+          let Ends = (λ (end : Point). AreLeft after end.state end.next) in
+          told_of_end c.args.telling (λ end answer. AnswersAfterStop request answer start end) Ends old new outcome
+          (told_of c.args.telling (λ answer. (end : Point) × AnswersAfterStop request answer start end × Ends end) c.in-Ok.told old new outcome
+          (answers_after_stop before request (Ok c.in-Ok.told) after start found (carries honest)) told);
+      drawn = λ honest held standing wants tree would.
+          let tells = previews_tell request held tree before after c.in-Ok.told would (carries honest) in
+          drawn_in_lines c.args.telling held.tree tree c.in-Ok.told tells.0 old new outcome c.call-store.result.2 tells.1 wants told c.finish.ensures.behind
+          (λ foreseen. told_diff request held tree c.call-store.result.2 would
+          (IfOk-at_ok (λ (answer : Reply). IsForeseen c.args.telling answer → IfOk c.call-store.result.2 (λ text. IsDiffOfCall request held text.items)) c.in-Ok.is
+          (c.call-store.ensures.drawn honest held standing) foreseen));
+      looks = c.call-store.ensures.looks;
+      quiet = no_refusal _ _ _ _ outcome (λ refusal. c.finish.new.out ≡ c.args.out.now) told;
+      failed = c.finish.ensures.failed;
+      fault = no_refusal _ _ _ _ outcome _ told;
+      clash = λ honest held standing. no_refusal _ _ _ _ outcome (HasCallClash request held before) told;
+      undrawn = undrawn_told outcome c.call-store.result.2 (IsUndrawn g.S.Store store left) (c.finish.new.out ≡ c.args.out.now) c.finish.ensures.undrawn c.call-store.ensures.undrawn;
+      failures = c.call-store.ensures.failures;
+      was_honest = c.call-store.ensures.was_honest;
+    }
+
+pub returns-in-Err : goal.returns-in-Err
+returns-in-Err g c =
+    let before = g.S.Store.files c.args.store in
+    let left = c.call-store.result.0 in
+    let after = g.S.Store.files left in
+    let request = c.args.request.now in
+    let carries = λ (honest : g.S.Store.honest left). carries_as before after request c.call-store.result.1 (Err c.in-Err.refusal) (c.call-store.ensures.carries honest) c.in-Err.is in
+    record {
+      exact = λ honest. (carries honest, refl);
+      machine = λ honest state held. (carries_step state before request (Err c.in-Err.refusal) after held (carries honest), refl);
+      after_stop = λ honest start found. let at = answers_after_stop before request (Err c.in-Err.refusal) after start found (carries honest) in (at.0, (at.1, refl), at.2);
+      drawn = λ honest held standing wants tree would. tt;
+      looks = c.call-store.ensures.looks;
+      quiet = refl;
+      failed = refl;
+      fault = subst (λ answer. IfErr answer (HasCause (g.S.Store.failures c.args.store < g.S.Store.failures left))) c.in-Err.is c.call-store.ensures.fault;
+      clash = λ honest held standing. subst (λ answer. IfErr answer (HasCallClash request held before)) c.in-Err.is (c.call-store.ensures.clash honest held standing);
+      undrawn = tt;
+      failures = c.call-store.ensures.failures;
+      was_honest = c.call-store.ensures.was_honest;
+    }

@@ -1,6 +1,0 @@
-use Rattle.reuse_undo.proofs.TreeDiffLemmas.{drawn_trees}
-use Rattle.reuse_undo.proofs.run_line.draw_from.Goals as goal
-
-pub returns-clause-drawn : goal.returns-clause-drawn
-returns-clause-drawn g c honest before after is foretells =
-    drawn_trees before after c.args.foreseen.now.changes c.draw-diff.result foretells.paths (c.draw-diff.ensures.drawn honest before after is foretells.leads)

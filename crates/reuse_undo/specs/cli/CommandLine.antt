@@ -1,0 +1,109 @@
+-- From what clap found on a command line to what is asked for (docs/REFERENCE.md).
+use Rattle.std.specs.Prelude.{◌≡◌, ◌⊎◌, ℕ, false, List, [], Option, None, Some, Result, Ok, Err, codes, option_map, string_bytes, if◌then◌else◌}
+use Rattle.std.specs.Str.{bytes_eq}
+use Rattle.clap.specs.Simple.{app_of, HasMatchesOf, subcommand_rows_of}
+use Rattle.clap.specs.declared.builder.command.Command.{Command}
+use Rattle.clap.specs.declared.parser.matches.ArgMatches.{ArgMatches}
+use Rattle.reuse_session.specs.declared.command.Command.{Command as SessionCommand}
+use Rattle.reuse_session.specs.declared.command.Command.TheVariants.{ConvertDep5, Download}
+use Rattle.reuse_session.specs.declared.request.Call.{Call}
+use Rattle.reuse_session.specs.declared.request.Call.TheVariants as calls
+use Rattle.reuse_session.specs.declared.request.Request.{Request as SessionRequest}
+use Rattle.reuse_session.specs.declared.request.Request.TheVariants as requests
+use Rattle.reuse_undo.specs.run.Asking.{Request, call, forget, recover, request_in}
+use Rattle.reuse_undo.specs.cli.Choices.{change_status_of, format_of, is_dry_run, settings_of, usual_settings}
+use Rattle.reuse_undo.specs.cli.CommandWords.{amend_read, annotate_read}
+use Rattle.reuse_undo.specs.print.Dates.{IsYearOf}
+use Rattle.reuse_undo.specs.cli.FileWords.{files_from_of, ids_of, root_of, steps_read, texts_folder_read}
+use Rattle.reuse_undo.specs.cli.Found.{Rows, flag, found_in, number}
+use Rattle.reuse_undo.specs.cli.LineFaults.{IsDueAs, Mistake, then_read, unread}
+use Rattle.reuse_undo.specs.run.Requests.{made_or_seen}
+use Rattle.reuse_undo.specs.declared.cli.line.LineFault.{LineFault}
+use Rattle.reuse_undo.specs.declared.cli.line.LineFault.TheVariants as faults
+use Rattle.reuse_undo.specs.declared.cli.words.Said.{Said}
+
+-- a download of these licences; the texts are found later
+abbrev pub download_of : Rows → SessionCommand
+download_of found = Download (ids_of found) []
+
+-- what changes the tree, by the name of the subcommand
+unfoldable pub call_read : List ℕ → Rows → ℕ → Result Call Mistake
+call_read name found year =
+    if bytes_eq name (codes "annotate") then then_read (annotate_read found year) (λ command. Ok (calls.Run command))
+    else if bytes_eq name (codes "amend") then then_read (amend_read found) (λ command. Ok (calls.Run command))
+    else if bytes_eq name (codes "convert-dep5") then Ok (calls.Run ConvertDep5)
+    else if bytes_eq name (codes "download") then Ok (calls.Run (download_of found))
+    else if bytes_eq name (codes "undo") then Ok calls.Undo
+    else if bytes_eq name (codes "redo") then Ok calls.Redo
+    else if bytes_eq name (codes "revert")
+    then Ok (calls.Revert (number found (codes "NUMBER")) (flag found (codes "skip-moved")))
+    else Err (unread (codes "a subcommand that nothing reads"))
+
+-- the history is looked at; else the call is made at this moment, or in a dry run it is previewed
+unfoldable pub session_read : List ℕ → Rows → ℕ → ℕ → Result SessionRequest Mistake
+session_read name found moment year =
+    if bytes_eq name (codes "log") then Ok requests.Log
+    else if bytes_eq name (codes "show") then Ok (requests.Show (number found (codes "NUMBER")))
+    else then_read (call_read name found year) (λ asked. Ok (made_or_seen asked moment (is_dry_run found)))
+
+-- the licences of a download are copied from this folder
+unfoldable pub texts_read : List ℕ → Rows → Result (Option (List ℕ)) Mistake
+texts_read name found =
+    if bytes_eq name (codes "download") then then_read (texts_folder_read found) (λ folder. Ok (Some folder))
+    else Ok None
+
+-- a line that a session answers, in the tree under the folder
+unfoldable pub line_read : List ℕ → List ℕ → Rows → ℕ → ℕ → Result Request Mistake
+line_read root name found moment year =
+    then_read (session_read name found moment year) (λ request.
+    then_read (texts_read name found) (λ texts. Ok (call (record {
+      root = root;
+      request = request;
+      texts = texts;
+      format = format_of found;
+      change_status = change_status_of found;
+    }))))
+
+-- what the subcommand of this name asks for in the tree under the folder, at this moment of this year
+unfoldable pub requested : List ℕ → List ℕ → Rows → ℕ → ℕ → Result Request Mistake
+requested root name found moment year =
+    if bytes_eq name (codes "recover") then Ok (recover root (flag found (codes "skip-moved")))
+    else if bytes_eq name (codes "forget") then then_read (steps_read found) (λ steps. Ok (forget root steps))
+    else line_read root name found moment year
+
+-- what the whole line asks for: the root stands before the subcommand
+unfoldable pub request_read : Rows → Option (List ℕ × Rows) → ℕ → ℕ → Result Request Mistake
+request_read above None moment year = Err (unread (codes "no subcommand"))
+request_read above (Some sub) moment year = requested (root_of above) sub.0 sub.1 moment year
+
+-- what the words say, of which clap found this
+pub record IsSaid (above : Rows) (sub : Option (List ℕ × Rows)) (moment year : ℕ) (said : Said) : Type 0 where
+  pub verbose : said.verbose ≡ flag above (codes "verbose")
+  pub settings : said.settings ≡ settings_of above
+  pub files_from : option_map string_bytes said.files_from ≡ files_from_of sub
+  pub asked : IsDueAs request_in (request_read above sub moment year) said.asked
+
+-- words that are no line; nothing else is read of them
+abbrev pub no_line : LineFault → Said
+no_line fault = record { verbose = false; settings = usual_settings; files_from = None; asked = Err fault }
+
+-- what the words say in the year of the moment; want of memory may take its place
+abbrev pub Says : ArgMatches → ℕ → Said → Type 0
+Says matches moment said =
+    (said ≡ no_line faults.Memory)
+    ⊎ ((year : ℕ) × IsYearOf moment year × IsSaid (found_in matches) (subcommand_rows_of matches) moment year said)
+
+-- clap found this in the words, by the options of some command
+abbrev pub IsFoundIn : List (List ℕ) → ArgMatches → Type 0
+IsFoundIn words matches = (command : Command) × HasMatchesOf (app_of command) words matches
+
+-- clap takes no such words, or was asked for help; or memory ran out
+abbrev pub IsOfClap : LineFault → Type 0
+IsOfClap (faults.Usage text) = Unit {0}
+IsOfClap (faults.Help text) = Unit {0}
+IsOfClap faults.Memory = Unit {0}
+IsOfClap fault = ⊥
+
+-- the words are no line, as clap says
+abbrev pub IsRefusedByClap : Said → Type 0
+IsRefusedByClap said = (fault : LineFault) × IsOfClap fault × (said ≡ no_line fault)

@@ -1,0 +1,28 @@
+-- Places of files that are written aside, and of names in open folders.
+use Rattle.std.specs.Prelude.{◌≡◌, ◌⊎◌, ℕ, List, string_bytes, IsTrue}
+use Rattle.reuse_undo.specs.disk.HeldFiles.{FileKey, Place, place_in}
+use Rattle.reuse_undo.specs.disk.HeldFiles.FileKey.{Made}
+use Rattle.reuse_undo.specs.disk.KeptOut.{is_new_name, new_name}
+use Rattle.reuse_undo.specs.declared.disk.place.Identity.{Identity}
+use Rattle.reuse_undo.specs.declared.disk.handle.OpenFolder.{OpenFolder}
+use Rattle.reuse_undo.specs.declared.disk.system.Aside.{Aside}
+
+-- this name in the folder
+abbrev pub name_in : OpenFolder → List ℕ → Place
+name_in folder name = place_in folder.identity name
+
+-- where the file was made
+abbrev pub place_of : Aside → Place
+place_of aside = place_in aside.folder (string_bytes aside.name)
+
+-- which file it is
+abbrev pub key_of : Aside → FileKey
+key_of aside = Made aside.number
+
+-- the name of a new file in this folder
+abbrev pub IsNewIn : Identity → Place → Type 0
+IsNewIn folder place = (name : List ℕ) × IsTrue (is_new_name name) × (place ≡ place_in folder name)
+
+-- where a new file is written: in the folder of new files, or else beside the one that it is to be
+abbrev pub IsNewPlace : Identity → Identity → Place → Type 0
+IsNewPlace new_files target place = IsNewIn new_files place ⊎ (place ≡ place_in target new_name)

@@ -1,0 +1,111 @@
+-- The diff of a dry run: of each path that would change, its file as it is and as the call would leave it.
+use Rattle.std.specs.Prelude.{◌≡◌, ◌+◌, ◌≤◌, ℕ, Bool, true, false, List, ◌++◌, length, Option, Some, None, IfSome, IsSomeAnd, Result, Ok, Err}
+use Rattle.std.specs.FinMap.{get}
+use Rattle.std.specs.List.{All}
+use Rattle.reuse_text.specs.declared.TheConstants.{LONGEST_FILE}
+use Rattle.reuse_tree.specs.Change.{path_of, inverse_of}
+use Rattle.reuse_tree.specs.Entry.{paths_of, IsSmall, LeadsBy}
+use Rattle.reuse_tree.specs.Files.{Files}
+use Rattle.reuse_tree.specs.Tree.{changed_paths}
+use Rattle.reuse_tree.specs.declared.change.Change.{Change}
+use Rattle.reuse_tree.specs.declared.store.Store.{Ghosts}
+use Rattle.reuse_tree.specs.declared.way.Way.{Way}
+use Rattle.reuse_tree.specs.declared.way.Way.TheVariants as go
+use Rattle.reuse_session.specs.journal.Journal.{State}
+use Rattle.reuse_session.specs.session.Session.{store_of, StandsOn}
+use Rattle.reuse_session.specs.declared.fate.Fate.{Fate}
+use Rattle.reuse_session.specs.declared.fate.Previewed.{Previewed}
+use Rattle.reuse_session.specs.declared.reply.Refusal.{Refusal}
+use Rattle.reuse_session.specs.declared.reply.Reply.{Reply}
+use Rattle.reuse_session.specs.declared.reply.Reply.TheVariants.{Preview}
+use Rattle.reuse_session.specs.declared.session.Session.{Session}
+use Rattle.reuse_undo.specs.print.DiffText.{IsDiff}
+use Rattle.reuse_undo.specs.print.RowLines.{AreJoined}
+use Rattle.reuse_session.specs.session.Requests.{IsAnswered, Makes}
+use Rattle.reuse_undo.specs.print.Lines.{IsReplyText}
+use Rattle.reuse_undo.specs.print.Told.{is_refused, IsAccepted}
+use Rattle.reuse_session.specs.declared.request.Request.{Request}
+use Rattle.reuse_session.specs.declared.request.Request.TheVariants as requests
+use Rattle.reuse_undo.specs.declared.print.shown_name.Names.{Names}
+use Rattle.reuse_undo.specs.declared.run.line.foreseen.Foreseen.{Foreseen}
+
+-- the diff of what a path holds in the one tree and in the other
+abbrev pub IsPathDiff : Files → Files → List ℕ → List ℕ → Type 0
+IsPathDiff before after path text = IsDiff path (get before path) (get after path) text
+
+-- the diffs of what the paths of the changes hold in the one tree and in the other, one behind the other
+abbrev pub AreDiffs : Files → Files → List Change → List ℕ → Type 0
+AreDiffs before after changes text = AreJoined (λ change. IsPathDiff before after (path_of change)) changes text
+
+-- gone through this way, changes of small files lead from the one tree to the other
+pub record AreSmallSteps (way : Way) (changes : List Change) (before after : Files) : Type 0 where
+  pub small : All IsSmall changes
+  pub leads : LeadsBy way changes before after
+
+-- what is foreseen leads from the one tree to the other
+abbrev pub WouldLead : Foreseen → Files → Files → Type 0
+WouldLead foreseen before after = AreSmallSteps foreseen.way foreseen.changes before after
+
+-- ---- the two trees
+
+-- Made on the committed state, the call whose dry run is asked for is accepted and leaves this tree.
+abbrev pub WouldLeave : Request → State → Files → Type 0
+WouldLeave (requests.Preview call) held after = (when : ℕ) × (reply : Reply) × (new : State) × Makes call when held (Ok reply) new × (new.tree ≡ after)
+WouldLeave request held after = ⊥
+
+-- the diff of two trees: of each path at which they differ, in byte order, what it holds in the one and in the other
+abbrev pub IsTreeDiff : Files → Files → List ℕ → Type 0
+IsTreeDiff before after text = AreJoined (IsPathDiff before after) (changed_paths before after) text
+
+-- a dry run's lines, and behind them the diff of two trees
+pub record IsDrawnText (names : Names) (before after : Files) (text : List ℕ) : Type 0 where
+  pub fates : List Fate
+  pub lines : List ℕ
+  pub diff : List ℕ
+  pub told : IsReplyText names (Preview fates) lines
+  pub drawn : IsTreeDiff before after diff
+  pub whole : text ≡ lines ++ diff
+
+-- ---- for private clauses
+
+-- what is foreseen leads from the one tree to the other, by changes of the paths at which they differ
+pub record Foretells (foreseen : Foreseen) (before after : Files) : Type 0 where
+  pub leads : WouldLead foreseen before after
+  pub paths : changed_paths before after ≡ paths_of foreseen.changes
+
+-- whatever tree the call would leave, this is the diff of the tree that stands and of that one
+abbrev pub IsDiffOfCall : Request → State → List ℕ → Type 0
+IsDiffOfCall request held text = (after : Files) → WouldLeave request held after → IsTreeDiff held.tree after text
+
+-- what would change, gone through this way, unless that is refused
+abbrev pub foreseen_unless : Bool → List Change → Way → Option Foreseen
+foreseen_unless true changes way = None
+foreseen_unless false changes way = Some (record { changes = changes; way = way })
+
+-- the same of what is previewed, where none of the fates is a refusal
+abbrev pub foreseen_in : Way → Result Previewed Refusal → Option Foreseen
+foreseen_in way (Ok previewed) = foreseen_unless (is_refused previewed.fates) previewed.changes way
+foreseen_in way (Err refusal) = None
+
+-- where a dry run was answered without a refusal, what would change is there, and leads to whatever tree the call would leave
+abbrev pub ForetellsAccepted : {S : Type 0} → Ghosts S → Request → Result Reply Refusal → Option Foreseen → Session S → Session S → Type 0
+ForetellsAccepted store request answer foreseen old new =
+    store.honest (store_of new) → (held : State) → StandsOn store.files old held → (after : Files) → WouldLeave request held after → IsAccepted answer
+    → IsSomeAnd foreseen (λ foreseen. Foretells foreseen held.tree after)
+
+-- the request is answered, and of a dry run without a refusal what would change is there, and of nothing else
+pub record IsAnsweredWith {S : Type 0} (store : Ghosts S) (request : Request) (answer : Result Reply Refusal) (foreseen : Option Foreseen) (old new : Session S) : Type 0 where
+  pub answered : IsAnswered store request answer old new
+  pub accepted : IfSome foreseen (λ foreseen. IsAccepted answer)
+  pub foretells : ForetellsAccepted store request answer foreseen old new
+
+-- the change that is made where a change is gone through this way
+abbrev pub gone : Way → Change → Change
+gone go.Do change = change
+gone go.Undo change = inverse_of change
+
+-- the range lies within the file, and neither that nor the new bytes are too long
+pub record IsRangeWithin (file : List ℕ) (at : ℕ) (old new : List ℕ) : Type 0 where
+  pub within : at + length old ≤ length file
+  pub small : length file ≤ LONGEST_FILE
+  pub new_small : length new ≤ LONGEST_FILE

@@ -1,0 +1,151 @@
+//! The lines that an answer is printed as.
+ghost use Rattle.std.specs.Prelude.{◌≡◌, OnOk, count_by};
+ghost use Rattle.std.specs.Io.KnownBytes.{Appends};
+ghost use Rattle.reuse_undo.specs.print.Lines.{line_of, lines_of, fate_line, fate_lines, would_change, change_lines, kind_word, path_count, IsReplyText, IsShownText, changed_text, reverted_text};
+ghost use Rattle.reuse_undo.specs.print.RowLines.{AppendsSome};
+
+use crate::print::rows::{print_row, print_rows};
+use crate::print::shown_name::{Names, print_name};
+use reuse_session::{Fate, Reply, Reverted, Shown};
+use reuse_tree::{Change, PathText};
+use std::io::{self, Write};
+
+fn print_path<W: Write>(out: &mut W, names: Names, word: &str, path: &PathText) -> io::Result<()>
+    ensures { OnOk result (Appends (W.contents out.old) (W.contents out.new) (line_of names word.now path.now)) }
+{
+    write!(out, "{word} ")?;
+    print_name(out, names, path.as_bytes())?;
+    writeln!(out)
+}
+
+/// Prints a line for each path: the word, a space and the path, as names are shown.
+pub fn print_paths<W: Write>(
+    out: &mut W,
+    names: Names,
+    word: &str,
+    paths: &[PathText],
+) -> io::Result<()>
+    ensures { OnOk result (Appends (W.contents out.old) (W.contents out.new) (lines_of names word.now paths.now)) }
+{
+    for path in paths {
+        print_path(out, names, word, path)?;
+    }
+    Ok(())
+}
+
+/// Prints a reply: a line for each path or row. That a session was opened is not printed, nor the
+/// refusals of a preview.
+pub fn print_reply<W: Write>(out: &mut W, names: Names, reply: &Reply) -> io::Result<()>
+    ensures { OnOk result (AppendsSome (W.contents out.old) (W.contents out.new) (IsReplyText names reply.now)) }
+{
+    match reply {
+        Reply::Changed(paths) => print_paths(out, names, "changed", paths.as_slice()),
+        Reply::Undone(paths) => print_paths(out, names, "undone", paths.as_slice()),
+        Reply::Redone(paths) => print_paths(out, names, "redone", paths.as_slice()),
+        Reply::NothingChanged => writeln!(out, "nothing changed"),
+        Reply::Log(rows) => print_rows(out, rows.as_slice()),
+        Reply::Preview(fates) => print_fates(out, names, fates.as_slice()),
+        Reply::Shown(shown) => print_shown(out, names, shown),
+        Reply::Reverted(reverted) => print_reverted(out, names, reverted),
+        Reply::Opened => Ok(()),
+    }
+}
+
+/// Prints a line for each fate that is no refusal.
+fn print_fates<W: Write>(out: &mut W, names: Names, fates: &[Fate]) -> io::Result<()>
+    ensures { OnOk result (Appends (W.contents out.old) (W.contents out.new) (fate_lines names fates.now)) }
+{
+    for fate in fates {
+        print_fate(out, names, fate)?;
+    }
+    Ok(())
+}
+
+fn print_fate<W: Write>(out: &mut W, names: Names, fate: &Fate) -> io::Result<()>
+    ensures { OnOk result (Appends (W.contents out.old) (W.contents out.new) (fate_line names fate.now)) }
+{
+    match fate {
+        Fate::Changes(path) => print_path(out, names, "would change", path),
+        Fate::Unchanged(path) => print_path(out, names, "unchanged", path),
+        Fate::Skipped(path) => print_path(out, names, "skipped", path),
+        Fate::Refused(_) => Ok(()),
+    }
+}
+
+/// Prints a step: its row of the log, and a line for each path.
+fn print_shown<W: Write>(out: &mut W, names: Names, shown: &Shown) -> io::Result<()>
+    ensures { OnOk result (AppendsSome (W.contents out.old) (W.contents out.new) (IsShownText names shown.now)) }
+{
+    print_row(out, &shown.row)?;
+    print_changes(out, names, shown.changes.as_slice())
+}
+
+fn print_changes<W: Write>(out: &mut W, names: Names, changes: &[Change]) -> io::Result<()>
+    ensures { OnOk result (Appends (W.contents out.old) (W.contents out.new) (change_lines names changes.now)) }
+{
+    for change in changes {
+        print_path(out, names, kind_word(change), change.path())?;
+    }
+    Ok(())
+}
+
+/// What a change made of its path.
+pub fn kind_word(change: &Change) -> &'static str
+    ensures { result.now ≡ kind_word change.now }
+{
+    match change {
+        Change::Make { .. } => "made",
+        Change::Drop { .. } => "removed",
+        Change::Splice { .. } => "changed",
+    }
+}
+
+/// Prints what a revert did: the paths that changed, and then those that were left.
+fn print_reverted<W: Write>(out: &mut W, names: Names, reverted: &Reverted) -> io::Result<()>
+    ensures { OnOk result (Appends (W.contents out.old) (W.contents out.new) (reverted_text names reverted.now)) }
+{
+    print_reverted_paths(out, names, reverted.changed.as_slice())?;
+    print_paths(out, names, "skipped", reverted.skipped.as_slice())
+}
+
+fn print_reverted_paths<W: Write>(out: &mut W, names: Names, paths: &[PathText]) -> io::Result<()>
+    ensures { OnOk result (Appends (W.contents out.old) (W.contents out.new) (changed_text names paths.now)) }
+{
+    if paths.is_empty() {
+        writeln!(out, "nothing changed")
+    } else {
+        print_paths(out, names, "changed", paths)
+    }
+}
+
+/// How many paths a reply tells that changed, or that would change.
+pub fn path_count(reply: &Reply) -> usize
+    ensures { result ≡ path_count reply.now }
+{
+    match reply {
+        Reply::Changed(paths) | Reply::Undone(paths) | Reply::Redone(paths) => {
+            paths.as_slice().len()
+        }
+        Reply::Preview(fates) => change_count(fates.as_slice()),
+        Reply::Reverted(reverted) => reverted.changed.as_slice().len(),
+        Reply::NothingChanged | Reply::Log(_) | Reply::Shown(_) | Reply::Opened => 0,
+    }
+}
+
+fn change_count(fates: &[Fate]) -> usize
+    ensures { result ≡ count_by would_change fates.now }
+{
+    let mut count = 0;
+    for fate in fates {
+        if would_change(fate) {
+            count += 1;
+        }
+    }
+    count
+}
+
+fn would_change(fate: &Fate) -> bool
+    ensures { result ≡ would_change fate.now }
+{
+    matches!(fate, Fate::Changes(_))
+}

@@ -1,0 +1,333 @@
+//! Notes: what a fault is about, what can be done about it, and what a call has done.
+use crate::cli::line::LineFault;
+use crate::disk::Kept;
+use crate::run::damage::Headless;
+use crate::run::denial::Denial;
+use crate::run::fault::Fault;
+use crate::run::findings::{Findings, Task, unrecognised_among};
+use reuse_dep5::{Dep5Cause, Dep5Refusal};
+use reuse_notice::NoticeRefusal;
+use reuse_session::{AmendFault, Failure, Fate, Refusal};
+use std::fmt::Display;
+
+/// Tells a note. Where standard error can't be written, there is nobody to tell.
+fn note(rt: &impl Eprint, text: impl Display + Drop) {
+    let _ = eprintln!(rt; "reuse-undo: note: {text}");
+}
+
+/// Tells what to do about words that are no line.
+pub fn note_words(rt: &impl Eprint, fault: &LineFault) {
+    match fault {
+        LineFault::BadAdditions(NoticeRefusal::BadYear(_)) => note(
+            rt,
+            "a year has four digits; annotate takes a range as two years, as in --year 2019 --year 2024",
+        ),
+        LineFault::NothingToAmend => note(
+            rt,
+            "say what is to be changed, as by --replace-license OLD NEW, --replace-holder OLD NEW or --until YEAR; \
+            reuse-undo amend --help lists the options",
+        ),
+        _ => {}
+    }
+}
+
+const BAD_JOURNAL: &str =
+    "this file of the journal is damaged, missing or of a later version: put it \
+    back from a backup; or delete the folder .reuse/undo, which forgets the history and changes no \
+    other file";
+
+const DEP5: &str = ".reuse/dep5";
+
+/// What can be done about a refusal, where a note says that.
+fn advice(refusal: &Refusal, is_begun: bool, findings: &Findings) -> Option<&'static str> {
+    match refusal {
+        Refusal::Unrecognised(_) => Some(
+            "no comment style is known for this name: name one with --style or in .reuse/styles.toml, \
+            write the information beside the file with --fallback-dot-license, or pass it over with --skip-unrecognised",
+        ),
+        Refusal::Moved(_) if is_begun => Some(begun_advice(findings)),
+        Refusal::Moved(_) if findings.is_gone => Some(gone_advice(findings.task)),
+        Refusal::Moved(_) => Some(moved_advice(findings.task)),
+        Refusal::NoSuchStep(_) => Some("reuse-undo log tells the numbers of the steps"),
+        Refusal::Failed(Failure::Interrupted(_)) => {
+            Some("the next call on this tree, log too, takes back what was begun")
+        }
+        Refusal::BadJournal(_) => Some(BAD_JOURNAL),
+        Refusal::Dep5(refusal) => dep5_advice(refusal),
+        Refusal::NotCovered(path) if path.text() == DEP5 => Some(
+            "this file is neither annotated nor amended: convert it first, by reuse-undo convert-dep5, \
+            which puts a REUSE.toml in its place",
+        ),
+        Refusal::Amend(_, fault) => Some(amend_advice(*fault)),
+        _ => None,
+    }
+}
+
+/// What can be done about a file of a step that a stopped run had begun.
+fn begun_advice(findings: &Findings) -> &'static str {
+    match (findings.task, findings.is_gone) {
+        (Task::Recover, false) => {
+            "a stopped run had begun to change this file, and it was changed since: with --skip-moved it is left \
+            as it is, and the other files are set back"
+        }
+        (Task::Recover, true) => {
+            "a stopped run had begun to change this file, and it is gone: with --skip-moved it is left out, and the \
+            other files are set back"
+        }
+        (_, false) => {
+            "a stopped run had begun to change this file, and it was changed since: put it back as it was before that run, \
+            or as that run would have left it; or call reuse-undo recover --skip-moved, which leaves it as it is and sets the \
+            other files back"
+        }
+        (_, true) => {
+            "a stopped run had begun to change this file, and it is gone: put it back as it was before that run, \
+            or as that run would have left it; or call reuse-undo recover --skip-moved, which leaves it out and sets the \
+            other files back"
+        }
+    }
+}
+
+/// What can be done about a file that is gone.
+fn gone_advice(task: Task) -> &'static str {
+    match task {
+        Task::Revert | Task::PreviewRevert => {
+            "this file is gone: put it back and call again, or leave it out with --skip-moved; \
+            or reuse-undo forget takes the step out of the history, and leaves all files"
+        }
+        Task::Redo => "this file is gone: put it back and call again",
+        _ => {
+            "this file is gone: put it back and call again; or reuse-undo revert --skip-moved takes the step out of the \
+            other files, and reuse-undo forget out of the history alone"
+        }
+    }
+}
+
+/// What can be done about a file that isn't as a step left it.
+fn moved_advice(task: Task) -> &'static str {
+    match task {
+        Task::Revert | Task::PreviewRevert => {
+            "what the step wrote doesn't stand in this file as it did: take that change back and call again, \
+            or leave the file as it is with --skip-moved; or reuse-undo forget takes the step out of the history, \
+            and leaves all files"
+        }
+        Task::Redo => {
+            "this file was changed since the step was taken back: take that change back and call again"
+        }
+        _ => {
+            "this file was changed since: take that change back and call again, or keep it; \
+            reuse-undo revert takes a step out of files that were edited below what it wrote, \
+            and reuse-undo forget out of the history alone"
+        }
+    }
+}
+
+fn dep5_advice(refusal: &Dep5Refusal) -> Option<&'static str> {
+    match refusal {
+        Dep5Refusal::BadDep5(_, Dep5Cause::Missing) => Some(
+            "the fields Files, Copyright and License are asked for in this paragraph, none of them empty",
+        ),
+        Dep5Refusal::Question(_) => Some(
+            "REUSE.toml has no sign for one character: write * in place of ?, or list the files",
+        ),
+        _ => None,
+    }
+}
+
+/// What can be done about licensing information that can't be amended.
+fn amend_advice(fault: AmendFault) -> &'static str {
+    match fault {
+        AmendFault::BadExpression => {
+            "a licence of this file would be no expression any more: in front of WITH stands an identifier alone, \
+            and behind it one without a plus sign"
+        }
+        AmendFault::NothingLeft => {
+            "neither a licence nor a notice nor a contributor would be left: remove the header by hand, \
+            or take the step back that wrote it, by reuse-undo revert"
+        }
+        AmendFault::CannotBeAmended => {
+            "a value over several lines would change, a single one would go, or the file isn't TOML of texts, \
+            whole numbers and truth values: write the value on one line, or amend the file by hand"
+        }
+    }
+}
+
+/// Tells what a refusal is about.
+fn note_refusal(rt: &impl Eprint, findings: &Findings, refusal: &Refusal) {
+    if let (Refusal::Failed(Failure::Fault(_) | Failure::Interrupted(_)), Some(failure)) = (
+        refusal,
+        &findings.failure,
+    ) {
+        note(rt, failure);
+    }
+    if let (Refusal::Failed(Failure::Fault(_)), Some(root)) = (refusal, &findings.missing_root) {
+        let _ = eprintln!(rt; "reuse-undo: note: there is no folder {root}");
+    }
+    if let (Refusal::NoText(id), Some(folder)) = (refusal, &findings.texts) {
+        let _ = eprintln!(rt; "reuse-undo: note: the text was sought in {folder}/{id}.txt");
+    }
+    if let Refusal::BadStyles(cause) = refusal {
+        let _ = eprintln!(rt; "reuse-undo: note: what is wrong with .reuse/styles.toml: {cause}");
+    }
+    if let (Refusal::BadJournal(path), Some(damage)) = (refusal, findings.damage) {
+        let (path, words, advice) = (path.text(), damage.words(), damage.advice());
+        let _ = eprintln!(rt; "reuse-undo: note: {path} {words}: {advice}");
+        return;
+    }
+    let is_begun = findings.begun.is_some() && !findings.is_set_back;
+    if let Some(advice) = advice(refusal, is_begun, findings) {
+        note(rt, advice);
+    }
+}
+
+/// Tells how many names aren't recognised, where one is refused for that, or some were passed over.
+fn note_unrecognised(rt: &impl Eprint, count: usize, passed_over: bool) {
+    let files = if count == 1 { "file" } else { "files" };
+    let _ = match (passed_over, count) {
+        (true, 1..) => {
+            eprintln!(rt;
+                "reuse-undo: note: {count} {files} passed over, since no comment style is known for the names; --dry-run names them"
+            )
+        }
+        (false, 2..) => {
+            eprintln!(rt;
+                "reuse-undo: note: {count} {files} have names that aren't recognised; --dry-run names them"
+            )
+        }
+        _ => Ok(()),
+    };
+}
+
+/// Tells what the refusals among fates are about, each advice once.
+fn note_fates(rt: &impl Eprint, findings: &Findings, fates: &[Fate]) {
+    let mut last = None;
+    for fate in fates {
+        if let Fate::Refused(refusal) = fate {
+            let told = advice(refusal, false, findings);
+            if told.is_none() || told != last {
+                note_refusal(rt, findings, refusal);
+            }
+            last = told;
+        }
+    }
+    note_unrecognised(rt, unrecognised_among(fates), false);
+}
+
+/// Tells how many files a call changed, and how that is taken back.
+fn note_change(rt: &impl Eprint, task: Task, count: usize) {
+    let files = if count == 1 { "file" } else { "files" };
+    let _ = match task {
+        Task::Step | Task::Conversion | Task::Redo | Task::Revert if count > 0 => {
+            eprintln!(rt;
+                "reuse-undo: note: {count} {files} changed; reuse-undo undo takes that back"
+            )
+        }
+        Task::Revert => {
+            eprintln!(rt;
+                "reuse-undo: note: the step couldn't be taken out of any file, and stays done; reuse-undo forget takes it out of the history"
+            )
+        }
+        Task::Undo => {
+            eprintln!(rt;
+                "reuse-undo: note: {count} {files} changed back; reuse-undo redo makes that step again"
+            )
+        }
+        _ => Ok(()),
+    };
+}
+
+/// Tells that the journal has files of steps, and no head.
+fn note_headless(rt: &impl Eprint, headless: Headless) {
+    match headless {
+        Headless::First => note(
+            rt,
+            "the history was found empty, though .reuse/undo/000001.json is there: the head of the journal is gone, or the first run \
+            was stopped before it changed a file; if it is gone, put .reuse/undo/head.json back from a backup",
+        ),
+        Headless::Steps(count) => {
+            let _ = eprintln!(rt;
+                "reuse-undo: note: the history was found empty, though .reuse/undo has the files of {count} steps: the head of the journal is gone; \
+                put .reuse/undo/head.json back from a backup, or the next steps take the places of these"
+            );
+        }
+    }
+}
+
+/// Tells that a step was set back which a stopped run had begun, and how many files of it. That is
+/// told always, since the call before may have been another user's.
+pub fn note_set_back(rt: &impl Eprint, step: u32, count: usize) {
+    let files = if count == 1 { "file" } else { "files" };
+    let _ = eprintln!(rt;
+        "reuse-undo: note: step {step}, which a stopped run had begun, was set back ({count} {files})"
+    );
+}
+
+/// Tells what can be done about a call that the program itself refused.
+pub fn note_denial(rt: &impl Eprint, denial: &Denial) {
+    let text = match denial {
+        Denial::JournalOfAnother => {
+            "files of .reuse/undo are another user's, who could have any file here changed by this call: \
+            --trust-journal opens that journal all the same"
+        }
+        Denial::CannotKeepOwner(_) => {
+            "written anew, this file would have another owner or group, and somebody more or less access than now: \
+            --allow-owner-change writes it all the same"
+        }
+    };
+    note(rt, text);
+}
+
+/// Tells how many files have another owner or group now, and how many had further names.
+fn note_kept(rt: &impl Eprint, kept: Kept) {
+    if kept.changed > 0 {
+        let files = if kept.changed == 1 { "file" } else { "files" };
+        let _ = eprintln!(rt;
+            "reuse-undo: note: {} {files} could not keep owner or group",
+            kept.changed
+        );
+    }
+    if kept.linked > 0 {
+        let files = if kept.linked == 1 {
+            "file has"
+        } else {
+            "files have"
+        };
+        let _ = eprintln!(rt;
+            "reuse-undo: note: {} {files} further names (hard links), which keep the old bytes",
+            kept.linked
+        );
+    }
+}
+
+/// Tells what a call did, or what its fault is about.
+pub fn note_call(rt: &impl Eprint, findings: &Findings, outcome: &Result<usize, Fault>) {
+    note_kept(rt, findings.kept);
+    if let Some(headless) = findings.headless {
+        note_headless(rt, headless);
+    }
+    match outcome {
+        Ok(count) => note_change(rt, findings.task, *count),
+        Err(Fault::Refused(refusal) | Fault::NoDiff(refusal)) => {
+            note_refusal(rt, findings, refusal)
+        }
+        Err(Fault::WouldRefuse(fates)) => note_fates(rt, findings, fates.as_slice()),
+        Err(_) => {}
+    }
+    note_unrecognised(rt, findings.unrecognised, outcome.is_ok());
+    if findings.is_table_empty && outcome.is_ok() {
+        note(
+            rt,
+            "REUSE.toml says nothing of any file, since .reuse/dep5 has no paragraph with Files",
+        );
+    }
+    if findings.is_by_path {
+        note(
+            rt,
+            "there is no /proc: no other program may move folders or make links here meanwhile",
+        );
+    }
+    if let Some(folder) = &findings.above {
+        let _ = eprintln!(rt;
+            "reuse-undo: note: a folder above has a journal too: --root {folder}"
+        );
+    }
+}

@@ -1,0 +1,76 @@
+//! What standard error is told of a run.
+use crate::cli::line::LineFault;
+use crate::print::error_output::ErrorOutput;
+use crate::print::notes::{note_call, note_denial, note_set_back, note_words};
+use crate::run::carried_out::CarriedOut;
+use crate::run::fault::Fault;
+use reuse_session::Fate;
+use std::io;
+
+/// Tells why the words are no line, and what to do about that where notes are asked for; whether it
+/// could be told.
+pub fn tell_words<R: Print + Eprint + Drop>(
+    rt: &R,
+    errors: &ErrorOutput<'_, R>,
+    fault: &LineFault,
+    notes: bool,
+) -> bool {
+    let told = tell(rt, errors, fault);
+    if notes {
+        note_words(errors, fault);
+    }
+    told.is_ok()
+}
+
+/// Tells why the words are no line: help on standard output, all else on standard error. The texts
+/// of the command line have lines of their own.
+fn tell<R: Print + Eprint + Drop>(
+    rt: &R,
+    errors: &ErrorOutput<'_, R>,
+    fault: &LineFault,
+) -> io::Result<()> {
+    match fault {
+        LineFault::Help(text) => print!(rt; "{text}"),
+        LineFault::Usage(text) => errors.eprint_lines(text.as_str()),
+        _ => eprintln!(errors; "reuse-undo: {fault}"),
+    }
+}
+
+/// Tells the fault of what was carried out, or its denial; that a step was set back; and the notes.
+/// Where standard error can't be written either, the status tells.
+pub fn tell_outcome(errors: &impl Eprint, carried_out: &CarriedOut, notes: bool) {
+    match &carried_out.ending {
+        Ok(Ok(_)) => {}
+        Ok(Err(fault)) => tell_fault(errors, fault),
+        Err(denial) => {
+            let _ = eprintln!(errors; "reuse-undo: {denial}");
+        }
+    }
+    if let Some((step, files)) = carried_out.set_back {
+        note_set_back(errors, step, files);
+    }
+    match &carried_out.ending {
+        Ok(outcome) => {
+            if let Some(findings) = &carried_out.findings {
+                note_call(errors, findings, outcome);
+            }
+        }
+        Err(denial) => {
+            if notes {
+                note_denial(errors, denial);
+            }
+        }
+    }
+}
+
+fn tell_fault(errors: &impl Eprint, fault: &Fault) {
+    let Fault::WouldRefuse(fates) = fault else {
+        let _ = eprintln!(errors; "reuse-undo: {fault}");
+        return;
+    };
+    for fate in fates.as_slice() {
+        if let Fate::Refused(refusal) = fate {
+            let _ = eprintln!(errors; "reuse-undo: {refusal}");
+        }
+    }
+}

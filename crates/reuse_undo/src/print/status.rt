@@ -1,0 +1,74 @@
+//! What the program exits with.
+ghost use Rattle.std.specs.Prelude.{◌≡◌};
+ghost use Rattle.reuse_undo.specs.print.Statuses.{call_status_of, exit_status_of, line_status_of};
+
+use crate::cli::line::{ChangeStatus, LineFault};
+use crate::run::denial::Denial;
+use crate::run::fault::Fault;
+use reuse_notice::NoticeRefusal;
+
+/// How a run of the program ended.
+#[derive(Drop)]
+pub enum Ending {
+    /// The clock is out of range.
+    BadClock,
+    /// The words are no line.
+    NoLine {
+        fault: LineFault,
+        /// Whether that, or the help that was asked for, could be printed.
+        is_told: bool,
+    },
+    /// The program itself refused the call, which wasn't begun.
+    Denied(Denial),
+    /// A call was made, or was to be made.
+    Called {
+        /// How many paths changed, or would change in a dry run.
+        outcome: Result<usize, Fault>,
+        on_change: ChangeStatus,
+    },
+}
+
+/// The status that says how it ended.
+pub fn exit_status(ending: &Ending) -> u8
+    ensures { result ≡ exit_status_of ending.now }
+{
+    match ending {
+        Ending::BadClock | Ending::Denied(_) => 1,
+        Ending::NoLine {
+            fault,
+            is_told: true,
+        } => line_status(fault),
+        Ending::NoLine {
+            fault,
+            is_told: false,
+        } => line_status(fault).max(1),
+        Ending::Called { outcome, on_change } => call_status(outcome, *on_change),
+    }
+}
+
+/// After a call: its outcome is how many paths changed, or would change in a dry run.
+fn call_status(outcome: &Result<usize, Fault>, on_change: ChangeStatus) -> u8
+    ensures { result ≡ call_status_of on_change outcome.now }
+{
+    match (outcome, on_change) {
+        (Err(_), _) => 1,
+        (Ok(1..), ChangeStatus::One) => 1,
+        (Ok(_), _) => 0,
+    }
+}
+
+/// After words that are no line.
+fn line_status(fault: &LineFault) -> u8
+    ensures { result ≡ line_status_of fault.now }
+{
+    match fault {
+        LineFault::Help(_) => 0,
+        LineFault::Memory | LineFault::BadAdditions(NoticeRefusal::Memory(_)) => 1,
+        LineFault::Usage(_)
+        | LineFault::BadPath(_)
+        | LineFault::BadAdditions(_)
+        | LineFault::NothingToAmend
+        | LineFault::BadGlob(_)
+        | LineFault::Unreadable(_) => 2,
+    }
+}

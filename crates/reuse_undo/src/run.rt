@@ -1,0 +1,21 @@
+//! Runs what a line asks for: locks the folder, opens a session on it, makes its one call.
+//!
+//! No other run works on the tree meanwhile. What can't be kept as it was, such as a file's owner,
+//! is found before the call is begun. A call is answered, refused, or stopped with what is to be
+//! noted of it (`findings`). The root of the program calls it. Tested by `when.sh`, `folder.sh`,
+//! `owners.sh`, `nested_runs.sh` and `recover.sh` in `tests/`.
+mod above;
+mod answering;
+pub(crate) mod carried_out;
+pub(crate) mod damage;
+pub(crate) mod denial;
+pub(crate) mod fault;
+pub(crate) mod findings;
+mod forgetting;
+mod line;
+pub(crate) mod lock;
+pub(crate) mod locked;
+mod on_folder;
+mod recovering;
+pub(crate) mod request;
+mod texts;

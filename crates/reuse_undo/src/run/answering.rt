@@ -1,0 +1,163 @@
+//! Makes the call that a line asks for, unless it would take a file from its owner. That shows only
+//! once the call has planned what it changes. So it is held before its first put if it has read a
+//! file that can't keep its owner, and then what it would change is looked at, path by path, as in
+//! a dry run.
+ghost use Rattle.std.specs.Prelude.{◌≡◌, ◌≤◌};
+ghost use Rattle.reuse_session.specs.session.Answer.{TellsNoFault};
+ghost use Rattle.reuse_session.specs.journal.Journal.{State};
+ghost use Rattle.reuse_session.specs.session.Session.{store_of, StandsOn};
+ghost use Rattle.reuse_session.specs.session.Requests.{Peeks};
+ghost use Rattle.reuse_undo.specs.run.Answering.{PreviewsRequest};
+
+use crate::cli::line::Telling;
+use crate::disk::DiskStore;
+use crate::print::output::Output;
+use crate::print::progress::{ClearedOutput, Progress};
+use crate::run::denial::Denial;
+use crate::run::fault::Fault;
+use crate::run::line::is_refused;
+use crate::run::on_folder::run_on_folder;
+use reuse_session::{Counts, Fate, Fates, Refusal, Request, Session};
+use reuse_tree::{PathText, Store};
+use std::alloc::Global;
+use std::fs::File;
+use std::io;
+use std::rt::{Clock, Env, Files};
+use std::time::{Duration, SystemTime, UNIX_EPOCH};
+
+/// How a call ends: its outcome, or why it isn't begun.
+pub type CallEnding = Result<Result<usize, Fault>, Denial>;
+
+/// What a call is made with.
+#[derive(Clone, Copy)]
+pub struct Asking<'a, R: Clock + Eprint + Drop> {
+    /// What the answer is printed by.
+    pub rt: &'a R,
+    pub progress: &'a Progress<R>,
+    pub request: &'a Request,
+    pub telling: Telling,
+}
+
+/// Makes the call and prints the answer, unless a file that it would change can't keep its owner.
+/// It answers what the call counted, too.
+pub fn answer<R: Files<File = File> + AllocGlobal + Clock + Env + Print + Eprint + Clone + Drop>(
+    folder: DiskStore<R>,
+    alloc: Global,
+    asking: &Asking<'_, R>,
+) -> (DiskStore<R>, CallEnding, Counts) {
+    let mut folder = folder;
+    if changes_tree(asking.request) {
+        folder.watch_owners();
+        folder.remember_files(time_now(asking.rt));
+    }
+    let (mut folder, outcome, counts) = answer_at_once(folder, alloc, asking);
+    if !folder.release_owners() {
+        return (folder, Ok(outcome), counts);
+    }
+    drop(outcome);
+    let (folder, lost) = first_lost(folder, alloc, asking.request);
+    match lost {
+        Some(path) => (folder, Err(Denial::CannotKeepOwner(path)), Counts::none()),
+        None => {
+            let (folder, outcome, counts) = answer_at_once(folder, alloc, asking);
+            (folder, Ok(outcome), counts)
+        }
+    }
+}
+
+/// The time since 1970, if the system's clock tells a later one.
+fn time_now(rt: &impl Clock) -> Option<Duration> {
+    SystemTime::now(rt).ok()?.duration_since(UNIX_EPOCH).ok()
+}
+
+fn answer_at_once<
+    R: Files<File = File> + AllocGlobal + Clock + Env + Print + Eprint + Clone + Drop,
+>(
+    folder: DiskStore<R>,
+    alloc: Global,
+    asking: &Asking<'_, R>,
+) -> (DiskStore<R>, Result<usize, Fault>, Counts) {
+    let mut folder = folder;
+    folder.go_to_handles(asking.rt, alloc);
+    let progress = asking.progress;
+    let mut out = Output::new(ClearedOutput::new(progress, io::writer(asking.rt)));
+    let (mut folder, outcome, counts) = run_on_folder(
+        folder,
+        progress,
+        alloc,
+        asking.request,
+        asking.telling,
+        &mut out,
+    );
+    folder.come_back(asking.rt, alloc);
+    progress.clear();
+    (folder, outcome, counts)
+}
+
+fn changes_tree(request: &Request) -> bool {
+    matches!(request, Request::Make(_, _))
+}
+
+/// The first path that the call would change and whose file can't keep its owner, if there is one.
+/// If the call would be refused or fail, the call itself tells that.
+fn first_lost<R: Files<File = File> + AllocGlobal + Clone + Drop>(
+    folder: DiskStore<R>,
+    alloc: Global,
+    request: &Request,
+) -> (DiskStore<R>, Option<PathText>) {
+    let (mut folder, fates) = preview_request(alloc, folder, request);
+    let lost = match fates {
+        Ok(fates) => lost_among(alloc, &mut folder, fates.as_slice()),
+        Err(_) => None,
+    };
+    (folder, lost)
+}
+
+fn lost_among<R: Files<File = File> + AllocGlobal + Clone + Drop>(
+    alloc: Global,
+    folder: &mut DiskStore<R>,
+    fates: &[Fate],
+) -> Option<PathText> {
+    if is_refused(fates) {
+        return None;
+    }
+    for fate in fates {
+        if let Fate::Changes(path) = fate
+            && folder.may_write(alloc, path) == Ok(false)
+        {
+            return path.try_clone(alloc).ok();
+        }
+    }
+    None
+}
+
+/// What a call would do, path by path. Nothing is changed, unless a step is pending, which is set
+/// back.
+fn preview_request<S: Store + Drop>(
+    alloc: Global,
+    store: S,
+    request: &Request,
+) -> (S, Result<Fates, Refusal>) {
+    match Session::open(alloc, store) {
+        Ok(opened) => {
+            let mut session = opened;
+            let fates = preview_in(alloc, &mut session, request);
+            (session.into_store(), fates)
+        }
+        Err((refusal, store)) => (store, Err(refusal)),
+    }
+}
+
+fn preview_in<S: Store + Drop>(
+    alloc: Global,
+    session: &mut Session<S>,
+    request: &Request,
+) -> Result<Fates, Refusal>
+    ensures right { S.honest (store_of session.new) → (held : State) → StandsOn S.files session.old held → TellsNoFault result → PreviewsRequest request.now held result }
+    ensures peeks { Peeks S.Store result session.old session.new }
+{
+    match request {
+        Request::Make(call, _) => session.preview_call(alloc, call),
+        _ => Ok(Fates::new(Vec::new(alloc))),
+    }
+}

@@ -1,0 +1,29 @@
+//! Why the program itself refuses a call, before it is begun: nothing is changed then.
+ghost use Rattle.std.specs.Prelude.{Some};
+ghost use Rattle.reuse_undo.specs.run.RefusalTexts.{denial_text};
+
+use reuse_tree::PathText;
+use std::error::Error;
+use std::fmt;
+
+/// Why a call isn't begun; its text is what standard error is told.
+#[derive(Debug, Drop)]
+pub enum Denial {
+    /// The journal belongs to another user. Nothing of it was read.
+    JournalOfAnother,
+    /// A file that the call would change can't keep its owner or its group.
+    CannotKeepOwner(PathText),
+}
+
+impl fmt::Display for Denial {
+    ghost output = { λ denial. Some (denial_text denial) };
+
+    fn fmt<W: fmt::Write>(&self, f: &mut fmt::Formatter<W>) -> fmt::Result {
+        match self {
+            Denial::JournalOfAnother => f.write_str("journal of another user"),
+            Denial::CannotKeepOwner(path) => write!(f, "{}: cannot keep its owner", path.text()),
+        }
+    }
+}
+
+impl Error for Denial {}

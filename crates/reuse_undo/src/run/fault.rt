@@ -1,0 +1,65 @@
+//! Why a line was not carried out.
+ghost use Rattle.std.specs.Prelude.{◌≡◌, ◌↔◌, IfErr, IsOk, Some};
+ghost use Rattle.reuse_undo.specs.run.RefusalTexts.{fault_text};
+ghost use Rattle.reuse_undo.specs.declared.run.fault.Fault.TheVariants as faults;
+
+use reuse_session::{Fates, Refusal};
+use std::alloc::AllocError;
+use std::error::Error;
+use std::{fmt, io};
+
+/// Why a line was not carried out; its text is what standard error is told, but for that of a call
+/// that was only looked at.
+#[derive(Debug, Drop)]
+pub enum Fault {
+    /// The session refused.
+    Refused(Refusal),
+    /// A call that was only looked at would be refused: standard error is told each refusal among
+    /// the fates.
+    WouldRefuse(Fates),
+    /// What would change can't be told as a diff, since a file or the journal can't be read again.
+    NoDiff(Refusal),
+    /// Another run works on the tree. Nothing was read or written.
+    InUse,
+    /// The reply couldn't be written. What the call changed stands.
+    Write,
+    /// Memory ran out outside of the session's call. What the call changed stands.
+    Memory,
+}
+
+impl fmt::Display for Fault {
+    ghost output = { λ fault. Some (fault_text fault) };
+
+    fn fmt<W: fmt::Write>(&self, f: &mut fmt::Formatter<W>) -> fmt::Result {
+        match self {
+            Fault::Refused(refusal) | Fault::NoDiff(refusal) => write!(f, "{refusal}"),
+            Fault::WouldRefuse(_) => f.write_str("would be refused"),
+            Fault::InUse => f.write_str("in use by another run"),
+            Fault::Write => f.write_str("write fault"),
+            Fault::Memory => f.write_str("out of memory"),
+        }
+    }
+}
+
+impl Error for Fault {}
+
+impl From<AllocError> for Fault {
+    ghost use Rattle.reuse_undo.specs.declared.run.fault.Fault.TheVariants as faults;
+
+    ghost from_gives = { λ error fault. fault ≡ faults.Memory };
+
+    fn from(_: AllocError) -> Fault {
+        Fault::Memory
+    }
+}
+
+/// What is printed into memory fails for want of memory alone.
+pub fn in_memory(printed: io::Result<()>) -> Result<(), Fault>
+    ensures fault { IfErr result (λ fault. fault ≡ faults.Memory) }
+    ensures done { IsOk result ↔ IsOk printed }
+{
+    match printed {
+        Ok(()) => Ok(()),
+        Err(_) => Err(Fault::Memory),
+    }
+}

@@ -1,0 +1,132 @@
+//! Carries out on a store what a line asks for.
+ghost use Rattle.std.specs.Prelude.{◌≡◌, ◌≤◌, ◌<◌, None, IfOk, IfErr, IfSome, IsSomeAnd};
+ghost use Rattle.reuse_tree.specs.Asked.{OnlyReads};
+ghost use Rattle.reuse_tree.specs.Files.{Files, tree_of};
+ghost use Rattle.reuse_session.specs.session.Answer.{HasCause};
+ghost use Rattle.reuse_session.specs.journal.Journal.{State};
+ghost use Rattle.reuse_session.specs.journal.Standing.{IsStanding};
+ghost use Rattle.reuse_undo.specs.run.CarriedOut.{CarriesOut};
+ghost use Rattle.reuse_undo.specs.run.Drawn.{Foretells, ForetellsAccepted, IsDiffOfCall, IsTreeDiff};
+ghost use Rattle.reuse_session.specs.session.Requests.{HasCallClash, IsAnswered, IsLook};
+ghost use Rattle.reuse_undo.specs.run.RunLine.{IfNoDiff, RequestLeaves};
+ghost use Rattle.reuse_undo.specs.print.Told.{IsAccepted, IsDiffOf, IsForeseen, IsNoDiff};
+ghost use Rattle.reuse_undo.specs.print.WriterFaults.{IsOfDiff, IsUndrawn};
+
+mod drawn;
+mod foreseen;
+mod printed;
+
+use crate::cli::line::{OutputFormat, Telling};
+use crate::print::output::Sink;
+use crate::run::fault::Fault;
+use drawn::draw;
+use foreseen::{Foreseen, ask_with_changes};
+use printed::finish;
+pub use printed::is_refused;
+use reuse_session::{Answer, Counts, Request, Session};
+use reuse_tree::Store;
+use std::alloc::Global;
+
+/// Opens a session on the store, makes the one call that is asked for, and writes the lines of its
+/// answer. The store is given back, how many paths the answer tells that changed, and what the call
+/// counted; where it can't be written, what the call changed stands.
+pub fn run_request<S: Store + Drop, O: Sink>(
+    alloc: Global,
+    request: &Request,
+    telling: Telling,
+    store: S,
+    out: &mut O,
+) -> (S, Result<usize, Fault>, Counts)
+    ensures { CarriesOut S.Store O.contents O.failed request.now telling store result.0 out.old out.new result.1 }
+{
+    let (store, answer, diff, counts) = call(alloc, store, request, telling);
+    match answer {
+        Ok(told) => (store, finish(out, alloc, told, telling, diff), counts),
+        Err(refusal) => {
+            drop(diff);
+            (store, Err(Fault::Refused(refusal)), counts)
+        }
+    }
+}
+
+// Opens a session on the store, and makes the call. Where the line wants a diff and would be
+// carried out, the diff of what would change is made too.
+fn call<S: Store + Drop>(
+    alloc: Global,
+    store: S,
+    request: &Request,
+    telling: Telling,
+) -> (S, Answer, Result<Vec<u8>, Fault>, Counts)
+    ensures carries { S.honest result.0 → RequestLeaves (S.files store) request.now result.1 (S.files result.0) }
+    ensures looks { S.honest result.0 → IsLook request.now → (held : State) → IsStanding (S.files store) held → OnlyReads S.Store store result.0 }
+    ensures fault { IfErr result.1 (HasCause (S.failures store < S.failures result.0)) }
+    ensures clash { S.honest result.0 → (held : State) → IsStanding (S.files store) held → IfErr result.1 (HasCallClash request.now held (S.files store)) }
+    ensures diff { IfOk result.1 (λ told. IsDiffOf telling told result.2) }
+    ensures drawn { S.honest result.0 → (held : State) → IsStanding (S.files store) held
+        → IfOk result.1 (λ told. IsForeseen telling told → IfOk result.2 (λ text. IsDiffOfCall request.now held text.items)) }
+    ensures undrawn { IfNoDiff result.2 (IsUndrawn S.Store store result.0) }
+    ensures failures { S.failures store ≤ S.failures result.0 }
+    ensures was_honest { S.honest result.0 → S.honest store }
+{
+    match Session::open(alloc, store) {
+        Ok(opened) => {
+            let mut session = opened;
+            let (answer, foreseen) = ask_for(alloc, &mut session, request, telling.format);
+            let counts = session.counts();
+            let (store, diff) = draw_foreseen(alloc, session.into_store(), foreseen);
+            (store, answer, diff, counts)
+        }
+        Err((refusal, store)) => (store, Err(refusal), Ok(Vec::new(alloc)), Counts::none()),
+    }
+}
+
+// Makes the call. In the format of a diff, of a dry run without a refusal what would change is
+// answered too.
+fn ask_for<S: Store + Drop>(
+    alloc: Global,
+    session: &mut Session<S>,
+    request: &Request,
+    format: OutputFormat,
+) -> (Answer, Option<Foreseen>)
+    ensures answered { IsAnswered S.Store request.now result.0 session.old session.new }
+    ensures wanted { IfSome result.1 (λ foreseen. (format ≡ OutputFormat.Diff) × IsAccepted result.0) }
+    ensures foretells { format ≡ OutputFormat.Diff → ForetellsAccepted S.Store request.now result.0 result.1 session.old session.new }
+{
+    match format {
+        OutputFormat::Diff => ask_with_changes(alloc, session, request),
+        _ => (session.answer(alloc, request), None),
+    }
+}
+
+// The diff of what would change, or none. It only reads.
+fn draw_foreseen<S: Store + Drop>(
+    alloc: Global,
+    store: S,
+    foreseen: Option<Foreseen>,
+) -> (S, Result<Vec<u8>, Fault>)
+    ensures drawn { S.honest result.0 → (before : Files) → (after : Files) → tree_of (S.files store) ≡ before → IsSomeAnd foreseen (λ foreseen. Foretells foreseen before after)
+        → IfOk result.1 (λ text. IsTreeDiff before after text.items) }
+    ensures none { foreseen ≡ None → IsNoDiff result.1 }
+    ensures reads { OnlyReads S.Store store result.0 }
+    ensures diff { IfErr result.1 (IsOfDiff S.Store store result.0) }
+{
+    match foreseen {
+        Some(foreseen) => draw_from(alloc, store, &foreseen),
+        None => (store, Ok(Vec::new(alloc))),
+    }
+}
+
+fn draw_from<S: Store + Drop>(
+    alloc: Global,
+    store: S,
+    foreseen: &Foreseen,
+) -> (S, Result<Vec<u8>, Fault>)
+    ensures drawn { S.honest result.0 → (before : Files) → (after : Files) → tree_of (S.files store) ≡ before → Foretells foreseen.now before after
+        → IfOk result.1 (λ text. IsTreeDiff before after text.items) }
+    ensures reads { OnlyReads S.Store store result.0 }
+    ensures diff { IfErr result.1 (IsOfDiff S.Store store result.0) }
+{
+    let mut store = store;
+    let diff = draw(alloc, &mut store, foreseen);
+    (store, diff)
+}

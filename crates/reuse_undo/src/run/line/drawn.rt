@@ -1,0 +1,135 @@
+//! The diff of what a call would change.
+ghost use Rattle.std.specs.Prelude.{◌≡◌, ◌+◌, ◌≤◌, ℕ, List, [], Some, IfErr, IfOk, OnOk, length, unwrap_or};
+ghost use Rattle.std.specs.FinMap.{get};
+ghost use Rattle.std.specs.Option.{option_copied};
+ghost use Rattle.reuse_text.specs.Text.{spliced};
+ghost use Rattle.reuse_tree.specs.Asked.{OnlyReads};
+ghost use Rattle.reuse_tree.specs.Change.{path_of};
+ghost use Rattle.reuse_tree.specs.Entry.{IsSmall, TurnsBy};
+ghost use Rattle.reuse_tree.specs.Files.{Files, tree_of};
+ghost use Rattle.reuse_undo.specs.print.DiffText.{part_before, part_after, IsDiff};
+ghost use Rattle.reuse_undo.specs.run.Drawn.{gone, AreDiffs, AreSmallSteps, IsPathDiff, IsRangeWithin, WouldLead};
+ghost use Rattle.reuse_undo.specs.print.RowLines.{AppendsSome};
+ghost use Rattle.reuse_undo.specs.print.WriterFaults.{IsOfDiff};
+ghost use Rattle.reuse_undo.specs.declared.run.fault.Fault.TheVariants as faults;
+
+use super::foreseen::Foreseen;
+use crate::print::diff::{Turn, bytes_of, print_diff};
+use crate::run::fault::{Fault, in_memory};
+use reuse_session::Refusal;
+use reuse_text::{LONGEST_FILE, splice};
+use reuse_tree::{Change, PathText, Reading, Store, Way};
+use std::alloc::Global;
+
+/// The diff of what would change: of each path that the file as it is and as the call leaves it, in
+/// the order of the changes. It only reads.
+pub fn draw<S: Store>(alloc: Global, store: &mut S, foreseen: &Foreseen) -> Result<Vec<u8>, Fault>
+    ensures drawn { S.honest store.new → (before : Files) → (after : Files) → tree_of (S.files store.old) ≡ before → WouldLead foreseen.now before after
+        → IfOk result (λ text. AreDiffs before after foreseen.now.changes text.items) }
+    ensures reads { OnlyReads S.Store store.old store.new }
+    ensures fault { IfErr result (IsOfDiff S.Store store.old store.new) }
+{
+    draw_all(alloc, store, foreseen.changes.as_slice(), foreseen.way)
+}
+
+// The diff of changes that are gone through this way.
+fn draw_all<S: Store>(
+    alloc: Global,
+    store: &mut S,
+    changes: &[Change],
+    way: Way,
+) -> Result<Vec<u8>, Fault>
+    ensures drawn { S.honest store.new → (before : Files) → (after : Files) → tree_of (S.files store.old) ≡ before → AreSmallSteps way changes.now before after
+        → IfOk result (λ text. AreDiffs before after changes.now text.items) }
+    ensures reads { OnlyReads S.Store store.old store.new }
+    ensures fault { IfErr result (IsOfDiff S.Store store.old store.new) }
+{
+    let mut text = Vec::new(alloc);
+    for change in changes {
+        draw_one(alloc, store, &mut text, change, way)?;
+    }
+    Ok(text)
+}
+
+fn draw_one<S: Store>(
+    alloc: Global,
+    store: &mut S,
+    text: &mut Vec<u8>,
+    change: &Change,
+    way: Way,
+) -> Result<(), Fault>
+    ensures drawn { S.honest store.new → (before : Files) → (after : Files) → tree_of (S.files store.old) ≡ before → IsSmall change.now
+        → TurnsBy way change.now (get before (path_of change.now)) (get after (path_of change.now))
+        → OnOk result (AppendsSome (Some text.old.items) (Some text.new.items) (IsPathDiff before after (path_of change.now))) }
+    ensures reads { OnlyReads S.Store store.old store.new }
+    ensures fault { IfErr result (IsOfDiff S.Store store.old store.new) }
+{
+    let turn = turn_of(change, way);
+    match change {
+        Change::Splice { at, .. } => draw_range(alloc, store, text, turn, *at),
+        _ => in_memory(print_diff(text, alloc, turn)),
+    }
+}
+
+// What a change records, gone through this way.
+fn turn_of(change: &Change, way: Way) -> Turn<'_>
+    ensures path { result.path.now ≡ path_of change.now }
+    ensures before { option_copied result.before ≡ part_before (gone way change.now) }
+    ensures after { option_copied result.after ≡ part_after (gone way change.now) }
+{
+    match way {
+        Way::Do => Turn::of(change),
+        Way::Undo => Turn::of(change).back(),
+    }
+}
+
+// A file of which a range gives way.
+fn draw_range<S: Store>(
+    alloc: Global,
+    store: &mut S,
+    text: &mut Vec<u8>,
+    range: Turn<'_>,
+    at: usize,
+) -> Result<(), Fault>
+    ensures drawn { S.honest store.new → (file : List ℕ) → get (tree_of (S.files store.old)) range.entry.path.now ≡ Some file
+        → IsRangeWithin file at (unwrap_or (option_copied range.entry.before) []) (unwrap_or (option_copied range.entry.after) [])
+        → OnOk result (AppendsSome (Some text.old.items) (Some text.new.items)
+        (IsDiff range.entry.path.now (Some file) (Some (spliced file at (length (unwrap_or (option_copied range.entry.before) [])) (unwrap_or (option_copied range.entry.after) []))))) }
+    ensures reads { OnlyReads S.Store store.old store.new }
+    ensures fault { IfErr result (IsOfDiff S.Store store.old store.new) }
+{
+    match store.read(alloc, range.path, LONGEST_FILE) {
+        Ok(Reading::Found(file)) => draw_within(text, alloc, range, file.as_slice(), at),
+        Ok(Reading::Absent) => Ok(()),
+        Ok(Reading::TooLong) => Ok(()),
+        Err(fault) => Err(Fault::NoDiff(Refusal::from(fault))),
+    }
+}
+
+// The same, of a file that was read. Where the range isn't within it, it isn't as it was looked at,
+// and nothing is told.
+fn draw_within<'a>(
+    text: &mut Vec<u8>,
+    alloc: Global,
+    range: Turn<'a>,
+    file: &'a [u8],
+    at: usize,
+) -> Result<(), Fault>
+    ensures drawn { IsRangeWithin file.now at (unwrap_or (option_copied range.entry.before) []) (unwrap_or (option_copied range.entry.after) [])
+        → OnOk result (AppendsSome (Some text.old.items) (Some text.new.items)
+        (IsDiff range.entry.path.now (Some file.now) (Some (spliced file.now at (length (unwrap_or (option_copied range.entry.before) [])) (unwrap_or (option_copied range.entry.after) []))))) }
+    ensures fault { IfErr result (λ fault. fault ≡ faults.Memory) }
+{
+    let old_len = bytes_of(range.before).len();
+    let new = bytes_of(range.after);
+    if at > file.len() || old_len > file.len() - at || new.len() > LONGEST_FILE {
+        return Ok(());
+    }
+    let after = splice(alloc, file, at, old_len, new)?;
+    let turn = Turn {
+        path: range.path,
+        before: Some(file),
+        after: Some(after.as_slice()),
+    };
+    in_memory(print_diff(text, alloc, turn))
+}

@@ -1,0 +1,176 @@
+//! What is told of an answer.
+ghost use Rattle.std.specs.Prelude.{◌≡◌, Err, IfOk, IfErr, IsOkAnd, OnOk};
+ghost use Rattle.reuse_undo.specs.print.DiffText.{AreRecords};
+ghost use Rattle.reuse_undo.specs.print.Outputs.{AddsSome};
+ghost use Rattle.reuse_undo.specs.print.RowLines.{AppendsSome};
+ghost use Rattle.reuse_undo.specs.run.RunLine.{IfNoDiff};
+ghost use Rattle.reuse_undo.specs.print.Told.{Accepts, Finishes, HasBehind, is_refusal, is_refused, IsBehind, IsDiffBehind, IsDiffOf, IsForeseen, IsTextIn, IsToldText, TellsFailure};
+ghost use Rattle.reuse_undo.specs.declared.run.fault.Fault.TheVariants as faults;
+
+use crate::cli::line::{OutputFormat, Telling};
+use crate::print::diff::print_record;
+use crate::print::lines::{path_count, print_reply};
+use crate::print::objects::{print_fate_objects, print_row_objects, print_shown_object};
+use crate::print::output::{Sink, write_text};
+use crate::print::shown_name::Names;
+use crate::run::fault::{Fault, in_memory};
+use reuse_session::{Fate, Fates, Reply};
+use reuse_tree::Change;
+use std::alloc::Global;
+use std::io::{self, Write};
+
+/// Prints an answer, and behind it the diff where one is wanted; how many paths it tells that
+/// changed, or that would change. A preview of a call that would be refused is a fault.
+pub fn finish<O: Sink>(
+    out: &mut O,
+    alloc: Global,
+    told: Reply,
+    telling: Telling,
+    diff: Result<Vec<u8>, Fault>,
+) -> Result<usize, Fault>
+    requires { IsDiffOf telling told diff }
+    ensures told { Finishes telling told (O.contents out.old) (O.contents out.new) result }
+    ensures behind { IsForeseen telling told → IfOk result (λ count. IsOkAnd diff (λ text. AddsSome (O.contents out.old) (O.contents out.new) (HasBehind telling.names told text.items))) }
+    ensures undrawn { IfNoDiff result (λ refusal. (diff ≡ Err (faults.NoDiff refusal)) × (out.new ≡ out.old)) }
+    ensures failed { TellsFailure (O.failed out.old) (O.failed out.new) result }
+{
+    match print(out, alloc, &told, telling, diff) {
+        Ok(()) => accept(told),
+        Err(fault) => {
+            drop(told);
+            Err(fault)
+        }
+    }
+}
+
+// Prints an answer, and the diff behind it.
+fn print<O: Sink>(
+    out: &mut O,
+    alloc: Global,
+    told: &Reply,
+    telling: Telling,
+    diff: Result<Vec<u8>, Fault>,
+) -> Result<(), Fault>
+    requires { IsDiffOf telling told.now diff }
+    ensures printed { OnOk result (AddsSome (O.contents out.old) (O.contents out.new) (IsToldText telling told.now)) }
+    ensures behind { IsForeseen telling told.now → OnOk result (IsOkAnd diff (λ text. AddsSome (O.contents out.old) (O.contents out.new) (HasBehind telling.names told.now text.items))) }
+    ensures kept { OnOk result (O.failed out.new ≡ O.failed out.old) }
+    ensures told { IfErr result (λ fault. Finishes telling told.now (O.contents out.old) (O.contents out.new) (Err fault)) }
+    ensures undrawn { IfNoDiff result (λ refusal. (diff ≡ Err (faults.NoDiff refusal)) × (out.new ≡ out.old)) }
+    ensures failed { IfErr result (λ fault. TellsFailure (O.failed out.old) (O.failed out.new) (Err fault)) }
+{
+    let diff = whole_diff(alloc, told, telling, diff)?;
+    let text = text_of(alloc, told, telling, diff.as_slice())?;
+    write_text(out, text.as_slice())?;
+    Ok(())
+}
+
+// What is told of an answer. No part of it is written before it is whole.
+fn text_of(alloc: Global, told: &Reply, telling: Telling, diff: &[u8]) -> Result<Vec<u8>, Fault>
+    ensures text { (telling.format ≡ OutputFormat.Diff → IsDiffBehind told.now diff.now) → IfOk result (λ text. IsToldText telling told.now text.items) }
+    ensures behind { telling.format ≡ OutputFormat.Diff → IfOk result (λ text. HasBehind telling.names told.now diff.now text.items) }
+    ensures fault { IfErr result (λ fault. fault ≡ faults.Memory) }
+{
+    let mut text = Vec::new(alloc);
+    in_memory(print_told(&mut text, alloc, told, telling, diff))?;
+    Ok(text)
+}
+
+// The diff of what would change, or that of a step that is shown.
+fn whole_diff(
+    alloc: Global,
+    told: &Reply,
+    telling: Telling,
+    diff: Result<Vec<u8>, Fault>,
+) -> Result<Vec<u8>, Fault>
+    requires { IsDiffOf telling told.now diff }
+    ensures behind { IsBehind telling told.now result }
+    ensures same { IsForeseen telling told.now → result ≡ diff }
+    ensures undrawn { IfNoDiff result (λ refusal. diff ≡ Err (faults.NoDiff refusal)) }
+{
+    match (telling.format, told) {
+        (OutputFormat::Diff, Reply::Shown(shown)) => {
+            drop(diff);
+            records_of(alloc, shown.changes.as_slice())
+        }
+        _ => diff,
+    }
+}
+
+// What the changes of a step have recorded.
+fn records_of(alloc: Global, changes: &[Change]) -> Result<Vec<u8>, Fault>
+    ensures records { IfOk result (λ text. AreRecords changes.now text.items) }
+    ensures fault { IfErr result (λ fault. fault ≡ faults.Memory) }
+{
+    let mut text = Vec::new(alloc);
+    for change in changes {
+        in_memory(print_record(&mut text, alloc, change))?;
+    }
+    Ok(text)
+}
+
+fn print_told<W: Write>(
+    out: &mut W,
+    alloc: Global,
+    told: &Reply,
+    telling: Telling,
+    diff: &[u8],
+) -> io::Result<()>
+    ensures text { (telling.format ≡ OutputFormat.Diff → IsDiffBehind told.now diff.now) → OnOk result (AppendsSome (W.contents out.old) (W.contents out.new) (IsToldText telling told.now)) }
+    ensures behind { telling.format ≡ OutputFormat.Diff → OnOk result (AppendsSome (W.contents out.old) (W.contents out.new) (HasBehind telling.names told.now diff.now)) }
+{
+    match telling.format {
+        OutputFormat::Lines => print_reply(out, telling.names, told),
+        OutputFormat::Diff => {
+            print_reply(out, telling.names, told)?;
+            out.write_all(diff)
+        }
+        OutputFormat::Json => print_objects(out, alloc, telling.names, told),
+    }
+}
+
+// Rows, steps and dry runs as objects, and all else in lines.
+fn print_objects<W: Write>(out: &mut W, alloc: Global, names: Names, told: &Reply) -> io::Result<()>
+    ensures { OnOk result (AppendsSome (W.contents out.old) (W.contents out.new) (IsTextIn OutputFormat.Json names told.now)) }
+{
+    match told {
+        Reply::Log(rows) => print_row_objects(out, alloc, rows.as_slice()),
+        Reply::Preview(fates) => print_fate_objects(out, alloc, fates.as_slice()),
+        Reply::Shown(shown) => print_shown_object(out, alloc, shown),
+        reply => print_reply(out, names, reply),
+    }
+}
+
+// How many paths an answer tells that changed, or would change, unless it is a preview with a
+// refusal.
+fn accept(told: Reply) -> Result<usize, Fault>
+    ensures { Accepts told result }
+{
+    match told {
+        Reply::Preview(fates) => accept_fates(fates),
+        reply => Ok(path_count(&reply)),
+    }
+}
+
+fn accept_fates(fates: Fates) -> Result<usize, Fault>
+    ensures { Accepts (Reply.Preview fates) result }
+{
+    if is_refused(fates.as_slice()) {
+        Err(Fault::WouldRefuse(fates))
+    } else {
+        Ok(path_count(&Reply::Preview(fates)))
+    }
+}
+
+/// Whether one of the fates is a refusal.
+pub fn is_refused(fates: &[Fate]) -> bool
+    ensures { result ≡ is_refused fates.now }
+{
+    fates.iter().any(|fate| is_refusal(fate))
+}
+
+fn is_refusal(fate: &Fate) -> bool
+    ensures { result ≡ is_refusal fate.now }
+{
+    matches!(fate, Fate::Refused(_))
+}

@@ -1,0 +1,366 @@
+//! Carries out what was asked for, on the folder that it names and while no other run works there.
+//! It prints the answer on standard output, and finds out what notes tell.
+use crate::cli::line::{Forgetting, Line, Recovery, Steps, Telling};
+use crate::cli::settings::Settings;
+use crate::disk::DiskStore;
+use crate::print::output::Output;
+use crate::print::progress::{ClearedOutput, Progress};
+use crate::print::shown_name::Names;
+use crate::run::answering::{Asking, CallEnding, answer};
+use crate::run::carried_out::{CarriedOut, set_back_step};
+use crate::run::denial::Denial;
+use crate::run::fault::Fault;
+use crate::run::findings::{Findings, Task, begun_step};
+use crate::run::lock::{RootLock, lock_root};
+use crate::run::on_folder::{forget_on_folder, recover_on_folder};
+use crate::run::request::{ids_of, with_texts};
+use crate::run::texts::find_texts;
+use reuse_session::{LicenceTexts, Request};
+use std::alloc::{AllocError, Global};
+use std::fs::File;
+use std::io;
+use std::rt::{Clock, Env, Files};
+
+/// What is told beside the reply or the fault, how names are shown on standard output, and how a
+/// call works with the folder.
+#[derive(Clone, Copy)]
+pub struct Extras {
+    pub notes: bool,
+    pub progress: bool,
+    pub names: Names,
+    pub settings: Settings,
+}
+
+/// Carries out a line.
+pub fn carry_out<R: Files<File = File> + AllocGlobal + Clock + Env + Print + Eprint + Clone + Drop>(
+    rt: &R,
+    alloc: Global,
+    line: Line,
+    extras: Extras,
+) -> CarriedOut {
+    match tools_for(rt, alloc, &line, extras) {
+        Ok(tools) => work_with(rt, alloc, tools, line, extras),
+        Err(fault) => {
+            drop(line);
+            CarriedOut::fault(fault)
+        }
+    }
+}
+
+/// The texts that the line needs.
+fn texts_for(rt: &impl Files, alloc: Global, line: &Line) -> Result<LicenceTexts, AllocError> {
+    match (&line.texts, ids_of(&line.request)) {
+        (Some(folder), Some(ids)) => find_texts(rt, alloc, folder.as_str(), ids),
+        _ => Ok(LicenceTexts::new(Vec::new(alloc))),
+    }
+}
+
+/// What a call works with.
+#[derive(Drop)]
+struct Tools<R: Files<File = File> + AllocGlobal + Clock + Eprint + Clone + Drop> {
+    folder: DiskStore<R>,
+    texts: LicenceTexts,
+    progress: Progress<R>,
+}
+
+/// What the line needs: the folder that it names, locked, and the texts.
+fn tools_for<R: Files<File = File> + AllocGlobal + Clock + Eprint + Clone + Drop>(
+    rt: &R,
+    alloc: Global,
+    line: &Line,
+    extras: Extras,
+) -> Result<Tools<R>, Fault> {
+    let lock = lock_root(rt, alloc, line.root.as_str())?;
+    let texts = texts_for(rt, alloc, line)?;
+    let progress = Progress::new(rt.clone()?, extras.progress);
+    Ok(Tools {
+        folder: folder_at(rt, lock, extras.settings)?,
+        texts,
+        progress,
+    })
+}
+
+/// The folder that is locked as a store.
+fn folder_at<R: Files<File = File> + AllocGlobal + Clone + Drop>(
+    rt: &R,
+    lock: RootLock,
+    settings: Settings,
+) -> Result<DiskStore<R>, AllocError> {
+    Ok(DiskStore::at(rt.clone()?, lock, settings.syncs, settings.owner_change))
+}
+
+/// Whether the journal is another user's, and not to be opened.
+fn is_denied<R: Files<File = File> + AllocGlobal + Clone + Drop>(
+    alloc: Global,
+    folder: &mut DiskStore<R>,
+    extras: Extras,
+) -> bool {
+    !extras.settings.trusts_journal && folder.is_journal_of_other(alloc)
+}
+
+fn work_with<R: Files<File = File> + AllocGlobal + Clock + Env + Print + Eprint + Clone + Drop>(
+    rt: &R,
+    alloc: Global,
+    tools: Tools<R>,
+    line: Line,
+    extras: Extras,
+) -> CarriedOut {
+    let Tools {
+        mut folder,
+        texts,
+        progress,
+    } = tools;
+    if is_denied(alloc, &mut folder, extras) {
+        drop(line);
+        drop(texts);
+        return CarriedOut::denied(Denial::JournalOfAnother);
+    }
+    let begun = begun_step(alloc, &mut folder);
+    let mut findings = found_before(rt, alloc, &line, begun, extras.notes);
+    let telling = Telling {
+        format: line.format,
+        names: extras.names,
+    };
+    let request = request_of(line, texts);
+    let asking = Asking {
+        rt,
+        progress: &progress,
+        request: &request,
+        telling,
+    };
+    let (folder, ending, counts) = answer(folder, alloc, &asking);
+    if let Some(findings) = &mut findings {
+        findings.counts = counts;
+    }
+    let set_back = set_back_step(begun, folder.set_back());
+    let findings = found_after(rt, alloc, findings, folder, &request, &ending);
+    drop(request);
+    CarriedOut {
+        ending,
+        set_back,
+        findings,
+    }
+}
+
+/// The request of a line with the texts that were found for it.
+fn request_of(line: Line, texts: LicenceTexts) -> Request {
+    let Line {
+        root: _,
+        request,
+        texts: _,
+        format: _,
+        change_status: _,
+    } = line;
+    with_texts(request, texts)
+}
+
+fn found_before<R: Files + AllocGlobal + Clone + Drop>(
+    rt: &R,
+    alloc: Global,
+    line: &Line,
+    begun: Option<u32>,
+    notes: bool,
+) -> Option<Findings> {
+    if notes {
+        Some(Findings::before(rt, alloc, line, begun))
+    } else {
+        None
+    }
+}
+
+fn found_after<R: Files<File = File> + AllocGlobal + Clone + Drop>(
+    rt: &R,
+    alloc: Global,
+    findings: Option<Findings>,
+    folder: DiskStore<R>,
+    request: &Request,
+    ending: &CallEnding,
+) -> Option<Findings> {
+    match (findings, ending) {
+        (Some(mut findings), Ok(outcome)) => {
+            findings.look_after(rt, alloc, folder, request, outcome);
+            Some(findings)
+        }
+        (findings, _) => {
+            drop(folder);
+            findings
+        }
+    }
+}
+
+/// Sets the pending step of a folder back.
+pub fn recover_folder<R: Files<File = File> + AllocGlobal + Clock + Print + Eprint + Clone + Drop>(
+    rt: &R,
+    alloc: Global,
+    recovery: Recovery,
+    extras: Extras,
+) -> CarriedOut {
+    let carried_out = match opened_at(rt, alloc, recovery.root.as_str(), extras) {
+        Ok(Ok(folder)) => recover_opened(rt, alloc, folder, &recovery, extras),
+        Ok(Err(fault)) => CarriedOut::fault(fault),
+        Err(denial) => CarriedOut::denied(denial),
+    };
+    drop(recovery);
+    carried_out
+}
+
+/// Takes steps out of the history of a folder.
+pub fn forget_folder<R: Files<File = File> + AllocGlobal + Clock + Print + Eprint + Clone + Drop>(
+    rt: &R,
+    alloc: Global,
+    forgetting: Forgetting,
+    extras: Extras,
+) -> CarriedOut {
+    let carried_out = match opened_at(rt, alloc, forgetting.root.as_str(), extras) {
+        Ok(Ok(folder)) => forget_opened(rt, alloc, folder, &forgetting, extras),
+        Ok(Err(fault)) => CarriedOut::fault(fault),
+        Err(denial) => CarriedOut::denied(denial),
+    };
+    drop(forgetting);
+    carried_out
+}
+
+/// The folder at this path, locked, whose journal may be opened.
+fn opened_at<R: Files<File = File> + AllocGlobal + Clone + Drop>(
+    rt: &R,
+    alloc: Global,
+    root: &str,
+    extras: Extras,
+) -> Result<Result<DiskStore<R>, Fault>, Denial> {
+    match locked_at(rt, alloc, root, extras.settings) {
+        Ok(mut folder) => {
+            if is_denied(alloc, &mut folder, extras) {
+                Err(Denial::JournalOfAnother)
+            } else {
+                Ok(Ok(folder))
+            }
+        }
+        Err(fault) => Ok(Err(fault)),
+    }
+}
+
+fn locked_at<R: Files<File = File> + AllocGlobal + Clone + Drop>(
+    rt: &R,
+    alloc: Global,
+    root: &str,
+    settings: Settings,
+) -> Result<DiskStore<R>, Fault> {
+    let lock = lock_root(rt, alloc, root)?;
+    Ok(folder_at(rt, lock, settings)?)
+}
+
+fn recover_opened<R: Files<File = File> + AllocGlobal + Clock + Print + Eprint + Clone + Drop>(
+    rt: &R,
+    alloc: Global,
+    mut folder: DiskStore<R>,
+    recovery: &Recovery,
+    extras: Extras,
+) -> CarriedOut {
+    // Which files were set back, its lines tell; so the step is told of with the other notes alone.
+    let begun = if extras.notes {
+        begun_step(alloc, &mut folder)
+    } else {
+        None
+    };
+    let root = recovery.root.as_str();
+    let findings = found_of(rt, alloc, root, Task::Recover, begun, extras.notes);
+    let (folder, outcome) = recover_aloud(rt, alloc, folder, recovery, extras);
+    carried_out_on(rt, alloc, folder, begun, findings, outcome)
+}
+
+fn forget_opened<R: Files<File = File> + AllocGlobal + Clock + Print + Eprint + Clone + Drop>(
+    rt: &R,
+    alloc: Global,
+    mut folder: DiskStore<R>,
+    forgetting: &Forgetting,
+    extras: Extras,
+) -> CarriedOut {
+    let begun = begun_step(alloc, &mut folder);
+    let root = forgetting.root.as_str();
+    let findings = found_of(rt, alloc, root, Task::Forget, begun, extras.notes);
+    let (folder, outcome) = forget_aloud(rt, alloc, folder, &forgetting.steps, extras);
+    carried_out_on(rt, alloc, folder, begun, findings, outcome)
+}
+
+/// Sets the pending step back, and prints what became of it.
+fn recover_aloud<R: Files<File = File> + AllocGlobal + Clock + Print + Eprint + Clone + Drop>(
+    rt: &R,
+    alloc: Global,
+    folder: DiskStore<R>,
+    recovery: &Recovery,
+    extras: Extras,
+) -> (DiskStore<R>, Result<usize, Fault>) {
+    let progress = match rt.clone() {
+        Ok(rt) => Progress::new(rt, extras.progress),
+        Err(error) => return (folder, Err(Fault::from(error))),
+    };
+    let mut out = Output::new(ClearedOutput::new(&progress, io::writer(rt)));
+    let answered = recover_on_folder(
+        folder,
+        &progress,
+        alloc,
+        recovery.skip_moved,
+        extras.names,
+        &mut out,
+    );
+    progress.clear();
+    answered
+}
+
+/// Takes the steps out of the history, and prints which.
+fn forget_aloud<R: Files<File = File> + AllocGlobal + Clock + Print + Eprint + Clone + Drop>(
+    rt: &R,
+    alloc: Global,
+    folder: DiskStore<R>,
+    steps: &Steps,
+    extras: Extras,
+) -> (DiskStore<R>, Result<usize, Fault>) {
+    let progress = match rt.clone() {
+        Ok(rt) => Progress::new(rt, extras.progress),
+        Err(error) => return (folder, Err(Fault::from(error))),
+    };
+    let mut out = Output::new(ClearedOutput::new(&progress, io::writer(rt)));
+    let answered = forget_on_folder(folder, &progress, alloc, steps, &mut out);
+    progress.clear();
+    answered
+}
+
+fn found_of<R: Files + AllocGlobal + Clone + Drop>(
+    rt: &R,
+    alloc: Global,
+    root: &str,
+    task: Task,
+    begun: Option<u32>,
+    notes: bool,
+) -> Option<Findings> {
+    if notes {
+        Some(Findings::of(rt, alloc, root, task, begun))
+    } else {
+        None
+    }
+}
+
+/// What came of it, with what is found in the folder afterwards.
+fn carried_out_on<R: Files<File = File> + AllocGlobal + Clone + Drop>(
+    rt: &R,
+    alloc: Global,
+    mut folder: DiskStore<R>,
+    begun: Option<u32>,
+    findings: Option<Findings>,
+    outcome: Result<usize, Fault>,
+) -> CarriedOut {
+    let set_back = set_back_step(begun, folder.set_back());
+    let findings = match findings {
+        Some(mut findings) => {
+            findings.look_at_folder(rt, alloc, &mut folder, &outcome);
+            Some(findings)
+        }
+        None => None,
+    };
+    drop(folder);
+    CarriedOut {
+        ending: Ok(outcome),
+        set_back,
+        findings,
+    }
+}

@@ -1,0 +1,81 @@
+//! Carries out on a folder what a line asks for.
+ghost use Rattle.reuse_undo.specs.run.CarriedOut.{CarriesOut};
+ghost use Rattle.reuse_undo.specs.run.Forgotten.{ForgetsOn};
+ghost use Rattle.reuse_undo.specs.run.Recoveries.{RecoversOn};
+
+use crate::cli::line::{Steps, Telling};
+use crate::disk::DiskStore;
+use crate::print::output::Sink;
+use crate::print::progress::Progress;
+use crate::print::shown_name::Names;
+use crate::run::fault::Fault;
+use crate::run::forgetting::run_forget;
+use crate::run::line::run_request;
+use crate::run::recovering::run_recover;
+use reuse_session::{Counts, Request};
+use reuse_tree::{Store, WatchedStore};
+use std::alloc::Global;
+use std::fs::File;
+use std::rt::{Clock, Files};
+
+/// Opens a session on the folder, makes the one call that is asked for, and writes the lines of its
+/// answer; how many paths that tells, and what the call counted. The folder is given back as a
+/// store, with what is known of its last failure.
+pub fn run_on_folder<R: Files<File = File> + AllocGlobal + Clock + Eprint + Clone + Drop, O: Sink>(
+    folder: DiskStore<R>,
+    progress: &Progress<R>,
+    alloc: Global,
+    request: &Request,
+    telling: Telling,
+    out: &mut O,
+) -> (DiskStore<R>, Result<usize, Fault>, Counts)
+    // As on any store, for whatever files the folder holds.
+    ensures { CarriesOut ⟦<DiskStore<R> as Store>⟧ O.contents O.failed request.now telling folder result.0 out.old out.new result.1 }
+{
+    let watched = WatchedStore::new(folder, progress);
+    let (watched, outcome, counts) = run_request(alloc, request, telling, watched, out);
+    (watched.into_inner(), outcome, counts)
+}
+
+/// Sets back what a stopped run left pending in the folder, and writes a line for each path that
+/// was set back or left; how many were set back. The folder is given back as a store.
+pub fn recover_on_folder<
+    R: Files<File = File> + AllocGlobal + Clock + Eprint + Clone + Drop,
+    O: Sink,
+>(
+    folder: DiskStore<R>,
+    progress: &Progress<R>,
+    alloc: Global,
+    skip_moved: bool,
+    names: Names,
+    out: &mut O,
+) -> (DiskStore<R>, Result<usize, Fault>)
+    // As on any store, for whatever files the folder holds.
+    ensures { ⟦<DiskStore<R> as Store>⟧.honest result.0
+        → RecoversOn names skip_moved (⟦<DiskStore<R> as Store>⟧.files folder) (⟦<DiskStore<R> as Store>⟧.files result.0) (O.contents out.old) (O.contents out.new) result.1 }
+{
+    let watched = WatchedStore::new(folder, progress);
+    let (watched, outcome) = run_recover(alloc, watched, skip_moved, names, out);
+    (watched.into_inner(), outcome)
+}
+
+/// Takes the steps out of the history of the folder, and writes a line for each; how many there
+/// were. The folder is given back as a store.
+pub fn forget_on_folder<
+    R: Files<File = File> + AllocGlobal + Clock + Eprint + Clone + Drop,
+    O: Sink,
+>(
+    folder: DiskStore<R>,
+    progress: &Progress<R>,
+    alloc: Global,
+    steps: &Steps,
+    out: &mut O,
+) -> (DiskStore<R>, Result<usize, Fault>)
+    // As on any store, for whatever files the folder holds.
+    ensures { ⟦<DiskStore<R> as Store>⟧.honest result.0
+        → ForgetsOn steps.now (⟦<DiskStore<R> as Store>⟧.files folder) (⟦<DiskStore<R> as Store>⟧.files result.0) (O.contents out.old) (O.contents out.new) result.1 }
+{
+    let watched = WatchedStore::new(folder, progress);
+    let (watched, outcome) = run_forget(alloc, watched, steps, out);
+    (watched.into_inner(), outcome)
+}
