@@ -31,4 +31,4 @@ pub mod Steps
 pub mod TablePut
 pub mod TextsPut
 pub mod TreeStyles
-pub mod Worked
+pub mod Selected

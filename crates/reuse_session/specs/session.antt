@@ -4,7 +4,7 @@ pub mod Calls
 pub mod Cause
 pub mod Command
 pub mod Driven
-pub mod Fates
+pub mod PathOutcomes
 pub mod Forgetting
 pub mod Fresh
 pub mod Machine

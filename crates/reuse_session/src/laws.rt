@@ -26,15 +26,15 @@ ghost use Rattle.reuse_tree.specs.Entry.{touches, CanBeMade, IsEntry, IsFirstStu
 ghost use Rattle.reuse_session.specs.session.Fresh.{IsFresh, first_state};
 ghost use Rattle.reuse_tree.specs.declared.change.Change.TheVariants.{Splice};
 ghost use Rattle.reuse_tree.specs.declared.digest.Seal.{Seal};
-ghost use Rattle.reuse_session.specs.session.Fates.{first_refusal, fates_of, AreFatesOf};
+ghost use Rattle.reuse_session.specs.session.PathOutcomes.{first_refusal, path_outcomes_of, ArePathOutcomesOf};
 ghost use Rattle.reuse_session.specs.journal.InTurn.{LeadsInTurn};
-ghost use Rattle.reuse_session.specs.journal.Journal.{Recorded, State, Travels};
+ghost use Rattle.reuse_session.specs.journal.Journal.{Recorded, State, Replays};
 ghost use Rattle.reuse_session.specs.journal.JournalFiles.{IsFree};
 ghost use Rattle.reuse_session.specs.session.Machine.{Snapshots};
 ghost use Rattle.reuse_session.specs.session.Model.{Gives, IsByTrees};
 ghost use Rattle.reuse_session.specs.journal.Opening.{IsFirstBad, IsStuckAt, CanOpenOn};
 ghost use Rattle.reuse_session.specs.plan.Outcome.{edits_of, outcome_of};
-ghost use Rattle.reuse_session.specs.session.Previews.{Foresees};
+ghost use Rattle.reuse_session.specs.session.Previews.{PreviewsReplay};
 ghost use Rattle.reuse_session.specs.plan.Reverting.{taken_back};
 ghost use Rattle.reuse_session.specs.journal.Seals.{tree_for, IsAsLeft, IsToldApart, IsUntouched};
 ghost use Rattle.reuse_session.specs.session.Session.{IsRun, Runs};
@@ -43,7 +43,7 @@ ghost use Rattle.reuse_session.specs.plan.TablePut.{PutsTable};
 ghost use Rattle.reuse_session.specs.plan.TextsPut.{PutsTexts};
 ghost use Rattle.reuse_tree.specs.Tree.{changed_paths, undo_folder_of};
 ghost use Rattle.reuse_session.specs.plan.TreeStyles.{OwnNames, styles_in};
-ghost use Rattle.reuse_session.specs.plan.Worked.{amended_paths, worked_paths};
+ghost use Rattle.reuse_session.specs.plan.Selected.{amended_paths, selected_paths};
 ghost use Rattle.reuse_session.specs.declared.command.Command.{Command};
 ghost use Rattle.reuse_tree.specs.Listing.{is_among};
 ghost use Rattle.reuse_session.specs.declared.command.Command.TheVariants.{Amend, Annotate, ConvertDep5, Download, Revert};
@@ -51,8 +51,8 @@ ghost use Rattle.reuse_session.specs.declared.command.Place.{Place};
 ghost use Rattle.reuse_session.specs.declared.command.Scope.{Scope};
 ghost use Rattle.reuse_tree.specs.declared.way.Way.{Way};
 ghost use Rattle.reuse_tree.specs.declared.way.Way.TheVariants.{Undo};
-ghost use Rattle.reuse_session.specs.declared.fate.Fate.{Fate};
-ghost use Rattle.reuse_session.specs.declared.fate.Fate.TheVariants.{Changes, Skipped, Unchanged};
+ghost use Rattle.reuse_session.specs.declared.path_outcome.PathOutcome.{PathOutcome};
+ghost use Rattle.reuse_session.specs.declared.path_outcome.PathOutcome.TheVariants.{Changes, Skipped, Unchanged};
 ghost use Rattle.reuse_session.specs.declared.plan.licence.LicenceText.{LicenceText};
 ghost use Rattle.reuse_session.specs.declared.reply.Refusal.{Refusal};
 ghost use Rattle.reuse_session.specs.declared.reply.Refusal.TheVariants.{Moved};
@@ -117,16 +117,16 @@ pub fn annotations_change_chosen_places_alone()
     annotated_texts_are_texts();
 }
 
-/// What amend does on a tree, in other words. Where it isn't refused, each file that is gone through
-/// has a neighbour, which holds what the rules make of its own bytes; or, where it has none, it is
-/// text of some style and holds what the rules make of its own bytes in that style; or it is neither,
-/// and stays. Every byte outside the header block stays. The `REUSE.toml` at the root, where it is
-/// gone through, is read as the table that was there with the values of the two keys amended, and
-/// differs in strings and commas alone. Every other path stays as it is. These words
-/// leave one tree. No file is made and none is removed. A run that isn't refused leaves that tree. It
-/// isn't refused exactly where the tree's own styles are good, the root is given only where folders
-/// are gone through, each path that is gone through can be amended by itself, and one entry holds
-/// them all.
+/// What amend does on a tree, in other words. Where it isn't refused, each file that is gone
+/// through has a neighbour, which holds what the rules make of its own bytes; or, where it has
+/// none, it is text of some style and holds what the rules make of its own bytes in that style; or
+/// it is neither, and stays. Every byte outside the header block stays. The `REUSE.toml` at the
+/// root, where it is gone through, is read as the table that was there with the values of the two
+/// keys amended, and differs in strings and commas alone. Every other path stays as it is. These
+/// words leave one tree. No file is made and none is removed. A run that isn't refused leaves that
+/// tree. It isn't refused exactly where the tree's own styles are good, the root is given only
+/// where folders are gone through, each path that is gone through can be amended by itself, and one
+/// entry holds them all.
 pub fn amendments_change_selected_places_alone()
     ensures accepted { (places : List Place) (amendments : Amendments) (scope : Scope) (tree : Files) → ((after : Files) × (outcome_of (Amend places amendments scope) tree ≡ Ok after))
         ↔ CanAmend places amendments scope tree }
@@ -140,9 +140,10 @@ pub fn amendments_change_selected_places_alone()
     amending_keeps_other_bytes();
 }
 
-/// Where a conversion isn't refused, `.reuse/dep5` was there and is gone, `REUSE.toml` wasn't and holds the text that the dep5 is
-/// converted to, and every other path holds what it held. A run that isn't refused leaves that. It isn't refused exactly where the dep5 is
-/// there and can be converted, and the `REUSE.toml` can be put.
+/// Where a conversion isn't refused, `.reuse/dep5` was there and is gone, `REUSE.toml` wasn't and
+/// holds the text that the dep5 is converted to, and every other path holds what it held. A run
+/// that isn't refused leaves that. It isn't refused exactly where the dep5 is there and can be
+/// converted, and the `REUSE.toml` can be put.
 pub fn conversions_put_a_table()
     ensures accepted { (tree : Files) → ((after : Files) × (outcome_of ConvertDep5 tree ≡ Ok after)) ↔ CanConvert tree }
     ensures made { (tree after : Files) → outcome_of ConvertDep5 tree ≡ Ok after → PutsTable tree after }
@@ -187,12 +188,12 @@ pub fn seals_tell_of_whole_files()
 /// Where folders aren't gone through, a path is worked exactly where it is given. The paths are
 /// worked in byte order, and none twice. Amend, and no other command, works the `REUSE.toml` at the
 /// root like a covered file.
-pub fn worked_paths_are_asked_for()
+pub fn selected_paths_are_asked_for()
     ensures asked { (scope : Scope) (places : List Place) (tree : Files) (path : List ℕ) → scope.recursive ≡ true
-        → Contains (worked_paths scope places tree) path ↔ (IsNamed places tree path ⊎ (StandsBeneath places tree path × IsAskedFor scope path)) }
+        → Contains (selected_paths scope places tree) path ↔ (IsNamed places tree path ⊎ (StandsBeneath places tree path × IsAskedFor scope path)) }
     ensures given { (scope : Scope) (places : List Place) (tree : Files) (path : List ℕ) → scope.recursive ≡ false
-        → Contains (worked_paths scope places tree) path ↔ Contains (paths_among places) path }
-    ensures ascend { (scope : Scope) (places : List Place) (tree : Files) → IsStrictlySortedBy (slice_cmp nat_cmp) (worked_paths scope places tree) }
+        → Contains (selected_paths scope places tree) path ↔ Contains (paths_among places) path }
+    ensures ascend { (scope : Scope) (places : List Place) (tree : Files) → IsStrictlySortedBy (slice_cmp nat_cmp) (selected_paths scope places tree) }
     ensures all { (scope : Scope) (path : List ℕ) → scope.listed ≡ None → scope.excluded ≡ [] → is_chosen scope path ≡ is_covered path }
     ensures amended { (scope : Scope) (places : List Place) (tree : Files) (path : List ℕ) → AreFiles tree → scope.recursive ≡ true
         → Contains (amended_paths scope places tree) path ↔ (IsNamed places tree path ⊎ (StandsBeneath places tree path × IsAskedToAmend scope path)) }
@@ -227,44 +228,44 @@ pub fn reverts_take_steps_back()
         → taken_back (Splice path at old new rest seal) (Some file) ≡ Some edit → taken_back (Splice path at old new rest seal) edit.file ≡ None }
 {}
 
-/// The outcome of a command follows the fates of its paths: it is refused exactly by the first
+/// The outcome of a command follows the outcomes of its paths: it is refused exactly by the first
 /// refusal among them, and where there is none it is a tree, which differs from the tree that was
 /// there exactly at the paths that change.
-pub fn outcome_follows_fates()
-    ensures refused { (command : Command) (tree : Files) (refusal : Refusal) → (outcome_of command tree ≡ Err refusal) ↔ (first_refusal (fates_of command tree) ≡ Some refusal) }
-    ensures accepted { (command : Command) (tree : Files) → (first_refusal (fates_of command tree) ≡ None) ↔ ((after : Files) × (outcome_of command tree ≡ Ok after)) }
-    ensures changed { (command : Command) (tree after : Files) (path : List ℕ) → HoldsEntry command → outcome_of command tree ≡ Ok after → Contains (fates_of command tree) (Changes path) ↔ (get tree path ≢ get after path) }
+pub fn outcome_follows_path_outcomes()
+    ensures refused { (command : Command) (tree : Files) (refusal : Refusal) → (outcome_of command tree ≡ Err refusal) ↔ (first_refusal (path_outcomes_of command tree) ≡ Some refusal) }
+    ensures accepted { (command : Command) (tree : Files) → (first_refusal (path_outcomes_of command tree) ≡ None) ↔ ((after : Files) × (outcome_of command tree ≡ Ok after)) }
+    ensures changed { (command : Command) (tree after : Files) (path : List ℕ) → HoldsEntry command → outcome_of command tree ≡ Ok after → Contains (path_outcomes_of command tree) (Changes path) ↔ (get tree path ≢ get after path) }
 {}
 
-/// The fates of an annotation, in the words of what it makes of a tree. A path that is told as
-/// skipped is gone through and has a file that is skipped, as was asked for; and where nothing is
-/// refused, each such path is told so. A path that is told as skipped or unchanged holds what it
+/// The path outcomes of an annotation, in the words of what it makes of a tree. A path that is told
+/// as skipped is gone through and has a file that is skipped, as was asked for; and where nothing
+/// is refused, each such path is told so. A path that is told as skipped or unchanged holds what it
 /// held then, and so does its neighbour. `own` are the kinds that the tree gives to its own names.
-pub fn annotations_follow_fates()
+pub fn annotations_follow_path_outcomes()
     ensures skipped { (places : List Place) (additions : Additions) (how : How) (scope : Scope) (own : OwnNames) (tree : Files) (path : List ℕ) → styles_in tree ≡ Ok own
-        → Contains (fates_of (Annotate places additions how scope) tree) (Skipped path) → Contains (worked_paths scope places tree) path × IsSkippedAt scope own tree path }
+        → Contains (path_outcomes_of (Annotate places additions how scope) tree) (Skipped path) → Contains (selected_paths scope places tree) path × IsSkippedAt scope own tree path }
     ensures told { (places : List Place) (additions : Additions) (how : How) (scope : Scope) (own : OwnNames) (tree after : Files) (path : List ℕ) → styles_in tree ≡ Ok own
-        → outcome_of (Annotate places additions how scope) tree ≡ Ok after → Contains (worked_paths scope places tree) path → IsSkippedAt scope own tree path
-        → Contains (fates_of (Annotate places additions how scope) tree) (Skipped path) }
+        → outcome_of (Annotate places additions how scope) tree ≡ Ok after → Contains (selected_paths scope places tree) path → IsSkippedAt scope own tree path
+        → Contains (path_outcomes_of (Annotate places additions how scope) tree) (Skipped path) }
     ensures stays { (places : List Place) (additions : Additions) (how : How) (scope : Scope) (own : OwnNames) (tree after : Files) (path : List ℕ) → styles_in tree ≡ Ok own
         → outcome_of (Annotate places additions how scope) tree ≡ Ok after
-        → Contains (fates_of (Annotate places additions how scope) tree) (Unchanged path) ⊎ Contains (fates_of (Annotate places additions how scope) tree) (Skipped path)
+        → Contains (path_outcomes_of (Annotate places additions how scope) tree) (Unchanged path) ⊎ Contains (path_outcomes_of (Annotate places additions how scope) tree) (Skipped path)
         → pair_at after path ≡ pair_at tree path }
 {
     annotating_keeps_other_bytes();
 }
 
-/// An undo and a redo follow the fates of the changes that they go through. The first refusal among
-/// these names the first path whose change can't be made, which is what the call is refused by;
-/// there is none exactly where all changes can be made. So, where a preview tells fates, the call
-/// that then answers for the same tree is refused exactly by the first refusal among them, and goes
-/// through where there is none.
-pub fn steps_follow_fates()
-    ensures refused { (way : Way) (tree : Files) (changes : List Change) (fates : List Fate) (refusal : Refusal) → AreFatesOf way tree changes fates
-        → (first_refusal fates ≡ Some refusal) ↔ ((path : List ℕ) × (refusal ≡ Moved path) × IsFirstStuck way tree changes path) }
-    ensures accepted { (way : Way) (tree : Files) (changes : List Change) (fates : List Fate) → AreFatesOf way tree changes fates → (first_refusal fates ≡ None) ↔ All (CanBeMade way tree) changes }
-    ensures foretold { (way : Way) (steps : List Recorded) (old new : State) (fates : List Fate) (result : Result Reply Refusal) (refusal : Refusal) → Foresees way steps old.tree (Ok fates)
-        → Travels way steps old result new → (result ≡ Err refusal) ↔ (first_refusal fates ≡ Some refusal) }
+/// An undo and a redo follow the path outcomes of the changes that they go through. The first
+/// refusal among these names the first path whose change can't be made, which is what the call is
+/// refused by; there is none exactly where all changes can be made. So, where a preview tells path
+/// outcomes, the call that then answers for the same tree is refused exactly by the first refusal
+/// among them, and goes through where there is none.
+pub fn steps_follow_path_outcomes()
+    ensures refused { (way : Way) (tree : Files) (changes : List Change) (path_outcomes : List PathOutcome) (refusal : Refusal) → ArePathOutcomesOf way tree changes path_outcomes
+        → (first_refusal path_outcomes ≡ Some refusal) ↔ ((path : List ℕ) × (refusal ≡ Moved path) × IsFirstStuck way tree changes path) }
+    ensures accepted { (way : Way) (tree : Files) (changes : List Change) (path_outcomes : List PathOutcome) → ArePathOutcomesOf way tree changes path_outcomes → (first_refusal path_outcomes ≡ None) ↔ All (CanBeMade way tree) changes }
+    ensures preview_of { (way : Way) (steps : List Recorded) (old new : State) (path_outcomes : List PathOutcome) (result : Result Reply Refusal) (refusal : Refusal) → PreviewsReplay way steps old.tree (Ok path_outcomes)
+        → Replays way steps old result new → (result ≡ Err refusal) ↔ (first_refusal path_outcomes ≡ Some refusal) }
 {}
 
 /// To a request that names no step by its number the model gives one answer, and is in one state

@@ -3,14 +3,14 @@ pub mod Asides
 pub mod FolderFault
 pub mod FolderPlaces
 pub mod FolderWrites
-pub mod HeldFiles
+pub mod FileStates
 pub mod Honesty
 pub mod KeptOut
 pub mod Names
 pub mod OwnerChanges
 pub mod Owners
 pub mod Readings
-pub mod SetBack
+pub mod RolledBack
 pub mod SystemCall
 pub mod SystemCalls
 pub mod SystemLaws

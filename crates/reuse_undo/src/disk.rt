@@ -35,12 +35,12 @@ mod place;
 mod process;
 pub(crate) mod reading;
 mod remembered;
-mod set_back;
+mod rolled_back;
 mod syncs;
 mod system;
 mod trail;
 
-use crate::run::lock::{HeldFolders, RootLock};
+use crate::run::lock::{LockedFolders, RootLock};
 pub use failure::Failure;
 use failure::LastFailure;
 use fault::FolderFault;
@@ -52,7 +52,7 @@ use reuse_tree::laws::files_stay_good;
 use reuse_tree::{
     Asked, CallRecord, Change, FileWrite, Parts, PathText, Pruning, Reading, Store, StoreFault,
 };
-use set_back::SetBack;
+use rolled_back::RolledBack;
 use std::alloc::Global;
 use std::fs::File;
 use std::rt::{Env, Files};
@@ -69,9 +69,9 @@ pub struct DiskStore<R: Files<File = File> + AllocGlobal + Clone + Drop> {
     folder: RootFolder<R>,
     failure: LastFailure,
     calls: CallRecord,
-    set_back: SetBack,
+    rolled_back: RolledBack,
     /// No other run works in the folder as long as the store is there.
-    _lock: HeldFolders,
+    _lock: LockedFolders,
     ghost are_files: { IsHonest calls.start calls.calls → AreFiles (files_of calls.start calls.calls) },
 }
 
@@ -94,7 +94,7 @@ impl<R: Files<File = File> + AllocGlobal + Clone + Drop> DiskStore<R> {
             folder: RootFolder::new(rt, root, syncs, keeping),
             failure: LastFailure::none(),
             calls: CallRecord::new(),
-            set_back: SetBack::nothing(),
+            rolled_back: RolledBack::nothing(),
             _lock: lock,
         }
     }
@@ -149,9 +149,9 @@ impl<R: Files<File = File> + AllocGlobal + Clone + Drop> DiskStore<R> {
         self.folder.keeping().kept()
     }
 
-    /// How many files were set back, if a step was pending and isn't any more.
-    pub fn set_back(&self) -> Option<usize> {
-        self.set_back.files()
+    /// How many files were rolled back, if a step was pending and isn't any more.
+    pub fn rolled_back(&self) -> Option<usize> {
+        self.rolled_back.files()
     }
 
     /// Whether folders are sought by their paths, since the system doesn't show open ones.
@@ -173,7 +173,7 @@ impl<R: Files<File = File> + AllocGlobal + Clone + Drop> DiskStore<R> {
         ensures fails { IfErr answer (λ fault. result ≡ Err (fault_of_store fault)) }
     {
         files_stay_good();
-        self.set_back.note(path.text(), answer.is_ok());
+        self.rolled_back.note(path.text(), answer.is_ok());
         self.failure.note(alloc, Asked::Write, path.text(), &answer);
         let answer = answer.map_err(StoreFault::from);
         self.calls.note_put_parts(path, parts, &answer);
@@ -193,7 +193,7 @@ impl<R: Files<File = File> + AllocGlobal + Clone + Drop> DiskStore<R> {
         ensures fails { IfErr answer (λ fault. result ≡ Err (fault_of_store fault)) }
     {
         files_stay_good();
-        self.set_back.note(path.text(), answer.is_ok());
+        self.rolled_back.note(path.text(), answer.is_ok());
         self.failure
             .note(alloc, Asked::Remove, path.text(), &answer);
         let answer = answer.map_err(StoreFault::from);

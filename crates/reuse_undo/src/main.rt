@@ -20,7 +20,7 @@ use print::shown_name::Names;
 use print::status::{Ending, exit_status};
 use reuse_session::Moment;
 use run::carried_out::CarriedOut;
-use run::locked::{Extras, carry_out, forget_folder, recover_folder};
+use run::locked::{Extras, forget_folder, recover_folder, run_line};
 use std::alloc::Global;
 use std::env;
 use std::fs::File;
@@ -93,7 +93,7 @@ fn run_asked<R: Runtime + Files<File = File> + AllocGlobal>(
     let (carried_out, on_change) = match asked {
         Asked::Line(line) => {
             let on_change = line.change_status;
-            (carry_out(rt, alloc, line, extras), on_change)
+            (run_line(rt, alloc, line, extras), on_change)
         }
         Asked::Recover(recovery) => (
             recover_folder(rt, alloc, recovery, extras),
@@ -107,8 +107,8 @@ fn run_asked<R: Runtime + Files<File = File> + AllocGlobal>(
     tell_outcome(errors, &carried_out, extras.notes);
     let CarriedOut {
         ending,
-        set_back: _,
-        findings: _,
+        rolled_back: _,
+        diagnostics: _,
     } = carried_out;
     match ending {
         Ok(outcome) => Ending::Called { outcome, on_change },

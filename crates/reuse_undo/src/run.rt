@@ -2,15 +2,15 @@
 //!
 //! No other run works on the tree meanwhile. What can't be kept as it was, such as a file's owner,
 //! is found before the call is begun. A call is answered, refused, or stopped with what is to be
-//! noted of it (`findings`). The root of the program calls it. Tested by `when.sh`, `folder.sh`,
+//! noted of it (`diagnostics`). The root of the program calls it. Tested by `when.sh`, `folder.sh`,
 //! `owners.sh`, `nested_runs.sh` and `recover.sh` in `tests/`.
 mod above;
 mod answering;
 pub(crate) mod carried_out;
 pub(crate) mod damage;
 pub(crate) mod denial;
+pub(crate) mod diagnostics;
 pub(crate) mod fault;
-pub(crate) mod findings;
 mod forgetting;
 mod line;
 pub(crate) mod lock;

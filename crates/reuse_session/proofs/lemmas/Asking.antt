@@ -34,7 +34,7 @@ fails_behind {S} {A} {B} store old mid new stores.Clash answer is before fails =
 pub told : {S A : Type 0} (store : Ghosts S) (MayBe : Refusal → Type 0) (old new : S) (answer : Result A Refusal) → IsOther answer → IfErr answer MayBe → OnlyReads store old new → ReadsAlone store MayBe old new answer
 told store MayBe old new answer other kinds reads = record { reads = reads; fails = fails_otherwise store old new answer other; kinds = kinds }
 
--- want of memory
+-- an allocation failure
 pub short : {S A : Type 0} (store : Ghosts S) (MayBe : Refusal → Type 0) (old new : S) (answer : Result A Refusal) → answer ≡ Err (Failed Memory) → MayBe (Failed Memory) → OnlyReads store old new → ReadsAlone store MayBe old new answer
 short {S} {A} store MayBe old new answer is may reads = subst (ReadsAlone store MayBe old new) (sym is) (told store MayBe old new (Err (Failed Memory)) tt may reads)
 
@@ -85,7 +85,7 @@ plan_faults stores.Device = tt
 plan_faults stores.Clash = tt
 plan_faults stores.Memory = tt
 
--- ---- of what only looks
+-- ---- of what only reads
 
 pub look_faults : (fault : StoreFault) → IsEarlyFailure (refusal_of fault)
 look_faults stores.Device = tt

@@ -21,7 +21,7 @@ pub mod Recovering
 pub mod RecoveryDoubt
 pub mod RecoveryLaws
 pub mod SealLemmas
-pub mod Settling
+pub mod PendingRecovery
 pub mod Standings
 pub mod StepAnswers
 pub mod StepDoubt

@@ -12,7 +12,7 @@ pub mod AnnotatedFiles
 pub mod AnnotatedTexts
 pub mod AnnotatedTrees
 pub mod Annotating
-pub mod AnnotationFates
+pub mod AnnotationPathOutcomes
 pub mod AnnotationPlaces
 pub mod ChangedPaths
 pub mod Choosing
@@ -24,7 +24,7 @@ pub mod EachEdit
 pub mod EditLemmas
 pub mod EditOrder
 pub mod EditsTold
-pub mod FateLaws
+pub mod PathOutcomeLaws
 pub mod Fitting
 pub mod FoldersAbove
 pub mod FoundIds

@@ -24,6 +24,6 @@ pub mod RunFollowing
 pub mod Running
 pub mod SafeAnswers
 pub mod SafeDriving
-pub mod StepFates
+pub mod StepPathOutcomes
 pub mod StepsByNumber
-pub mod Travelling
+pub mod Replaying

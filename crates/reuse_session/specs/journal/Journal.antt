@@ -67,17 +67,17 @@ end_of way.Undo = NothingToUndo
 end_of way.Do = NothingToRedo
 
 -- what a call answers and leaves that goes one step this way
-abbrev pub Travels : Way → List Recorded → State → Result Reply Refusal → State → Type 0
-Travels way [] old result new = (result ≡ Err (end_of way)) × (new ≡ old)
-Travels way (step ∷ steps) old result new = GoesOneStep way step (reply_of way) (moved_on way step steps old.journal) old result new
+abbrev pub Replays : Way → List Recorded → State → Result Reply Refusal → State → Type 0
+Replays way [] old result new = (result ≡ Err (end_of way)) × (new ≡ old)
+Replays way (step ∷ steps) old result new = GoesOneStep way step (reply_of way) (moved_on way step steps old.journal) old result new
 
 -- what undo answers and leaves: the last step done is taken back, and is the next to be redone
 abbrev pub Undoes : List Recorded → State → Result Reply Refusal → State → Type 0
-Undoes = Travels way.Undo
+Undoes = Replays way.Undo
 
 -- what redo answers and leaves: the next step undone is made again, and is the last done
 abbrev pub Redoes : List Recorded → State → Result Reply Refusal → State → Type 0
-Redoes = Travels way.Do
+Redoes = Replays way.Do
 
 -- the rows of a log: the steps done, the oldest first, then those undone, the next to be redone first
 abbrev pub rows_in : Journal → List Row

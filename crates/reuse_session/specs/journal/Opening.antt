@@ -78,7 +78,7 @@ pub record IsStuckAt (files : Files) (path : List ℕ) : Type 0 where
 abbrev pub CanOpenOn : Files → State → Type 0
 CanOpenOn files held = IsStanding files held ⊎ ((way : PendingWay) × (step : Recorded) × IsUnderWay way step held files)
 
--- What opening these files answers, where it tells neither a fault of the store nor want of memory: a bad journal exactly at the
+-- What opening these files answers, where it tells neither an I/O error nor an allocation failure: a bad journal exactly at the
 -- first path at fault, else a path that moved exactly where the pending step is stuck, else a session.
 pub record OpensAs {A : Type 0} (files : Files) (answer : Result A Refusal) : Type 0 where
   pub bad : (path : List ℕ) → (answer ≡ Err (BadJournal path)) ↔ IsFirstBad files path
@@ -94,13 +94,13 @@ abbrev pub opening_store : {S : Type 0} → Result (Session S) (Refusal × S) �
 opening_store (Ok session) = store_of session
 opening_store (Err refused) = refused.1
 
--- The files were this standing, and are. Or a step was under way from it; then its files are set back.
+-- The files were this standing, and are. Or a step was under way from it; then its files are rolled back.
 abbrev pub OpensOn : Files → State → Files → Type 0
 OpensOn before held after =
     (IsStanding before held × (after ≡ before))
     ⊎ ((way : PendingWay) × (step : Recorded) × IsUnderWay way step held before × IsStanding after held)
 
--- A step was under way from a standing. It is still, or its files are set back.
+-- A step was under way from a standing. It is still, or its files are rolled back.
 abbrev pub StopsOpening : Files → Files → Type 0
 StopsOpening before after =
     (held : State) × (way : PendingWay) × (step : Recorded)

@@ -1,4 +1,4 @@
--- Recovering: a pending step is set back wherever it can be, and its other paths are left as they are.
+-- Recovering: a pending step is rolled back wherever it can be, and its other paths are left as they are.
 use Rattle.std.specs.Prelude.{◌≡◌, ◌⊎◌, ◌↔◌, ℕ, Bool, false, List, [], ◌∷◌, ◌++◌, filter, not, Some, None, Result, Err}
 use Rattle.std.specs.List.{All}
 use Rattle.std.specs.FinMap.{get}
@@ -29,17 +29,17 @@ Picks Yes No (change ∷ changes) paths =
     (Yes change × (rest : List (List ℕ)) × (paths ≡ path_of change ∷ rest) × Picks Yes No changes rest)
     ⊎ (No change × Picks Yes No changes paths)
 
--- the paths at which the changes are made this way, and can be set back
+-- the paths at which the changes are made this way, and can be rolled back
 abbrev pub AreMade : Way → Files → List Change → List (List ℕ) → Type 0
 AreMade way tree changes paths = Picks (CanBeMade (opposite way) tree) (λ change. ¬ (CanBeMade (opposite way) tree change)) changes paths
 
--- the paths at which they can't be set back: the file is neither as before the change nor as after it, or a file that would be made again clashes
+-- the paths at which they can't be rolled back: the file is neither as before the change nor as after it, or a file that would be made again clashes
 abbrev pub AreStuck : Way → Files → List Change → List (List ℕ) → Type 0
 AreStuck way tree changes paths = Picks (λ change. ¬ (CanBeSetBack way tree change)) (CanBeSetBack way tree) changes paths
 
 -- ---- the tree
 
--- What recovering makes of the path of a change. As before the change it stays; where the change is made and can be set back, it is; and where
+-- What recovering makes of the path of a change. As before the change it stays; where the change is made and can be rolled back, it is; and where
 -- it can't be, the path stays.
 abbrev pub RecoversAt : Way → (before after : Files) → Change → Type 0
 RecoversAt way before after change =
@@ -77,7 +77,7 @@ pub record RecoversTo (way : PendingWay) (step : Recorded) (held : State) (files
   pub pending : HasPending way step held.journal files
   pub tree : RecoversTree (way_of way) step.changes (tree_of files) held.tree
 
--- the answer tells the step, and each path that was set back or left; no path is left where that wasn't asked for
+-- the answer tells the step, and each path that was rolled back or left; no path is left where that wasn't asked for
 pub record TellsRecovery (skip_moved : Bool) (way : PendingWay) (step : Recorded) (files : Files) (told : Recovered) : Type 0 where
   pub number : told.number ≡ Some (number_of step)
   pub changed : AreMade (way_of way) (tree_of files) step.changes told.changed
@@ -95,13 +95,13 @@ RecoversFiles skip_moved before after told =
     ⊎ ((way : PendingWay) × (step : Recorded) × (journal : Journal)
     × HasPending way step journal before × TellsRecovery skip_moved way step before told × IsRecovered way step journal before after)
 
--- some of the paths that can be set back are, and no other path differs
+-- some of the paths that can be rolled back are, and no other path differs
 pub record SomeRecovered (way : Way) (changes : List Change) (before after : Files) : Type 0 where
   pub each : All (λ change. (get after (path_of change) ≡ get before (path_of change))
       ⊎ (CanBeMade (opposite way) before change × TurnsBy (opposite way) change (get before (path_of change)) (get after (path_of change)))) changes
   pub others : (path : List ℕ) → touches changes path ≡ false → get after path ≡ get before path
 
--- the step is pending still, and each of its paths is as it was or is set back
+-- the step is pending still, and each of its paths is as it was or is rolled back
 pub record IsHalfway (way : PendingWay) (step : Recorded) (journal : Journal) (before after : Files) : Type 0 where
   pub pending : HasPending way step journal after
   pub tree : SomeRecovered (way_of way) step.changes (tree_of before) (tree_of after)
@@ -112,7 +112,7 @@ StopsRecovering before after =
     (way : PendingWay) × (step : Recorded) × (journal : Journal) × HasPending way step journal before
     × (IsRecovered way step journal before after ⊎ IsHalfway way step journal before after)
 
--- Unless a fault of the store or want of memory is told, recovering is refused as a bad journal exactly at the first path at fault, and as moved
+-- Unless an I/O error or an allocation failure is told, recovering is refused as a bad journal exactly at the first path at fault, and as moved
 -- exactly at the first path that is stuck, where none is to be skipped.
 pub record RefusesRecovery (skip_moved : Bool) (files : Files) (answer : Result Recovered Refusal) : Type 0 where
   pub bad : (path : List ℕ) → (answer ≡ Err (BadJournal path)) ↔ IsFirstBad files path
@@ -120,7 +120,7 @@ pub record RefusesRecovery (skip_moved : Bool) (files : Files) (answer : Result 
 
 -- ---- for private clauses
 
--- what is found of some changes: the paths that can be set back, and those that are stuck
+-- what is found of some changes: the paths that can be rolled back, and those that are stuck
 pub record AreFound (way : Way) (tree : Files) (changes : List Change) (changed skipped : List (List ℕ)) : Type 0 where
   pub made : AreMade way tree changes changed
   pub stuck : AreStuck way tree changes skipped

@@ -24,7 +24,7 @@ use Rattle.reuse_session.specs.plan.Downloads.{text_for}
 use Rattle.reuse_session.specs.plan.Licence.{is_id, licence_path}
 use Rattle.reuse_session.specs.plan.Outcome.{edit_count, edits_of, recorded_size}
 use Rattle.reuse_session.specs.plan.TreeStyles.{OwnNames, styles_in}
-use Rattle.reuse_session.specs.plan.Worked.{amended_paths, worked_paths}
+use Rattle.reuse_session.specs.plan.Selected.{amended_paths, selected_paths}
 use Rattle.reuse_session.specs.declared.command.Command.{Command}
 use Rattle.reuse_session.specs.declared.command.Command.TheVariants.{Amend, Annotate, ConvertDep5, Download}
 use Rattle.reuse_session.specs.declared.command.Place.{Place}
@@ -98,7 +98,7 @@ pub record CanAnnotate (places : List Place) (additions : Additions) (how : How)
   pub own : OwnNames
   pub styles : styles_in tree ≡ Ok own
   pub root : has_root places ≡ true → scope.recursive ≡ true
-  pub each : (path : List ℕ) → Contains (worked_paths scope places tree) path → CanBeAnnotated additions how scope own tree path
+  pub each : (path : List ℕ) → Contains (selected_paths scope places tree) path → CanBeAnnotated additions how scope own tree path
   pub fits : FitsEntry (Annotate places additions how scope) tree
 
 -- ---- amendments

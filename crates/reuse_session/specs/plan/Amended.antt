@@ -20,7 +20,7 @@ use Rattle.reuse_session.specs.plan.Annotated.{IsSameAround, IsStyleOf, HasKind,
 use Rattle.reuse_session.specs.plan.Conversion.{toml_path}
 use Rattle.reuse_session.specs.plan.Covered.{is_covered}
 use Rattle.reuse_session.specs.plan.TreeStyles.{OwnNames, styles_in}
-use Rattle.reuse_session.specs.plan.Worked.{amended_paths}
+use Rattle.reuse_session.specs.plan.Selected.{amended_paths}
 use Rattle.reuse_session.specs.declared.command.Place.{Place}
 use Rattle.reuse_session.specs.declared.command.Scope.{Scope}
 
@@ -89,7 +89,7 @@ IsAmended amendments scope own path old new = ((path ≡ toml_path) × IsTableAm
 pub record Amends (places : List Place) (amendments : Amendments) (scope : Scope) (before after : Files) : Type 0 where
   pub own : OwnNames
   pub styles : styles_in before ≡ Ok own
-  pub worked : (path : List ℕ) → Contains (amended_paths scope places before) path → IsAmended amendments scope own path (pair_at before path) (pair_at after path)
+  pub selected : (path : List ℕ) → Contains (amended_paths scope places before) path → IsAmended amendments scope own path (pair_at before path) (pair_at after path)
   pub others : (other : List ℕ) → ((path : List ℕ) → Contains (amended_paths scope places before) path → (other ≢ path) × (other ≢ neighbour_of path))
       → get after other ≡ get before other
 

@@ -18,7 +18,7 @@ use Rattle.reuse_tree.specs.Files.{Files}
 use Rattle.reuse_session.specs.plan.Annotate.{neighbour_of, neighbour_is_tagged}
 use Rattle.reuse_session.specs.plan.Covered.{is_covered}
 use Rattle.reuse_session.specs.plan.TreeStyles.{OwnNames, styles_in}
-use Rattle.reuse_session.specs.plan.Worked.{worked_paths}
+use Rattle.reuse_session.specs.plan.Selected.{selected_paths}
 use Rattle.reuse_session.specs.declared.command.Place.{Place}
 use Rattle.reuse_session.specs.declared.command.Scope.{Scope}
 use Rattle.reuse_session.specs.declared.command.Unknown.TheVariants as unknown
@@ -130,8 +130,8 @@ pub record IsAnnotated (additions : Additions) (how : How) (scope : Scope) (own 
 pub record Annotates (places : List Place) (additions : Additions) (how : How) (scope : Scope) (before after : Files) : Type 0 where
   pub own : OwnNames
   pub styles : styles_in before ≡ Ok own
-  pub worked : (path : List ℕ) → Contains (worked_paths scope places before) path → IsAnnotated additions how scope own path (pair_at before path) (pair_at after path)
-  pub others : (other : List ℕ) → ((path : List ℕ) → Contains (worked_paths scope places before) path → (other ≢ path) × (other ≢ neighbour_of path))
+  pub selected : (path : List ℕ) → Contains (selected_paths scope places before) path → IsAnnotated additions how scope own path (pair_at before path) (pair_at after path)
+  pub others : (other : List ℕ) → ((path : List ℕ) → Contains (selected_paths scope places before) path → (other ≢ path) × (other ≢ neighbour_of path))
       → get after other ≡ get before other
 
 -- what is at a path stays, or it is a file of text then

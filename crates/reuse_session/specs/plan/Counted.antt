@@ -1,19 +1,19 @@
 -- What a call counts while it plans: how many of the path outcomes of its command are of files that are skipped.
 use Rattle.std.specs.Prelude.{ℕ, Bool, true, false, List, length, filter}
 use Rattle.reuse_session.specs.declared.plan.counts.Counts.{Counts}
-use Rattle.reuse_session.specs.declared.fate.Fate.{Fate}
-use Rattle.reuse_session.specs.declared.fate.Fate.TheVariants.{Skipped}
+use Rattle.reuse_session.specs.declared.path_outcome.PathOutcome.{PathOutcome}
+use Rattle.reuse_session.specs.declared.path_outcome.PathOutcome.TheVariants.{Skipped}
 use Rattle.reuse_session.specs.declared.plan.path_plan.PathPlan.{PathPlan}
 use Rattle.reuse_session.specs.declared.plan.path_plan.PathPlan.TheVariants as plan
 use Rattle.reuse_session.specs.declared.session.Session.{Session}
 
-abbrev pub is_skip : Fate → Bool
+abbrev pub is_skip : PathOutcome → Bool
 is_skip (Skipped path) = true
-is_skip fate = false
+is_skip path_outcome = false
 
--- how many of the fates are of files that are skipped
-abbrev pub skipped_count : List Fate → ℕ
-skipped_count fates = length (filter is_skip fates)
+-- how many of the path outcomes are of files that are skipped
+abbrev pub skipped_count : List PathOutcome → ℕ
+skipped_count path_outcomes = length (filter is_skip path_outcomes)
 
 -- what the last run of a session counted, which is no part of what it stands at
 abbrev pub counts_of : {S : Type 0} → Session S → Counts

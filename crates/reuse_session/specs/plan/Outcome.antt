@@ -16,7 +16,7 @@ use Rattle.reuse_session.specs.plan.PathEdits.{PathEdit, refused_alone, all_or_n
 use Rattle.reuse_session.specs.plan.Reverting.{reverted_at}
 use Rattle.reuse_session.specs.plan.Skipped.{is_skipped}
 use Rattle.reuse_session.specs.plan.TreeStyles.{OwnNames, styles_in}
-use Rattle.reuse_session.specs.plan.Worked.{with_table, worked_paths}
+use Rattle.reuse_session.specs.plan.Selected.{with_table, selected_paths}
 use Rattle.reuse_session.specs.declared.command.Command.{Command}
 use Rattle.reuse_session.specs.declared.command.Command.TheVariants.{Annotate, Amend, ConvertDep5, Download, Revert}
 use Rattle.reuse_session.specs.declared.command.Place.{Place}
@@ -61,7 +61,7 @@ edit_count (Ok edits) = length edits
 -- is one
 abbrev pub at_places : (List ℕ → PathEdit) → Scope → List Place → Files → List PathEdit
 at_places at scope places tree =
-    if not scope.recursive && has_root places then refused_alone (IsFolder place.Root) else map at (worked_paths scope places tree)
+    if not scope.recursive && has_root places then refused_alone (IsFolder place.Root) else map at (selected_paths scope places tree)
 
 -- what annotate does at a path, where the tree gives these kinds to its own names
 abbrev pub annotation_at : How → Scope → Additions → OwnNames → Files → List ℕ → PathEdit

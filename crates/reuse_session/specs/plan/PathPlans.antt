@@ -10,8 +10,8 @@ use Rattle.reuse_session.specs.plan.Edit.{Edit}
 use Rattle.reuse_session.specs.plan.PathEdits.{PathEdit, edits_in}
 use Rattle.reuse_session.specs.plan.Plan.{CarriesOutEdit, IsRefusalOf}
 use Rattle.reuse_session.specs.session.Previews.{IsTold}
-use Rattle.reuse_session.specs.declared.fate.Fate.{Fate}
-use Rattle.reuse_session.specs.declared.fate.Fate.TheVariants as fate
+use Rattle.reuse_session.specs.declared.path_outcome.PathOutcome.{PathOutcome}
+use Rattle.reuse_session.specs.declared.path_outcome.PathOutcome.TheVariants as path_outcome
 use Rattle.reuse_session.specs.declared.plan.path_plan.PathPlan.{PathPlan}
 use Rattle.reuse_session.specs.declared.plan.path_plan.PathPlan.TheVariants as plan
 use Rattle.reuse_session.specs.declared.plan.path_plan.Policy.{Policy}
@@ -52,11 +52,11 @@ EndsWalk Collect refusal = IsEarlyFailure refusal
 
 -- ---- what is made of plans
 
-abbrev pub fate_planned : PathPlan → Fate
-fate_planned (plan.Change change) = fate.Changes (path_of change)
-fate_planned (plan.Unchanged path) = fate.Unchanged path
-fate_planned (plan.Skipped path) = fate.Skipped path
-fate_planned (plan.Refused refusal) = fate.Refused refusal
+abbrev pub path_outcome_planned : PathPlan → PathOutcome
+path_outcome_planned (plan.Change change) = path_outcome.Changes (path_of change)
+path_outcome_planned (plan.Unchanged path) = path_outcome.Unchanged path
+path_outcome_planned (plan.Skipped path) = path_outcome.Skipped path
+path_outcome_planned (plan.Refused refusal) = path_outcome.Refused refusal
 
 abbrev pub change_planned : PathPlan → Option Change
 change_planned (plan.Change change) = Some change
@@ -74,5 +74,5 @@ abbrev pub are_too_many : List Change → Bool
 are_too_many changes = nat_lt 100_000 (length changes) || nat_lt 268_435_456 (entry_size changes)
 
 -- where nothing is refused, that the changes are too many together
-abbrev pub limit_planned : Bool → List Change → List Fate
-limit_planned is_refused changes = if not is_refused && are_too_many changes then fate.Refused TooMany ∷ [] else []
+abbrev pub limit_planned : Bool → List Change → List PathOutcome
+limit_planned is_refused changes = if not is_refused && are_too_many changes then path_outcome.Refused TooMany ∷ [] else []

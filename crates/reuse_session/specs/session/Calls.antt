@@ -41,7 +41,7 @@ pub record IsCall {A S : Type 0} (store : Ghosts S) (result : Result A Refusal) 
   pub later : IsLater store (store_of old) (store_of new)
 
 -- What an undo or a redo leaves. It puts nothing in the journal but heads.
-pub record LeavesTravel {S : Type 0} (store : Ghosts S) (way : Way) (result : Result Reply Refusal) (old new : Session S) : Type 0 where
+pub record LeavesReplay {S : Type 0} (store : Ghosts S) (way : Way) (result : Result Reply Refusal) (old new : Session S) : Type 0 where
   -- a refusal before the step is pending has only read
   pub early : IfErr result (λ refusal. IsEarly refusal → OnlyReads store (store_of old) (store_of new))
   -- where it stops later something was put, and the files are in doubt between the standing before the call and that after it

@@ -1,16 +1,16 @@
--- The machine that keeps a whole copy of each earlier tree.
+-- The reference model (it keeps a whole copy of each earlier tree).
 use Rattle.std.specs.Prelude.{ℕ, ◌+◌, Bool, true, false, ◌||◌, List, [], ◌∷◌, ◌++◌, length, map, Result, Ok, Err, nat_le, if◌then◌else◌}
 use Rattle.reuse_tree.specs.Files.{Files}
 use Rattle.reuse_session.specs.session.Command.{name_of}
-use Rattle.reuse_session.specs.session.Fates.{fates_of}
+use Rattle.reuse_session.specs.session.PathOutcomes.{path_outcomes_of}
 use Rattle.reuse_tree.specs.Tree.{changed_paths}
 use Rattle.reuse_tree.specs.declared.way.Way.{Way}
 use Rattle.reuse_tree.specs.declared.way.Way.TheVariants as go
 use Rattle.reuse_session.specs.plan.Outcome.{outcome_of}
 use Rattle.reuse_session.specs.declared.command.Command.{Command}
 use Rattle.reuse_tree.specs.declared.command_name.CommandName.{CommandName}
-use Rattle.reuse_session.specs.declared.fate.Fate.{Fate}
-use Rattle.reuse_session.specs.declared.fate.Fate.TheVariants.{Changes}
+use Rattle.reuse_session.specs.declared.path_outcome.PathOutcome.{PathOutcome}
+use Rattle.reuse_session.specs.declared.path_outcome.PathOutcome.TheVariants.{Changes}
 use Rattle.reuse_session.specs.declared.reply.Row.{Row}
 use Rattle.reuse_session.specs.declared.reply.Reply.{Reply}
 use Rattle.reuse_session.specs.declared.reply.Reply.TheVariants.{Changed, NothingChanged, Undone, Redone}
@@ -107,20 +107,20 @@ abbrev pub rows_of : Snapshots → List Row
 rows_of s = rows_before s.tree s.past ++ rows_behind s.tree s.future
 
 -- what a run of the command would do
-abbrev pub run_fates : Snapshots → Command → Result (List Fate) Refusal
-run_fates s command = if is_full (length s.past) s.used then Err JournalFull else Ok (fates_of command s.tree)
+abbrev pub run_path_outcomes : Snapshots → Command → Result (List PathOutcome) Refusal
+run_path_outcomes s command = if is_full (length s.past) s.used then Err JournalFull else Ok (path_outcomes_of command s.tree)
 
 -- what an undo would do: each path at which the tree before differs would change
-abbrev pub undo_fates : Files → List Kept → Result (List Fate) Refusal
-undo_fates tree [] = Err NothingToUndo
-undo_fates tree (kept ∷ past) = Ok (map Changes (changed_paths kept.tree tree))
+abbrev pub undo_path_outcomes : Files → List Kept → Result (List PathOutcome) Refusal
+undo_path_outcomes tree [] = Err NothingToUndo
+undo_path_outcomes tree (kept ∷ past) = Ok (map Changes (changed_paths kept.tree tree))
 
 -- what a redo would do
-abbrev pub redo_fates : Files → List Kept → Result (List Fate) Refusal
-redo_fates tree [] = Err NothingToRedo
-redo_fates tree (kept ∷ future) = Ok (map Changes (changed_paths tree kept.tree))
+abbrev pub redo_path_outcomes : Files → List Kept → Result (List PathOutcome) Refusal
+redo_path_outcomes tree [] = Err NothingToRedo
+redo_path_outcomes tree (kept ∷ future) = Ok (map Changes (changed_paths tree kept.tree))
 
 -- what going one step this way would do
-abbrev pub step_fates : Way → Snapshots → Result (List Fate) Refusal
-step_fates go.Undo s = undo_fates s.tree s.past
-step_fates go.Do s = redo_fates s.tree s.future
+abbrev pub step_path_outcomes : Way → Snapshots → Result (List PathOutcome) Refusal
+step_path_outcomes go.Undo s = undo_path_outcomes s.tree s.past
+step_path_outcomes go.Do s = redo_path_outcomes s.tree s.future

@@ -4,7 +4,7 @@ use Rattle.std.specs.Prelude.{◌≡◌, ◌⊎◌, ℕ, Bool, List, [], ◌∷�
 use Rattle.std.specs.List.{All}
 use Rattle.reuse_tree.specs.Entry.{paths_of}
 use Rattle.reuse_tree.specs.declared.change.Change.{Change}
-use Rattle.reuse_session.specs.session.Machine.{Kept, Snapshots, Step, ran_by, undone, redone, rows_of, run_fates, undo_fates, redo_fates}
+use Rattle.reuse_session.specs.session.Machine.{Kept, Snapshots, Step, ran_by, undone, redone, rows_of, run_path_outcomes, undo_path_outcomes, redo_path_outcomes}
 use Rattle.reuse_session.specs.session.Requests.{replied}
 use Rattle.reuse_session.specs.session.RevertCalls.{changed_later, left_of}
 use Rattle.reuse_session.specs.session.Showing.{LedTo, ShowsAt}
@@ -12,7 +12,7 @@ use Rattle.reuse_session.specs.declared.command.Command.{Command}
 use Rattle.reuse_session.specs.declared.command.Command.TheVariants.{Revert}
 use Rattle.reuse_session.specs.declared.events.Event.{Event}
 use Rattle.reuse_session.specs.declared.events.Event.TheVariants as events
-use Rattle.reuse_session.specs.declared.fate.Fate.{Fate}
+use Rattle.reuse_session.specs.declared.path_outcome.PathOutcome.{PathOutcome}
 use Rattle.reuse_session.specs.declared.reply.Reply.{Reply}
 use Rattle.reuse_session.specs.declared.reply.Reply.TheVariants as replies
 use Rattle.reuse_session.specs.declared.reply.Refusal.{Refusal}
@@ -56,10 +56,10 @@ RevertsTo state number skip_moved when answer next =
     × (let ran = ran_by state (command_back state number skip_moved changes) when in AreOf (as_reverted changes ran.0, ran.1) answer next))
 
 -- what it would do is what that run would do
-abbrev pub PreviewsBack : Snapshots → ℕ → Bool → Result (List Fate) Refusal → Type 0
+abbrev pub PreviewsBack : Snapshots → ℕ → Bool → Result (List PathOutcome) Refusal → Type 0
 PreviewsBack state number skip_moved answer =
     ((answer ≡ Err (NoSuchStep number)) × IsUnkept number state.past)
-    ⊎ ((changes : List Change) × LedTo number changes state.tree state.past × (answer ≡ run_fates state (command_back state number skip_moved changes)))
+    ⊎ ((changes : List Change) × LedTo number changes state.tree state.past × (answer ≡ run_path_outcomes state (command_back state number skip_moved changes)))
 
 -- ---- requests
 
@@ -71,16 +71,16 @@ MakesTo state calls.Redo when answer next = AreOf (redone state state.future) an
 MakesTo state (calls.Revert number skip_moved) when answer next = RevertsTo state number skip_moved when answer next
 
 -- what the call would do
-abbrev pub PreviewsTo : Snapshots → Call → Result (List Fate) Refusal → Type 0
-PreviewsTo state (calls.Run command) answer = answer ≡ run_fates state command
-PreviewsTo state calls.Undo answer = answer ≡ undo_fates state.tree state.past
-PreviewsTo state calls.Redo answer = answer ≡ redo_fates state.tree state.future
+abbrev pub PreviewsTo : Snapshots → Call → Result (List PathOutcome) Refusal → Type 0
+PreviewsTo state (calls.Run command) answer = answer ≡ run_path_outcomes state command
+PreviewsTo state calls.Undo answer = answer ≡ undo_path_outcomes state.tree state.past
+PreviewsTo state calls.Redo answer = answer ≡ redo_path_outcomes state.tree state.future
 PreviewsTo state (calls.Revert number skip_moved) answer = PreviewsBack state number skip_moved answer
 
 -- asked this in the state, the model gives the answer and is in the next state then
 abbrev pub Gives : Snapshots → Request → Result Reply Refusal → Snapshots → Type 0
 Gives state (requests.Make call when) answer next = MakesTo state call when answer next
-Gives state (requests.Preview call) answer next = (fates : Result (List Fate) Refusal) × (answer ≡ replied replies.Preview fates) × PreviewsTo state call fates × (next ≡ state)
+Gives state (requests.Preview call) answer next = (path_outcomes : Result (List PathOutcome) Refusal) × (answer ≡ replied replies.Preview path_outcomes) × PreviewsTo state call path_outcomes × (next ≡ state)
 Gives state requests.Log answer next = (answer ≡ Ok (replies.Log (rows_of state))) × (next ≡ state)
 Gives state (requests.Show number) answer next = (shown : Result Shown Refusal) × (answer ≡ replied replies.Shown shown) × ShowsBy state number shown × (next ≡ state)
 

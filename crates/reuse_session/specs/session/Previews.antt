@@ -4,31 +4,31 @@ use Rattle.reuse_tree.specs.Asked.{OnlyReads}
 use Rattle.reuse_tree.specs.Files.{Files}
 use Rattle.reuse_tree.specs.declared.store.Store.{Ghosts}
 use Rattle.reuse_session.specs.session.Answer.{RefusedAsRead, IsReadRefusal}
-use Rattle.reuse_session.specs.session.Fates.{AreFatesOf, fates_of}
+use Rattle.reuse_session.specs.session.PathOutcomes.{ArePathOutcomesOf, path_outcomes_of}
 use Rattle.reuse_session.specs.journal.Journal.{Recorded, State, end_of}
 use Rattle.reuse_session.specs.session.Machine.{is_full}
 use Rattle.reuse_session.specs.session.Session.{store_of, IsKept}
 use Rattle.reuse_session.specs.declared.command.Command.{Command}
 use Rattle.reuse_tree.specs.declared.way.Way.{Way}
-use Rattle.reuse_session.specs.declared.fate.Fate.{Fate}
-use Rattle.reuse_session.specs.declared.fate.Previewed.{Previewed}
+use Rattle.reuse_session.specs.declared.path_outcome.PathOutcome.{PathOutcome}
+use Rattle.reuse_session.specs.declared.path_outcome.Previewed.{Previewed}
 use Rattle.reuse_session.specs.declared.reply.Refusal.{Refusal}
 use Rattle.reuse_session.specs.declared.reply.Refusal.TheVariants.{Broken, JournalFull, NothingToUndo, NothingToRedo, Failed}
 use Rattle.reuse_session.specs.declared.session.Session.{Session}
 
--- a preview of an undo or a redo: the fates of the next step's changes, or that there is no step
-abbrev pub Foresees : Way → List Recorded → Files → Result (List Fate) Refusal → Type 0
-Foresees way [] tree answer = answer ≡ Err (end_of way)
-Foresees way (step ∷ steps) tree (Ok fates) = AreFatesOf way tree step.changes fates
-Foresees way (step ∷ steps) tree (Err refusal) = ⊥
+-- a preview of an undo or a redo: the path outcomes of the next step's changes, or that there is no step
+abbrev pub PreviewsReplay : Way → List Recorded → Files → Result (List PathOutcome) Refusal → Type 0
+PreviewsReplay way [] tree answer = answer ≡ Err (end_of way)
+PreviewsReplay way (step ∷ steps) tree (Ok path_outcomes) = ArePathOutcomesOf way tree step.changes path_outcomes
+PreviewsReplay way (step ∷ steps) tree (Err refusal) = ⊥
 
--- the fates of what is previewed with its changes, as an answer
-abbrev pub fates_alone : Result Previewed Refusal → Result (List Fate) Refusal
-fates_alone (Ok previewed) = Ok previewed.fates
-fates_alone (Err refusal) = Err refusal
+-- the path outcomes of what is previewed with its changes, as an answer
+abbrev pub path_outcomes_alone : Result Previewed Refusal → Result (List PathOutcome) Refusal
+path_outcomes_alone (Ok previewed) = Ok previewed.path_outcomes
+path_outcomes_alone (Err refusal) = Err refusal
 
 -- the store is read alone, and what is remembered stays
-pub record OnlyLooks {S A : Type 0} (store : Ghosts S) (answer : Result A Refusal) (old new : Session S) : Type 0 where
+pub record ReadsOnly {S A : Type 0} (store : Ghosts S) (answer : Result A Refusal) (old new : Session S) : Type 0 where
   pub reads : OnlyReads store (store_of old) (store_of new)
   pub kept : IsKept old new
   pub fails : RefusedAsRead store (store_of old) (store_of new) answer
@@ -47,5 +47,5 @@ IsPreviewRefusal NothingToRedo = Unit {0}
 IsPreviewRefusal refusal = IsReadRefusal refusal
 
 -- what a run of the command would do on a standing, path by path, or that the journal is full
-abbrev pub run_fates_on : State → Command → Result (List Fate) Refusal
-run_fates_on old command = if is_full (length old.journal.done) old.journal.used then Err JournalFull else Ok (fates_of command old.tree)
+abbrev pub run_path_outcomes_on : State → Command → Result (List PathOutcome) Refusal
+run_path_outcomes_on old command = if is_full (length old.journal.done) old.journal.used then Err JournalFull else Ok (path_outcomes_of command old.tree)

@@ -12,7 +12,7 @@ use Rattle.reuse_session.specs.session.Calls.{files_of, folder_of, IsCall}
 use Rattle.reuse_session.specs.journal.Journal.{Recorded, State, Undoes, Redoes, rows_in}
 use Rattle.reuse_session.specs.journal.JournalFiles.{head_path, entry_path, number_of, IsFree}
 use Rattle.reuse_session.specs.journal.Losses.{AreSafeOn, Survives, IsNextBy}
-use Rattle.reuse_session.specs.session.Previews.{run_fates_on, Foresees}
+use Rattle.reuse_session.specs.session.Previews.{run_path_outcomes_on, PreviewsReplay}
 use Rattle.reuse_session.specs.session.RevertCalls.{IsAfterRevert, Reverts, changed_or_none, touched_later}
 use Rattle.reuse_session.specs.session.Session.{store_of, is_broken, IsKept, IsRun, IsSameBut, IsSameButTwo, Runs, StandsOn}
 use Rattle.reuse_session.specs.session.Showing.{IsUnused, ShowsIn}
@@ -20,7 +20,7 @@ use Rattle.reuse_session.specs.journal.Standing.{InDoubt, IsStanding}
 use Rattle.reuse_session.specs.declared.command.Command.TheVariants.{Revert}
 use Rattle.reuse_session.specs.declared.failure.Failure.{Failure}
 use Rattle.reuse_session.specs.declared.failure.Failure.TheVariants.{Interrupted, Memory}
-use Rattle.reuse_session.specs.declared.fate.Fate.{Fate}
+use Rattle.reuse_session.specs.declared.path_outcome.PathOutcome.{PathOutcome}
 use Rattle.reuse_session.specs.declared.reply.Refusal.{Refusal}
 use Rattle.reuse_session.specs.declared.reply.Refusal.TheVariants.{Broken, Failed, NoSuchStep}
 use Rattle.reuse_session.specs.declared.reply.Reply.{Reply}
@@ -34,11 +34,11 @@ use Rattle.reuse_session.specs.declared.request.Request.TheVariants as requests
 use Rattle.reuse_session.specs.declared.session.Session.{Session}
 
 -- what changes nothing: a preview, a log, or a step that is shown
-abbrev pub IsLook : Request → Type 0
-IsLook (requests.Make call when) = ⊥
-IsLook request = Unit {0}
+abbrev pub IsReading : Request → Type 0
+IsReading (requests.Make call when) = ⊥
+IsReading request = Unit {0}
 
--- how a request may fail: what only looks never stops, and a log fails for want of memory alone
+-- how a request may fail: what only reads never stops, and a log fails for an allocation failure alone
 abbrev pub MayFail : Request → Failure → Type 0
 MayFail (requests.Make call when) failure = Unit {0}
 MayFail requests.Log Memory = Unit {0}
@@ -60,16 +60,16 @@ replied reply (Err refusal) = Err refusal
 -- ---- what is answered, and which committed state is left
 
 -- a preview of a revert answers what a run would do that takes the changes of the step back, or that no such step is done
-abbrev pub PreviewsRevert : ℕ → Bool → State → Result (List Fate) Refusal → Type 0
+abbrev pub PreviewsRevert : ℕ → Bool → State → Result (List PathOutcome) Refusal → Type 0
 PreviewsRevert number skip_moved old answer =
     ((answer ≡ Err (NoSuchStep number)) × IsUnused number old.journal.done)
-    ⊎ ((step : Recorded) × Contains old.journal.done step × (number_of step ≡ number) × (answer ≡ run_fates_on old (Revert step.changes (touched_later number old.journal.done step.changes) skip_moved)))
+    ⊎ ((step : Recorded) × Contains old.journal.done step × (number_of step ≡ number) × (answer ≡ run_path_outcomes_on old (Revert step.changes (touched_later number old.journal.done step.changes) skip_moved)))
 
 -- what a preview of a call answers
-abbrev pub Previews : Call → State → Result (List Fate) Refusal → Type 0
-Previews (calls.Run command) old answer = answer ≡ run_fates_on old command
-Previews calls.Undo old answer = Foresees go.Undo old.journal.done old.tree answer
-Previews calls.Redo old answer = Foresees go.Do old.journal.undone old.tree answer
+abbrev pub Previews : Call → State → Result (List PathOutcome) Refusal → Type 0
+Previews (calls.Run command) old answer = answer ≡ run_path_outcomes_on old command
+Previews calls.Undo old answer = PreviewsReplay go.Undo old.journal.done old.tree answer
+Previews calls.Redo old answer = PreviewsReplay go.Do old.journal.undone old.tree answer
 Previews (calls.Revert number skip_moved) old answer = PreviewsRevert number skip_moved old answer
 
 -- what a call answers, and which state it leaves
@@ -80,10 +80,10 @@ Makes calls.Redo when old answer new = Redoes old.journal.undone old answer new
 Makes (calls.Revert number skip_moved) when old answer new =
     (reverted : Result Reverted Refusal) × (answer ≡ replied replies.Reverted reverted) × Reverts number skip_moved when old reverted new
 
--- the same of a request; what only looks leaves the state
+-- the same of a request; what only reads leaves the state
 abbrev pub LeadsTo : Request → State → Result Reply Refusal → State → Type 0
 LeadsTo (requests.Make call when) old answer new = Makes call when old answer new
-LeadsTo (requests.Preview call) old answer new = (fates : Result (List Fate) Refusal) × (answer ≡ replied replies.Preview fates) × Previews call old fates × (new ≡ old)
+LeadsTo (requests.Preview call) old answer new = (path_outcomes : Result (List PathOutcome) Refusal) × (answer ≡ replied replies.Preview path_outcomes) × Previews call old path_outcomes × (new ≡ old)
 LeadsTo requests.Log old answer new = (answer ≡ Ok (replies.Log (rows_in old.journal))) × (new ≡ old)
 LeadsTo (requests.Show number) old answer new = (shown : Result Shown Refusal) × (answer ≡ replied replies.Shown shown) × ShowsIn old.journal number shown × (new ≡ old)
 
@@ -113,7 +113,7 @@ Meets request old answer files = (new : State) × LeadsTo request old answer new
 
 -- ---- what it leaves, whatever it answers
 
--- A clash that is told is that of the path that is put: of the next entry, which a run and a revert alone put, or of the head. What only looks
+-- A clash that is told is that of the path that is put: of the next entry, which a run and a revert alone put, or of the head. What only reads
 -- tells none.
 abbrev pub HasCallClash : Request → State → Files → Refusal → Type 0
 HasCallClash (requests.Make (calls.Run command) when) old files = HasClash (Clashes files (entry_path (old.journal.used + 1))) (Clashes files head_path)
@@ -123,7 +123,7 @@ HasCallClash (requests.Make calls.Redo when) old files = HasClash ⊥ (Clashes f
 HasCallClash request old files = IsNoClash
 
 -- Of the journal's files none but these holds something else: a run and a revert put the next entry and the head, an undo and a redo the head.
--- What only looks leaves every file.
+-- What only reads leaves every file.
 abbrev pub KeepsFolder : Request → State → Files → Files → Type 0
 KeepsFolder (requests.Make (calls.Run command) when) old before after = IsSameButTwo (entry_path (old.journal.used + 1)) head_path (undo_folder_of before) (undo_folder_of after)
 KeepsFolder (requests.Make (calls.Revert number skip_moved) when) old before after = IsSameButTwo (entry_path (old.journal.used + 1)) head_path (undo_folder_of before) (undo_folder_of after)
@@ -136,7 +136,7 @@ abbrev pub as_step : Result Reply Refusal → Result Reply Refusal
 as_step (Ok (replies.Reverted reverted)) = Ok (changed_or_none reverted.changed)
 as_step answer = answer
 
--- After a loss of power, at any moment of a call, what is left is the state before it or that after it. What only looks leaves what was safe.
+-- After a loss of power, at any moment of a call, what is left is the state before it or that after it. What only reads leaves what was safe.
 abbrev pub SurvivesRequest : {S : Type 0} → Ghosts S → Request → (earlier held : State) → Result Reply Refusal → S → Type 0
 SurvivesRequest store (requests.Make call when) earlier held answer new = Survives store (IsAfterCall call when held) earlier held (as_step answer) new
 SurvivesRequest store request earlier held answer new = AreSafeOn store earlier held new
@@ -154,9 +154,9 @@ pub record IsAnswered {S : Type 0} (store : Ghosts S) (request : Request) (answe
   pub fails : IfErr answer (IfFailed (MayFail request))
   pub survives : store.honest (store_of new) → (earlier held : State) → StandsOn store.files old held
       → AreSafeOn store earlier held (store_of old) → SurvivesRequest store request earlier held answer (store_of new)
-  -- what only looks reads alone
-  pub looks : IsLook request → OnlyReads store (store_of old) (store_of new)
-  pub kept : IsLook request → IsKept old new
+  -- what only reads reads alone
+  pub reads_only : IsReading request → OnlyReads store (store_of old) (store_of new)
+  pub kept : IsReading request → IsKept old new
   pub clash : store.honest (store_of new) → (held : State) → StandsOn store.files old held → IfErr answer (HasCallClash request held (files_of store old))
   -- where no path of a file of the journal is a folder, no clash is told, and none becomes one
   pub unclashed : store.honest (store_of new) → (held : State) → StandsOn store.files old held → IsFree (folder_of store old) → IfErr answer IsNoClash
@@ -166,7 +166,7 @@ pub record IsAnswered {S : Type 0} (store : Ghosts S) (request : Request) (answe
   pub call : IsCall store answer old new
 
 -- how a session is looked at: the store is read alone, what is remembered stays, and the call doesn't stop; a fault has its cause
-pub record Peeks {S A : Type 0} (store : Ghosts S) (answer : Result A Refusal) (old new : Session S) : Type 0 where
+pub record ReadsOnlyWithCause {S A : Type 0} (store : Ghosts S) (answer : Result A Refusal) (old new : Session S) : Type 0 where
   pub reads : OnlyReads store (store_of old) (store_of new)
   pub kept : IsKept old new
   pub fails : RefusedAsRead store (store_of old) (store_of new) answer

@@ -39,7 +39,8 @@ pub fn head_path(alloc: Global) -> Result<PathText, AllocError>
     known_path(alloc, ".reuse/undo/head.json")
 }
 
-/// The path of the head. It is made before the first put, so that want of memory for it is no stop.
+/// The path of the head. It is made before the first put, so that an allocation failure for it is
+/// no stop.
 #[derive(Drop)]
 pub struct HeadPath {
     path: PathText,

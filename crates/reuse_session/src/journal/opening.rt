@@ -33,10 +33,10 @@ pub fn open_journal<S: Store>(alloc: Global, store: &mut S) -> Result<History, R
     ensures opened { S.honest store.new → IfOk result (λ memory. (held : State) × Remembers memory held.journal × OpensOn (S.files store.old) held (S.files store.new)) }
     ensures bad { S.honest store.new → (path : List ℕ) → result ≡ Err (Refusal.BadJournal path) → IsFirstBad (S.files store.old) path }
     ensures moved { S.honest store.new → (path : List ℕ) → result ≡ Err (Refusal.Moved path) → IsStuckAt (S.files store.old) path }
-    // It stops only where a step was under way, which is still, or is set back.
+    // It stops only where a step was under way, which is still, or is rolled back.
     ensures interrupted { S.honest store.new → (cause : Cause) → result ≡ Err (Refusal.Failed (failures.Interrupted cause)) → StopsOpening (S.files store.old) (S.files store.new) }
     // Of files in doubt it makes one of the two standings, or leaves them in doubt where it fails.
-    ensures settles { S.honest store.new → (first second : State) → InDoubt first second (S.files store.old)
+    ensures recovers { S.honest store.new → (first second : State) → InDoubt first second (S.files store.old)
         → MatchResult result (λ memory. (IsStanding (S.files store.new) first × Remembers memory first.journal) ⊎ (IsStanding (S.files store.new) second × Remembers memory second.journal))
         (λ refusal. IsFailure refusal × InDoubt first second (S.files store.new)) }
     // Where all that a loss of power may leave is in doubt too, it is safe on that standing then,
@@ -66,7 +66,7 @@ pub fn open_journal<S: Store>(alloc: Global, store: &mut S) -> Result<History, R
     match pending {
         None => Ok(history),
         Some(pending) => {
-            settle(alloc, store, pending, &history)?;
+            recover_pending(alloc, store, pending, &history)?;
             Ok(history)
         }
     }
@@ -91,7 +91,7 @@ pub fn read_journal<S: Store>(
 }
 
 // Rolls back what is pending in a journal that was read.
-fn settle<S: Store>(
+fn recover_pending<S: Store>(
     alloc: Global,
     store: &mut S,
     pending: Pending,
@@ -101,7 +101,7 @@ fn settle<S: Store>(
         → OnOk result (IsSettled pending journal (S.files store.old) (S.files store.new)) }
     ensures moved { S.honest store.new → (journal : Journal) → IsRead (S.files store.old) (Some pending) history.now journal
         → (path : List ℕ) → result ≡ Err (Refusal.Moved path) → IsStuckAt (S.files store.old) path }
-    ensures settles { S.honest store.new → (journal : Journal) → IsRead (S.files store.old) (Some pending) history.now journal
+    ensures recovers { S.honest store.new → (journal : Journal) → IsRead (S.files store.old) (Some pending) history.now journal
         → (step : Recorded) → (first : State) → number_of step ≡ pending.entry → IsUnderWay pending.way step first (S.files store.old)
         → MatchResult result (λ done. IsStanding (S.files store.new) first)
         (λ refusal. IsFailure refusal × (IsStanding (S.files store.new) first ⊎ IsUnderWay pending.way step first (S.files store.new))) }

@@ -1,8 +1,8 @@
-//! Sets a pending step back even where files of it have changed since: the way out when no session
+//! Rolls a pending step back even where files of it have changed since: the way out when no session
 //! can be opened.
 //!
-//! It walks as an opening does, over the changes that can be set back alone. The others are found
-//! first, and nothing is put before all are.
+//! It walks as an opening does, over the changes that can be rolled back alone. The others are
+//! found first, and nothing is put before all are.
 ghost use Rattle.std.specs.Prelude.{◌≡◌, ◌≢◌, ◌<◌, ◌⊎◌, ◌∷◌, [], ℕ, List, not, true, false, Some, None, IfOk, IfErr, OnOk, MatchResult};
 ghost use Rattle.std.specs.FinMap as map;
 ghost use Rattle.reuse_tree.specs.Asked.{OnlyReads, IsLater, IsSynced, Leaves};
@@ -38,14 +38,14 @@ use reuse_tree::turn::can_turn;
 use reuse_tree::{Change, PathText, Pending, Store, Way, is_among};
 use std::alloc::Global;
 
-/// Sets the step back that is pending in a journal, and clears it there: each path at the state
-/// after the step is set back, and each at the state before it stays. With `skip_moved` a path that
-/// is at neither state is left as it is, and so is one where a file would have to be made again and
-/// clashes. It answers the step's number, the paths that were set back and those that were left;
-/// where no step is pending it changes nothing, and says so.
+/// Rolls the step back that is pending in a journal, and clears it there: each path at the state
+/// after the step is rolled back, and each at the state before it stays. With `skip_moved` a path
+/// that is at neither state is left as it is, and so is one where a file would have to be made
+/// again and clashes. It answers the step's number, the paths that were rolled back and those that
+/// were left; where no step is pending it changes nothing, and says so.
 ///
 /// It is refused as `BadJournal` as an opening is; without `skip_moved` as `Moved` at the first
-/// path that would be left; or for a fault of the store or want of memory, up to the first put or
+/// path that would be left; or for an I/O error or an allocation failure, up to the first put or
 /// removal as `Fault` or `Memory`. All these leave the files. From there on it stops as
 /// `Interrupted`, and leaves files from which it goes on.
 pub fn recover<S: Store>(
@@ -53,10 +53,10 @@ pub fn recover<S: Store>(
     store: S,
     skip_moved: bool,
 ) -> (S, Result<Recovered, Refusal>)
-    // Nothing, where no step is pending; and else each path of the step is set back, stays or is
+    // Nothing, where no step is pending; and else each path of the step is rolled back, stays or is
     // left, and is told so. The journal lists the same steps then, and none is pending.
     ensures recovered { S.honest result.0 → IfOk result.1 (RecoversFiles skip_moved (S.files store) (S.files result.0)) }
-    // Unless it tells a fault of the store or want of memory, it is refused as `BadJournal` exactly
+    // Unless it tells an I/O error or an allocation failure, it is refused as `BadJournal` exactly
     // at the first path at fault, and as `Moved` exactly at the first path that is stuck, where
     // none is to be skipped.
     ensures exact { S.honest result.0 → TellsNoFault result.1 → RefusesRecovery skip_moved (S.files store) result.1 }
@@ -74,7 +74,7 @@ pub fn recover<S: Store>(
 
     // Of files in doubt between two standings it makes what an opening makes: one of the two. Where
     // it fails they are in doubt still.
-    ensures settles { S.honest result.0 → (first second : State) → InDoubt first second (S.files store)
+    ensures recovers { S.honest result.0 → (first second : State) → InDoubt first second (S.files store)
         → MatchResult result.1 (λ recovered. IsStanding (S.files result.0) first ⊎ IsStanding (S.files result.0) second)
         (λ refusal. IsFailure refusal × InDoubt first second (S.files result.0)) }
 
@@ -82,7 +82,7 @@ pub fn recover<S: Store>(
     // safe then on the one that recovering leaves. If that fails, it is still in doubt.
     ensures survives { S.honest result.0 → (earlier held next : State) → AreInDoubt S.Store earlier held next store
         → SurvivesInDoubt S.Store earlier held next result.1 result.0 }
-    // The same of a step of which some paths can't be set back. Once it is recovered, a loss of
+    // The same of a step of which some paths can't be rolled back. Once it is recovered, a loss of
     // power leaves what is there. If that stops, recovering what is left leads to the same files.
     ensures lasting { S.honest result.0 → (way : PendingWay) → (step : Recorded) → (held : State)
         → AwaitsRecovery S.Store way step held store → SurvivesRecovery S.Store way step held result.1 result.0 }
@@ -130,7 +130,7 @@ fn recover_journal<S: Store>(
     }
 }
 
-// Sets back what is pending in a journal that was read.
+// Rolls back what is pending in a journal that was read.
 fn recover_step<S: Store>(
     alloc: Global,
     store: &mut S,
@@ -242,8 +242,8 @@ fn clear_head<S: Store>(alloc: Global, store: &mut S, head: &NewHead<'_>) -> Res
     }
 }
 
-// The paths at which a pending step is made and can be set back, and those at which it can't be set
-// back.
+// The paths at which a pending step is made and can be rolled back, and those at which it can't be
+// rolled back.
 #[derive(Drop)]
 struct Found {
     changed: Vec<PathText>,

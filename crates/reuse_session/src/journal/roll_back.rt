@@ -44,7 +44,7 @@ pub fn roll_back<S: Store>(
     ensures stopped { S.honest store.new → IsEntry changes.now → (start : Files) → ArePartlyMade way changes.now start (tree_of (S.files store.old))
         → (cause : Cause) → result ≡ Err (refusals.Failed (failures.Interrupted cause)) → StopsRollingBack way changes.now head.now.text.now start (S.files store.old) (S.files store.new) }
     // It is never refused on the way from a tree.
-    ensures settles { S.honest store.new → IsEntry changes.now → (start : Files) → AreFiles start → ArePartlyMade way changes.now start (tree_of (S.files store.old))
+    ensures recovers { S.honest store.new → IsEntry changes.now → (start : Files) → AreFiles start → ArePartlyMade way changes.now start (tree_of (S.files store.old))
         → (path : List ℕ) → result ≢ Err (Refusal.Moved path) }
     // A loss of power leaves what is there once it is done. Where it stops, some of the changes are
     // still made, or the last head is put or not. That holds if each tree that might be left before
@@ -54,7 +54,7 @@ pub fn roll_back<S: Store>(
     ensures left { S.honest store.new → IsEntry changes.now → (start : Files) → ArePartlyMade way changes.now start (tree_of (S.files store.old))
         → Leaves S.Store store.old (λ kept. SomeMade way changes.now start (tree_of kept))
         → (cause : Cause) → result ≡ Err (refusals.Failed (failures.Interrupted cause)) → StopsBackWithDoubt S.Store way changes.now head.now.text.now start (S.files store.old) store.new }
-    // Where it stops, each path is as it was or is set back.
+    // Where it stops, each path is as it was or is rolled back.
     ensures back { S.honest store.new → IsEntry changes.now → (cause : Cause) → result ≡ Err (refusals.Failed (failures.Interrupted cause))
         → StopsBack way changes.now head.now.text.now (S.files store.old) (S.files store.new) }
     ensures refusal { IfErr result IsRollBackRefusal }

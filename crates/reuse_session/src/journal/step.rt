@@ -27,7 +27,7 @@ pub struct StepHeads<'a> {
 /// Puts the head that tells the step as pending, makes its changes this way, and puts the head that
 /// lists it, with a barrier behind each of the three. Its caller has tested that each change can be
 /// made.
-pub fn carry_out<S: Store>(
+pub fn commit_step<S: Store>(
     alloc: Global,
     store: &mut S,
     changes: &[Change],

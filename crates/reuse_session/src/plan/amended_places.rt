@@ -5,7 +5,7 @@ ghost use Rattle.reuse_tree.specs.Asked.{FailsAsRead};
 ghost use Rattle.reuse_session.specs.plan.Conversion.{toml_path};
 ghost use Rattle.reuse_session.specs.session.Answer.{IsEarlyFailure};
 ghost use Rattle.reuse_session.specs.session.Reading.{get, tree_of, OnlyReads, ReadsAlone};
-ghost use Rattle.reuse_session.specs.plan.Worked.{asks_for_table, with_table};
+ghost use Rattle.reuse_session.specs.plan.Selected.{asks_for_table, with_table};
 ghost use Rattle.reuse_session.specs.declared.command.Place.TheVariants as place;
 
 use crate::command::{Place, Scope};

@@ -5,7 +5,7 @@ use reuse_tree::PathText;
 use std::alloc::{AllocError, Global};
 
 /// The path of a text that its caller knows to be a good path, as one that is fixed. A text that is
-/// none would be answered as want of memory.
+/// none would be answered as an allocation failure.
 pub(crate) fn known_path(alloc: Global, text: &str) -> Result<PathText, AllocError>
     ensures { IfOk result (λ path. path ≡ text.now) }
 {

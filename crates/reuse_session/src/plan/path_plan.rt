@@ -12,7 +12,7 @@ ghost use Rattle.reuse_session.specs.declared.plan.path_plan.PathPlan.TheVariant
 ghost use Rattle.reuse_session.specs.declared.plan.path_plan.Policy.TheVariants.{Stop};
 ghost use Rattle.reuse_session.specs.declared.failure.Failure.TheVariants as failures;
 
-use crate::fate::told;
+use crate::path_outcome::told;
 use crate::reply::Refusal;
 use reuse_tree::{Change, PathText};
 use std::alloc::{AllocError, Global};
@@ -47,7 +47,7 @@ impl PathPlan {
     }
 }
 
-/// What a walk does where a path is refused. A fault of the store or want of memory ends each walk.
+/// What a walk does where a path is refused. An I/O error or an allocation failure ends each walk.
 #[derive(Clone, Copy)]
 pub(crate) enum Policy {
     /// It ends there, as a run does.

@@ -2,10 +2,10 @@
 ghost use Rattle.std.specs.Prelude.{◌≡◌, ◌++◌, ◌∷◌, [], ◌||◌, map, IfOk, OnOk};
 ghost use Rattle.std.specs.Option.{option_to_list};
 ghost use Rattle.std.specs.List.{list_any};
-ghost use Rattle.reuse_session.specs.plan.PathPlans.{change_planned, changes_planned, fate_planned, is_refusal};
+ghost use Rattle.reuse_session.specs.plan.PathPlans.{change_planned, changes_planned, path_outcome_planned, is_refusal};
 ghost use Rattle.reuse_session.specs.plan.Counted.{is_skip_planned, skipped_planned};
 
-use crate::fate::Fate;
+use crate::path_outcome::PathOutcome;
 use crate::plan::path_plan::PathPlan;
 use reuse_tree::Change;
 use std::alloc::{AllocError, Global};
@@ -13,21 +13,21 @@ use std::alloc::{AllocError, Global};
 /// What a preview tells of each path, and the changes beside that.
 #[derive(Drop)]
 pub(crate) struct Planned {
-    pub(crate) fates: Vec<Fate>,
+    pub(crate) path_outcomes: Vec<PathOutcome>,
     pub(crate) changes: Vec<Change>,
-    /// Whether one of the fates is a refusal.
+    /// Whether one of the path outcomes is a refusal.
     pub(crate) is_refused: bool,
 }
 
 impl Planned {
     /// What the plans tell.
     pub(crate) fn of(alloc: Global, plans: Vec<PathPlan>) -> Result<Planned, AllocError>
-        ensures fates { IfOk result (λ planned. planned.fates.items ≡ map fate_planned plans.items) }
+        ensures path_outcomes { IfOk result (λ planned. planned.path_outcomes.items ≡ map path_outcome_planned plans.items) }
         ensures changes { IfOk result (λ planned. planned.changes.items ≡ changes_planned plans.items) }
         ensures refused { IfOk result (λ planned. planned.is_refused ≡ list_any is_refusal plans.items) }
     {
         let mut planned = Planned {
-            fates: Vec::with_capacity(alloc, plans.len())?,
+            path_outcomes: Vec::with_capacity(alloc, plans.len())?,
             changes: Vec::new(alloc),
             is_refused: false,
         };
@@ -39,24 +39,24 @@ impl Planned {
 
     // Adds what a plan tells.
     fn push(&mut self, alloc: Global, plan: PathPlan) -> Result<(), AllocError>
-        ensures fates { OnOk result (self.new.fates.items ≡ self.old.fates.items ++ fate_planned plan ∷ []) }
+        ensures path_outcomes { OnOk result (self.new.path_outcomes.items ≡ self.old.path_outcomes.items ++ path_outcome_planned plan ∷ []) }
         ensures changes { OnOk result (self.new.changes.items ≡ self.old.changes.items ++ option_to_list (change_planned plan)) }
         ensures refused { OnOk result (self.new.is_refused ≡ (self.old.is_refused || is_refusal plan)) }
     {
-        let fate = match plan {
+        let path_outcome = match plan {
             PathPlan::Change(change) => {
                 let path = change.path().try_clone(alloc)?;
                 self.changes.push(change)?;
-                Fate::Changes(path)
+                PathOutcome::Changes(path)
             }
-            PathPlan::Unchanged(path) => Fate::Unchanged(path),
-            PathPlan::Skipped(path) => Fate::Skipped(path),
+            PathPlan::Unchanged(path) => PathOutcome::Unchanged(path),
+            PathPlan::Skipped(path) => PathOutcome::Skipped(path),
             PathPlan::Refused(refusal) => {
                 self.is_refused = true;
-                Fate::Refused(refusal)
+                PathOutcome::Refused(refusal)
             }
         };
-        self.fates.push(fate)?;
+        self.path_outcomes.push(path_outcome)?;
         Ok(())
     }
 }

@@ -3,7 +3,7 @@
 ghost use Rattle.std.specs.Prelude.{◌≡◌, ◌++◌, None, IfOk, IfErr};
 ghost use Rattle.std.specs.List.Sorted.{IsPermutation, IsSortedBy};
 ghost use Rattle.reuse_session.specs.plan.Counted.{skipped_count};
-ghost use Rattle.reuse_session.specs.session.Fates.{fates_of, first_refusal};
+ghost use Rattle.reuse_session.specs.session.PathOutcomes.{path_outcomes_of, first_refusal};
 ghost use Rattle.reuse_session.specs.plan.Outcome.{outcome_of, edits_of};
 ghost use Rattle.reuse_session.specs.plan.PathPlans.{limit_planned};
 ghost use Rattle.reuse_session.specs.plan.Plan.{IsPlan, IsRefusalOf, Records, is_before};
@@ -11,7 +11,7 @@ ghost use Rattle.reuse_session.specs.session.Answer.{IsEarlyFailure};
 ghost use Rattle.reuse_session.specs.session.Reading.{tree_of, IsOfPlan, OnlyReads, RefusedAsRead};
 
 use crate::command::Command;
-use crate::fate::{Fate, Fates, Previewed};
+use crate::path_outcome::{PathOutcome, PathOutcomes, Previewed};
 use crate::plan::counts::Counts;
 use crate::plan::path_plan::Policy;
 use crate::plan::planned::{Planned, changes_planned, skipped_planned};
@@ -31,7 +31,7 @@ pub(crate) fn plan<S: Store>(
     ensures changes { S.honest store.new → IfOk result (λ changes. IsPlan (outcome_of command.now (tree_of (S.files store.old))) (tree_of (S.files store.old)) changes.items) }
     // The changes hold what the command removes and writes at each path, and no more.
     ensures recorded { S.honest store.new → IfOk result (λ changes. Records (tree_of (S.files store.old)) (edits_of command.now (tree_of (S.files store.old))) changes.items) }
-    ensures skipped { S.honest store.new → IfOk result (λ changes. counts.new.skipped ≡ skipped_count (fates_of command.now (tree_of (S.files store.old)))) }
+    ensures skipped { S.honest store.new → IfOk result (λ changes. counts.new.skipped ≡ skipped_count (path_outcomes_of command.now (tree_of (S.files store.old)))) }
     ensures refusal { S.honest store.new → IfErr result (λ refusal. IsRefusalOf (outcome_of command.now (tree_of (S.files store.old))) refusal) }
     ensures fails { RefusedAsRead S.Store store.old store.new result }
     ensures reads { OnlyReads S.Store store.old store.new }
@@ -56,18 +56,18 @@ fn sorted(changes: Vec<Change>) -> Vec<Change>
     changes
 }
 
-/// What a run of the command would do on the tree that the store has: the fates of its paths, and
-/// its changes in byte order of their paths.
+/// What a run of the command would do on the tree that the store has: the outcomes of its paths,
+/// and its changes in byte order of their paths.
 pub(crate) fn plan_preview<S: Store>(
     alloc: Global,
     store: &mut S,
     command: &Command,
 ) -> Result<Previewed, Refusal>
-    ensures fates { S.honest store.new → IfOk result (λ previewed. previewed.fates ≡ fates_of command.now (tree_of (S.files store.old))) }
-    // Where none of the fates is a refusal, the changes are those of a run.
-    ensures changes { S.honest store.new → IfOk result (λ previewed. first_refusal previewed.fates ≡ None
+    ensures path_outcomes { S.honest store.new → IfOk result (λ previewed. previewed.path_outcomes ≡ path_outcomes_of command.now (tree_of (S.files store.old))) }
+    // Where none of the path outcomes is a refusal, the changes are those of a run.
+    ensures changes { S.honest store.new → IfOk result (λ previewed. first_refusal previewed.path_outcomes ≡ None
         → IsPlan (outcome_of command.now (tree_of (S.files store.old))) (tree_of (S.files store.old)) previewed.changes) }
-    ensures recorded { S.honest store.new → IfOk result (λ previewed. first_refusal previewed.fates ≡ None
+    ensures recorded { S.honest store.new → IfOk result (λ previewed. first_refusal previewed.path_outcomes ≡ None
         → Records (tree_of (S.files store.old)) (edits_of command.now (tree_of (S.files store.old))) previewed.changes) }
     ensures fails { RefusedAsRead S.Store store.old store.new result }
     ensures reads { OnlyReads S.Store store.old store.new }
@@ -77,24 +77,24 @@ pub(crate) fn plan_preview<S: Store>(
     Ok(with_limit(Planned::of(alloc, plans)?)?)
 }
 
-// What is planned. Behind the fates stands, where none is a refusal, that the changes are too many
-// together.
+// What is planned. Behind the path outcomes stands, where none is a refusal, that the changes are
+// too many together.
 fn with_limit(planned: Planned) -> Result<Previewed, AllocError>
-    ensures fates { IfOk result (λ previewed. previewed.fates ≡ planned.fates.items ++ limit_planned planned.is_refused planned.changes.items) }
+    ensures path_outcomes { IfOk result (λ previewed. previewed.path_outcomes ≡ planned.path_outcomes.items ++ limit_planned planned.is_refused planned.changes.items) }
     ensures moved { IfOk result (λ previewed. IsPermutation planned.changes.items previewed.changes) }
     ensures sorted { IfOk result (λ previewed. IsSortedBy is_before previewed.changes) }
 {
     let over = !planned.is_refused && is_too_many(&planned.changes);
     let Planned {
-        mut fates,
+        mut path_outcomes,
         changes,
         is_refused: _,
     } = planned;
     if over {
-        fates.push(Fate::Refused(Refusal::TooMany))?;
+        path_outcomes.push(PathOutcome::Refused(Refusal::TooMany))?;
     }
     Ok(Previewed {
-        fates: Fates::new(fates),
+        path_outcomes: PathOutcomes::new(path_outcomes),
         changes: Changes::new(sorted(changes)),
     })
 }

@@ -7,7 +7,7 @@ ghost use Rattle.reuse_session.specs.session.Answer.{IsEarlyFailure};
 ghost use Rattle.reuse_session.specs.session.Reading.{tree_of, OnlyReads, ReadsAlone};
 ghost use Rattle.reuse_session.specs.plan.Shown.{folders_for, ShowsEach, ShowsPlace};
 ghost use Rattle.reuse_session.specs.plan.Choice.{is_chosen, is_listed, is_passed_over};
-ghost use Rattle.reuse_session.specs.plan.Worked.{expanded, worked_paths};
+ghost use Rattle.reuse_session.specs.plan.Selected.{expanded, selected_paths};
 ghost use Rattle.reuse_session.specs.declared.command.Place.TheVariants as place;
 ghost use Rattle.std.specs.Option.{option_to_list};
 ghost use Rattle.reuse_notice.specs.Sets.{set_of};
@@ -57,7 +57,7 @@ pub(crate) enum Listing {
 /// The paths that a command goes through, in byte order and without repeats, and what is known of
 /// them.
 #[derive(Drop)]
-pub(crate) struct Worked {
+pub(crate) struct Selected {
     pub(crate) paths: Vec<PathText>,
     pub(crate) listing: Listing,
 }
@@ -65,18 +65,18 @@ pub(crate) struct Worked {
 /// The paths that a command goes through: those among the places, and, where folders are gone
 /// through, the covered files beneath a folder that are asked for in its place. Nothing is listed
 /// where no folders are gone through.
-pub(crate) fn find_worked<S: Store>(
+pub(crate) fn find_selected<S: Store>(
     alloc: Global,
     store: &mut S,
     places: &[Place],
     scope: &Scope,
-) -> Result<Worked, Refusal>
-    ensures paths { S.honest store.new → IfOk result (λ worked. worked.paths.items ≡ worked_paths scope.now places.now (tree_of (S.files store.old))) }
-    ensures shown { S.honest store.new → IfOk result (λ worked. ShowsEach worked.listing (tree_of (S.files store.old)) worked.paths.items) }
+) -> Result<Selected, Refusal>
+    ensures paths { S.honest store.new → IfOk result (λ selected. selected.paths.items ≡ selected_paths scope.now places.now (tree_of (S.files store.old))) }
+    ensures shown { S.honest store.new → IfOk result (λ selected. ShowsEach selected.listing (tree_of (S.files store.old)) selected.paths.items) }
     ensures asks { ReadsAlone S.Store IsEarlyFailure store.old store.new result }
 {
     if !scope.recursive {
-        return Ok(Worked {
+        return Ok(Selected {
             paths: given_paths(alloc, places)?,
             listing: Listing::Alone,
         });
@@ -90,15 +90,15 @@ fn find_beneath<S: Store>(
     store: &mut S,
     places: &[Place],
     scope: &Scope,
-) -> Result<Worked, Refusal>
-    ensures paths { S.honest store.new → IfOk result (λ worked. worked.paths.items ≡ set_of (flat_map (expanded scope.now (tree_of (S.files store.old))) places.now)) }
-    ensures shown { S.honest store.new → IfOk result (λ worked. ShowsEach worked.listing (tree_of (S.files store.old)) worked.paths.items) }
+) -> Result<Selected, Refusal>
+    ensures paths { S.honest store.new → IfOk result (λ selected. selected.paths.items ≡ set_of (flat_map (expanded scope.now (tree_of (S.files store.old))) places.now)) }
+    ensures shown { S.honest store.new → IfOk result (λ selected. ShowsEach selected.listing (tree_of (S.files store.old)) selected.paths.items) }
     ensures asks { ReadsAlone S.Store IsEarlyFailure store.old store.new result }
 {
     let given = given_paths(alloc, places)?;
     let listed = list_selected(alloc, store, places, &given, scope)?;
     let paths = sorted(expanded(alloc, store, &listed, places, scope)?);
-    Ok(Worked {
+    Ok(Selected {
         paths,
         listing: Listing::Listed(Items::new(listed)),
     })

@@ -8,7 +8,7 @@ ghost use Rattle.reuse_session.specs.plan.PathPlans.{AnswersPlan, AnswersPlans, 
 ghost use Rattle.reuse_session.specs.session.Reading.{tree_of, IsOfPlan, ReadsAlone};
 ghost use Rattle.reuse_session.specs.plan.Shown.{ShowsEach, ShowsOne, ShowsPair};
 ghost use Rattle.reuse_session.specs.plan.TreeStyles.{styles_in};
-ghost use Rattle.reuse_session.specs.plan.Worked.{with_table};
+ghost use Rattle.reuse_session.specs.plan.Selected.{with_table};
 ghost use Rattle.reuse_session.specs.declared.plan.path_plan.Policy.TheVariants.{Stop};
 
 use crate::command::{Command, Place, Scope};
@@ -20,7 +20,7 @@ use crate::plan::convert::plan_conversion;
 use crate::plan::download::plan_download;
 use crate::plan::path_plan::{PathPlan, Policy};
 use crate::plan::revert::plan_revert;
-use crate::plan::select::{Listing, find_worked, gives_root};
+use crate::plan::select::{Listing, find_selected, gives_root};
 use crate::plan::styles::read_styles;
 use crate::plan::tree_paths::pair_paths;
 use crate::reply::Refusal;
@@ -118,27 +118,34 @@ fn plan_places<S: Store>(
     if gives_root(places, asked.scope()) {
         return policy.refused_alone(alloc, Refusal::IsFolder(Place::Root));
     }
-    match find_worked(alloc, store, places, asked.scope()) {
-        Ok(worked) => plan_paths(alloc, store, &worked.paths, &worked.listing, asked, policy),
+    match find_selected(alloc, store, places, asked.scope()) {
+        Ok(selected) => plan_paths(
+            alloc,
+            store,
+            &selected.paths,
+            &selected.listing,
+            asked,
+            policy,
+        ),
         Err(refusal) => Err(refusal),
     }
 }
 
-// What is done at the worked paths.
+// What is done at the selected paths.
 fn plan_paths<S: Store>(
     alloc: Global,
     store: &mut S,
-    worked: &[PathText],
+    selected: &[PathText],
     listing: &Listing,
     asked: &Asked<'_>,
     policy: Policy,
 ) -> Result<Vec<PathPlan>, Refusal>
-    ensures plans { S.honest store.new → ShowsEach listing.now (tree_of (S.files store.old)) worked.now
-        → AnswersPlans policy (tree_of (S.files store.old)) (map (at_by asked.now (tree_of (S.files store.old))) worked.now) result }
+    ensures plans { S.honest store.new → ShowsEach listing.now (tree_of (S.files store.old)) selected.now
+        → AnswersPlans policy (tree_of (S.files store.old)) (map (at_by asked.now (tree_of (S.files store.old))) selected.now) result }
     ensures asks { ReadsAlone S.Store (EndsWalk policy) store.old store.new result }
 {
-    let mut plans = Vec::with_capacity(alloc, worked.len())?;
-    for path in worked {
+    let mut plans = Vec::with_capacity(alloc, selected.len())?;
+    for path in selected {
         let plan = match plan_one(alloc, store, path, listing, asked, policy) {
             Ok(plan) => plan,
             Err(refusal) => return Err(refusal),

@@ -2,7 +2,7 @@
 ghost use Rattle.std.specs.Prelude.{◌≡◌, ◌↔◌, true};
 ghost use Rattle.reuse_session.specs.session.Requests.{replied};
 
-use crate::fate::Fates;
+use crate::path_outcome::PathOutcomes;
 use crate::reply::{Answer, Refusal, Reply, Reverted, Rows, Shown};
 use crate::request::{Call, Request};
 use crate::session::Session;
@@ -12,7 +12,7 @@ use std::alloc::Global;
 impl<S: Store + Drop> Session<S> {
     ghost use Rattle.reuse_session.specs.session.Answer.{TellsNoFault};
     ghost use Rattle.reuse_session.specs.journal.Journal.{State};
-    ghost use Rattle.reuse_session.specs.session.Requests.{IsAnswered, Peeks, Previews};
+    ghost use Rattle.reuse_session.specs.session.Requests.{IsAnswered, ReadsOnlyWithCause, Previews};
     ghost use Rattle.reuse_session.specs.session.Session.{store_of, is_broken, StandsOn};
 
     /// Answers a request. It is refused as the call is that it asks for.
@@ -21,7 +21,7 @@ impl<S: Store + Drop> Session<S> {
     {
         match request {
             Request::Make(call, when) => self.make(alloc, call, *when),
-            Request::Preview(call) => fates_replied(self.preview_call(alloc, call)),
+            Request::Preview(call) => path_outcomes_replied(self.preview_call(alloc, call)),
             Request::Log => rows_replied(self.log(alloc)),
             Request::Show(number) => shown_replied(self.show(alloc, *number)),
         }
@@ -41,15 +41,15 @@ impl<S: Store + Drop> Session<S> {
         }
     }
 
-    /// Tells what the call would do, path by path, and changes nothing. If one of the fates is a
-    /// refusal, the call would be refused by the first, and else it would be accepted.
+    /// Tells what the call would do, path by path, and changes nothing. If one of the path outcomes
+    /// is a refusal, the call would be refused by the first, and else it would be accepted.
     ///
     /// It is refused as `preview`, `preview_undo` and `preview_redo` are, and for a revert as
     /// `revert_command` is.
-    pub fn preview_call(&mut self, alloc: Global, call: &Call) -> Result<Fates, Refusal>
+    pub fn preview_call(&mut self, alloc: Global, call: &Call) -> Result<PathOutcomes, Refusal>
         ensures broken { (result ≡ Err Refusal.Broken) ↔ (is_broken self.old ≡ true) }
         ensures exact { S.honest (store_of self.new) → (held : State) → StandsOn S.files self.old held → TellsNoFault result → Previews call.now held result }
-        ensures looks { Peeks S.Store result self.old self.new }
+        ensures reads_only { ReadsOnlyWithCause S.Store result self.old self.new }
     {
         match call {
             Call::Run(command) => self.preview(alloc, command),
@@ -67,28 +67,28 @@ impl<S: Store + Drop> Session<S> {
         alloc: Global,
         number: u32,
         skip_moved: bool,
-    ) -> Result<Fates, Refusal>
+    ) -> Result<PathOutcomes, Refusal>
         ensures broken { (result ≡ Err Refusal.Broken) ↔ (is_broken self.old ≡ true) }
         ensures exact { S.honest (store_of self.new) → (held : State) → StandsOn S.files self.old held
             → TellsNoFault result → Previews (Call.Revert number skip_moved) held result }
-        ensures looks { Peeks S.Store result self.old self.new }
+        ensures reads_only { ReadsOnlyWithCause S.Store result self.old self.new }
     {
         match self.revert_command(alloc, number, skip_moved) {
             Ok(command) => {
-                let fates = self.preview(alloc, &command);
+                let path_outcomes = self.preview(alloc, &command);
                 drop(command);
-                fates
+                path_outcomes
             }
             Err(refusal) => Err(refusal),
         }
     }
 }
 
-fn fates_replied(answer: Result<Fates, Refusal>) -> Answer
+fn path_outcomes_replied(answer: Result<PathOutcomes, Refusal>) -> Answer
     ensures { result ≡ replied Reply.Preview answer }
 {
     match answer {
-        Ok(fates) => Ok(Reply::Preview(fates)),
+        Ok(path_outcomes) => Ok(Reply::Preview(path_outcomes)),
         Err(refusal) => Err(refusal),
     }
 }

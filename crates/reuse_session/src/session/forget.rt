@@ -35,8 +35,8 @@ impl<S: Store + Drop> Session<S> {
     /// entries. The tree stays, and no number is given out again. It isn't a step, and no undo
     /// takes it back. It answers the numbers, ascending, each once.
     ///
-    /// It is refused as `Broken`, as `NoSuchStep` at the first number that no step has, or for want
-    /// of memory, before it has put anything. Where it stops later it is `Interrupted`.
+    /// It is refused as `Broken`, as `NoSuchStep` at the first number that no step has, or for an
+    /// allocation failure, before it has put anything. Where it stops later it is `Interrupted`.
     pub fn forget(&mut self, alloc: Global, numbers: &[u32]) -> Result<EntryNumbers, Refusal>
         ensures broken { (result ≡ Err Refusal.Broken) ↔ (is_broken self.old ≡ true) }
         ensures absent { (number : ℕ) → (result ≡ Err (Refusal.NoSuchStep number))
@@ -44,8 +44,8 @@ impl<S: Store + Drop> Session<S> {
         ensures stays { IfErr result (λ refusal. IsEarly refusal → self.new ≡ self.old) }
         ensures refusal { IfErr result IsForgetRefusal }
 
-        // Unless the answer tells want of memory or a stop, each number is that of a step and these
-        // are gone, from any standing.
+        // Unless the answer tells an allocation failure or a stop, each number is that of a step
+        // and these are gone, from any standing.
         ensures exact { S.honest (store_of self.new) → (held : State) → StandsOn S.files self.old held
             → TellsNoFault result → (left : State) × StandsOn S.files self.new left × Forgets numbers.now held result left }
         // Where they are the oldest that are done, the session stands at the state of the machine
@@ -135,8 +135,8 @@ impl<S: Store + Drop> Session<S> {
     }
 }
 
-// What forgetting puts and removes. It is made before the put, so that want of memory for it is no
-// stop.
+// What forgetting puts and removes. It is made before the put, so that an allocation failure for it
+// is no stop.
 #[derive(Drop)]
 struct Forgetting {
     // The numbers, ascending, each once.

@@ -1,55 +1,55 @@
 //! Previews: what a call would do, alone or with the changes of the same plan. They only read.
 ghost use Rattle.std.specs.Prelude.{◌≡◌, ◌↔◌, ◌++◌, ◌∷◌, [], List, true, false, length, None, Some, IfOk, IfErr};
 ghost use Rattle.reuse_session.specs.session.Answer.{TellsNoFault, IsReadRefusal};
-ghost use Rattle.reuse_session.specs.session.Fates.{fates_of, first_refusal};
+ghost use Rattle.reuse_session.specs.session.PathOutcomes.{path_outcomes_of, first_refusal};
 ghost use Rattle.reuse_session.specs.journal.History.{entries_ahead};
 ghost use Rattle.reuse_session.specs.journal.Journal.{State, ahead, changes_ahead, end_of};
-ghost use Rattle.reuse_session.specs.session.Machine.{Snapshots, is_full, run_fates, undo_fates, redo_fates, step_fates};
+ghost use Rattle.reuse_session.specs.session.Machine.{Snapshots, is_full, run_path_outcomes, undo_path_outcomes, redo_path_outcomes, step_path_outcomes};
 ghost use Rattle.reuse_session.specs.plan.Outcome.{outcome_of, edits_of};
 ghost use Rattle.reuse_session.specs.plan.Plan.{IsPlan, Records};
-ghost use Rattle.reuse_session.specs.session.Previews.{run_fates_on, fates_alone, Foresees, OnlyLooks, IsPreviewRefusal};
+ghost use Rattle.reuse_session.specs.session.Previews.{run_path_outcomes_on, path_outcomes_alone, PreviewsReplay, ReadsOnly, IsPreviewRefusal};
 ghost use Rattle.reuse_session.specs.session.Session.{store_of, is_broken, memory_of, StandsOn, StandsAt};
 ghost use Rattle.reuse_tree.specs.Entry.{IsEntry};
 ghost use Rattle.reuse_tree.specs.declared.way.Way.TheVariants as go;
 ghost use Rattle.reuse_session.specs.declared.journal.history.ListedEntry.{ListedEntry};
 
 use crate::command::Command;
-use crate::fate::{Fates, Previewed};
 use crate::journal::files::read_entry;
 use crate::journal::history::ListedEntry;
+use crate::path_outcome::{PathOutcomes, Previewed};
 use crate::plan::run::plan_preview;
 use crate::reply::Refusal;
 use crate::session::Session;
-use crate::session::travel::end_of;
-use crate::session::travel_fates::travel_fates;
+use crate::session::replay::end_of;
+use crate::session::replay_path_outcomes::replay_path_outcomes;
 use reuse_tree::{Store, Way};
 use std::alloc::Global;
 
 impl<S: Store + Drop> Session<S> {
     /// Tells what a run of the command would do, path by path, and changes nothing. Where one of
-    /// the fates is a refusal, a run is refused by the first, and else it is accepted.
+    /// the path outcomes is a refusal, a run is refused by the first, and else it is accepted.
     ///
-    /// It is refused as `Broken` or `JournalFull`, or for a fault of the store or want of memory.
-    pub fn preview(&mut self, alloc: Global, command: &Command) -> Result<Fates, Refusal>
+    /// It is refused as `Broken` or `JournalFull`, or for an I/O error or an allocation failure.
+    pub fn preview(&mut self, alloc: Global, command: &Command) -> Result<PathOutcomes, Refusal>
         ensures broken { (result ≡ Err Refusal.Broken) ↔ (is_broken self.old ≡ true) }
         ensures full { (result ≡ Err Refusal.JournalFull)
             ↔ ((is_broken self.old ≡ false) × (is_full (length (memory_of self.old).done) (memory_of self.old).used ≡ true)) }
-        // The fates are those of the command on the tree that is there, and so those of the
+        // The path outcomes are those of the command on the tree that is there, and so those of the
         // machine.
-        ensures exact { S.honest (store_of self.new) → (held : State) → StandsOn S.files self.old held → IfOk result (λ fates. fates ≡ fates_of command.now held.tree) }
-        ensures answers { S.honest (store_of self.new) → (held : State) → StandsOn S.files self.old held → TellsNoFault result → result ≡ run_fates_on held command.now }
-        ensures machine { S.honest (store_of self.new) → (state : Snapshots) → StandsAt S.files self.old state → TellsNoFault result → result ≡ run_fates state command.now }
-        ensures looks { OnlyLooks S.Store result self.old self.new }
+        ensures exact { S.honest (store_of self.new) → (held : State) → StandsOn S.files self.old held → IfOk result (λ path_outcomes. path_outcomes ≡ path_outcomes_of command.now held.tree) }
+        ensures answers { S.honest (store_of self.new) → (held : State) → StandsOn S.files self.old held → TellsNoFault result → result ≡ run_path_outcomes_on held command.now }
+        ensures machine { S.honest (store_of self.new) → (state : Snapshots) → StandsAt S.files self.old state → TellsNoFault result → result ≡ run_path_outcomes state command.now }
+        ensures reads_only { ReadsOnly S.Store result self.old self.new }
         ensures refusal { IfErr result IsPreviewRefusal }
     {
-        fates_alone(self.preview_changes(alloc, command))
+        path_outcomes_alone(self.preview_changes(alloc, command))
     }
 
     /// Tells what a run of the command would do, path by path, as `preview` does, and answers the
-    /// changes of the same plan, in byte order of their paths. Where none of the fates is a refusal
-    /// they are those that a run would record, and none where it would change nothing.
+    /// changes of the same plan, in byte order of their paths. Where none of the path outcomes is a
+    /// refusal they are those that a run would record, and none where it would change nothing.
     ///
-    /// It is refused as `Broken` or `JournalFull`, or for a fault of the store or want of memory.
+    /// It is refused as `Broken` or `JournalFull`, or for an I/O error or an allocation failure.
     pub fn preview_changes(
         &mut self,
         alloc: Global,
@@ -58,21 +58,22 @@ impl<S: Store + Drop> Session<S> {
         ensures broken { (result ≡ Err Refusal.Broken) ↔ (is_broken self.old ≡ true) }
         ensures full { (result ≡ Err Refusal.JournalFull)
             ↔ ((is_broken self.old ≡ false) × (is_full (length (memory_of self.old).done) (memory_of self.old).used ≡ true)) }
-        // The fates are those of the command on the tree that is there, and so those of the
+        // The path outcomes are those of the command on the tree that is there, and so those of the
         // machine.
         ensures exact { S.honest (store_of self.new) → (held : State) → StandsOn S.files self.old held
-            → IfOk result (λ previewed. previewed.fates ≡ fates_of command.now held.tree) }
+            → IfOk result (λ previewed. previewed.path_outcomes ≡ path_outcomes_of command.now held.tree) }
         ensures answers { S.honest (store_of self.new) → (held : State) → StandsOn S.files self.old held
-            → TellsNoFault result → fates_alone result ≡ run_fates_on held command.now }
+            → TellsNoFault result → path_outcomes_alone result ≡ run_path_outcomes_on held command.now }
         ensures machine { S.honest (store_of self.new) → (state : Snapshots) → StandsAt S.files self.old state
-            → TellsNoFault result → fates_alone result ≡ run_fates state command.now }
-        // Where none of the fates is a refusal, the changes are none or a good entry, lead from the
-        // tree to that of the command's outcome, and hold what the command removes and writes.
+            → TellsNoFault result → path_outcomes_alone result ≡ run_path_outcomes state command.now }
+        // Where none of the path outcomes is a refusal, the changes are none or a good entry, lead
+        // from the tree to that of the command's outcome, and hold what the command removes and
+        // writes.
         ensures plan { S.honest (store_of self.new) → (held : State) → StandsOn S.files self.old held
-            → IfOk result (λ previewed. first_refusal previewed.fates ≡ None → IsPlan (outcome_of command.now held.tree) held.tree previewed.changes) }
+            → IfOk result (λ previewed. first_refusal previewed.path_outcomes ≡ None → IsPlan (outcome_of command.now held.tree) held.tree previewed.changes) }
         ensures recorded { S.honest (store_of self.new) → (held : State) → StandsOn S.files self.old held
-            → IfOk result (λ previewed. first_refusal previewed.fates ≡ None → Records held.tree (edits_of command.now held.tree) previewed.changes) }
-        ensures looks { OnlyLooks S.Store result self.old self.new }
+            → IfOk result (λ previewed. first_refusal previewed.path_outcomes ≡ None → Records held.tree (edits_of command.now held.tree) previewed.changes) }
+        ensures reads_only { ReadsOnly S.Store result self.old self.new }
         ensures refusal { IfErr result IsPreviewRefusal }
     {
         if self.broken {
@@ -88,53 +89,53 @@ impl<S: Store + Drop> Session<S> {
     /// be taken back or is refused as `Moved`.
     ///
     /// It is refused as `Broken` or `NothingToUndo`, as `BadJournal` where the entry can't be read,
-    /// or for a fault of the store or want of memory.
-    pub fn preview_undo(&mut self, alloc: Global) -> Result<Fates, Refusal>
+    /// or for an I/O error or an allocation failure.
+    pub fn preview_undo(&mut self, alloc: Global) -> Result<PathOutcomes, Refusal>
         ensures broken { (result ≡ Err Refusal.Broken) ↔ (is_broken self.old ≡ true) }
         ensures nothing { (result ≡ Err Refusal.NothingToUndo) ↔ ((is_broken self.old ≡ false) × ((memory_of self.old).done ≡ [])) }
         ensures exact { S.honest (store_of self.new) → (held : State) → StandsOn S.files self.old held
-            → TellsNoFault result → Foresees go.Undo held.journal.done held.tree result }
-        ensures machine { S.honest (store_of self.new) → (state : Snapshots) → StandsAt S.files self.old state → TellsNoFault result → result ≡ undo_fates state.tree state.past }
-        ensures looks { OnlyLooks S.Store result self.old self.new }
+            → TellsNoFault result → PreviewsReplay go.Undo held.journal.done held.tree result }
+        ensures machine { S.honest (store_of self.new) → (state : Snapshots) → StandsAt S.files self.old state → TellsNoFault result → result ≡ undo_path_outcomes state.tree state.past }
+        ensures reads_only { ReadsOnly S.Store result self.old self.new }
         ensures refusal { IfErr result IsPreviewRefusal }
     {
-        fates_alone(self.preview_step(alloc, Way::Undo))
+        path_outcomes_alone(self.preview_step(alloc, Way::Undo))
     }
 
     /// Tells what a redo would do: for each path of the next step, in byte order, whether it would
     /// be changed again or is refused as `Moved`.
     ///
     /// It is refused as `Broken` or `NothingToRedo`, as `BadJournal` where the entry can't be read,
-    /// or for a fault of the store or want of memory.
-    pub fn preview_redo(&mut self, alloc: Global) -> Result<Fates, Refusal>
+    /// or for an I/O error or an allocation failure.
+    pub fn preview_redo(&mut self, alloc: Global) -> Result<PathOutcomes, Refusal>
         ensures broken { (result ≡ Err Refusal.Broken) ↔ (is_broken self.old ≡ true) }
         ensures nothing { (result ≡ Err Refusal.NothingToRedo) ↔ ((is_broken self.old ≡ false) × ((memory_of self.old).undone ≡ [])) }
         ensures exact { S.honest (store_of self.new) → (held : State) → StandsOn S.files self.old held
-            → TellsNoFault result → Foresees go.Do held.journal.undone held.tree result }
-        ensures machine { S.honest (store_of self.new) → (state : Snapshots) → StandsAt S.files self.old state → TellsNoFault result → result ≡ redo_fates state.tree state.future }
-        ensures looks { OnlyLooks S.Store result self.old self.new }
+            → TellsNoFault result → PreviewsReplay go.Do held.journal.undone held.tree result }
+        ensures machine { S.honest (store_of self.new) → (state : Snapshots) → StandsAt S.files self.old state → TellsNoFault result → result ≡ redo_path_outcomes state.tree state.future }
+        ensures reads_only { ReadsOnly S.Store result self.old self.new }
         ensures refusal { IfErr result IsPreviewRefusal }
     {
-        fates_alone(self.preview_step(alloc, Way::Do))
+        path_outcomes_alone(self.preview_step(alloc, Way::Do))
     }
 
     /// Tells what going one step this way would do, as `preview_undo` and `preview_redo` do, and
     /// answers the changes of the step, which an undo takes back or a redo makes again.
     ///
     /// It is refused as `Broken`, as `NothingToUndo` or `NothingToRedo`, as `BadJournal` where the
-    /// entry can't be read, or for a fault of the store or want of memory.
+    /// entry can't be read, or for an I/O error or an allocation failure.
     pub fn preview_step(&mut self, alloc: Global, way: Way) -> Result<Previewed, Refusal>
         ensures broken { (result ≡ Err Refusal.Broken) ↔ (is_broken self.old ≡ true) }
         ensures nothing { (result ≡ Err (end_of way)) ↔ ((is_broken self.old ≡ false) × (entries_ahead way (memory_of self.old) ≡ [])) }
         ensures exact { S.honest (store_of self.new) → (held : State) → StandsOn S.files self.old held
-            → TellsNoFault result → Foresees way (ahead way held.journal) held.tree (fates_alone result) }
+            → TellsNoFault result → PreviewsReplay way (ahead way held.journal) held.tree (path_outcomes_alone result) }
         ensures machine { S.honest (store_of self.new) → (state : Snapshots) → StandsAt S.files self.old state
-            → TellsNoFault result → fates_alone result ≡ step_fates way state }
+            → TellsNoFault result → path_outcomes_alone result ≡ step_path_outcomes way state }
         // The changes are those of the step, and a good entry.
         ensures changes { S.honest (store_of self.new) → (held : State) → StandsOn S.files self.old held
             → IfOk result (λ previewed. changes_ahead (ahead way held.journal) ≡ Some previewed.changes) }
         ensures good { IfOk result (λ previewed. IsEntry previewed.changes) }
-        ensures looks { OnlyLooks S.Store result self.old self.new }
+        ensures reads_only { ReadsOnly S.Store result self.old self.new }
         ensures refusal { IfErr result IsPreviewRefusal }
     {
         if self.broken {
@@ -155,28 +156,38 @@ impl<S: Store + Drop> Session<S> {
     ) -> Result<Previewed, Refusal>
         requires { (front : List ListedEntry) × (entries_ahead way (memory_of self.now) ≡ front ++ listed ∷ []) }
         ensures exact { S.honest (store_of self.new) → (held : State) → StandsOn S.files self.old held
-            → TellsNoFault result → Foresees way (ahead way held.journal) held.tree (fates_alone result) }
+            → TellsNoFault result → PreviewsReplay way (ahead way held.journal) held.tree (path_outcomes_alone result) }
         ensures changes { S.honest (store_of self.new) → (held : State) → StandsOn S.files self.old held
             → IfOk result (λ previewed. changes_ahead (ahead way held.journal) ≡ Some previewed.changes) }
         ensures good { IfOk result (λ previewed. IsEntry previewed.changes) }
-        ensures looks { OnlyLooks S.Store result self.old self.new }
+        ensures reads_only { ReadsOnly S.Store result self.old self.new }
         ensures refusal { IfErr result IsReadRefusal }
     {
         let entry = read_entry(alloc, &mut self.store, listed.number())?;
-        let fates = travel_fates(alloc, &mut self.store, entry.changes.as_slice(), way)?;
+        let path_outcomes = replay_path_outcomes(
+            alloc,
+            &mut self.store,
+            entry.changes.as_slice(),
+            way,
+        )?;
         Ok(Previewed {
-            fates,
+            path_outcomes,
             changes: entry.changes,
         })
     }
 }
 
-// The fates without the changes.
-fn fates_alone(answer: Result<Previewed, Refusal>) -> Result<Fates, Refusal>
-    ensures { result ≡ fates_alone answer }
+// The path outcomes without the changes.
+fn path_outcomes_alone(answer: Result<Previewed, Refusal>) -> Result<PathOutcomes, Refusal>
+    ensures { result ≡ path_outcomes_alone answer }
 {
     match answer {
-        Ok(Previewed { fates, changes: _ }) => Ok(fates),
+        Ok(
+            Previewed {
+                path_outcomes,
+                changes: _,
+            },
+        ) => Ok(path_outcomes),
         Err(refusal) => Err(refusal),
     }
 }

@@ -20,7 +20,7 @@ impl<S: Store + Drop> Session<S> {
     ghost use Rattle.reuse_session.specs.journal.Losses.{SurvivesCall};
     ghost use Rattle.reuse_session.specs.session.Machine.{Snapshots, is_full};
     ghost use Rattle.reuse_session.specs.session.RevertCalls.{as_run, GivesRevert, GivesRevertAt, IsAfterRevert, Reverts, RevertFollows, LeavesRevert};
-    ghost use Rattle.reuse_session.specs.session.Previews.{OnlyLooks};
+    ghost use Rattle.reuse_session.specs.session.Previews.{ReadsOnly};
     ghost use Rattle.reuse_session.specs.session.Session.{store_of, is_broken, memory_of, StandsOn, StandsAt};
     ghost use Rattle.reuse_session.specs.session.Showing.{lists};
 
@@ -34,7 +34,7 @@ impl<S: Store + Drop> Session<S> {
     /// It is refused as `Broken`, as `NoSuchStep` where no step that is done has the number, as
     /// `BadJournal` where the entry of the step or of a later one has changed since the journal was
     /// opened, as `JournalFull`, as `Moved` at the first path at which the step can't be taken
-    /// back, as `TooMany`, or for a fault of the store or want of memory, before the new step is
+    /// back, as `TooMany`, or for an I/O error or an allocation failure, before the new step is
     /// pending. Where it stops later it is `Interrupted`.
     pub fn revert(
         &mut self,
@@ -49,7 +49,7 @@ impl<S: Store + Drop> Session<S> {
         // A full journal takes no further entry, so that no clash of one is told.
         ensures full { S.honest (store_of self.new) → is_full (length (memory_of self.old).done) (memory_of self.old).used ≡ true → IfErr result IsNoClash }
 
-        // Unless the answer tells a fault of the store or want of memory, the files and the session
+        // Unless the answer tells an I/O error or an allocation failure, the files and the session
         // go on as a run of the command that takes the step's changes back: from any standing, and
         // as the machine.
         ensures exact { S.honest (store_of self.new) → (held : State) → StandsOn S.files self.old held
@@ -86,7 +86,7 @@ impl<S: Store + Drop> Session<S> {
     ///
     /// It is refused as `Broken`, as `NoSuchStep` where no step that is done has the number, as
     /// `BadJournal` where the entry of the step or of a later one has changed since the journal was
-    /// opened, or for a fault of the store or want of memory.
+    /// opened, or for an I/O error or an allocation failure.
     pub fn revert_command(
         &mut self,
         alloc: Global,
@@ -97,7 +97,7 @@ impl<S: Store + Drop> Session<S> {
         ensures absent { (result ≡ Err (Refusal.NoSuchStep number)) ↔ ((is_broken self.old ≡ false) × (lists (memory_of self.old).done number ≡ false)) }
         ensures exact { S.honest (store_of self.new) → (held : State) → StandsOn S.files self.old held → TellsNoFault result → GivesRevert number skip_moved held result }
         ensures machine { S.honest (store_of self.new) → (state : Snapshots) → StandsAt S.files self.old state → TellsNoFault result → GivesRevertAt number skip_moved state result }
-        ensures looks { OnlyLooks S.Store result self.old self.new }
+        ensures reads_only { ReadsOnly S.Store result self.old self.new }
         ensures call { IsCall S.Store result self.old self.new }
     {
         if self.broken {

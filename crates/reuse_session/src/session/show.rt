@@ -19,13 +19,13 @@ impl<S: Store + Drop> Session<S> {
     /// The step of this number, done or undone: its row of the log, and what it changed.
     ///
     /// It is refused as `Broken`, as `NoSuchStep` where no step has the number, as `BadJournal`
-    /// where the step's entry has changed since the journal was opened, or for a fault of the store
-    /// or want of memory.
+    /// where the step's entry has changed since the journal was opened, or for an I/O error or an
+    /// allocation failure.
     pub fn show(&mut self, alloc: Global, number: u32) -> Result<Shown, Refusal>
         ensures broken { (result ≡ Err Refusal.Broken) ↔ (is_broken self.old ≡ true) }
         ensures absent { (result ≡ Err (Refusal.NoSuchStep number))
             ↔ ((is_broken self.old ≡ false) × ((lists (memory_of self.old).done number || lists (memory_of self.old).undone number) ≡ false)) }
-        // Unless it tells a fault of the store or want of memory, it shows a step of the number, or
+        // Unless it tells an I/O error or an allocation failure, it shows a step of the number, or
         // tells that there is none.
         ensures exact { S.honest (store_of self.new) → (held : State) → StandsOn S.files self.old held → TellsNoFault result → ShowsIn held.journal number result }
         ensures machine { S.honest (store_of self.new) → (state : Snapshots) → StandsAt S.files self.old state → IfOk result (ShowsAt state number) }

@@ -5,7 +5,7 @@ pub mod CarriedInside
 pub mod DiffLemmas
 pub mod DrawnLemmas
 pub mod DrawnLines
-pub mod ForeseenLemmas
+pub mod PreviewedLemmas
 pub mod ForgettingLemmas
 pub mod ModelLemmas
 pub mod TextLemmas

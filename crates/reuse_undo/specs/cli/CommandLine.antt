@@ -87,7 +87,7 @@ pub record IsSaid (above : Rows) (sub : Option (List ℕ × Rows)) (moment year 
 abbrev pub no_line : LineFault → Said
 no_line fault = record { verbose = false; settings = usual_settings; files_from = None; asked = Err fault }
 
--- what the words say in the year of the moment; want of memory may take its place
+-- what the words say in the year of the moment; an allocation failure may take its place
 abbrev pub Says : ArgMatches → ℕ → Said → Type 0
 Says matches moment said =
     (said ≡ no_line faults.Memory)

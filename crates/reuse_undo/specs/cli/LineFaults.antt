@@ -17,7 +17,7 @@ pub data Mistake : Type 0 where
   bad_glob : List ℕ → Mistake
   unreadable : List ℕ → Mistake
 
--- the mistake; want of memory is none
+-- the mistake; an allocation failure is none
 abbrev pub mistake_of : LineFault → Option Mistake
 mistake_of (faults.Usage text) = Some (usage (string_bytes text))
 mistake_of (faults.Help text) = Some (help (string_bytes text))
@@ -57,12 +57,12 @@ all_read read (word ∷ words) =
 abbrev pub each_read : {A : Type 0} → (List ℕ → Result A Mistake) → List (List ℕ) → Result (List A) Mistake
 each_read read words = all_read (λ word. then_read (read word) (λ a. Ok (a ∷ []))) words
 
--- what is due was answered, as it is seen; want of memory may take its place
+-- what is due was answered, as it is seen; an allocation failure may take its place
 abbrev pub IsDueAs : {A B : Type 0} → (A → B) → Result B Mistake → Result A LineFault → Type 0
 IsDueAs seen due (Ok a) = due ≡ Ok (seen a)
 IsDueAs seen due (Err fault) = IfSome (mistake_of fault) (λ mistake. due ≡ Err mistake)
 
--- what is due was answered; want of memory may take its place
+-- what is due was answered; an allocation failure may take its place
 abbrev pub IsDue : {A : Type 0} → Result A Mistake → Result A LineFault → Type 0
 IsDue due answer = IsDueAs (λ a. a) due answer
 

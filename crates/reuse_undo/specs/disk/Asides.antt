@@ -1,7 +1,7 @@
 -- Places of files that are written aside, and of names in open folders.
 use Rattle.std.specs.Prelude.{◌≡◌, ◌⊎◌, ℕ, List, string_bytes, IsTrue}
-use Rattle.reuse_undo.specs.disk.HeldFiles.{FileKey, Place, place_in}
-use Rattle.reuse_undo.specs.disk.HeldFiles.FileKey.{Made}
+use Rattle.reuse_undo.specs.disk.FileStates.{FileKey, Place, place_in}
+use Rattle.reuse_undo.specs.disk.FileStates.FileKey.{Made}
 use Rattle.reuse_undo.specs.disk.KeptOut.{is_new_name, new_name}
 use Rattle.reuse_undo.specs.declared.disk.place.Identity.{Identity}
 use Rattle.reuse_undo.specs.declared.disk.handle.OpenFolder.{OpenFolder}

@@ -2,7 +2,7 @@
 -- that of new files, is not said.
 use Rattle.std.specs.Prelude.{◌≡◌, ℕ, Bool, List, Result, IfOk}
 use Rattle.reuse_undo.specs.disk.Asides.{IsNewIn, IsNewPlace}
-use Rattle.reuse_undo.specs.disk.HeldFiles.{Held, place_in}
+use Rattle.reuse_undo.specs.disk.FileStates.{FileState, place_in}
 use Rattle.reuse_undo.specs.disk.Names.{IsNameOf}
 use Rattle.reuse_undo.specs.disk.SystemLaws.{IsAlikeBut, IsAlikeUnless}
 use Rattle.reuse_undo.specs.disk.Written.{IsWritten}
@@ -11,7 +11,7 @@ use Rattle.reuse_undo.specs.declared.disk.place.Identity.{Identity}
 
 -- the bytes were put at the path, as a whole or not at all: in some folder, under the path's own name there, and by way of new files in
 -- some folder or beside the target; nothing else differs
-pub record IsPutAt (path bytes : List ℕ) (is_lasting : Bool) (old new : Held) (is_done : Bool) : Type 0 where
+pub record IsPutAt (path bytes : List ℕ) (is_lasting : Bool) (old new : FileState) (is_done : Bool) : Type 0 where
   pub new_files : Identity
   pub folder : Identity
   pub name : List ℕ
@@ -19,14 +19,14 @@ pub record IsPutAt (path bytes : List ℕ) (is_lasting : Bool) (old new : Held) 
   pub written : IsWritten (IsNewPlace new_files folder) (place_in folder name) bytes is_lasting old new is_done
 
 -- nothing differs but at the path's own name in some folder
-pub record IsRemovedAt (path : List ℕ) (old new : Held) : Type 0 where
+pub record IsRemovedAt (path : List ℕ) (old new : FileState) : Type 0 where
   pub folder : Identity
   pub name : List ℕ
   pub is_named : IsNameOf path name
   pub others : IsAlikeBut (place_in folder name) old new
 
 -- nothing differs but new files in some folder, and that is the folder of these new files, where there are any
-pub record IsCleared {E : Type 0} (old new : Held) (answer : Result NewFile E) : Type 0 where
+pub record IsCleared {E : Type 0} (old new : FileState) (answer : Result NewFile E) : Type 0 where
   pub folder : Identity
   pub others : IsAlikeUnless (IsNewIn folder) old new
   pub is_folder : IfOk answer (λ new_files. new_files.folder.identity ≡ folder)

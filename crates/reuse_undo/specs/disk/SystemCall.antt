@@ -1,6 +1,6 @@
 -- A call of the system that changes regular files.
 use Rattle.std.specs.Prelude.{ℕ, ◌+◌, Bool, List, [], ◌∷◌}
-use Rattle.reuse_undo.specs.disk.HeldFiles.{Place}
+use Rattle.reuse_undo.specs.disk.FileStates.{Place}
 
 -- a call, and whether it answered that it was done
 pub data SystemCall : Type 0 where

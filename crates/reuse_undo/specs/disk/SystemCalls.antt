@@ -1,8 +1,8 @@
 -- The calls of the system with their answers, and what names lead to after them.
 use Rattle.std.specs.Prelude.{ℕ, ◌+◌, zero, suc, Bool, true, false, if◌then◌else◌, List, [], ◌∷◌, ◌++◌, length, take, Option, None, Some, ◌==◌}
 use Rattle.std.specs.Str.{bytes_eq}
-use Rattle.reuse_undo.specs.disk.HeldFiles.{FileKey, HeldFile, Place, Held, file, place_in}
-use Rattle.reuse_undo.specs.disk.HeldFiles.FileKey.{Found, Made}
+use Rattle.reuse_undo.specs.disk.FileStates.{FileKey, StateFile, Place, FileState, file, place_in}
+use Rattle.reuse_undo.specs.disk.FileStates.FileKey.{Found, Made}
 use Rattle.reuse_undo.specs.disk.SystemCall.{SystemCall, made_of}
 use Rattle.reuse_undo.specs.disk.SystemCall.SystemCall.{MakeCall, AppendCall, SyncCall, RenameCall, RemoveCall}
 use Rattle.reuse_undo.specs.declared.disk.system.record.CallKind.{CallKind}
@@ -21,12 +21,12 @@ fate_at (fate ∷ fates) zero = fate
 fate_at (fate ∷ fates) (suc n) = fate_at fates n
 
 -- the file that the place leads to at the start
-abbrev pub held_at_start : List (Place × (ℕ × (List ℕ × Bool))) → Held
+abbrev pub held_at_start : List (Place × (ℕ × (List ℕ × Bool))) → FileState
 held_at_start [] place = None
 held_at_start (entry ∷ entries) place = if bytes_eq place entry.0 then file (Found entry.1.0) entry.1.1.0 entry.1.1.1 else held_at_start entries place
 
 -- the place leads to this
-abbrev pub set : Held → Place → Option HeldFile → Held
+abbrev pub set : FileState → Place → Option StateFile → FileState
 set held place one other = if bytes_eq other place then one else held other
 
 abbrev pub is_made : ℕ → FileKey → Bool
@@ -34,26 +34,26 @@ is_made number (Found other) = false
 is_made number (Made other) = other == number
 
 -- the file, if it is the one that was made so
-abbrev pub filled_if : ℕ → List ℕ → Bool → Option HeldFile → Option HeldFile
+abbrev pub filled_if : ℕ → List ℕ → Bool → Option StateFile → Option StateFile
 filled_if number bytes is_lasting None = None
 filled_if number bytes is_lasting (Some held) = if is_made number held.key then file held.key (held.bytes ++ bytes) is_lasting else Some held
 
-abbrev pub filled : ℕ → List ℕ → Bool → Held → Held
+abbrev pub filled : ℕ → List ℕ → Bool → FileState → FileState
 filled number bytes is_lasting held place = filled_if number bytes is_lasting (held place)
 
-abbrev pub renamed : Bool → Place → Place → Held → Held
+abbrev pub renamed : Bool → Place → Place → FileState → FileState
 renamed stays from to held = set (if stays then held else set held from None) to (held from)
 
-abbrev pub renamed_by : ℕ → Place → Place → Held → Held
+abbrev pub renamed_by : ℕ → Place → Place → FileState → FileState
 renamed_by zero from to held = held
 renamed_by (suc fate) from to held = renamed (fate == 0) from to held
 
-abbrev pub set_by : ℕ → Held → Place → Option HeldFile → Held
+abbrev pub set_by : ℕ → FileState → Place → Option StateFile → FileState
 set_by zero held place one = held
 set_by (suc fate) held place one = set held place one
 
 -- what a call of this fate makes of it, before which so many files were made
-abbrev pub held_by : ℕ → ℕ → SystemCall → Held → Held
+abbrev pub held_by : ℕ → ℕ → SystemCall → FileState → FileState
 held_by fate made (MakeCall place true) held = set held place (file (Made made) [] false)
 held_by fate made (MakeCall place false) held = set_by fate held place (file (Made made) [] false)
 held_by fate made (AppendCall number bytes true) held = filled number bytes false held
@@ -65,7 +65,7 @@ held_by fate made (RemoveCall place true) held = set held place None
 held_by fate made (RemoveCall place false) held = set_by fate held place None
 
 -- what names lead to after these calls, the newest first
-abbrev pub held_after : List (Place × (ℕ × (List ℕ × Bool))) → List ℕ → List SystemCall → Held
+abbrev pub held_after : List (Place × (ℕ × (List ℕ × Bool))) → List ℕ → List SystemCall → FileState
 held_after files fates [] = held_at_start files
 held_after files fates (call ∷ calls) = held_by (fate_at fates (length calls)) (made_of calls) call (held_after files fates calls)
 

@@ -1,52 +1,52 @@
 -- What each call of the system makes of the files that names lead to.
 use Rattle.std.specs.Prelude.{◌≡◌, ◌≢◌, ◌⊎◌, ℕ, Bool, true, false, List, [], ◌++◌, None}
-use Rattle.reuse_undo.specs.disk.HeldFiles.{FileKey, Place, Held, file, IsNot}
+use Rattle.reuse_undo.specs.disk.FileStates.{FileKey, Place, FileState, file, IsNot}
 
 -- nothing differs
-abbrev pub IsAlike : Held → Held → Type 0
+abbrev pub IsAlike : FileState → FileState → Type 0
 IsAlike old new = (place : Place) → new place ≡ old place
 
 -- nothing differs but at this place
-abbrev pub IsAlikeBut : Place → Held → Held → Type 0
+abbrev pub IsAlikeBut : Place → FileState → FileState → Type 0
 IsAlikeBut place old new = (other : Place) → other ≢ place → new other ≡ old other
 
 -- nothing differs but at such places
-abbrev pub IsAlikeUnless : (Place → Type 0) → Held → Held → Type 0
+abbrev pub IsAlikeUnless : (Place → Type 0) → FileState → FileState → Type 0
 IsAlikeUnless Differs old new = (place : Place) → ¬ (Differs place) → new place ≡ old place
 
 -- nothing differs but the file of this key, whatever names lead to it
-abbrev pub IsAlikeButFile : FileKey → Held → Held → Type 0
+abbrev pub IsAlikeButFile : FileKey → FileState → FileState → Type 0
 IsAlikeButFile key old new = (place : Place) → IsNot key (old place) → new place ≡ old place
 
 -- an empty file was made at the place, to which no name led before
-pub record IsMade (place : Place) (key : FileKey) (old new : Held) : Type 0 where
+pub record IsMade (place : Place) (key : FileKey) (old new : FileState) : Type 0 where
   pub here : new place ≡ file key [] false
   pub fresh : (other : Place) → IsNot key (old other)
   pub others : IsAlikeBut place old new
 
 -- the file got these bytes at its end, and a loss of power surely leaves it what it has now, or not
-pub record IsFilled (key : FileKey) (bytes : List ℕ) (is_lasting : Bool) (old new : Held) : Type 0 where
+pub record IsFilled (key : FileKey) (bytes : List ℕ) (is_lasting : Bool) (old new : FileState) : Type 0 where
   pub here : (place : Place) (had : List ℕ) (was_lasting : Bool) → old place ≡ file key had was_lasting → new place ≡ file key (had ++ bytes) is_lasting
   pub others : IsAlikeButFile key old new
 
-abbrev pub IsAppended : FileKey → List ℕ → Held → Held → Type 0
+abbrev pub IsAppended : FileKey → List ℕ → FileState → FileState → Type 0
 IsAppended key bytes old new = IsFilled key bytes false old new
 
 -- a loss of power leaves the file its bytes
-pub record IsSynced (key : FileKey) (old new : Held) : Type 0 where
+pub record IsSynced (key : FileKey) (old new : FileState) : Type 0 where
   pub here : (place : Place) (had : List ℕ) (is_lasting : Bool) → old place ≡ file key had is_lasting → new place ≡ file key had true
   pub others : IsAlikeButFile key old new
 
 -- what stood at one place stands at the other now; where both led to one file, it stands at both
-pub record IsRenamed (from to : Place) (old new : Held) : Type 0 where
+pub record IsRenamed (from to : Place) (old new : FileState) : Type 0 where
   pub there : new to ≡ old from
   pub others : (place : Place) → place ≢ from → place ≢ to → new place ≡ old place
 
 -- no file stands at the place now
-pub record IsRemoved (place : Place) (old new : Held) : Type 0 where
+pub record IsRemoved (place : Place) (old new : FileState) : Type 0 where
   pub gone : new place ≡ None
   pub others : IsAlikeBut place old new
 
 -- a renaming that failed was made or not
-abbrev pub MayBeRenamed : Place → Place → Held → Held → Type 0
+abbrev pub MayBeRenamed : Place → Place → FileState → FileState → Type 0
 MayBeRenamed from to old new = IsAlike old new ⊎ IsRenamed from to old new

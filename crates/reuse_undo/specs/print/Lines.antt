@@ -4,8 +4,8 @@ use Rattle.reuse_tree.specs.Change.{path_of}
 use Rattle.reuse_tree.specs.declared.change.Change.{Change}
 use Rattle.reuse_tree.specs.declared.change.Change.TheVariants.{Make, Drop, Splice}
 use Rattle.reuse_undo.specs.print.RowLines.{AreRowLines, IsRowLine}
-use Rattle.reuse_session.specs.declared.fate.Fate.{Fate}
-use Rattle.reuse_session.specs.declared.fate.Fate.TheVariants.{Changes, Unchanged, Skipped, Refused}
+use Rattle.reuse_session.specs.declared.path_outcome.PathOutcome.{PathOutcome}
+use Rattle.reuse_session.specs.declared.path_outcome.PathOutcome.TheVariants.{Changes, Unchanged, Skipped, Refused}
 use Rattle.reuse_session.specs.declared.reply.Reply.{Reply}
 use Rattle.reuse_session.specs.declared.reply.Reply.TheVariants as replies
 use Rattle.reuse_session.specs.declared.reply.Reply.TheVariants.{Opened, Changed, NothingChanged, Undone, Redone, Log, Preview}
@@ -28,14 +28,14 @@ abbrev pub lines_of : Names → List ℕ → List (List ℕ) → List ℕ
 lines_of names word paths = joined (line_of names word) paths
 
 -- what would become of a path; a refusal is told elsewhere
-abbrev pub fate_line : Names → Fate → List ℕ
-fate_line names (Changes path) = line_of names (codes "would change") path
-fate_line names (Unchanged path) = line_of names (codes "unchanged") path
-fate_line names (Skipped path) = line_of names (codes "skipped") path
-fate_line names (Refused refusal) = []
+abbrev pub path_outcome_line : Names → PathOutcome → List ℕ
+path_outcome_line names (Changes path) = line_of names (codes "would change") path
+path_outcome_line names (Unchanged path) = line_of names (codes "unchanged") path
+path_outcome_line names (Skipped path) = line_of names (codes "skipped") path
+path_outcome_line names (Refused refusal) = []
 
-abbrev pub fate_lines : Names → List Fate → List ℕ
-fate_lines names fates = joined (fate_line names) fates
+abbrev pub path_outcome_lines : Names → List PathOutcome → List ℕ
+path_outcome_lines names path_outcomes = joined (path_outcome_line names) path_outcomes
 
 -- what a change made of its path
 abbrev pub kind_word : Change → List ℕ
@@ -70,14 +70,14 @@ IsReplyText names NothingChanged text = text ≡ codes "nothing changed" ++ 10 �
 IsReplyText names (Undone paths) text = text ≡ lines_of names (codes "undone") paths
 IsReplyText names (Redone paths) text = text ≡ lines_of names (codes "redone") paths
 IsReplyText names (Log rows) text = AreRowLines rows text
-IsReplyText names (Preview fates) text = text ≡ fate_lines names fates
+IsReplyText names (Preview path_outcomes) text = text ≡ path_outcome_lines names path_outcomes
 IsReplyText names (replies.Shown shown) text = IsShownText names shown text
 IsReplyText names (replies.Reverted reverted) text = text ≡ reverted_text names reverted
 
 -- whether a path would change
-abbrev pub would_change : Fate → Bool
+abbrev pub would_change : PathOutcome → Bool
 would_change (Changes path) = true
-would_change fate = false
+would_change path_outcome = false
 
 -- how many paths a reply tells that changed, or that would change
 abbrev pub path_count : Reply → ℕ
@@ -87,6 +87,6 @@ path_count NothingChanged = 0
 path_count (Undone paths) = length paths
 path_count (Redone paths) = length paths
 path_count (Log rows) = 0
-path_count (Preview fates) = count_by would_change fates
+path_count (Preview path_outcomes) = count_by would_change path_outcomes
 path_count (replies.Shown shown) = 0
 path_count (replies.Reverted reverted) = length reverted.changed

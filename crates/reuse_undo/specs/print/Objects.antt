@@ -10,8 +10,8 @@ use Rattle.reuse_tree.specs.declared.change.Change.{Change}
 use Rattle.reuse_tree.specs.Json.{count, object_of, array_of}
 use Rattle.reuse_session.specs.session.Command.{place_text}
 use Rattle.reuse_session.specs.session.RefusalTexts.{refusal_text}
-use Rattle.reuse_session.specs.declared.fate.Fate.{Fate}
-use Rattle.reuse_session.specs.declared.fate.Fate.TheVariants.{Changes, Unchanged, Skipped, Refused}
+use Rattle.reuse_session.specs.declared.path_outcome.PathOutcome.{PathOutcome}
+use Rattle.reuse_session.specs.declared.path_outcome.PathOutcome.TheVariants.{Changes, Unchanged, Skipped, Refused}
 use Rattle.reuse_session.specs.declared.reply.Refusal.{Refusal}
 use Rattle.reuse_session.specs.declared.reply.Refusal.TheVariants as refusals
 use Rattle.reuse_session.specs.declared.reply.Row.{Row}
@@ -90,12 +90,12 @@ refused_value refusal =
     )
 
 -- the object of what would become of a path, on a line
-abbrev pub IsFateObject : Fate → List ℕ → Type 0
-IsFateObject (Changes path) text = text ≡ object_line (outcome_value (codes "would change") path)
-IsFateObject (Unchanged path) text = text ≡ object_line (outcome_value (codes "unchanged") path)
-IsFateObject (Skipped path) text = text ≡ object_line (outcome_value (codes "skipped") path)
-IsFateObject (Refused refusal) text = text ≡ object_line (refused_value refusal)
+abbrev pub IsPathOutcomeObject : PathOutcome → List ℕ → Type 0
+IsPathOutcomeObject (Changes path) text = text ≡ object_line (outcome_value (codes "would change") path)
+IsPathOutcomeObject (Unchanged path) text = text ≡ object_line (outcome_value (codes "unchanged") path)
+IsPathOutcomeObject (Skipped path) text = text ≡ object_line (outcome_value (codes "skipped") path)
+IsPathOutcomeObject (Refused refusal) text = text ≡ object_line (refused_value refusal)
 
 -- one for each
-abbrev pub AreFateObjects : List Fate → List ℕ → Type 0
-AreFateObjects fates text = AreJoined IsFateObject fates text
+abbrev pub ArePathOutcomeObjects : List PathOutcome → List ℕ → Type 0
+ArePathOutcomeObjects path_outcomes text = AreJoined IsPathOutcomeObject path_outcomes text

@@ -2,8 +2,8 @@
 use Rattle.std.specs.Prelude.{◌≡◌, ◌⊎◌, ℕ, Bool, List, [], ◌++◌, Result, Ok, Err, true, false}
 use Rattle.std.specs.List.{list_any}
 use Rattle.std.specs.declared.vec.Vec.{Vec}
-use Rattle.reuse_session.specs.declared.fate.Fate.{Fate}
-use Rattle.reuse_session.specs.declared.fate.Fate.TheVariants.{Refused}
+use Rattle.reuse_session.specs.declared.path_outcome.PathOutcome.{PathOutcome}
+use Rattle.reuse_session.specs.declared.path_outcome.PathOutcome.TheVariants.{Refused}
 use Rattle.reuse_session.specs.declared.reply.Refusal.{Refusal}
 use Rattle.reuse_session.specs.declared.reply.Reply.TheVariants.{Log, Preview, Shown}
 use Rattle.reuse_undo.specs.declared.run.fault.Fault.{Fault}
@@ -15,34 +15,34 @@ use Rattle.reuse_session.specs.declared.reply.Reply.{Reply}
 use Rattle.reuse_undo.specs.declared.print.shown_name.Names.{Names}
 use Rattle.reuse_undo.specs.print.DiffText.{AreRecords}
 use Rattle.reuse_undo.specs.print.Lines.{IsReplyText, path_count}
-use Rattle.reuse_undo.specs.print.Objects.{AreFateObjects, AreRowObjects, IsShownObject}
+use Rattle.reuse_undo.specs.print.Objects.{ArePathOutcomeObjects, AreRowObjects, IsShownObject}
 use Rattle.reuse_undo.specs.print.Outputs.{AddsFront, AddsSome}
 
 -- whether the call would be refused so
-abbrev pub is_refusal : Fate → Bool
+abbrev pub is_refusal : PathOutcome → Bool
 is_refusal (Refused refusal) = true
-is_refusal fate = false
+is_refusal path_outcome = false
 
--- whether one of the fates is a refusal
-abbrev pub is_refused : List Fate → Bool
-is_refused fates = list_any is_refusal fates
+-- whether one of the path outcomes is a refusal
+abbrev pub is_refused : List PathOutcome → Bool
+is_refused path_outcomes = list_any is_refusal path_outcomes
 
 -- a call that was only looked at would be made
 abbrev pub WouldBeMade : Reply → Type 0
-WouldBeMade (Preview fates) = is_refused fates ≡ false
+WouldBeMade (Preview path_outcomes) = is_refused path_outcomes ≡ false
 WouldBeMade told = Unit {0}
 
 -- what may stand behind the lines of an answer where a diff is wanted: some diff, of a call that was only looked at and would be made; what a step has
 -- recorded, where it is shown; and else nothing
 abbrev pub IsDiffBehind : Reply → List ℕ → Type 0
-IsDiffBehind (Preview fates) diff = (diff ≡ []) ⊎ (is_refused fates ≡ false)
+IsDiffBehind (Preview path_outcomes) diff = (diff ≡ []) ⊎ (is_refused path_outcomes ≡ false)
 IsDiffBehind (Shown shown) diff = AreRecords shown.changes diff
 IsDiffBehind told diff = diff ≡ []
 
 -- what an answer is printed as: in lines; in lines with a diff behind them; or rows, steps and dry runs as objects, and all else in lines
 abbrev pub IsTextIn : OutputFormat → Names → Reply → List ℕ → Type 0
 IsTextIn Json names (Log rows) text = AreRowObjects rows text
-IsTextIn Json names (Preview fates) text = AreFateObjects fates text
+IsTextIn Json names (Preview path_outcomes) text = ArePathOutcomeObjects path_outcomes text
 IsTextIn Json names (Shown shown) text = IsShownObject shown text
 IsTextIn Diff names told text = (lines : List ℕ) × (diff : List ℕ) × IsReplyText names told lines × IsDiffBehind told diff × (text ≡ lines ++ diff)
 IsTextIn format names told text = IsReplyText names told text
@@ -56,8 +56,8 @@ TellsFailure old new (Err Write) = new ≡ true
 TellsFailure old new result = new ≡ old
 
 -- what would be made of a call that was only looked at is wanted as a diff
-abbrev pub IsForeseen : Telling → Reply → Type 0
-IsForeseen telling told = (telling.format ≡ Diff) × (fates : List Fate) × (told ≡ Preview fates) × (is_refused fates ≡ false)
+abbrev pub IsDrawnPreview : Telling → Reply → Type 0
+IsDrawnPreview telling told = (telling.format ≡ Diff) × (path_outcomes : List PathOutcome) × (told ≡ Preview path_outcomes) × (is_refused path_outcomes ≡ false)
 
 -- ---- for private clauses
 
@@ -72,8 +72,8 @@ IsNoDiff (Err fault) = ⊥
 
 -- the diff of an answer: where it is wanted, some, or it can't be had; else none
 abbrev pub IsDiffOf : {A : Type 0} → Telling → Reply → Result (Vec ℕ A) Fault → Type 0
-IsDiffOf telling told (Ok diff) = (diff.items ≡ []) ⊎ IsForeseen telling told
-IsDiffOf telling told (Err (NoDiff refusal)) = IsForeseen telling told
+IsDiffOf telling told (Ok diff) = (diff.items ≡ []) ⊎ IsDrawnPreview telling told
+IsDiffOf telling told (Err (NoDiff refusal)) = IsDrawnPreview telling told
 IsDiffOf telling told (Err fault) = fault ≡ Memory
 
 -- the answer is no step that is shown
@@ -84,28 +84,28 @@ IsNoRecord told = Unit {0}
 -- what stands behind an answer's lines, where a diff is wanted; or it can't be had
 abbrev pub IsBehind : {A : Type 0} → Telling → Reply → Result (Vec ℕ A) Fault → Type 0
 IsBehind telling told (Ok diff) = telling.format ≡ Diff → IsDiffBehind told diff.items
-IsBehind telling told (Err (NoDiff refusal)) = IsForeseen telling told
+IsBehind telling told (Err (NoDiff refusal)) = IsDrawnPreview telling told
 IsBehind telling told (Err fault) = fault ≡ Memory
 
--- a dry run is answered, and none of its fates is a refusal
+-- a dry run is answered, and none of its path outcomes is a refusal
 abbrev pub IsAccepted : Result Reply Refusal → Type 0
-IsAccepted (Ok told) = (fates : List Fate) × (told ≡ Preview fates) × (is_refused fates ≡ false)
+IsAccepted (Ok told) = (path_outcomes : List PathOutcome) × (told ≡ Preview path_outcomes) × (is_refused path_outcomes ≡ false)
 IsAccepted (Err refusal) = ⊥
 
 -- a diff is wanted of what the answer tells
 abbrev pub IsWanted : Telling → Result Reply Refusal → Type 0
-IsWanted telling (Ok told) = IsForeseen telling told
+IsWanted telling (Ok told) = IsDrawnPreview telling told
 IsWanted telling (Err refusal) = ⊥
 
 -- a preview with a refusal is a fault; of every other answer the paths are counted that changed, or would change
 abbrev pub Accepts : Reply → Result ℕ Fault → Type 0
 Accepts told (Ok count) = (count ≡ path_count told) × WouldBeMade told
-Accepts told (Err (WouldRefuse fates)) = (told ≡ Preview fates) × (is_refused fates ≡ true)
+Accepts told (Err (WouldRefuse path_outcomes)) = (told ≡ Preview path_outcomes) × (is_refused path_outcomes ≡ true)
 Accepts told (Err fault) = ⊥
 
 -- the answer is printed and accepted; or the output failed behind some front part of its text; or nothing was printed, for want of a diff or of memory
 abbrev pub Finishes : Telling → Reply → List ℕ → List ℕ → Result ℕ Fault → Type 0
-Finishes telling told old new (Err (NoDiff refusal)) = IsForeseen telling told × (new ≡ old)
+Finishes telling told old new (Err (NoDiff refusal)) = IsDrawnPreview telling told × (new ≡ old)
 Finishes telling told old new (Err Memory) = new ≡ old
 Finishes telling told old new (Err Write) = (text : List ℕ) × IsToldText telling told text × AddsFront old new text
 Finishes telling told old new result = AddsSome old new (IsToldText telling told) × Accepts told result

@@ -11,7 +11,7 @@ use Rattle.reuse_session.specs.session.Stops.{Point, HoldState, AreLeft}
 use Rattle.reuse_undo.specs.run.AfterStops.{AnswersAfterStop}
 use Rattle.reuse_undo.specs.run.Drawn.{IsDrawnText, WouldLeave}
 use Rattle.reuse_undo.specs.print.Outputs.{AddsSome}
-use Rattle.reuse_session.specs.session.Requests.{HasCallClash, IsLook}
+use Rattle.reuse_session.specs.session.Requests.{HasCallClash, IsReading}
 use Rattle.reuse_undo.specs.run.RunLine.{RequestLeaves, FollowsModel, TellsAnswer, IfRefused, IfNoDiff}
 use Rattle.reuse_undo.specs.print.Told.{TellsFailure}
 use Rattle.reuse_undo.specs.print.WriterFaults.{IsUndrawn}
@@ -37,7 +37,7 @@ pub record CarriesOut {S O : Type 0} (store : Ghosts S) (contents : O → List �
   pub drawn : store.honest new → (held : State) → IsStanding (store.files old) held → telling.format ≡ Diff → (tree : Files) → WouldLeave request held tree
       → IfOk result (λ count. AddsSome (contents before) (contents after) (IsDrawnText telling.names held.tree tree))
   -- what only asks only reads the store, where nothing is pending
-  pub looks : store.honest new → IsLook request → (held : State) → IsStanding (store.files old) held → OnlyReads store old new
+  pub reads_only : store.honest new → IsReading request → (held : State) → IsStanding (store.files old) held → OnlyReads store old new
   -- a refusal is told before anything is written, and that the reply couldn't be written exactly where the output failed
   pub quiet : IfRefused result (λ refusal. after ≡ before)
   pub failed : TellsFailure (has_failed before) (has_failed after) result

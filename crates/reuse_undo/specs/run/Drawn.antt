@@ -13,8 +13,8 @@ use Rattle.reuse_tree.specs.declared.way.Way.{Way}
 use Rattle.reuse_tree.specs.declared.way.Way.TheVariants as go
 use Rattle.reuse_session.specs.journal.Journal.{State}
 use Rattle.reuse_session.specs.session.Session.{store_of, StandsOn}
-use Rattle.reuse_session.specs.declared.fate.Fate.{Fate}
-use Rattle.reuse_session.specs.declared.fate.Previewed.{Previewed}
+use Rattle.reuse_session.specs.declared.path_outcome.PathOutcome.{PathOutcome}
+use Rattle.reuse_session.specs.declared.path_outcome.Previewed.{Previewed}
 use Rattle.reuse_session.specs.declared.reply.Refusal.{Refusal}
 use Rattle.reuse_session.specs.declared.reply.Reply.{Reply}
 use Rattle.reuse_session.specs.declared.reply.Reply.TheVariants.{Preview}
@@ -27,7 +27,7 @@ use Rattle.reuse_undo.specs.print.Told.{is_refused, IsAccepted}
 use Rattle.reuse_session.specs.declared.request.Request.{Request}
 use Rattle.reuse_session.specs.declared.request.Request.TheVariants as requests
 use Rattle.reuse_undo.specs.declared.print.shown_name.Names.{Names}
-use Rattle.reuse_undo.specs.declared.run.line.foreseen.Foreseen.{Foreseen}
+use Rattle.reuse_undo.specs.declared.run.line.planned.PlannedChanges.{PlannedChanges}
 
 -- the diff of what a path holds in the one tree and in the other
 abbrev pub IsPathDiff : Files → Files → List ℕ → List ℕ → Type 0
@@ -42,9 +42,9 @@ pub record AreSmallSteps (way : Way) (changes : List Change) (before after : Fil
   pub small : All IsSmall changes
   pub leads : LeadsBy way changes before after
 
--- what is foreseen leads from the one tree to the other
-abbrev pub WouldLead : Foreseen → Files → Files → Type 0
-WouldLead foreseen before after = AreSmallSteps foreseen.way foreseen.changes before after
+-- what is previewed leads from the one tree to the other
+abbrev pub WouldLead : PlannedChanges → Files → Files → Type 0
+WouldLead planned before after = AreSmallSteps planned.way planned.changes before after
 
 -- ---- the two trees
 
@@ -59,45 +59,45 @@ IsTreeDiff before after text = AreJoined (IsPathDiff before after) (changed_path
 
 -- a dry run's lines, and behind them the diff of two trees
 pub record IsDrawnText (names : Names) (before after : Files) (text : List ℕ) : Type 0 where
-  pub fates : List Fate
+  pub path_outcomes : List PathOutcome
   pub lines : List ℕ
   pub diff : List ℕ
-  pub told : IsReplyText names (Preview fates) lines
+  pub told : IsReplyText names (Preview path_outcomes) lines
   pub drawn : IsTreeDiff before after diff
   pub whole : text ≡ lines ++ diff
 
 -- ---- for private clauses
 
--- what is foreseen leads from the one tree to the other, by changes of the paths at which they differ
-pub record Foretells (foreseen : Foreseen) (before after : Files) : Type 0 where
-  pub leads : WouldLead foreseen before after
-  pub paths : changed_paths before after ≡ paths_of foreseen.changes
+-- what is previewed leads from the one tree to the other, by changes of the paths at which they differ
+pub record LeadsAsPreviewed (planned : PlannedChanges) (before after : Files) : Type 0 where
+  pub leads : WouldLead planned before after
+  pub paths : changed_paths before after ≡ paths_of planned.changes
 
 -- whatever tree the call would leave, this is the diff of the tree that stands and of that one
 abbrev pub IsDiffOfCall : Request → State → List ℕ → Type 0
 IsDiffOfCall request held text = (after : Files) → WouldLeave request held after → IsTreeDiff held.tree after text
 
 -- what would change, gone through this way, unless that is refused
-abbrev pub foreseen_unless : Bool → List Change → Way → Option Foreseen
-foreseen_unless true changes way = None
-foreseen_unless false changes way = Some (record { changes = changes; way = way })
+abbrev pub planned_unless : Bool → List Change → Way → Option PlannedChanges
+planned_unless true changes way = None
+planned_unless false changes way = Some (record { changes = changes; way = way })
 
--- the same of what is previewed, where none of the fates is a refusal
-abbrev pub foreseen_in : Way → Result Previewed Refusal → Option Foreseen
-foreseen_in way (Ok previewed) = foreseen_unless (is_refused previewed.fates) previewed.changes way
-foreseen_in way (Err refusal) = None
+-- the same of what is previewed, where none of the path outcomes is a refusal
+abbrev pub planned_in : Way → Result Previewed Refusal → Option PlannedChanges
+planned_in way (Ok previewed) = planned_unless (is_refused previewed.path_outcomes) previewed.changes way
+planned_in way (Err refusal) = None
 
 -- where a dry run was answered without a refusal, what would change is there, and leads to whatever tree the call would leave
-abbrev pub ForetellsAccepted : {S : Type 0} → Ghosts S → Request → Result Reply Refusal → Option Foreseen → Session S → Session S → Type 0
-ForetellsAccepted store request answer foreseen old new =
+abbrev pub LeadsAsPreviewedAccepted : {S : Type 0} → Ghosts S → Request → Result Reply Refusal → Option PlannedChanges → Session S → Session S → Type 0
+LeadsAsPreviewedAccepted store request answer planned old new =
     store.honest (store_of new) → (held : State) → StandsOn store.files old held → (after : Files) → WouldLeave request held after → IsAccepted answer
-    → IsSomeAnd foreseen (λ foreseen. Foretells foreseen held.tree after)
+    → IsSomeAnd planned (λ planned. LeadsAsPreviewed planned held.tree after)
 
 -- the request is answered, and of a dry run without a refusal what would change is there, and of nothing else
-pub record IsAnsweredWith {S : Type 0} (store : Ghosts S) (request : Request) (answer : Result Reply Refusal) (foreseen : Option Foreseen) (old new : Session S) : Type 0 where
+pub record IsAnsweredWith {S : Type 0} (store : Ghosts S) (request : Request) (answer : Result Reply Refusal) (planned : Option PlannedChanges) (old new : Session S) : Type 0 where
   pub answered : IsAnswered store request answer old new
-  pub accepted : IfSome foreseen (λ foreseen. IsAccepted answer)
-  pub foretells : ForetellsAccepted store request answer foreseen old new
+  pub accepted : IfSome planned (λ planned. IsAccepted answer)
+  pub previews : LeadsAsPreviewedAccepted store request answer planned old new
 
 -- the change that is made where a change is gone through this way
 abbrev pub gone : Way → Change → Change

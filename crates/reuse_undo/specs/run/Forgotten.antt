@@ -44,7 +44,7 @@ HasForgotten steps before after forgotten =
     (found : State) × (opened : Files) × (left : State) × OpensOn before found opened
     × Forgets (asked_numbers steps found.journal) found (Ok forgotten) left × IsStanding after left
 
--- how it is refused from a standing: at the first number that no step has, or for want of memory, and all stays; and where it stops the files are the
+-- how it is refused from a standing: at the first number that no step has, or for an allocation failure, and all stays; and where it stops the files are the
 -- standing with the steps or without them
 abbrev pub RefusesFrom : Steps → State → (opened : Files) → Refusal → (after : Files) → Type 0
 RefusesFrom steps found opened (refusals.NoSuchStep number) after = (first_absent found.journal (asked_numbers steps found.journal) ≡ Some number) × (after ≡ opened)
@@ -57,7 +57,7 @@ abbrev pub RefusesToForget : Steps → (before after : Files) → Refusal → Ty
 RefusesToForget steps before after refusal =
     IsUnopened before refusal after ⊎ ((found : State) × (opened : Files) × OpensOn before found opened × RefusesFrom steps found opened refusal after)
 
--- The steps are forgotten, and of what was forgotten the output took the lines, or some front part of them if it failed, or nothing for want of memory.
+-- The steps are forgotten, and of what was forgotten the output took the lines, or some front part of them if it failed, or nothing for an allocation failure.
 -- Or it is refused, and nothing is written.
 abbrev pub ForgetsOn : Steps → (before after : Files) → (old new : List ℕ) → Result ℕ Fault → Type 0
 ForgetsOn steps before after old new (Ok count) = (forgotten : List ℕ) × HasForgotten steps before after forgotten × Adds old new (forgotten_text forgotten) × (count ≡ length forgotten)
@@ -68,7 +68,7 @@ ForgetsOn steps before after old new (Err fault) = ⊥
 
 -- ---- for private clauses
 
--- the lines are written, or some front part of them, or nothing for want of memory
+-- the lines are written, or some front part of them, or nothing for an allocation failure
 abbrev pub PrintsNumbers : {T : Type 0} → List ℕ → (old new : List ℕ) → Result T Fault → Type 0
 PrintsNumbers forgotten old new (Ok done) = Adds old new (forgotten_text forgotten)
 PrintsNumbers forgotten old new (Err faults.Write) = AddsFront old new (forgotten_text forgotten)

@@ -14,19 +14,19 @@ use Rattle.reuse_undo.specs.declared.print.shown_name.Names.{Names}
 use Rattle.reuse_undo.specs.print.Lines.{lines_of}
 use Rattle.reuse_undo.specs.print.Outputs.{Adds, AddsFront}
 
--- the paths that were set back
-abbrev pub set_back_text : Names → List (List ℕ) → List ℕ
-set_back_text names [] = codes "nothing changed" ++ 10 ∷ []
-set_back_text names (path ∷ paths) = lines_of names (codes "set back") (path ∷ paths)
+-- the paths that were rolled back
+abbrev pub rolled_back_text : Names → List (List ℕ) → List ℕ
+rolled_back_text names [] = codes "nothing changed" ++ 10 ∷ []
+rolled_back_text names (path ∷ paths) = lines_of names (codes "set back") (path ∷ paths)
 
 -- these, and then the paths that were left
 abbrev pub recovered_text : Names → Recovered → List ℕ
-recovered_text names recovered = set_back_text names recovered.changed ++ lines_of names (codes "skipped") recovered.skipped
+recovered_text names recovered = rolled_back_text names recovered.changed ++ lines_of names (codes "skipped") recovered.skipped
 
 -- How it is refused, and what it leaves then
 pub record RefusesToRecover (skip_moved : Bool) (before : Files) (refusal : Refusal) (after : Files) : Type 0 where
   pub is_of_opening : IsOpenRefusal refusal
-  -- unless a fault of the store or want of memory is told, exactly where the journal is bad or a path is stuck
+  -- unless an I/O error or an allocation failure is told, exactly where the journal is bad or a path is stuck
   pub exact : TellsNoFault {A = Recovered} (Err refusal) → RefusesRecovery skip_moved before (Err refusal)
   pub unchanged : IsEarly refusal → after ≡ before
   -- it stops only where a step is pending: that is recovered, or each of its paths is as it was or as recovering leaves it
@@ -45,14 +45,14 @@ RecoversOn names skip_moved before after old new (Err fault) = ⊥
 
 -- ---- for private clauses
 
--- the lines are written, or some front part of them, or nothing for want of memory
+-- the lines are written, or some front part of them, or nothing for an allocation failure
 abbrev pub PrintsLines : {T : Type 0} → Names → Recovered → (old new : List ℕ) → Result T Fault → Type 0
 PrintsLines names recovered old new (Ok done) = Adds old new (recovered_text names recovered)
 PrintsLines names recovered old new (Err Write) = AddsFront old new (recovered_text names recovered)
 PrintsLines names recovered old new (Err Memory) = new ≡ old
 PrintsLines names recovered old new (Err fault) = ⊥
 
--- and the paths that were set back are counted
+-- and the paths that were rolled back are counted
 abbrev pub PrintsRecovered : Names → Recovered → (old new : List ℕ) → Result ℕ Fault → Type 0
 PrintsRecovered names recovered old new (Ok count) = Adds old new (recovered_text names recovered) × (count ≡ length recovered.changed)
 PrintsRecovered names recovered old new (Err fault) = PrintsLines {T = ℕ} names recovered old new (Err fault)

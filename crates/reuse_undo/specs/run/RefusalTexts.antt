@@ -12,7 +12,7 @@ use Rattle.reuse_undo.specs.declared.cli.line.LineFault.TheVariants as lines
 -- why a line was not carried out
 abbrev pub fault_text : Fault → List ℕ
 fault_text (Refused refusal) = refusal_text refusal
-fault_text (WouldRefuse fates) = codes "would be refused"
+fault_text (WouldRefuse path_outcomes) = codes "would be refused"
 fault_text (NoDiff refusal) = refusal_text refusal
 fault_text InUse = codes "in use by another run"
 fault_text Write = codes "write fault"

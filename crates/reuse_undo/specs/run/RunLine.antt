@@ -24,7 +24,7 @@ use Rattle.reuse_undo.specs.declared.run.fault.Fault.TheVariants as faults
 use Rattle.reuse_undo.specs.declared.cli.line.Telling.{Telling}
 use Rattle.reuse_undo.specs.print.Lines.{path_count}
 use Rattle.reuse_undo.specs.print.Outputs.{AddsFront, AddsSome}
-use Rattle.reuse_undo.specs.print.Told.{IsToldText, is_refused, IsForeseen, WouldBeMade}
+use Rattle.reuse_undo.specs.print.Told.{IsToldText, is_refused, IsDrawnPreview, WouldBeMade}
 
 -- ---- from any files
 
@@ -38,7 +38,7 @@ pub record IsUnopened (before : Files) (refusal : Refusal) (after : Files) : Typ
   -- it stops only where a step was under way
   pub stopped : (cause : Cause) → refusal ≡ refusals.Failed (failures.Interrupted cause) → StopsOpening before after
   -- files in doubt stay in doubt between the same two
-  pub settles : (first second : State) → InDoubt first second before → IsFailure refusal × InDoubt first second after
+  pub recovers : (first second : State) → InDoubt first second before → IsFailure refusal × InDoubt first second after
   -- of the journal's files none but the head holds something else
   pub folder : IsSameBut head_path (undo_folder_of before) (undo_folder_of after)
 
@@ -52,7 +52,7 @@ pub record IsMade (before : Files) (request : Request) (answer : Result Reply Re
   pub made : (found : State) × (opened : Files) × OpensOn before found opened × Meets request found answer after × IfErr answer (HasCallClash request found opened)
       × IsSameBut head_path (undo_folder_of before) (undo_folder_of opened) × KeepsFolder request found opened after
   -- of files in doubt that is one of the two
-  pub settles : (first second : State) → InDoubt first second before → AnswersOn request first answer after ⊎ AnswersOn request second answer after
+  pub recovers : (first second : State) → InDoubt first second before → AnswersOn request first answer after ⊎ AnswersOn request second answer after
 
 -- a session's answer to the request, or its opening's refusal, and the files then
 abbrev pub RequestLeaves : Files → Request → Result Reply Refusal → Files → Type 0
@@ -71,14 +71,14 @@ FollowsModel state request answer files = (next : Snapshots) × Gives state requ
 -- ---- what is told of it
 
 -- The answer is one of these. Of it the output took the lines, and the paths that changed are counted, or it failed behind some front part of them; a
--- refusal is handed on, and nothing is written of it, nor for want of memory. A call that was only looked at is a fault exactly where one of its fates is a refusal. That another
+-- refusal is handed on, and nothing is written of it, nor for an allocation failure. A call that was only looked at is a fault exactly where one of its path outcomes is a refusal. That another
 -- run works on the tree is told before a store is asked, so never here.
 abbrev pub TellsAnswer : Telling → (Result Reply Refusal → Type 0) → List ℕ → List ℕ → Result ℕ Fault → Type 0
 TellsAnswer telling IsAnswer old new (Ok count) = (told : Reply) × IsAnswer (Ok told) × WouldBeMade told × AddsSome old new (IsToldText telling told) × (count ≡ path_count told)
 TellsAnswer telling IsAnswer old new (Err (faults.Refused refusal)) = IsAnswer (Err refusal) × (new ≡ old)
-TellsAnswer telling IsAnswer old new (Err (faults.WouldRefuse fates)) =
-    IsAnswer (Ok (replies.Preview fates)) × (is_refused fates ≡ true) × AddsSome old new (IsToldText telling (replies.Preview fates))
-TellsAnswer telling IsAnswer old new (Err (faults.NoDiff refusal)) = ((told : Reply) × IsAnswer (Ok told) × IsForeseen telling told) × (new ≡ old)
+TellsAnswer telling IsAnswer old new (Err (faults.WouldRefuse path_outcomes)) =
+    IsAnswer (Ok (replies.Preview path_outcomes)) × (is_refused path_outcomes ≡ true) × AddsSome old new (IsToldText telling (replies.Preview path_outcomes))
+TellsAnswer telling IsAnswer old new (Err (faults.NoDiff refusal)) = ((told : Reply) × IsAnswer (Ok told) × IsDrawnPreview telling told) × (new ≡ old)
 TellsAnswer telling IsAnswer old new (Err faults.InUse) = ⊥
 TellsAnswer telling IsAnswer old new (Err faults.Write) = (told : Reply) × IsAnswer (Ok told) × (text : List ℕ) × IsToldText telling told text × AddsFront old new text
 TellsAnswer telling IsAnswer old new (Err faults.Memory) = ((told : Reply) × IsAnswer (Ok told)) × (new ≡ old)

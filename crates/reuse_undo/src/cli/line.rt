@@ -70,18 +70,18 @@ pub struct Line {
 pub enum Asked {
     /// What a session answers.
     Line(Line),
-    /// To set back what a stopped run left pending.
+    /// To roll back what a stopped run left pending.
     Recover(Recovery),
     /// To take steps out of the history.
     Forget(Forgetting),
 }
 
-/// Where the pending step is to be set back, and how.
+/// Where the pending step is to be rolled back, and how.
 #[derive(Drop)]
 pub struct Recovery {
     /// The folder of the tree, relative to the working folder.
     pub root: String,
-    /// Whether the paths that can't be set back are left as they are.
+    /// Whether the paths that can't be rolled back are left as they are.
     pub skip_moved: bool,
 }
 

@@ -74,8 +74,8 @@ pub const STEPS: &[Subcommand] = &[
     ),
 ];
 
-/// The subcommands of the history: one that sets back what a stopped run left, one that takes steps
-/// out, and those that print the steps.
+/// The subcommands of the history: one that rolls back what a stopped run left, one that takes
+/// steps out, and those that print the steps.
 pub const HISTORY: &[Subcommand] = &[
     Subcommand(
         "recover",

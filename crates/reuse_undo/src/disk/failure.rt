@@ -40,7 +40,7 @@ impl LastFailure {
         LastFailure { failure: None }
     }
 
-    /// Remembers the call if it failed. For want of memory that may be left out.
+    /// Remembers the call if it failed. For an allocation failure that may be left out.
     pub fn note<T>(
         &mut self,
         alloc: Global,

@@ -36,7 +36,7 @@ enum Hold {
     /// It has read one.
     Due,
     /// It was held.
-    Held,
+    FileState,
 }
 
 /// What a run did to owners and names.
@@ -96,7 +96,7 @@ impl Keeping {
 
     /// No call is held any more; whether one was.
     pub fn release(&mut self) -> bool {
-        let was_held = self.hold == Hold::Held;
+        let was_held = self.hold == Hold::FileState;
         self.hold = Hold::Off;
         was_held
     }
@@ -118,8 +118,8 @@ impl Keeping {
 
     /// Fails before the first put of a call that is to be held.
     pub fn check_hold(&mut self) -> Result<(), FolderFault> {
-        if matches!(self.hold, Hold::Due | Hold::Held) {
-            self.hold = Hold::Held;
+        if matches!(self.hold, Hold::Due | Hold::FileState) {
+            self.hold = Hold::FileState;
             return Err(FolderFault::Device(Obstacle::Owned));
         }
         Ok(())

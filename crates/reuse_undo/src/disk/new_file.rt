@@ -4,7 +4,7 @@ ghost use Rattle.std.specs.Prelude.{◌≡◌, ℕ, Bool, List, MatchResult, fal
 ghost use Rattle.reuse_tree.specs.Parts.{joined};
 ghost use Rattle.reuse_undo.specs.disk.SystemLaws.{IsAlikeBut, IsAlikeButFile, IsAlikeUnless, IsFilled};
 ghost use Rattle.reuse_undo.specs.disk.Asides.{name_in, place_of, key_of, IsNewIn, IsNewPlace};
-ghost use Rattle.reuse_undo.specs.disk.HeldFiles.{file};
+ghost use Rattle.reuse_undo.specs.disk.FileStates.{file};
 ghost use Rattle.reuse_undo.specs.disk.Written.{StandsAlone, IsWritten, is_kept, is_named};
 
 use crate::disk::fault::FolderFault;
@@ -171,8 +171,8 @@ impl NewFile {
         unsynced.sync_data(system, aside, path)
     }
 
-    /// Writes the content to a file that stands aside, makes its data lasting, and gives it the name of
-    /// the target.
+    /// Writes the content to a file that stands aside, makes its data lasting, and gives it the
+    /// name of the target.
     fn put_in_place<S: System>(
         &mut self,
         system: &mut S,

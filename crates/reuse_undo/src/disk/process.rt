@@ -60,7 +60,8 @@ impl Process {
     }
 
     /// The process itself. If the system doesn't show its user, it is taken for one that owns
-    /// nothing and may give nothing; for want of memory, to have fewer groups. Root needs none.
+    /// nothing and may give nothing; for an allocation failure, to have fewer groups. Root needs
+    /// none.
     pub fn current(rt: &impl Files<File = File>, alloc: Global) -> Process {
         match read_status(rt, alloc) {
             Ok(status) => Process::told(alloc, lines_behind_name(&status)),

@@ -118,7 +118,7 @@ impl Unsynced {
         }
     }
 
-    /// For want of memory the path is left out.
+    /// For an allocation failure the path is left out.
     fn set_last(&mut self, path: &str)
         ensures syncs { self.new.syncs ≡ self.old.syncs }
         ensures failed { self.new.failed ≡ self.old.failed }

@@ -1,7 +1,7 @@
 //! The calls of the system that change regular files, and what they make of these. What a call says
 //! holds as long as nobody else writes in the folders.
 ghost use Rattle.std.specs.Prelude.{◌≡◌, MatchResult};
-ghost use Rattle.reuse_undo.specs.disk.HeldFiles.{Held};
+ghost use Rattle.reuse_undo.specs.disk.FileStates.{FileState};
 
 mod host;
 mod make_file;
@@ -56,10 +56,10 @@ pub trait System {
     ghost use Rattle.reuse_undo.specs.disk.Asides.{name_in, place_of, key_of};
 
     /// The regular file that each name in a folder leads to.
-    ghost holds: { Self → Held };
+    ghost holds: { Self → FileState };
 
-    /// Makes an empty file of this name, and of this mode where one is given. It fails where anything
-    /// has the name.
+    /// Makes an empty file of this name, and of this mode where one is given. It fails where
+    /// anything has the name.
     fn make(&mut self, folder: &OpenFolder, name: &str, mode: Option<u32>) -> io::Result<Aside>
         ensures { MatchResult result
             (λ aside. (place_of aside ≡ name_in folder.now name.now) × IsMade (name_in folder.now name.now) (key_of aside) (holds self.old) (holds self.new))

@@ -39,8 +39,8 @@ pub struct Trail {
 }
 
 impl Trail {
-    /// The trail of this process that begins at the root of this path. Nothing is asked of the system
-    /// yet.
+    /// The trail of this process that begins at the root of this path. Nothing is asked of the
+    /// system yet.
     pub fn new(alloc: Global, root: String, process: ProcessIds) -> Trail {
         Trail {
             root,
@@ -50,9 +50,9 @@ impl Trail {
         }
     }
 
-    /// Goes to where the system shows the handles of the process, so that paths through open folders
-    /// are short, until `come_back`. If the root can't be opened, or handles aren't shown, the
-    /// process stays where it is.
+    /// Goes to where the system shows the handles of the process, so that paths through open
+    /// folders are short, until `come_back`. If the root can't be opened, or handles aren't shown,
+    /// the process stays where it is.
     pub fn go_to_handles(&mut self, rt: &impl Files<File = File>, env: &impl Env, alloc: Global) {
         if self.go_back(rt, alloc, "").is_err() || self.is_by_path() {
             return;
@@ -70,7 +70,7 @@ impl Trail {
     }
 
     /// Tells paths through the root from where the process is, and closes all other folders. For
-    /// want of memory the root is closed, too.
+    /// an allocation failure the root is closed, too.
     fn tell_from_start(&mut self, alloc: Global) {
         self.steps.truncate(1);
         let start = self.start();

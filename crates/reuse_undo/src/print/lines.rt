@@ -1,12 +1,12 @@
 //! The lines that an answer is printed as.
 ghost use Rattle.std.specs.Prelude.{◌≡◌, OnOk, count_by};
 ghost use Rattle.std.specs.Io.KnownBytes.{Appends};
-ghost use Rattle.reuse_undo.specs.print.Lines.{line_of, lines_of, fate_line, fate_lines, would_change, change_lines, kind_word, path_count, IsReplyText, IsShownText, changed_text, reverted_text};
+ghost use Rattle.reuse_undo.specs.print.Lines.{line_of, lines_of, path_outcome_line, path_outcome_lines, would_change, change_lines, kind_word, path_count, IsReplyText, IsShownText, changed_text, reverted_text};
 ghost use Rattle.reuse_undo.specs.print.RowLines.{AppendsSome};
 
 use crate::print::rows::{print_row, print_rows};
 use crate::print::shown_name::{Names, print_name};
-use reuse_session::{Fate, Reply, Reverted, Shown};
+use reuse_session::{PathOutcome, Reply, Reverted, Shown};
 use reuse_tree::{Change, PathText};
 use std::io::{self, Write};
 
@@ -44,31 +44,39 @@ pub fn print_reply<W: Write>(out: &mut W, names: Names, reply: &Reply) -> io::Re
         Reply::Redone(paths) => print_paths(out, names, "redone", paths.as_slice()),
         Reply::NothingChanged => writeln!(out, "nothing changed"),
         Reply::Log(rows) => print_rows(out, rows.as_slice()),
-        Reply::Preview(fates) => print_fates(out, names, fates.as_slice()),
+        Reply::Preview(path_outcomes) => print_path_outcomes(out, names, path_outcomes.as_slice()),
         Reply::Shown(shown) => print_shown(out, names, shown),
         Reply::Reverted(reverted) => print_reverted(out, names, reverted),
         Reply::Opened => Ok(()),
     }
 }
 
-/// Prints a line for each fate that is no refusal.
-fn print_fates<W: Write>(out: &mut W, names: Names, fates: &[Fate]) -> io::Result<()>
-    ensures { OnOk result (Appends (W.contents out.old) (W.contents out.new) (fate_lines names fates.now)) }
+/// Prints a line for each path outcome that is no refusal.
+fn print_path_outcomes<W: Write>(
+    out: &mut W,
+    names: Names,
+    path_outcomes: &[PathOutcome],
+) -> io::Result<()>
+    ensures { OnOk result (Appends (W.contents out.old) (W.contents out.new) (path_outcome_lines names path_outcomes.now)) }
 {
-    for fate in fates {
-        print_fate(out, names, fate)?;
+    for path_outcome in path_outcomes {
+        print_path_outcome(out, names, path_outcome)?;
     }
     Ok(())
 }
 
-fn print_fate<W: Write>(out: &mut W, names: Names, fate: &Fate) -> io::Result<()>
-    ensures { OnOk result (Appends (W.contents out.old) (W.contents out.new) (fate_line names fate.now)) }
+fn print_path_outcome<W: Write>(
+    out: &mut W,
+    names: Names,
+    path_outcome: &PathOutcome,
+) -> io::Result<()>
+    ensures { OnOk result (Appends (W.contents out.old) (W.contents out.new) (path_outcome_line names path_outcome.now)) }
 {
-    match fate {
-        Fate::Changes(path) => print_path(out, names, "would change", path),
-        Fate::Unchanged(path) => print_path(out, names, "unchanged", path),
-        Fate::Skipped(path) => print_path(out, names, "skipped", path),
-        Fate::Refused(_) => Ok(()),
+    match path_outcome {
+        PathOutcome::Changes(path) => print_path(out, names, "would change", path),
+        PathOutcome::Unchanged(path) => print_path(out, names, "unchanged", path),
+        PathOutcome::Skipped(path) => print_path(out, names, "skipped", path),
+        PathOutcome::Refused(_) => Ok(()),
     }
 }
 
@@ -126,26 +134,26 @@ pub fn path_count(reply: &Reply) -> usize
         Reply::Changed(paths) | Reply::Undone(paths) | Reply::Redone(paths) => {
             paths.as_slice().len()
         }
-        Reply::Preview(fates) => change_count(fates.as_slice()),
+        Reply::Preview(path_outcomes) => change_count(path_outcomes.as_slice()),
         Reply::Reverted(reverted) => reverted.changed.as_slice().len(),
         Reply::NothingChanged | Reply::Log(_) | Reply::Shown(_) | Reply::Opened => 0,
     }
 }
 
-fn change_count(fates: &[Fate]) -> usize
-    ensures { result ≡ count_by would_change fates.now }
+fn change_count(path_outcomes: &[PathOutcome]) -> usize
+    ensures { result ≡ count_by would_change path_outcomes.now }
 {
     let mut count = 0;
-    for fate in fates {
-        if would_change(fate) {
+    for path_outcome in path_outcomes {
+        if would_change(path_outcome) {
             count += 1;
         }
     }
     count
 }
 
-fn would_change(fate: &Fate) -> bool
-    ensures { result ≡ would_change fate.now }
+fn would_change(path_outcome: &PathOutcome) -> bool
+    ensures { result ≡ would_change path_outcome.now }
 {
-    matches!(fate, Fate::Changes(_))
+    matches!(path_outcome, PathOutcome::Changes(_))
 }

@@ -3,11 +3,11 @@ use crate::cli::line::LineFault;
 use crate::disk::Kept;
 use crate::run::damage::Headless;
 use crate::run::denial::Denial;
+use crate::run::diagnostics::{Diagnostics, Task, unrecognised_among};
 use crate::run::fault::Fault;
-use crate::run::findings::{Findings, Task, unrecognised_among};
 use reuse_dep5::{Dep5Cause, Dep5Refusal};
 use reuse_notice::NoticeRefusal;
-use reuse_session::{AmendFault, Failure, Fate, Refusal};
+use reuse_session::{AmendFault, Failure, PathOutcome, Refusal};
 use std::fmt::Display;
 
 /// Tells a note. Where standard error can't be written, there is nobody to tell.
@@ -39,15 +39,15 @@ const BAD_JOURNAL: &str =
 const DEP5: &str = ".reuse/dep5";
 
 /// What can be done about a refusal, where a note says that.
-fn advice(refusal: &Refusal, is_begun: bool, findings: &Findings) -> Option<&'static str> {
+fn advice(refusal: &Refusal, is_begun: bool, diagnostics: &Diagnostics) -> Option<&'static str> {
     match refusal {
         Refusal::Unrecognised(_) => Some(
             "no comment style is known for this name: name one with --style or in .reuse/styles.toml, \
             write the information beside the file with --fallback-dot-license, or pass it over with --skip-unrecognised",
         ),
-        Refusal::Moved(_) if is_begun => Some(begun_advice(findings)),
-        Refusal::Moved(_) if findings.is_gone => Some(gone_advice(findings.task)),
-        Refusal::Moved(_) => Some(moved_advice(findings.task)),
+        Refusal::Moved(_) if is_begun => Some(begun_advice(diagnostics)),
+        Refusal::Moved(_) if diagnostics.is_gone => Some(gone_advice(diagnostics.task)),
+        Refusal::Moved(_) => Some(moved_advice(diagnostics.task)),
         Refusal::NoSuchStep(_) => Some("reuse-undo log tells the numbers of the steps"),
         Refusal::Failed(Failure::Interrupted(_)) => {
             Some("the next call on this tree, log too, takes back what was begun")
@@ -64,8 +64,8 @@ fn advice(refusal: &Refusal, is_begun: bool, findings: &Findings) -> Option<&'st
 }
 
 /// What can be done about a file of a step that a stopped run had begun.
-fn begun_advice(findings: &Findings) -> &'static str {
-    match (findings.task, findings.is_gone) {
+fn begun_advice(diagnostics: &Diagnostics) -> &'static str {
+    match (diagnostics.task, diagnostics.is_gone) {
         (Task::Recover, false) => {
             "a stopped run had begun to change this file, and it was changed since: with --skip-moved it is left \
             as it is, and the other files are set back"
@@ -152,29 +152,29 @@ fn amend_advice(fault: AmendFault) -> &'static str {
 }
 
 /// Tells what a refusal is about.
-fn note_refusal(rt: &impl Eprint, findings: &Findings, refusal: &Refusal) {
+fn note_refusal(rt: &impl Eprint, diagnostics: &Diagnostics, refusal: &Refusal) {
     if let (Refusal::Failed(Failure::Fault(_) | Failure::Interrupted(_)), Some(failure)) = (
         refusal,
-        &findings.failure,
+        &diagnostics.failure,
     ) {
         note(rt, failure);
     }
-    if let (Refusal::Failed(Failure::Fault(_)), Some(root)) = (refusal, &findings.missing_root) {
+    if let (Refusal::Failed(Failure::Fault(_)), Some(root)) = (refusal, &diagnostics.missing_root) {
         let _ = eprintln!(rt; "reuse-undo: note: there is no folder {root}");
     }
-    if let (Refusal::NoText(id), Some(folder)) = (refusal, &findings.texts) {
+    if let (Refusal::NoText(id), Some(folder)) = (refusal, &diagnostics.texts) {
         let _ = eprintln!(rt; "reuse-undo: note: the text was sought in {folder}/{id}.txt");
     }
     if let Refusal::BadStyles(cause) = refusal {
         let _ = eprintln!(rt; "reuse-undo: note: what is wrong with .reuse/styles.toml: {cause}");
     }
-    if let (Refusal::BadJournal(path), Some(damage)) = (refusal, findings.damage) {
+    if let (Refusal::BadJournal(path), Some(damage)) = (refusal, diagnostics.damage) {
         let (path, words, advice) = (path.text(), damage.words(), damage.advice());
         let _ = eprintln!(rt; "reuse-undo: note: {path} {words}: {advice}");
         return;
     }
-    let is_begun = findings.begun.is_some() && !findings.is_set_back;
-    if let Some(advice) = advice(refusal, is_begun, findings) {
+    let is_begun = diagnostics.begun.is_some() && !diagnostics.is_rolled_back;
+    if let Some(advice) = advice(refusal, is_begun, diagnostics) {
         note(rt, advice);
     }
 }
@@ -197,19 +197,19 @@ fn note_unrecognised(rt: &impl Eprint, count: usize, passed_over: bool) {
     };
 }
 
-/// Tells what the refusals among fates are about, each advice once.
-fn note_fates(rt: &impl Eprint, findings: &Findings, fates: &[Fate]) {
+/// Tells what the refusals among path outcomes are about, each advice once.
+fn note_path_outcomes(rt: &impl Eprint, diagnostics: &Diagnostics, path_outcomes: &[PathOutcome]) {
     let mut last = None;
-    for fate in fates {
-        if let Fate::Refused(refusal) = fate {
-            let told = advice(refusal, false, findings);
+    for path_outcome in path_outcomes {
+        if let PathOutcome::Refused(refusal) = path_outcome {
+            let told = advice(refusal, false, diagnostics);
             if told.is_none() || told != last {
-                note_refusal(rt, findings, refusal);
+                note_refusal(rt, diagnostics, refusal);
             }
             last = told;
         }
     }
-    note_unrecognised(rt, unrecognised_among(fates), false);
+    note_unrecognised(rt, unrecognised_among(path_outcomes), false);
 }
 
 /// Tells how many files a call changed, and how that is taken back.
@@ -252,9 +252,9 @@ fn note_headless(rt: &impl Eprint, headless: Headless) {
     }
 }
 
-/// Tells that a step was set back which a stopped run had begun, and how many files of it. That is
-/// told always, since the call before may have been another user's.
-pub fn note_set_back(rt: &impl Eprint, step: u32, count: usize) {
+/// Tells that a step was rolled back which a stopped run had begun, and how many files of it. That
+/// is told always, since the call before may have been another user's.
+pub fn note_rolled_back(rt: &impl Eprint, step: u32, count: usize) {
     let files = if count == 1 { "file" } else { "files" };
     let _ = eprintln!(rt;
         "reuse-undo: note: step {step}, which a stopped run had begun, was set back ({count} {files})"
@@ -299,33 +299,37 @@ fn note_kept(rt: &impl Eprint, kept: Kept) {
 }
 
 /// Tells what a call did, or what its fault is about.
-pub fn note_call(rt: &impl Eprint, findings: &Findings, outcome: &Result<usize, Fault>) {
-    note_kept(rt, findings.kept);
-    if let Some(headless) = findings.headless {
+pub fn note_call(rt: &impl Eprint, diagnostics: &Diagnostics, outcome: &Result<usize, Fault>) {
+    note_kept(rt, diagnostics.kept);
+    if let Some(headless) = diagnostics.headless {
         note_headless(rt, headless);
     }
     match outcome {
-        Ok(count) => note_change(rt, findings.task, *count),
+        Ok(count) => note_change(rt, diagnostics.task, *count),
         Err(Fault::Refused(refusal) | Fault::NoDiff(refusal)) => {
-            note_refusal(rt, findings, refusal)
+            note_refusal(rt, diagnostics, refusal)
         }
-        Err(Fault::WouldRefuse(fates)) => note_fates(rt, findings, fates.as_slice()),
+        Err(Fault::WouldRefuse(path_outcomes)) => note_path_outcomes(
+            rt,
+            diagnostics,
+            path_outcomes.as_slice(),
+        ),
         Err(_) => {}
     }
-    note_unrecognised(rt, findings.unrecognised, outcome.is_ok());
-    if findings.is_table_empty && outcome.is_ok() {
+    note_unrecognised(rt, diagnostics.unrecognised, outcome.is_ok());
+    if diagnostics.is_table_empty && outcome.is_ok() {
         note(
             rt,
             "REUSE.toml says nothing of any file, since .reuse/dep5 has no paragraph with Files",
         );
     }
-    if findings.is_by_path {
+    if diagnostics.is_by_path {
         note(
             rt,
             "there is no /proc: no other program may move folders or make links here meanwhile",
         );
     }
-    if let Some(folder) = &findings.above {
+    if let Some(folder) = &diagnostics.above {
         let _ = eprintln!(rt;
             "reuse-undo: note: a folder above has a journal too: --root {folder}"
         );

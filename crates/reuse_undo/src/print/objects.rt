@@ -5,14 +5,14 @@ ghost use Rattle.std.specs.Io.KnownBytes.{Appends};
 ghost use Rattle.serde_json.specs.View.{view};
 ghost use Rattle.serde_json.specs.Written.{has_float};
 ghost use Rattle.reuse_session.specs.session.RefusalTexts.{refusal_text};
-ghost use Rattle.reuse_undo.specs.print.Objects.{row_value, shown_value, change_value, changes_value, outcome_value, refused_path, refused_value, json_byte, object_line, AreFateObjects, AreRowObjects, IsFateObject, IsRowObject, IsShownObject};
+ghost use Rattle.reuse_undo.specs.print.Objects.{row_value, shown_value, change_value, changes_value, outcome_value, refused_path, refused_value, json_byte, object_line, ArePathOutcomeObjects, AreRowObjects, IsPathOutcomeObject, IsRowObject, IsShownObject};
 ghost use Rattle.reuse_undo.specs.print.RowLines.{AppendsSome};
 
 use crate::print::date::date_of;
 use crate::print::lines::kind_word;
 use crate::print::rows::command_word;
 use jiff::civil::Date;
-use reuse_session::{Fate, Refusal, Row, Shown};
+use reuse_session::{PathOutcome, Refusal, Row, Shown};
 use reuse_tree::{Change, PathText};
 use serde_json::{Value, json};
 use std::alloc::{AllocError, Global};
@@ -121,23 +121,31 @@ fn change_value(alloc: Global, change: &Change) -> Result<Value, AllocError>
 }
 
 /// Prints an object for what would become of each path, on a line of its own.
-pub fn print_fate_objects<W: Write>(out: &mut W, alloc: Global, fates: &[Fate]) -> io::Result<()>
-    ensures { OnOk result (AppendsSome (W.contents out.old) (W.contents out.new) (AreFateObjects fates.now)) }
+pub fn print_path_outcome_objects<W: Write>(
+    out: &mut W,
+    alloc: Global,
+    path_outcomes: &[PathOutcome],
+) -> io::Result<()>
+    ensures { OnOk result (AppendsSome (W.contents out.old) (W.contents out.new) (ArePathOutcomeObjects path_outcomes.now)) }
 {
-    for fate in fates {
-        print_fate_object(out, alloc, fate)?;
+    for path_outcome in path_outcomes {
+        print_path_outcome_object(out, alloc, path_outcome)?;
     }
     Ok(())
 }
 
-fn print_fate_object<W: Write>(out: &mut W, alloc: Global, fate: &Fate) -> io::Result<()>
-    ensures { OnOk result (AppendsSome (W.contents out.old) (W.contents out.new) (IsFateObject fate.now)) }
+fn print_path_outcome_object<W: Write>(
+    out: &mut W,
+    alloc: Global,
+    path_outcome: &PathOutcome,
+) -> io::Result<()>
+    ensures { OnOk result (AppendsSome (W.contents out.old) (W.contents out.new) (IsPathOutcomeObject path_outcome.now)) }
 {
-    match fate {
-        Fate::Changes(path) => print_outcome(out, alloc, "would change", path),
-        Fate::Unchanged(path) => print_outcome(out, alloc, "unchanged", path),
-        Fate::Skipped(path) => print_outcome(out, alloc, "skipped", path),
-        Fate::Refused(refusal) => print_refused(out, alloc, refusal),
+    match path_outcome {
+        PathOutcome::Changes(path) => print_outcome(out, alloc, "would change", path),
+        PathOutcome::Unchanged(path) => print_outcome(out, alloc, "unchanged", path),
+        PathOutcome::Skipped(path) => print_outcome(out, alloc, "skipped", path),
+        PathOutcome::Refused(refusal) => print_refused(out, alloc, refusal),
     }
 }
 
@@ -161,7 +169,7 @@ fn outcome_value(alloc: Global, outcome: &str, path: &PathText) -> Result<Value,
 
 // Prints a refusal with its text.
 fn print_refused<W: Write>(out: &mut W, alloc: Global, refusal: &Refusal) -> io::Result<()>
-    ensures { OnOk result (AppendsSome (W.contents out.old) (W.contents out.new) (IsFateObject (Fate.Refused refusal.now))) }
+    ensures { OnOk result (AppendsSome (W.contents out.old) (W.contents out.new) (IsPathOutcomeObject (PathOutcome.Refused refusal.now))) }
 {
     let value = refused_value(alloc, refusal)?;
     print_value(out, alloc, &value)

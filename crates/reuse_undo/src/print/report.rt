@@ -1,10 +1,10 @@
 //! What standard error is told of a run.
 use crate::cli::line::LineFault;
 use crate::print::error_output::ErrorOutput;
-use crate::print::notes::{note_call, note_denial, note_set_back, note_words};
+use crate::print::notes::{note_call, note_denial, note_rolled_back, note_words};
 use crate::run::carried_out::CarriedOut;
 use crate::run::fault::Fault;
-use reuse_session::Fate;
+use reuse_session::PathOutcome;
 use std::io;
 
 /// Tells why the words are no line, and what to do about that where notes are asked for; whether it
@@ -36,8 +36,8 @@ fn tell<R: Print + Eprint + Drop>(
     }
 }
 
-/// Tells the fault of what was carried out, or its denial; that a step was set back; and the notes.
-/// Where standard error can't be written either, the status tells.
+/// Tells the fault of what was carried out, or its denial; that a step was rolled back; and the
+/// notes. Where standard error can't be written either, the status tells.
 pub fn tell_outcome(errors: &impl Eprint, carried_out: &CarriedOut, notes: bool) {
     match &carried_out.ending {
         Ok(Ok(_)) => {}
@@ -46,13 +46,13 @@ pub fn tell_outcome(errors: &impl Eprint, carried_out: &CarriedOut, notes: bool)
             let _ = eprintln!(errors; "reuse-undo: {denial}");
         }
     }
-    if let Some((step, files)) = carried_out.set_back {
-        note_set_back(errors, step, files);
+    if let Some((step, files)) = carried_out.rolled_back {
+        note_rolled_back(errors, step, files);
     }
     match &carried_out.ending {
         Ok(outcome) => {
-            if let Some(findings) = &carried_out.findings {
-                note_call(errors, findings, outcome);
+            if let Some(diagnostics) = &carried_out.diagnostics {
+                note_call(errors, diagnostics, outcome);
             }
         }
         Err(denial) => {
@@ -64,12 +64,12 @@ pub fn tell_outcome(errors: &impl Eprint, carried_out: &CarriedOut, notes: bool)
 }
 
 fn tell_fault(errors: &impl Eprint, fault: &Fault) {
-    let Fault::WouldRefuse(fates) = fault else {
+    let Fault::WouldRefuse(path_outcomes) = fault else {
         let _ = eprintln!(errors; "reuse-undo: {fault}");
         return;
     };
-    for fate in fates.as_slice() {
-        if let Fate::Refused(refusal) = fate {
+    for path_outcome in path_outcomes.as_slice() {
+        if let PathOutcome::Refused(refusal) = path_outcome {
             let _ = eprintln!(errors; "reuse-undo: {refusal}");
         }
     }

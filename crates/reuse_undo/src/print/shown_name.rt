@@ -78,7 +78,7 @@ fn hex_digit(value: u8) -> u8
     if value < 10 { 48 + value } else { 55 + value }
 }
 
-/// The text of a value, as a terminal is to show it. It fails for want of memory.
+/// The text of a value, as a terminal is to show it. It fails for an allocation failure.
 pub fn text_on_terminal<T: Display>(alloc: Global, value: &T) -> io::Result<Bytes>
     ensures { IfOk result (λ text. IfSome (T.output value.now) (λ plain. text ≡ shown_on_terminal plain)) }
 {

@@ -24,8 +24,8 @@ fn nearest(rt: &impl Files, alloc: Global, path: &str) -> Result<Option<String>,
     Ok(None)
 }
 
-/// The nearest folder above the root that has a journal, as an absolute path; none for want of
-/// memory too.
+/// The nearest folder above the root that has a journal, as an absolute path; none for an
+/// allocation failure too.
 pub fn journal_above<R: Files + AllocGlobal>(rt: &R, alloc: Global, root: &str) -> Option<String> {
     match fs::canonicalize(rt, root) {
         Ok(path) => nearest(rt, alloc, path.as_str()).unwrap_or(None),

@@ -6,7 +6,7 @@ ghost use Rattle.std.specs.Prelude.{◌≡◌, ◌≤◌};
 ghost use Rattle.reuse_session.specs.session.Answer.{TellsNoFault};
 ghost use Rattle.reuse_session.specs.journal.Journal.{State};
 ghost use Rattle.reuse_session.specs.session.Session.{store_of, StandsOn};
-ghost use Rattle.reuse_session.specs.session.Requests.{Peeks};
+ghost use Rattle.reuse_session.specs.session.Requests.{ReadsOnlyWithCause};
 ghost use Rattle.reuse_undo.specs.run.Answering.{PreviewsRequest};
 
 use crate::cli::line::Telling;
@@ -17,7 +17,7 @@ use crate::run::denial::Denial;
 use crate::run::fault::Fault;
 use crate::run::line::is_refused;
 use crate::run::on_folder::run_on_folder;
-use reuse_session::{Counts, Fate, Fates, Refusal, Request, Session};
+use reuse_session::{Counts, PathOutcome, PathOutcomes, Refusal, Request, Session};
 use reuse_tree::{PathText, Store};
 use std::alloc::Global;
 use std::fs::File;
@@ -105,9 +105,9 @@ fn first_lost<R: Files<File = File> + AllocGlobal + Clone + Drop>(
     alloc: Global,
     request: &Request,
 ) -> (DiskStore<R>, Option<PathText>) {
-    let (mut folder, fates) = preview_request(alloc, folder, request);
-    let lost = match fates {
-        Ok(fates) => lost_among(alloc, &mut folder, fates.as_slice()),
+    let (mut folder, path_outcomes) = preview_request(alloc, folder, request);
+    let lost = match path_outcomes {
+        Ok(path_outcomes) => lost_among(alloc, &mut folder, path_outcomes.as_slice()),
         Err(_) => None,
     };
     (folder, lost)
@@ -116,13 +116,13 @@ fn first_lost<R: Files<File = File> + AllocGlobal + Clone + Drop>(
 fn lost_among<R: Files<File = File> + AllocGlobal + Clone + Drop>(
     alloc: Global,
     folder: &mut DiskStore<R>,
-    fates: &[Fate],
+    path_outcomes: &[PathOutcome],
 ) -> Option<PathText> {
-    if is_refused(fates) {
+    if is_refused(path_outcomes) {
         return None;
     }
-    for fate in fates {
-        if let Fate::Changes(path) = fate
+    for path_outcome in path_outcomes {
+        if let PathOutcome::Changes(path) = path_outcome
             && folder.may_write(alloc, path) == Ok(false)
         {
             return path.try_clone(alloc).ok();
@@ -131,18 +131,18 @@ fn lost_among<R: Files<File = File> + AllocGlobal + Clone + Drop>(
     None
 }
 
-/// What a call would do, path by path. Nothing is changed, unless a step is pending, which is set
-/// back.
+/// What a call would do, path by path. Nothing is changed, unless a step is pending, which is
+/// rolled back.
 fn preview_request<S: Store + Drop>(
     alloc: Global,
     store: S,
     request: &Request,
-) -> (S, Result<Fates, Refusal>) {
+) -> (S, Result<PathOutcomes, Refusal>) {
     match Session::open(alloc, store) {
         Ok(opened) => {
             let mut session = opened;
-            let fates = preview_in(alloc, &mut session, request);
-            (session.into_store(), fates)
+            let path_outcomes = preview_in(alloc, &mut session, request);
+            (session.into_store(), path_outcomes)
         }
         Err((refusal, store)) => (store, Err(refusal)),
     }
@@ -152,12 +152,12 @@ fn preview_in<S: Store + Drop>(
     alloc: Global,
     session: &mut Session<S>,
     request: &Request,
-) -> Result<Fates, Refusal>
+) -> Result<PathOutcomes, Refusal>
     ensures right { S.honest (store_of session.new) → (held : State) → StandsOn S.files session.old held → TellsNoFault result → PreviewsRequest request.now held result }
-    ensures peeks { Peeks S.Store result session.old session.new }
+    ensures reads_with_cause { ReadsOnlyWithCause S.Store result session.old session.new }
 {
     match request {
         Request::Make(call, _) => session.preview_call(alloc, call),
-        _ => Ok(Fates::new(Vec::new(alloc))),
+        _ => Ok(PathOutcomes::new(Vec::new(alloc))),
     }
 }

@@ -1,18 +1,18 @@
 //! What comes of what was asked for.
 use crate::run::answering::CallEnding;
 use crate::run::denial::Denial;
+use crate::run::diagnostics::Diagnostics;
 use crate::run::fault::Fault;
-use crate::run::findings::Findings;
 
 /// What comes of what was asked for.
 #[derive(Drop)]
 pub struct CarriedOut {
     /// How many paths changed, or would change in a dry run; or why it wasn't begun.
     pub ending: CallEnding,
-    /// The step that was set back, which a stopped run had begun, and how many files.
-    pub set_back: Option<(u32, usize)>,
+    /// The step that was rolled back, which a stopped run had begun, and how many files.
+    pub rolled_back: Option<(u32, usize)>,
     /// What notes tell, where they are asked for.
-    pub findings: Option<Findings>,
+    pub diagnostics: Option<Diagnostics>,
 }
 
 impl CarriedOut {
@@ -30,13 +30,13 @@ impl CarriedOut {
     fn of(ending: CallEnding) -> CarriedOut {
         CarriedOut {
             ending,
-            set_back: None,
-            findings: None,
+            rolled_back: None,
+            diagnostics: None,
         }
     }
 }
 
-/// The step that was pending and isn't any more, and how many files were set back.
-pub fn set_back_step(begun: Option<u32>, files: Option<usize>) -> Option<(u32, usize)> {
+/// The step that was pending and isn't any more, and how many files were rolled back.
+pub fn rolled_back_step(begun: Option<u32>, files: Option<usize>) -> Option<(u32, usize)> {
     Some((begun?, files?))
 }

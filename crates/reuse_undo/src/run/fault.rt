@@ -3,7 +3,7 @@ ghost use Rattle.std.specs.Prelude.{◌≡◌, ◌↔◌, IfErr, IsOk, Some};
 ghost use Rattle.reuse_undo.specs.run.RefusalTexts.{fault_text};
 ghost use Rattle.reuse_undo.specs.declared.run.fault.Fault.TheVariants as faults;
 
-use reuse_session::{Fates, Refusal};
+use reuse_session::{PathOutcomes, Refusal};
 use std::alloc::AllocError;
 use std::error::Error;
 use std::{fmt, io};
@@ -15,8 +15,8 @@ pub enum Fault {
     /// The session refused.
     Refused(Refusal),
     /// A call that was only looked at would be refused: standard error is told each refusal among
-    /// the fates.
-    WouldRefuse(Fates),
+    /// the path outcomes.
+    WouldRefuse(PathOutcomes),
     /// What would change can't be told as a diff, since a file or the journal can't be read again.
     NoDiff(Refusal),
     /// Another run works on the tree. Nothing was read or written.
@@ -53,7 +53,7 @@ impl From<AllocError> for Fault {
     }
 }
 
-/// What is printed into memory fails for want of memory alone.
+/// What is printed into memory fails for an allocation failure alone.
 pub fn in_memory(printed: io::Result<()>) -> Result<(), Fault>
     ensures fault { IfErr result (λ fault. fault ≡ faults.Memory) }
     ensures done { IsOk result ↔ IsOk printed }

@@ -6,21 +6,21 @@ ghost use Rattle.reuse_session.specs.session.Answer.{HasCause};
 ghost use Rattle.reuse_session.specs.journal.Journal.{State};
 ghost use Rattle.reuse_session.specs.journal.Standing.{IsStanding};
 ghost use Rattle.reuse_undo.specs.run.CarriedOut.{CarriesOut};
-ghost use Rattle.reuse_undo.specs.run.Drawn.{Foretells, ForetellsAccepted, IsDiffOfCall, IsTreeDiff};
-ghost use Rattle.reuse_session.specs.session.Requests.{HasCallClash, IsAnswered, IsLook};
+ghost use Rattle.reuse_undo.specs.run.Drawn.{LeadsAsPreviewed, LeadsAsPreviewedAccepted, IsDiffOfCall, IsTreeDiff};
+ghost use Rattle.reuse_session.specs.session.Requests.{HasCallClash, IsAnswered, IsReading};
 ghost use Rattle.reuse_undo.specs.run.RunLine.{IfNoDiff, RequestLeaves};
-ghost use Rattle.reuse_undo.specs.print.Told.{IsAccepted, IsDiffOf, IsForeseen, IsNoDiff};
+ghost use Rattle.reuse_undo.specs.print.Told.{IsAccepted, IsDiffOf, IsDrawnPreview, IsNoDiff};
 ghost use Rattle.reuse_undo.specs.print.WriterFaults.{IsOfDiff, IsUndrawn};
 
 mod drawn;
-mod foreseen;
+mod planned;
 mod printed;
 
 use crate::cli::line::{OutputFormat, Telling};
 use crate::print::output::Sink;
 use crate::run::fault::Fault;
 use drawn::draw;
-use foreseen::{Foreseen, ask_with_changes};
+use planned::{PlannedChanges, ask_with_changes};
 use printed::finish;
 pub use printed::is_refused;
 use reuse_session::{Answer, Counts, Request, Session};
@@ -58,12 +58,12 @@ fn call<S: Store + Drop>(
     telling: Telling,
 ) -> (S, Answer, Result<Vec<u8>, Fault>, Counts)
     ensures carries { S.honest result.0 → RequestLeaves (S.files store) request.now result.1 (S.files result.0) }
-    ensures looks { S.honest result.0 → IsLook request.now → (held : State) → IsStanding (S.files store) held → OnlyReads S.Store store result.0 }
+    ensures reads_only { S.honest result.0 → IsReading request.now → (held : State) → IsStanding (S.files store) held → OnlyReads S.Store store result.0 }
     ensures fault { IfErr result.1 (HasCause (S.failures store < S.failures result.0)) }
     ensures clash { S.honest result.0 → (held : State) → IsStanding (S.files store) held → IfErr result.1 (HasCallClash request.now held (S.files store)) }
     ensures diff { IfOk result.1 (λ told. IsDiffOf telling told result.2) }
     ensures drawn { S.honest result.0 → (held : State) → IsStanding (S.files store) held
-        → IfOk result.1 (λ told. IsForeseen telling told → IfOk result.2 (λ text. IsDiffOfCall request.now held text.items)) }
+        → IfOk result.1 (λ told. IsDrawnPreview telling told → IfOk result.2 (λ text. IsDiffOfCall request.now held text.items)) }
     ensures undrawn { IfNoDiff result.2 (IsUndrawn S.Store store result.0) }
     ensures failures { S.failures store ≤ S.failures result.0 }
     ensures was_honest { S.honest result.0 → S.honest store }
@@ -71,9 +71,9 @@ fn call<S: Store + Drop>(
     match Session::open(alloc, store) {
         Ok(opened) => {
             let mut session = opened;
-            let (answer, foreseen) = ask_for(alloc, &mut session, request, telling.format);
+            let (answer, planned) = ask_for(alloc, &mut session, request, telling.format);
             let counts = session.counts();
-            let (store, diff) = draw_foreseen(alloc, session.into_store(), foreseen);
+            let (store, diff) = draw_planned(alloc, session.into_store(), planned);
             (store, answer, diff, counts)
         }
         Err((refusal, store)) => (store, Err(refusal), Ok(Vec::new(alloc)), Counts::none()),
@@ -87,10 +87,10 @@ fn ask_for<S: Store + Drop>(
     session: &mut Session<S>,
     request: &Request,
     format: OutputFormat,
-) -> (Answer, Option<Foreseen>)
+) -> (Answer, Option<PlannedChanges>)
     ensures answered { IsAnswered S.Store request.now result.0 session.old session.new }
-    ensures wanted { IfSome result.1 (λ foreseen. (format ≡ OutputFormat.Diff) × IsAccepted result.0) }
-    ensures foretells { format ≡ OutputFormat.Diff → ForetellsAccepted S.Store request.now result.0 result.1 session.old session.new }
+    ensures wanted { IfSome result.1 (λ planned. (format ≡ OutputFormat.Diff) × IsAccepted result.0) }
+    ensures previews { format ≡ OutputFormat.Diff → LeadsAsPreviewedAccepted S.Store request.now result.0 result.1 session.old session.new }
 {
     match format {
         OutputFormat::Diff => ask_with_changes(alloc, session, request),
@@ -99,19 +99,19 @@ fn ask_for<S: Store + Drop>(
 }
 
 // The diff of what would change, or none. It only reads.
-fn draw_foreseen<S: Store + Drop>(
+fn draw_planned<S: Store + Drop>(
     alloc: Global,
     store: S,
-    foreseen: Option<Foreseen>,
+    planned: Option<PlannedChanges>,
 ) -> (S, Result<Vec<u8>, Fault>)
-    ensures drawn { S.honest result.0 → (before : Files) → (after : Files) → tree_of (S.files store) ≡ before → IsSomeAnd foreseen (λ foreseen. Foretells foreseen before after)
+    ensures drawn { S.honest result.0 → (before : Files) → (after : Files) → tree_of (S.files store) ≡ before → IsSomeAnd planned (λ planned. LeadsAsPreviewed planned before after)
         → IfOk result.1 (λ text. IsTreeDiff before after text.items) }
-    ensures none { foreseen ≡ None → IsNoDiff result.1 }
+    ensures none { planned ≡ None → IsNoDiff result.1 }
     ensures reads { OnlyReads S.Store store result.0 }
     ensures diff { IfErr result.1 (IsOfDiff S.Store store result.0) }
 {
-    match foreseen {
-        Some(foreseen) => draw_from(alloc, store, &foreseen),
+    match planned {
+        Some(planned) => draw_from(alloc, store, &planned),
         None => (store, Ok(Vec::new(alloc))),
     }
 }
@@ -119,14 +119,14 @@ fn draw_foreseen<S: Store + Drop>(
 fn draw_from<S: Store + Drop>(
     alloc: Global,
     store: S,
-    foreseen: &Foreseen,
+    planned: &PlannedChanges,
 ) -> (S, Result<Vec<u8>, Fault>)
-    ensures drawn { S.honest result.0 → (before : Files) → (after : Files) → tree_of (S.files store) ≡ before → Foretells foreseen.now before after
+    ensures drawn { S.honest result.0 → (before : Files) → (after : Files) → tree_of (S.files store) ≡ before → LeadsAsPreviewed planned.now before after
         → IfOk result.1 (λ text. IsTreeDiff before after text.items) }
     ensures reads { OnlyReads S.Store store result.0 }
     ensures diff { IfErr result.1 (IsOfDiff S.Store store result.0) }
 {
     let mut store = store;
-    let diff = draw(alloc, &mut store, foreseen);
+    let diff = draw(alloc, &mut store, planned);
     (store, diff)
 }

@@ -15,18 +15,18 @@ use std::rt::Files;
 #[derive(Drop)]
 pub struct RootLock {
     root: String,
-    held: HeldFolders,
+    held: LockedFolders,
 }
 
 /// The folders that are locked, as far as they could be opened.
 #[derive(Drop)]
-pub struct HeldFolders {
+pub struct LockedFolders {
     _folders: Vec<File>,
 }
 
 impl RootLock {
     /// The root, as it was named, and what holds the lock.
-    pub fn into_parts(self) -> (String, HeldFolders) {
+    pub fn into_parts(self) -> (String, LockedFolders) {
         let RootLock { root, held } = self;
         (root, held)
     }
@@ -102,8 +102,8 @@ fn lock_above<R: Files<File = File>>(
 }
 
 /// Takes the lock on the folder at this path; nothing in it is read or written. It is refused where
-/// another run holds a lock that doesn't go with this one, or for want of memory, and for no other
-/// reason: what keeps the folder from being opened is told by the store.
+/// another run holds a lock that doesn't go with this one, or for an allocation failure, and for no
+/// other reason: what keeps the folder from being opened is told by the store.
 pub fn lock_root<R: Files<File = File> + AllocGlobal>(
     rt: &R,
     alloc: Global,
@@ -118,6 +118,6 @@ pub fn lock_root<R: Files<File = File> + AllocGlobal>(
     lock_folder(rt, root, Hold::Exclusive, &mut folders)?;
     Ok(RootLock {
         root: String::from_str(alloc, root)?,
-        held: HeldFolders { _folders: folders },
+        held: LockedFolders { _folders: folders },
     })
 }

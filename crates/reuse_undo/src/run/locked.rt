@@ -7,10 +7,10 @@ use crate::print::output::Output;
 use crate::print::progress::{ClearedOutput, Progress};
 use crate::print::shown_name::Names;
 use crate::run::answering::{Asking, CallEnding, answer};
-use crate::run::carried_out::{CarriedOut, set_back_step};
+use crate::run::carried_out::{CarriedOut, rolled_back_step};
 use crate::run::denial::Denial;
+use crate::run::diagnostics::{Diagnostics, Task, begun_step};
 use crate::run::fault::Fault;
-use crate::run::findings::{Findings, Task, begun_step};
 use crate::run::lock::{RootLock, lock_root};
 use crate::run::on_folder::{forget_on_folder, recover_on_folder};
 use crate::run::request::{ids_of, with_texts};
@@ -32,7 +32,7 @@ pub struct Extras {
 }
 
 /// Carries out a line.
-pub fn carry_out<R: Files<File = File> + AllocGlobal + Clock + Env + Print + Eprint + Clone + Drop>(
+pub fn run_line<R: Files<File = File> + AllocGlobal + Clock + Env + Print + Eprint + Clone + Drop>(
     rt: &R,
     alloc: Global,
     line: Line,
@@ -116,7 +116,7 @@ fn work_with<R: Files<File = File> + AllocGlobal + Clock + Env + Print + Eprint 
         return CarriedOut::denied(Denial::JournalOfAnother);
     }
     let begun = begun_step(alloc, &mut folder);
-    let mut findings = found_before(rt, alloc, &line, begun, extras.notes);
+    let mut diagnostics = found_before(rt, alloc, &line, begun, extras.notes);
     let telling = Telling {
         format: line.format,
         names: extras.names,
@@ -129,16 +129,16 @@ fn work_with<R: Files<File = File> + AllocGlobal + Clock + Env + Print + Eprint 
         telling,
     };
     let (folder, ending, counts) = answer(folder, alloc, &asking);
-    if let Some(findings) = &mut findings {
-        findings.counts = counts;
+    if let Some(diagnostics) = &mut diagnostics {
+        diagnostics.counts = counts;
     }
-    let set_back = set_back_step(begun, folder.set_back());
-    let findings = found_after(rt, alloc, findings, folder, &request, &ending);
+    let rolled_back = rolled_back_step(begun, folder.rolled_back());
+    let diagnostics = found_after(rt, alloc, diagnostics, folder, &request, &ending);
     drop(request);
     CarriedOut {
         ending,
-        set_back,
-        findings,
+        rolled_back,
+        diagnostics,
     }
 }
 
@@ -160,9 +160,9 @@ fn found_before<R: Files + AllocGlobal + Clone + Drop>(
     line: &Line,
     begun: Option<u32>,
     notes: bool,
-) -> Option<Findings> {
+) -> Option<Diagnostics> {
     if notes {
-        Some(Findings::before(rt, alloc, line, begun))
+        Some(Diagnostics::before(rt, alloc, line, begun))
     } else {
         None
     }
@@ -171,19 +171,19 @@ fn found_before<R: Files + AllocGlobal + Clone + Drop>(
 fn found_after<R: Files<File = File> + AllocGlobal + Clone + Drop>(
     rt: &R,
     alloc: Global,
-    findings: Option<Findings>,
+    diagnostics: Option<Diagnostics>,
     folder: DiskStore<R>,
     request: &Request,
     ending: &CallEnding,
-) -> Option<Findings> {
-    match (findings, ending) {
-        (Some(mut findings), Ok(outcome)) => {
-            findings.look_after(rt, alloc, folder, request, outcome);
-            Some(findings)
+) -> Option<Diagnostics> {
+    match (diagnostics, ending) {
+        (Some(mut diagnostics), Ok(outcome)) => {
+            diagnostics.look_after(rt, alloc, folder, request, outcome);
+            Some(diagnostics)
         }
-        (findings, _) => {
+        (diagnostics, _) => {
             drop(folder);
-            findings
+            diagnostics
         }
     }
 }
@@ -256,16 +256,17 @@ fn recover_opened<R: Files<File = File> + AllocGlobal + Clock + Print + Eprint +
     recovery: &Recovery,
     extras: Extras,
 ) -> CarriedOut {
-    // Which files were set back, its lines tell; so the step is told of with the other notes alone.
+    // Which files were rolled back, its lines tell; so the step is told of with the other notes
+    // alone.
     let begun = if extras.notes {
         begun_step(alloc, &mut folder)
     } else {
         None
     };
     let root = recovery.root.as_str();
-    let findings = found_of(rt, alloc, root, Task::Recover, begun, extras.notes);
+    let diagnostics = found_of(rt, alloc, root, Task::Recover, begun, extras.notes);
     let (folder, outcome) = recover_aloud(rt, alloc, folder, recovery, extras);
-    carried_out_on(rt, alloc, folder, begun, findings, outcome)
+    run_line_on(rt, alloc, folder, begun, diagnostics, outcome)
 }
 
 fn forget_opened<R: Files<File = File> + AllocGlobal + Clock + Print + Eprint + Clone + Drop>(
@@ -277,12 +278,12 @@ fn forget_opened<R: Files<File = File> + AllocGlobal + Clock + Print + Eprint + 
 ) -> CarriedOut {
     let begun = begun_step(alloc, &mut folder);
     let root = forgetting.root.as_str();
-    let findings = found_of(rt, alloc, root, Task::Forget, begun, extras.notes);
+    let diagnostics = found_of(rt, alloc, root, Task::Forget, begun, extras.notes);
     let (folder, outcome) = forget_aloud(rt, alloc, folder, &forgetting.steps, extras);
-    carried_out_on(rt, alloc, folder, begun, findings, outcome)
+    run_line_on(rt, alloc, folder, begun, diagnostics, outcome)
 }
 
-/// Sets the pending step back, and prints what became of it.
+/// Rolls the pending step back, and prints what became of it.
 fn recover_aloud<R: Files<File = File> + AllocGlobal + Clock + Print + Eprint + Clone + Drop>(
     rt: &R,
     alloc: Global,
@@ -332,35 +333,35 @@ fn found_of<R: Files + AllocGlobal + Clone + Drop>(
     task: Task,
     begun: Option<u32>,
     notes: bool,
-) -> Option<Findings> {
+) -> Option<Diagnostics> {
     if notes {
-        Some(Findings::of(rt, alloc, root, task, begun))
+        Some(Diagnostics::of(rt, alloc, root, task, begun))
     } else {
         None
     }
 }
 
 /// What came of it, with what is found in the folder afterwards.
-fn carried_out_on<R: Files<File = File> + AllocGlobal + Clone + Drop>(
+fn run_line_on<R: Files<File = File> + AllocGlobal + Clone + Drop>(
     rt: &R,
     alloc: Global,
     mut folder: DiskStore<R>,
     begun: Option<u32>,
-    findings: Option<Findings>,
+    diagnostics: Option<Diagnostics>,
     outcome: Result<usize, Fault>,
 ) -> CarriedOut {
-    let set_back = set_back_step(begun, folder.set_back());
-    let findings = match findings {
-        Some(mut findings) => {
-            findings.look_at_folder(rt, alloc, &mut folder, &outcome);
-            Some(findings)
+    let rolled_back = rolled_back_step(begun, folder.rolled_back());
+    let diagnostics = match diagnostics {
+        Some(mut diagnostics) => {
+            diagnostics.look_at_folder(rt, alloc, &mut folder, &outcome);
+            Some(diagnostics)
         }
         None => None,
     };
     drop(folder);
     CarriedOut {
         ending: Ok(outcome),
-        set_back,
-        findings,
+        rolled_back,
+        diagnostics,
     }
 }

@@ -37,8 +37,8 @@ pub fn run_on_folder<R: Files<File = File> + AllocGlobal + Clock + Eprint + Clon
     (watched.into_inner(), outcome, counts)
 }
 
-/// Sets back what a stopped run left pending in the folder, and writes a line for each path that
-/// was set back or left; how many were set back. The folder is given back as a store.
+/// Rolls back what a stopped run left pending in the folder, and writes a line for each path that
+/// was rolled back or left; how many were rolled back. The folder is given back as a store.
 pub fn recover_on_folder<
     R: Files<File = File> + AllocGlobal + Clock + Eprint + Clone + Drop,
     O: Sink,

@@ -1,11 +1,11 @@
-//! Sets back on a store what a stopped run left pending, also where files of it have changed since,
-//! and prints what became of it.
+//! Rolls back on a store what a stopped run left pending, also where files of it have changed
+//! since, and prints what became of it.
 //!
 //! It is no request of a session: no session can be opened while a path of the pending step is
 //! stuck.
 ghost use Rattle.std.specs.Prelude.{◌≡◌, OnOk};
 ghost use Rattle.std.specs.Io.KnownBytes.{Appends};
-ghost use Rattle.reuse_undo.specs.run.Recoveries.{recovered_text, set_back_text, RecoversOn, PrintsLines, PrintsRecovered};
+ghost use Rattle.reuse_undo.specs.run.Recoveries.{recovered_text, rolled_back_text, RecoversOn, PrintsLines, PrintsRecovered};
 
 use crate::print::lines::print_paths;
 use crate::print::output::{Sink, write_text};
@@ -16,9 +16,9 @@ use reuse_tree::{PathText, Store};
 use std::alloc::Global;
 use std::io::{self, Write};
 
-/// Recovers the files of the store, and writes a line for each path that was set back and for each
-/// that was left. It answers how many were set back. Where the lines can't be written, what was set
-/// back stands.
+/// Recovers the files of the store, and writes a line for each path that was rolled back and for
+/// each that was left. It answers how many were rolled back. Where the lines can't be written, what
+/// was rolled back stands.
 pub fn run_recover<S: Store + Drop, O: Sink>(
     alloc: Global,
     store: S,
@@ -67,16 +67,16 @@ fn print_whole<O: Sink>(
     write_text(out, text.as_slice())
 }
 
-/// Prints a line for each path that was set back, and then for each that was left.
+/// Prints a line for each path that was rolled back, and then for each that was left.
 pub fn print_recovered<W: Write>(out: &mut W, names: Names, recovered: &Recovered) -> io::Result<()>
     ensures { OnOk result (Appends (W.contents out.old) (W.contents out.new) (recovered_text names recovered.now)) }
 {
-    print_set_back(out, names, recovered.changed.as_slice())?;
+    print_rolled_back(out, names, recovered.changed.as_slice())?;
     print_paths(out, names, "skipped", recovered.skipped.as_slice())
 }
 
-fn print_set_back<W: Write>(out: &mut W, names: Names, paths: &[PathText]) -> io::Result<()>
-    ensures { OnOk result (Appends (W.contents out.old) (W.contents out.new) (set_back_text names paths.now)) }
+fn print_rolled_back<W: Write>(out: &mut W, names: Names, paths: &[PathText]) -> io::Result<()>
+    ensures { OnOk result (Appends (W.contents out.old) (W.contents out.new) (rolled_back_text names paths.now)) }
 {
     if paths.is_empty() {
         writeln!(out, "nothing changed")

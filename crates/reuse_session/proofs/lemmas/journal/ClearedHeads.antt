@@ -1,4 +1,4 @@
--- Where no change of a pending step can be set back, its head alone is put.
+-- Where no change of a pending step can be rolled back, its head alone is put.
 use Rattle.std.proofs.Common.{◌≡◌, ◌⊎◌, inl, inr, ⊎_elim, List, [], ℕ, Some, Result, Ok, Err, IfErr, OnOk, refl, sym, ap, subst, ◌∙◌}
 use Rattle.std.specs.FinMap.{get}
 use Rattle.reuse_tree.specs.Asked.{OnlyReads, Leaves}
@@ -45,7 +45,7 @@ barrier_certain store old mid have same ok left is =
     let certain = ok left is in
     certain_tree (store.files mid) certain.0 left (have certain.0 certain.1 ∙ ap tree_of (sym same)) certain.2 ∙ same
 
--- where no change is set back the tree is that from the start, and so is each that may be left
+-- where no change is rolled back the tree is that from the start, and so is each that may be left
 module _ {S : Type 0} (store : Ghosts S) (way : Way) (text : List ℕ) (changes : List Change) (none : changes ≡ [])
     (start : Files) (old new : S) (partly : ArePartlyMade way changes start (tree_of (store.files old))) where
   made_nothing : (tree : Files) → SomeMade way changes start tree → tree ≡ start

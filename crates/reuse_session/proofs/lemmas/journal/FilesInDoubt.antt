@@ -17,7 +17,7 @@ use Rattle.reuse_tree.specs.declared.journal.head.PendingWay.{PendingWay}
 use Rattle.reuse_session.specs.declared.reply.Refusal.{Refusal}
 use Rattle.reuse_session.proofs.lemmas.journal.JournalLemmas.{entry_good}
 use Rattle.reuse_session.proofs.lemmas.journal.OpeningLemmas.{same_journal, none_bad}
-use Rattle.reuse_session.proofs.lemmas.journal.Settling.{none_in_files, is_tree}
+use Rattle.reuse_session.proofs.lemmas.journal.PendingRecovery.{none_in_files, is_tree}
 use Rattle.reuse_tree.proofs.Walk.{none_outside}
 
 no_folder_file : (files tree : Files) (path : List ℕ) → lies_under path journal_folder ≡ false → get (tree_of files) path ≡ get tree path → get tree path ≡ None → get files path ≡ None
@@ -108,9 +108,9 @@ module _ (before after : Files) (memory : Memory) (journal : Journal) (read : Is
     inl (record { tree = refl; good = is_tree before are read.no_reuse read.no_undo; journal = read.keeps }, same),
   )
 
-  pub read_settles : (first second : State) → InDoubt first second before
+  pub read_recovers : (first second : State) → InDoubt first second before
       → (IsStanding after first × Remembers memory first.journal) ⊎ (IsStanding after second × Remembers memory second.journal)
-  read_settles first second doubt =
+  read_recovers first second doubt =
       subst (λ files. (IsStanding files first × Remembers memory first.journal) ⊎ (IsStanding files second × Remembers memory second.journal)) (sym same)
       (read_standing first second before memory journal read doubt)
 

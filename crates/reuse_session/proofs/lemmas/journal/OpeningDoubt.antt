@@ -27,7 +27,7 @@ use Rattle.reuse_session.specs.declared.reply.Refusal.TheVariants.{Failed}
 use Rattle.reuse_session.proofs.lemmas.journal.FilesInDoubt.{none_pending}
 use Rattle.reuse_session.proofs.lemmas.journal.HeadPuts.{head_keeps_tree, head_sets}
 use Rattle.reuse_session.proofs.lemmas.journal.OpeningLemmas.{same_journal}
-use Rattle.reuse_session.proofs.lemmas.journal.Settling.{under_way_still}
+use Rattle.reuse_session.proofs.lemmas.journal.PendingRecovery.{under_way_still}
 
 -- ---- one step leads from a journal to another
 

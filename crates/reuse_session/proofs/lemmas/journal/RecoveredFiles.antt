@@ -1,4 +1,4 @@
--- What setting back leaves of the changes of a pending step that can be set back, and of the others.
+-- What rolling back leaves of the changes of a pending step that can be rolled back, and of the others.
 use Rattle.std.proofs.Common.{◌≡◌, ◌⊎◌, inl, inr, ⊎_elim, ℕ, ◌<◌, Bool, true, false, not, List, [], ◌∷◌, Option, Some, None, codes, length, get_or, refl, sym, ap, subst, ◌∙◌}
 use Rattle.std.specs.FinMap.{get}
 use Rattle.std.specs.List.{All}
@@ -28,7 +28,7 @@ use Rattle.reuse_session.proofs.lemmas.journal.JournalLemmas.{keeps_again}
 use Rattle.reuse_session.proofs.lemmas.journal.OpeningLemmas.{recorded}
 use Rattle.reuse_session.proofs.lemmas.journal.PartOfEntry.{all_left, left_all, none_left, none_more, part_of_entry}
 use Rattle.reuse_session.proofs.lemmas.journal.Recovering.{IsPicked, first_stuck, picked, picked_ascend}
-use Rattle.reuse_session.proofs.lemmas.journal.Settling.{is_entry, is_stuck, none_in_files, none_in_tree}
+use Rattle.reuse_session.proofs.lemmas.journal.PendingRecovery.{is_entry, is_stuck, none_in_files, none_in_tree}
 
 module _ (before : Files) (pending : Pending) (memory : Memory) (journal : Journal) (read : IsRead before (Some pending) memory journal) (entry : Entry) (says : EntrySays (get (undo_folder_of before) (entry_path pending.entry)) entry)
     (changed skipped : List (List ℕ)) (found : AreFound (way_of pending.way) (tree_of before) entry.changes changed skipped)
@@ -54,7 +54,7 @@ module _ (before : Files) (pending : Pending) (memory : Memory) (journal : Journ
     pub skipped_ascend : ArePaths skipped
     skipped_ascend = picked_ascend Stuck Free entry.changes skipped found.stuck good.ascending
 
-    -- each change can't be set back, and its path is skipped, or it can
+    -- each change can't be rolled back, and its path is skipped, or it can
     pub each_picked : All (IsPicked Stuck Free skipped) entry.changes
     each_picked = picked Stuck Free entry.changes skipped found.stuck good.ascending
 
@@ -73,13 +73,13 @@ module _ (before : Files) (pending : Pending) (memory : Memory) (journal : Journ
         is_stuck before pending memory journal read entry says path
         (first_stuck Free entry.changes path rest (subst (λ paths. Picks Stuck Free entry.changes paths) is found.stuck))
 
-    -- what is set back can be
+    -- what is rolled back can be
     can_be_made : (change : Change) → IsProper change → Free change → (file : Option (List ℕ)) → TurnsBy (opposite (way_of pending.way)) change (get (tree_of before) (path_of change)) file → CanBeMade (opposite (way_of pending.way)) (tree_of before) change
     can_be_made change proper (inl ready) file back = absurd (ready_once (way_of pending.way) change (get (tree_of before) (path_of change)) proper ready (file, back))
     can_be_made change proper (inr can) file back = can
 
     module _ (after : Files) where
-      -- ---- all is set back
+      -- ---- all is rolled back
 
       module _ (partly : ArePartlyMade (way_of pending.way) part (tree_of after) (tree_of before)) where
         recovers_at : (k : ℕ) (d : Change) → k < length entry.changes → IsPicked Stuck Free skipped (get_or entry.changes k d) → RecoversAt (way_of pending.way) (tree_of before) (tree_of after) (get_or entry.changes k d)

@@ -1,4 +1,4 @@
--- Trees that recovering a step leads to, and the changes of it that can be set back.
+-- Trees that recovering a step leads to, and the changes of it that can be rolled back.
 use Rattle.std.proofs.Common.{◌≡◌, ◌⊎◌, inl, inr, ℕ, ◌<◌, Bool, true, false, ◌||◌, cond, List, [], ◌∷◌, filter, length, get_or, is_some, refl, sym, ap, subst, ◌∙◌}
 use Rattle.std.specs.FinMap.{get}
 use Rattle.std.specs.List.{All}
@@ -38,7 +38,7 @@ module _ (way : Way) (changes : List Change) (good : IsEntry changes) (tree star
         (leads.others path none);
   }
 
-  -- a change that can be set back can be made there, and one that can't be set back can't
+  -- a change that can be rolled back can be made there, and one that can't be rolled back can't
   pub ready_at : (change : Change) → CanBeSetBack way tree change → RecoversAt way tree start change
       → IsReady way change (get start (path_of change))
   ready_at change can (inl stays) = subst (IsReady way change) (sym stays.1) stays.0
@@ -152,7 +152,7 @@ module _ (way : Way) (changes : List Change) (good : IsEntry changes) (tree one 
           (once_at (get_or changes found.0 found.1) (good.proper found.0 found.1 found.2)
           (leads.each found.0 found.1 found.2) (also.each found.0 found.1 found.2))
 
--- of a step that is under way from a tree, all can be set back, and recovering leads to that tree
+-- of a step that is under way from a tree, all can be rolled back, and recovering leads to that tree
 module _ (way : Way) (changes : List Change) (good : IsEntry changes) (start tree : Files) (are : AreFiles start)
     (partly : ArePartlyMade way changes start tree) where
   back_at : (change : Change) → IsProper change → IsReady way change (get start (path_of change))

@@ -1,4 +1,4 @@
--- A pending step is recovered: what is found of its changes, and what is set back.
+-- A pending step is recovered: what is found of its changes, and what is rolled back.
 use Rattle.std.proofs.Common.{◌≡◌, ◌⊎◌, inl, inr, ⊎_elim, ℕ, Bool, true, false, ◌||◌, Less, Equal, List, [], ◌∷◌, ◌++◌, append_assoc, refl, sym, ap, subst, ◌∙◌}
 use Rattle.std.specs.Prelude.{IsTrue, ◌↔◌}
 use Rattle.std.specs.FinMap.{get}

@@ -47,7 +47,7 @@ use Rattle.reuse_session.proofs.lemmas.journal.RecoveredFiles.{each_picked, good
 use Rattle.reuse_session.proofs.lemmas.journal.RecoveredTrees.{ready_at, recovers_from, recovers_once, recovers_partly, recovers_still, some_more, some_part, stuck_at}
 use Rattle.reuse_session.proofs.lemmas.journal.PartOfEntry.{all_left}
 use Rattle.reuse_session.proofs.lemmas.journal.Recovering.{IsPicked}
-use Rattle.reuse_session.proofs.lemmas.journal.Settling.{none_in_files}
+use Rattle.reuse_session.proofs.lemmas.journal.PendingRecovery.{none_in_files}
 
 -- no file stands above the journal, where some changes are made on the tree of a committed state
 no_file_above : (way : PendingWay) (step : Recorded) (held : State) (files : Files) → IsEntry step.changes
@@ -239,7 +239,7 @@ module _ (before : Files) (pending : Pending) (memory : Memory) (journal : Journ
     part_of tree = some_part is_left (way_of pending.way) entry.changes held.tree tree
         (λ k d lt out. stuck_here (get_or entry.changes k d) out (its_picked k d lt) (its_to.tree.each k d lt))
 
-    -- some of the changes that can be set back are made on the tree that recovering leads to
+    -- some of the changes that can be rolled back are made on the tree that recovering leads to
     pub partly_on : ArePartlyMade (way_of pending.way) part held.tree (tree_of before)
     partly_on = record {
       made = part_of (tree_of before) (some_on pending.way (recorded pending.entry entry) held before its_to);

@@ -161,14 +161,14 @@ module _ (skip_moved : Bool) (files after : Files) (first second : State) where
       (λ (halfway : IsHalfway way step journal files after). inr (inr (turn, next, leads, halfway_under_way files after first way turn step next journal has under halfway)))
       stops
 
-  pub settles_recovery : InDoubt first second files → (answer : Result Recovered Refusal) → IfErr answer IsOpenRefusal → IfOk answer (RecoversFiles skip_moved files after)
+  pub recovers_recovery : InDoubt first second files → (answer : Result Recovered Refusal) → IfErr answer IsOpenRefusal → IfOk answer (RecoversFiles skip_moved files after)
       → ((path : List ℕ) → answer ≡ Err (BadJournal path) → IsFirstBad files path) → ((path : List ℕ) → answer ≡ Err (Moved path) → (skip_moved ≡ false) × IsStuckAt files path)
       → ((cause : Cause) → answer ≡ Err (Failed (Interrupted cause)) → StopsRecovering files after) → IfErr answer (λ refusal. IsEarly refusal → after ≡ files)
       → MatchResult answer (λ told. IsStanding after first ⊎ IsStanding after second) (λ refusal. IsFailure refusal × InDoubt first second after)
-  settles_recovery doubt (Ok told) kinds recovered bad moved interrupted early = settled doubt told recovered
-  settles_recovery doubt (Err (BadJournal path)) kinds recovered bad moved interrupted early = let opens = opens_on_one doubt in absurd (not_bad_and_opened files path opens.0 (bad path refl) opens.1)
-  settles_recovery doubt (Err (Moved path)) kinds recovered bad moved interrupted early = let opens = opens_on_one doubt in absurd (not_stuck_and_opened files path opens.0 (moved path refl).1 opens.1)
-  settles_recovery doubt (Err (Failed (Interrupted cause))) kinds recovered bad moved interrupted early = (tt, stopped doubt (interrupted cause refl))
-  settles_recovery doubt (Err (Failed Memory)) kinds recovered bad moved interrupted early = (tt, subst (InDoubt first second) (sym (early tt)) doubt)
-  settles_recovery doubt (Err (Failed (Fault fault))) kinds recovered bad moved interrupted early = (tt, subst (InDoubt first second) (sym (early tt)) doubt)
-  settles_recovery doubt (Err refusal) kinds recovered bad moved interrupted early = absurd kinds
+  recovers_recovery doubt (Ok told) kinds recovered bad moved interrupted early = settled doubt told recovered
+  recovers_recovery doubt (Err (BadJournal path)) kinds recovered bad moved interrupted early = let opens = opens_on_one doubt in absurd (not_bad_and_opened files path opens.0 (bad path refl) opens.1)
+  recovers_recovery doubt (Err (Moved path)) kinds recovered bad moved interrupted early = let opens = opens_on_one doubt in absurd (not_stuck_and_opened files path opens.0 (moved path refl).1 opens.1)
+  recovers_recovery doubt (Err (Failed (Interrupted cause))) kinds recovered bad moved interrupted early = (tt, stopped doubt (interrupted cause refl))
+  recovers_recovery doubt (Err (Failed Memory)) kinds recovered bad moved interrupted early = (tt, subst (InDoubt first second) (sym (early tt)) doubt)
+  recovers_recovery doubt (Err (Failed (Fault fault))) kinds recovered bad moved interrupted early = (tt, subst (InDoubt first second) (sym (early tt)) doubt)
+  recovers_recovery doubt (Err refusal) kinds recovered bad moved interrupted early = absurd kinds

@@ -29,7 +29,7 @@ use Rattle.reuse_session.specs.declared.failure.Failure.TheVariants.{Interrupted
 use Rattle.reuse_session.specs.declared.reply.Refusal.TheVariants.{Failed}
 use Rattle.reuse_session.specs.journal.Standing.{IsTree, IsStanding, IsStep, IsUnderWay}
 use Rattle.reuse_session.proofs.lemmas.journal.JournalReading.{file_in_folder}
-use Rattle.reuse_session.proofs.lemmas.session.Travelling.{first_of_all}
+use Rattle.reuse_session.proofs.lemmas.session.Replaying.{first_of_all}
 use Rattle.reuse_session.proofs.lemmas.journal.HeadPuts.{head_sets, head_keeps_tree, sets_again}
 use Rattle.reuse_session.proofs.lemmas.journal.JournalLemmas.{entry_in_folder, same_but_in_folder, keeps_beside_any, keeps_with_head, kept_beside, kept_moved, keeps_settled, kept_stays}
 use Rattle.reuse_session.proofs.lemmas.journal.Standings.{after_entry, still_tree, under_way}
@@ -162,9 +162,9 @@ survives_weaker store IsNext IsOther earlier held new (Ok reply) weaker survives
 survives_weaker store IsNext IsOther earlier held new (Err (Failed (Interrupted cause))) weaker survives = (survives.0, weaker survives.0 survives.1, survives.2)
 survives_weaker store IsNext IsOther earlier held new (Err refusal) weaker survives = survives
 
-pub survives_travel : {S : Type 0} (store : Ghosts S) (IsNext : State → Type 0) (earlier held : State) (new : S) (way : Way) (paths : List (List ℕ)) (reply : Reply) → reply ≡ reply_of way paths → IsSynced store new → Survives store IsNext earlier held (Ok reply) new
-survives_travel store IsNext earlier held new go.Do paths reply is synced = subst (λ r. Survives store IsNext earlier held (Ok r) new) (sym is) synced
-survives_travel store IsNext earlier held new go.Undo paths reply is synced = subst (λ r. Survives store IsNext earlier held (Ok r) new) (sym is) synced
+pub survives_replay : {S : Type 0} (store : Ghosts S) (IsNext : State → Type 0) (earlier held : State) (new : S) (way : Way) (paths : List (List ℕ)) (reply : Reply) → reply ≡ reply_of way paths → IsSynced store new → Survives store IsNext earlier held (Ok reply) new
+survives_replay store IsNext earlier held new go.Do paths reply is synced = subst (λ r. Survives store IsNext earlier held (Ok r) new) (sym is) synced
+survives_replay store IsNext earlier held new go.Undo paths reply is synced = subst (λ r. Survives store IsNext earlier held (Ok r) new) (sym is) synced
 
 -- what was synced is safe on what stands there
 pub synced_is_safe : {S : Type 0} (store : Ghosts S) (earlier held : State) (new : S) → IsStanding (store.files new) held → IsSynced store new → AreSafeOn store earlier held new

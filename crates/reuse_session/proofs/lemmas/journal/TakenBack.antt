@@ -1,4 +1,4 @@
--- Where each change can be set back, there is a tree from which the step is under way.
+-- Where each change can be rolled back, there is a tree from which the step is under way.
 use Rattle.std.proofs.Common.{◌≡◌, ◌⊎◌, inl, inr, ⊎_elim, ℕ, zero, suc, ◌+◌, ◌<◌, ◌≤◌, true, false, List, length, take, Option, Some, None, IsSome, is_some, codes, refl, sym, ap, subst, ◌∙◌, arith}
 use Rattle.std.specs.List.{All}
 use Rattle.std.specs.FinMap.{get}
@@ -26,7 +26,7 @@ use Rattle.reuse_tree.proofs.TreeLemmas.{tree_are_files}
 use Rattle.reuse_session.proofs.lemmas.journal.JournalLemmas.{entry_good}
 use Rattle.reuse_tree.proofs.MadeLemmas.{at_place, back_none, back_more, ready_once, step_with, still_free, stood, with_file}
 use Rattle.reuse_session.proofs.lemmas.journal.OpeningLemmas.{recorded}
-use Rattle.reuse_session.proofs.lemmas.journal.Settling.{none_in_tree}
+use Rattle.reuse_session.proofs.lemmas.journal.PendingRecovery.{none_in_tree}
 use Rattle.reuse_tree.proofs.Walk.{none_outside}
 
 -- where a change leaves a file, it makes it or one was there

@@ -29,7 +29,7 @@ use Rattle.reuse_session.specs.plan.Covered.{is_covered}
 use Rattle.reuse_session.specs.plan.Edit.{Edit}
 use Rattle.reuse_session.specs.plan.Outcome.{outcome_of, edits_of}
 use Rattle.reuse_session.specs.plan.TreeStyles.{OwnNames, styles_in}
-use Rattle.reuse_session.specs.plan.Worked.{amended_paths, with_table}
+use Rattle.reuse_session.specs.plan.Selected.{amended_paths, with_table}
 use Rattle.reuse_session.specs.declared.command.Command.TheVariants.{Amend}
 use Rattle.reuse_session.specs.declared.command.Place.{Place}
 use Rattle.reuse_session.specs.declared.command.Place.TheVariants as place

@@ -11,7 +11,7 @@ use Rattle.reuse_session.specs.session.Command.{has_root}
 use Rattle.reuse_session.specs.plan.Edit.{Edit}
 use Rattle.reuse_session.specs.plan.Outcome.{outcome_of, edits_of}
 use Rattle.reuse_session.specs.plan.TreeStyles.{OwnNames, styles_in}
-use Rattle.reuse_session.specs.plan.Worked.{worked_paths}
+use Rattle.reuse_session.specs.plan.Selected.{selected_paths}
 use Rattle.reuse_session.specs.declared.command.Command.TheVariants.{Annotate}
 use Rattle.reuse_session.specs.declared.command.Place.{Place}
 use Rattle.reuse_session.specs.declared.command.Place.TheVariants as place
@@ -58,7 +58,7 @@ module _ (places : List Place) (additions : Additions) (how : How) (scope : Scop
   accepts replaces inserts replaces_beside inserts_beside edits (Err refusal) is h fits = absurd (cc)
   accepts replaces inserts replaces_beside inserts_beside edits (Ok own) is h fits =
       let at = annotated_at how scope additions own tree in
-      let paths = worked_paths scope places tree in
+      let paths = selected_paths scope places tree in
       let parts = err_or (not scope.recursive && has_root places) (refusals.IsFolder place.Root) (edits_at at paths) edits h in
       record {
         own = own;
@@ -72,7 +72,7 @@ module _ (places : List Place) (additions : Additions) (how : How) (scope : Scop
   comes : CanAnnotate places additions how scope tree → (edits : List Edit) × (annotation_edits places additions how scope tree ≡ Ok edits)
   comes can =
       let at = annotated_at how scope additions can.own tree in
-      let paths = worked_paths scope places tree in
+      let paths = selected_paths scope places tree in
       let all = all_at at paths (λ path there. accepted_is_done additions how scope can.own tree path (can.each path (Contains-from_in paths path there))) in
       (all.0, ap by_names can.styles ∙ ap (λ b. cond b (Err (refusals.IsFolder place.Root)) (edits_at at paths)) (test_from_root scope.recursive (has_root places) can.root) ∙ all.1)
 

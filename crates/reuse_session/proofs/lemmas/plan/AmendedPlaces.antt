@@ -15,11 +15,11 @@ use Rattle.reuse_session.specs.plan.Choice.{is_listed, matches_one}
 use Rattle.reuse_session.specs.plan.Chosen.{IsNamed, StandsBeneath, IsListed, MatchesNone, IsAskedFor, IsAskedToAmend}
 use Rattle.reuse_session.specs.session.Command.{has_root, paths_among}
 use Rattle.reuse_session.specs.plan.Conversion.{toml_path}
-use Rattle.reuse_session.specs.plan.Worked.{asks_for_table, with_table, amended_paths}
+use Rattle.reuse_session.specs.plan.Selected.{asks_for_table, with_table, amended_paths}
 use Rattle.reuse_session.specs.declared.command.Place.{Place}
 use Rattle.reuse_session.specs.declared.command.Place.TheVariants.{Path}
 use Rattle.reuse_session.specs.declared.command.Scope.{Scope}
-use Rattle.reuse_session.proofs.lemmas.plan.Choosing.{listed_from_test, test_from_listed, none_from_test, test_from_none, worked_exactly, given_exactly, worked_ascend}
+use Rattle.reuse_session.proofs.lemmas.plan.Choosing.{listed_from_test, test_from_listed, none_from_test, test_from_none, selected_exactly, given_exactly, selected_ascend}
 use Rattle.reuse_session.proofs.lemmas.plan.Fitting.{is_slash, has_slash}
 use Rattle.reuse_session.proofs.lemmas.Members.{any_has, any_from}
 
@@ -134,11 +134,11 @@ module _ (scope : Scope) (places : List Place) (tree : Files) where
 
     pub amended_exactly : AreFiles tree → scope.recursive ≡ true → Contains (amended_paths scope places tree) path ↔ Works
     amended_exactly are recursive =
-        let worked = worked_exactly scope (with_table scope places tree) tree path recursive in
-        (λ h. from is_chosen refl (worked.0 h), λ h. worked.1 (to are recursive is_chosen refl h))
+        let selected = selected_exactly scope (with_table scope places tree) tree path recursive in
+        (λ h. from is_chosen refl (selected.0 h), λ h. selected.1 (to are recursive is_chosen refl h))
 
     pub amended_given : scope.recursive ≡ false → Contains (amended_paths scope places tree) path ↔ Contains (paths_among places) path
     amended_given alone = subst (λ ps. Contains (amended_paths scope places tree) path ↔ Contains (paths_among ps) path) (unasked alone) (given_exactly scope (with_table scope places tree) tree path alone)
 
   pub amended_ascend : ArePaths (amended_paths scope places tree)
-  amended_ascend = worked_ascend scope (with_table scope places tree) tree
+  amended_ascend = selected_ascend scope (with_table scope places tree) tree

@@ -13,7 +13,7 @@ use Rattle.reuse_session.specs.session.Command.{has_root}
 use Rattle.reuse_session.specs.plan.Edit.{Edit}
 use Rattle.reuse_session.specs.plan.Outcome.{edited, outcome_of, edits_of}
 use Rattle.reuse_session.specs.plan.TreeStyles.{OwnNames, styles_in}
-use Rattle.reuse_session.specs.plan.Worked.{amended_paths, with_table}
+use Rattle.reuse_session.specs.plan.Selected.{amended_paths, with_table}
 use Rattle.reuse_session.specs.declared.command.Command.TheVariants.{Amend}
 use Rattle.reuse_session.specs.declared.command.Place.{Place}
 use Rattle.reuse_session.specs.declared.command.Place.TheVariants as place
@@ -23,7 +23,7 @@ use Rattle.reuse_session.specs.declared.reply.Refusal.TheVariants as refusals
 use Rattle.reuse_session.proofs.lemmas.plan.AmendedFiles.{KeepsBlock, KeepsNeighbour, amended_there}
 use Rattle.reuse_session.proofs.lemmas.plan.AnnotatedFiles.{pair}
 use Rattle.reuse_session.proofs.lemmas.plan.Annotating.{if_not}
-use Rattle.reuse_session.proofs.lemmas.plan.Choosing.{worked_ascend}
+use Rattle.reuse_session.proofs.lemmas.plan.Choosing.{selected_ascend}
 use Rattle.reuse_session.proofs.lemmas.plan.Fitting.{amendment_placed}
 use Rattle.reuse_session.proofs.lemmas.plan.OneAnnotation.{Found, Lacking, sought}
 use Rattle.reuse_session.proofs.lemmas.plan.PlacedEdits as placed_edits
@@ -50,8 +50,8 @@ module _ (keeps_block : KeepsBlock) (keeps_neighbour : KeepsNeighbour) (amendmen
   amended_tree places edits styles h = record {
     own = own;
     styles = styles;
-    worked = λ path there.
-        let is = placed_edits.all_done at tree placed workable_of (amended_paths scope places tree) edits h (worked_ascend scope (with_table scope places tree) tree) path (In-from_contains (amended_paths scope places tree) path there) in
+    selected = λ path there.
+        let is = placed_edits.all_done at tree placed workable_of (amended_paths scope places tree) edits h (selected_ascend scope (with_table scope places tree) tree) path (In-from_contains (amended_paths scope places tree) path there) in
         subst (IsAmended amendments scope own path (pair_at tree path)) (sym (ap₂ pair (is.2 path (inl refl)) (is.2 (neighbour_of path) (inr refl))))
         (amended_there keeps_block keeps_neighbour amendments scope own tree path is.0 is.1);
     others = λ other none. placed_edits.outside at tree placed workable_of (amended_paths scope places tree) edits h other (λ path there.
@@ -102,9 +102,9 @@ module _ (places : List Place) (amendments : Amendments) (scope : Scope) (before
     where
       by_path : Found (λ path. path) q paths ⊎ Lacking (λ path. path) q paths → Found neighbour_of q paths ⊎ Lacking neighbour_of q paths → is_some (get after q) ≡ is_some (get before q)
       by_path (inl found) beside =
-          subst (λ p. is_some (get after p) ≡ is_some (get before p)) (sym found.2) (are_there amendments scope is.own found.0 _ _ (is.worked found.0 (Contains-from_in paths found.0 found.1))).0
+          subst (λ p. is_some (get after p) ≡ is_some (get before p)) (sym found.2) (are_there amendments scope is.own found.0 _ _ (is.selected found.0 (Contains-from_in paths found.0 found.1))).0
       by_path (inr none) (inl found) =
-          subst (λ p. is_some (get after p) ≡ is_some (get before p)) (sym found.2) (are_there amendments scope is.own found.0 _ _ (is.worked found.0 (Contains-from_in paths found.0 found.1))).1
+          subst (λ p. is_some (get after p) ≡ is_some (get before p)) (sym found.2) (are_there amendments scope is.own found.0 _ _ (is.selected found.0 (Contains-from_in paths found.0 found.1))).1
       by_path (inr none) (inr lacking) =
           let apart : (path : List ℕ) → Contains paths path → (q ≢ path) × (q ≢ neighbour_of path) = λ path there. (none path (In-from_contains paths path there), lacking path (In-from_contains paths path there)) in
           ap is_some (is.others q apart)

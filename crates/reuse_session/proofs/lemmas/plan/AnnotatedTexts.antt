@@ -11,7 +11,7 @@ use Rattle.reuse_tree.specs.Files.{Files}
 use Rattle.reuse_session.specs.plan.Annotate.{neighbour_of}
 use Rattle.reuse_session.specs.plan.Annotated.{Pair, pair_at, IsSkipped, IsCommented, IsAccompanied, IsAnnotated, Annotates, StaysOrIsText, file_written}
 use Rattle.reuse_session.specs.plan.TreeStyles.{OwnNames}
-use Rattle.reuse_session.specs.plan.Worked.{worked_paths}
+use Rattle.reuse_session.specs.plan.Selected.{selected_paths}
 use Rattle.reuse_session.specs.declared.command.Place.{Place}
 use Rattle.reuse_session.specs.declared.command.Scope.{Scope}
 use Rattle.reuse_session.proofs.lemmas.plan.OneAnnotation.{Found, Lacking, sought}
@@ -59,10 +59,10 @@ module _ (files : MakesTexts) (beside : MakesNeighbourTexts) (additions : Additi
 
   module _ (places : List Place) (before after : Files) (made : Annotates places additions how scope before after) where
     abbrev paths : List (List ℕ)
-    paths = worked_paths scope places before
+    paths = selected_paths scope places before
 
     both_stay : (path : List ℕ) → In path paths → StaysOrIsText before after path × StaysOrIsText before after (neighbour_of path)
-    both_stay path there = pair_stays made.own path (pair_at before path) (pair_at after path) (made.worked path (Contains-from_in paths path there))
+    both_stay path there = pair_stays made.own path (pair_at before path) (pair_at after path) (made.selected path (Contains-from_in paths path there))
 
     pub stays_or_text : (q : List ℕ) → StaysOrIsText before after q
     stays_or_text q = by_path (sought (λ path. path) q paths) (sought neighbour_of q paths)

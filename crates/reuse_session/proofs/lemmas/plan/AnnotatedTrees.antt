@@ -11,7 +11,7 @@ use Rattle.reuse_session.specs.plan.Edit.{Edit}
 use Rattle.reuse_tree.specs.Listing.{ArePaths}
 use Rattle.reuse_session.specs.plan.Outcome.{edited, outcome_of, edits_of}
 use Rattle.reuse_session.specs.plan.TreeStyles.{OwnNames, styles_in}
-use Rattle.reuse_session.specs.plan.Worked.{worked_paths}
+use Rattle.reuse_session.specs.plan.Selected.{selected_paths}
 use Rattle.reuse_session.specs.declared.command.Command.TheVariants.{Annotate}
 use Rattle.reuse_session.specs.declared.command.Place.{Place}
 use Rattle.reuse_session.specs.declared.command.Place.TheVariants as place
@@ -20,7 +20,7 @@ use Rattle.reuse_session.specs.declared.reply.Refusal.{Refusal}
 use Rattle.reuse_session.specs.declared.reply.Refusal.TheVariants as refusals
 use Rattle.reuse_session.proofs.lemmas.plan.AnnotatedFiles.{ReplacesBlock, InsertsBlock, ReplacesNeighbour, InsertsNeighbour, annotated_there, pair}
 use Rattle.reuse_session.proofs.lemmas.plan.Annotating.{if_not}
-use Rattle.reuse_session.proofs.lemmas.plan.Choosing.{worked_ascend}
+use Rattle.reuse_session.proofs.lemmas.plan.Choosing.{selected_ascend}
 use Rattle.reuse_session.proofs.lemmas.plan.Fitting.{is_placed}
 use Rattle.reuse_session.proofs.lemmas.plan.PlacedEdits as placed_edits
 use Rattle.reuse_session.proofs.lemmas.plan.PlacedEdits.{IsPlaceOf, HoldsDone}
@@ -47,16 +47,16 @@ module _ (replaces : ReplacesBlock) (inserts : InsertsBlock) (replaces_beside : 
   pub all_done : (paths : List (List ℕ)) (edits : List Edit) → edits_at at paths ≡ Ok edits → ArePaths paths → (path : List ℕ) → In path paths → HoldsDone at tree placed workable_of edits path
   all_done = placed_edits.all_done at tree placed workable_of
 
-  annotated_tree : (places : List Place) (edits : List Edit) → styles_in tree ≡ Ok own → edits_at at (worked_paths scope places tree) ≡ Ok edits → Annotates places additions how scope tree (edited tree edits)
+  annotated_tree : (places : List Place) (edits : List Edit) → styles_in tree ≡ Ok own → edits_at at (selected_paths scope places tree) ≡ Ok edits → Annotates places additions how scope tree (edited tree edits)
   annotated_tree places edits styles h = record {
     own = own;
     styles = styles;
-    worked = λ path there.
-        let is = all_done (worked_paths scope places tree) edits h (worked_ascend scope places tree) path (In-from_contains (worked_paths scope places tree) path there) in
+    selected = λ path there.
+        let is = all_done (selected_paths scope places tree) edits h (selected_ascend scope places tree) path (In-from_contains (selected_paths scope places tree) path there) in
         subst (IsAnnotated additions how scope own path (pair_at tree path)) (sym (ap₂ pair (is.2 path (inl refl)) (is.2 (neighbour_of path) (inr refl))))
         (annotated_there replaces inserts replaces_beside inserts_beside additions how scope own tree path is.0 is.1);
-    others = λ other none. placed_edits.outside at tree placed workable_of (worked_paths scope places tree) edits h other (λ path there.
-        let apart = none path (Contains-from_in (worked_paths scope places tree) path there) in
+    others = λ other none. placed_edits.outside at tree placed workable_of (selected_paths scope places tree) edits h other (λ path there.
+        let apart = none path (Contains-from_in (selected_paths scope places tree) path there) in
         λ place. elim place [ inl here ↦ apart.0 here | inr beside ↦ apart.1 beside ]);
   }
 
@@ -67,7 +67,7 @@ module _ (replaces : ReplacesBlock) (inserts : InsertsBlock) (replaces_beside : 
   by_names edits (Err refusal) is h = absurd (cc)
   by_names edits (Ok own) is h =
       annotated_tree replaces inserts replaces_beside inserts_beside additions how scope own tree places edits is
-      (if_not (not scope.recursive && has_root places) (refusals.IsFolder place.Root) (edits_at (annotated_at how scope additions own tree) (worked_paths scope places tree)) edits h)
+      (if_not (not scope.recursive && has_root places) (refusals.IsFolder place.Root) (edits_at (annotated_at how scope additions own tree) (selected_paths scope places tree)) edits h)
 
   pub annotates : (after : Files) → outcome_of (Annotate places additions how scope) tree ≡ Ok after → Annotates places additions how scope tree after
   unfolding outcome_of

@@ -1,4 +1,4 @@
--- A command changes the paths at which its fates say so.
+-- A command changes the paths at which its path outcomes say so.
 use Rattle.std.proofs.Common.{◌≡◌, ◌≢◌, ◌↔◌, inl, inr, ℕ, Bool, true, false, cond, ◌||◌, ◌&&◌, List, [], ◌∷◌, ◌++◌, length, map, Option, Some, None, Ok, Err, refl, sym, ap, subst, ◌∙◌}
 use Rattle.std.specs.List.{AllByRecursion, Contains, list_any}
 use Rattle.std.specs.Str.{bytes_eq}
@@ -14,14 +14,14 @@ use Rattle.reuse_session.specs.plan.Annotate.{edit_by}
 use Rattle.reuse_session.specs.plan.Annotations.{Due}
 use Rattle.reuse_session.specs.session.Command.{HoldsEntry}
 use Rattle.reuse_session.specs.plan.Edit.{Edit, made, dropped}
-use Rattle.reuse_session.specs.session.Fates.{fate_by, fate_of, limit_fates, fates_of}
+use Rattle.reuse_session.specs.session.PathOutcomes.{path_outcome_by, path_outcome_of, limit_path_outcomes, path_outcomes_of}
 use Rattle.reuse_session.specs.plan.PathEdits.{PathEdit, edits_in}
 use Rattle.reuse_tree.specs.Listing.{is_among}
 use Rattle.reuse_session.specs.plan.Outcome.{with_file, edited, path_edits_of, edits_of, outcome_of}
 use Rattle.reuse_session.specs.declared.command.Command.{Command}
 use Rattle.reuse_session.specs.declared.command.Command.TheVariants.{Annotate, Amend, ConvertDep5, Download, Revert}
-use Rattle.reuse_session.specs.declared.fate.Fate.{Fate}
-use Rattle.reuse_session.specs.declared.fate.Fate.TheVariants as fate
+use Rattle.reuse_session.specs.declared.path_outcome.PathOutcome.{PathOutcome}
+use Rattle.reuse_session.specs.declared.path_outcome.PathOutcome.TheVariants as path_outcome
 use Rattle.reuse_session.specs.declared.reply.Refusal.TheVariants as refusals
 use Rattle.reuse_session.specs.plan.Reverting.{stands_as_written, is_short, put_back, taken_back, taken_back_on}
 use Rattle.reuse_text.specs.Text.{spliced}
@@ -38,45 +38,45 @@ use Rattle.reuse_session.proofs.lemmas.plan.RevertPlanning.{and_first, splice_di
 
 -- ---- the paths that change
 
--- the fate is that this path changes
-is_change : List ℕ → Fate → Bool
-is_change path (fate.Changes other) = bytes_eq path other
+-- the path outcome is that this path changes
+is_change : List ℕ → PathOutcome → Bool
+is_change path (path_outcome.Changes other) = bytes_eq path other
 is_change path told = false
 
-is_that : (path : List ℕ) (told : Fate) → is_change path told ≡ true → told ≡ fate.Changes path
+is_that : (path : List ℕ) (told : PathOutcome) → is_change path told ≡ true → told ≡ path_outcome.Changes path
 unfolding is_change
-is_that path (fate.Changes other) e = ap fate.Changes (sym ((bytes_eq-Decides path other).0 e))
+is_that path (path_outcome.Changes other) e = ap path_outcome.Changes (sym ((bytes_eq-Decides path other).0 e))
 is_that path told e = absurd (false≢true e)
 
-it_is : (path : List ℕ) → is_change path (fate.Changes path) ≡ true
+it_is : (path : List ℕ) → is_change path (path_outcome.Changes path) ≡ true
 unfolding is_change
 it_is path = (bytes_eq-Decides path path).1 refl
 
-changes_where : (fates : List Fate) (path : List ℕ) → Contains fates (fate.Changes path) ↔ (list_any (is_change path) fates ≡ true)
-changes_where fates path = (
+changes_where : (path_outcomes : List PathOutcome) (path : List ℕ) → Contains path_outcomes (path_outcome.Changes path) ↔ (list_any (is_change path) path_outcomes ≡ true)
+changes_where path_outcomes path = (
   λ h.
-      All-contains (λ (f : Fate). f ≡ fate.Changes path → list_any (is_change path) fates ≡ true) fates (fate.Changes path)
-      (λ i d lt same. list_any_at (is_change path) fates i d lt (ap (is_change path) same ∙ it_is path)) h refl,
+      All-contains (λ (f : PathOutcome). f ≡ path_outcome.Changes path → list_any (is_change path) path_outcomes ≡ true) path_outcomes (path_outcome.Changes path)
+      (λ i d lt same. list_any_at (is_change path) path_outcomes i d lt (ap (is_change path) same ∙ it_is path)) h refl,
   λ e.
-      let found = Any-from_list_any (is_change path) fates e in
-      subst (Contains fates) (found.3 ∙ is_that path found.1 found.4) (Contains-get_or fates found.0 found.1 found.2),
+      let found = Any-from_list_any (is_change path) path_outcomes e in
+      subst (Contains path_outcomes) (found.3 ∙ is_that path found.1 found.4) (Contains-get_or path_outcomes found.0 found.1 found.2),
 )
 
-no_change : (path other : List ℕ) (skipped : Bool) (fates : List Fate) → list_any (is_change path) (fate_by other skipped (Ok None) ∷ fates) ≡ list_any (is_change path) fates
+no_change : (path other : List ℕ) (skipped : Bool) (path_outcomes : List PathOutcome) → list_any (is_change path) (path_outcome_by other skipped (Ok None) ∷ path_outcomes) ≡ list_any (is_change path) path_outcomes
 unfolding is_change
-no_change path other true fates = refl
-no_change path other false fates = refl
+no_change path other true path_outcomes = refl
+no_change path other false path_outcomes = refl
 
 -- where nothing is refused, the paths that change are those of the edits
-of_paths : (path : List ℕ) (all : List PathEdit) (edits : List Edit) → edits_in all ≡ Ok edits → list_any (is_change path) (map fate_of all) ≡ is_among (paths_at edits) path
+of_paths : (path : List ℕ) (all : List PathEdit) (edits : List Edit) → edits_in all ≡ Ok edits → list_any (is_change path) (map path_outcome_of all) ≡ is_among (paths_at edits) path
 unfolding is_change
 of_paths path [] edits h = ap (λ es. is_among (paths_at es) path) (sym (no_edits edits h))
 of_paths path (here ∷ all) edits h = elim (first_is here.edit (edits_in all) edits h) [
   | inl none ↦
-      ap (λ r. list_any (is_change path) (fate_by here.path here.skipped r ∷ map fate_of all)) none.0
-      ∙ no_change path here.path here.skipped (map fate_of all) ∙ of_paths path all edits none.1
+      ap (λ r. list_any (is_change path) (path_outcome_by here.path here.skipped r ∷ map path_outcome_of all)) none.0
+      ∙ no_change path here.path here.skipped (map path_outcome_of all) ∙ of_paths path all edits none.1
   | inr some ↦
-      ap (λ r. list_any (is_change path) (fate_by here.path here.skipped r ∷ map fate_of all)) some.2
+      ap (λ r. list_any (is_change path) (path_outcome_by here.path here.skipped r ∷ map path_outcome_of all)) some.2
       ∙ ap (λ b. bytes_eq path some.0.path || b) (of_paths path all some.1 some.3) ∙ ap (λ es. is_among (paths_at es) path) (sym some.4)
 ]
 
@@ -161,21 +161,21 @@ differs_where tree edits each path = (edited_differs tree edits each path, λ ot
     of_test true t other = refl
     of_test false t other = absurd (other (sym (edited_other tree edits path t)))
 
-of_all : (command : Command) (tree after : Files) (path : List ℕ) → HoldsEntry command → outcome_of command tree ≡ Ok after → (list_any (is_change path) (fates_of command tree) ≡ true) ↔ (get tree path ≢ get after path)
-unfolding fates_of outcome_of
+of_all : (command : Command) (tree after : Files) (path : List ℕ) → HoldsEntry command → outcome_of command tree ≡ Ok after → (list_any (is_change path) (path_outcomes_of command tree) ≡ true) ↔ (get tree path ≢ get after path)
+unfolding path_outcomes_of outcome_of
 of_all command tree after path holds h =
     let few = edits_of_tree tree after (edits_of command tree) h in
-    let limit : limit_fates (edits_of command tree) ≡ [] = ap limit_fates few.1 ∙ ap (λ b. cond b (fate.Refused refusals.TooMany ∷ []) []) few.3 in
-    let told = map fate_of (path_edits_of command tree) in
-    let same : list_any (is_change path) (told ++ limit_fates (edits_of command tree)) ≡ is_among (paths_at few.0) path =
+    let limit : limit_path_outcomes (edits_of command tree) ≡ [] = ap limit_path_outcomes few.1 ∙ ap (λ b. cond b (path_outcome.Refused refusals.TooMany ∷ []) []) few.3 in
+    let told = map path_outcome_of (path_edits_of command tree) in
+    let same : list_any (is_change path) (told ++ limit_path_outcomes (edits_of command tree)) ≡ is_among (paths_at few.0) path =
     ap (λ fs. list_any (is_change path) (told ++ fs)) limit ∙ ap (list_any (is_change path)) (append-nil told) ∙ of_paths path (path_edits_of command tree) few.0 few.1 in
     let where_differs = differs_where tree few.0 (each_differs command tree few.0 holds few.1) path in (
       λ e. subst (λ t. get tree path ≢ get t path) few.2 (where_differs.0 (sym same ∙ e)),
       λ other. same ∙ where_differs.1 (subst (λ t. get tree path ≢ get t path) (sym few.2) other),
     )
 
-pub changes_where_trees_differ : (command : Command) (tree after : Files) (path : List ℕ) → HoldsEntry command → outcome_of command tree ≡ Ok after → Contains (fates_of command tree) (fate.Changes path) ↔ (get tree path ≢ get after path)
+pub changes_where_trees_differ : (command : Command) (tree after : Files) (path : List ℕ) → HoldsEntry command → outcome_of command tree ≡ Ok after → Contains (path_outcomes_of command tree) (path_outcome.Changes path) ↔ (get tree path ≢ get after path)
 changes_where_trees_differ command tree after path holds h =
-    let here = changes_where (fates_of command tree) path in
+    let here = changes_where (path_outcomes_of command tree) path in
     let there = of_all command tree after path holds h in
     (λ c. there.0 (here.0 c), λ other. here.1 (there.1 other))

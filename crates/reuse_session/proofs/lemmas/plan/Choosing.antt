@@ -24,7 +24,7 @@ use Rattle.reuse_session.specs.plan.Chosen.{IsNamed, StandsBeneath, IsListed, Le
 use Rattle.reuse_session.specs.session.Command.{has_root, paths_among}
 use Rattle.reuse_session.specs.plan.Covered.{is_covered}
 use Rattle.reuse_tree.specs.Listing.{ArePaths, is_folder}
-use Rattle.reuse_session.specs.plan.Worked.{expanded, worked_paths}
+use Rattle.reuse_session.specs.plan.Selected.{expanded, selected_paths}
 use Rattle.reuse_session.specs.declared.command.Place.{Place}
 use Rattle.reuse_session.specs.declared.command.Place.TheVariants.{Root, Path}
 use Rattle.reuse_session.specs.declared.command.Scope.{Scope}
@@ -40,21 +40,21 @@ module _ (scope : Scope) (tree : Files) (t : List ℕ) where
   abbrev Beneath : List Place → Type 0
   Beneath places = In t (keys tree) × ((has_root places ≡ true) ⊎ ((folder : List ℕ) × In folder (paths_among places) × (lies_under t folder ≡ true)))
 
-  abbrev Worked : List Place → Type 0
-  Worked places = Named places ⊎ (Beneath places × (is_chosen scope t ≡ true))
+  abbrev Selected : List Place → Type 0
+  Selected places = Named places ⊎ (Beneath places × (is_chosen scope t ≡ true))
 
   abbrev for_folder : List ℕ → Bool → List (List ℕ)
   for_folder path b = cond b (filter (is_chosen scope) (filter (λ other. lies_under other path) (keys tree))) (path ∷ [])
 
-  behind_root : (places : List Place) → Worked places → Worked (Root ∷ places)
+  behind_root : (places : List Place) → Selected places → Selected (Root ∷ places)
   behind_root places (inl named) = inl named
   behind_root places (inr (there, chosen)) = inr ((there.0, inl refl), chosen)
 
-  behind_path : (path : List ℕ) (places : List Place) → Worked places → Worked (Path path ∷ places)
+  behind_path : (path : List ℕ) (places : List Place) → Selected places → Selected (Path path ∷ places)
   behind_path path places (inl named) = inl (inr named.0, named.1)
   behind_path path places (inr (there, chosen)) = inr ((there.0, elim there.1 [ inl root ↦ inl root | inr found ↦ inr (found.0, inr found.1, found.2) ]), chosen)
 
-  at_path : (path : List ℕ) (places : List Place) (b : Bool) → is_folder tree path ≡ b → In t (for_folder path b) → Worked (Path path ∷ places)
+  at_path : (path : List ℕ) (places : List Place) (b : Bool) → is_folder tree path ≡ b → In t (for_folder path b) → Selected (Path path ∷ places)
   at_path path places true e h =
       let f = In-filter (is_chosen scope) t (filter (λ other. lies_under other path) (keys tree)) h in
       let g = In-filter (λ other. lies_under other path) t (keys tree) f.0 in
@@ -62,7 +62,7 @@ module _ (scope : Scope) (tree : Files) (t : List ℕ) where
   at_path path places false e (inl is) = inl (inl is, ap (is_folder tree) is ∙ e)
   at_path path places false e (inr h) = absurd h
 
-  pub from_expanded : (places : List Place) → In t (flat_map (expanded scope tree) places) → Worked places
+  pub from_expanded : (places : List Place) → In t (flat_map (expanded scope tree) places) → Selected places
   from_expanded [] h = absurd h
   from_expanded (Root ∷ places) h = elim (In-append (filter (is_chosen scope) (keys tree)) (flat_map (expanded scope tree) places) t h) [
     | inl k ↦ (let f = In-filter (is_chosen scope) t (keys tree) k in inr ((f.0, inl refl), f.1))
@@ -102,7 +102,7 @@ module _ (scope : Scope) (tree : Files) (t : List ℕ) where
   beneath_expanded (Path path ∷ places) folder (inr h) under there chosen =
       In-right (for_folder path (is_folder tree path)) (flat_map (expanded scope tree) places) t (beneath_expanded places folder h under there chosen)
 
-  to_expanded : (places : List Place) → Worked places → In t (flat_map (expanded scope tree) places)
+  to_expanded : (places : List Place) → Selected places → In t (flat_map (expanded scope tree) places)
   to_expanded places (inl named) = named_expanded places named.0 named.1
   to_expanded places (inr (there, chosen)) = elim there.1 [
     | inl root ↦ root_expanded places root there.0 chosen
@@ -174,22 +174,22 @@ under_as Has Had turn (inl root) = inl root
 under_as Has Had turn (inr under) = inr (under.0, turn under.0 under.1, under.2)
 
 module _ (scope : Scope) (places : List Place) (tree : Files) (path : List ℕ) (recursive : scope.recursive ≡ true) where
-  worked_is : worked_paths scope places tree ≡ set_of (flat_map (expanded scope tree) places)
-  worked_is = ap (λ b. set_of (cond b (flat_map (expanded scope tree) places) (paths_among places))) recursive
+  selected_is : selected_paths scope places tree ≡ set_of (flat_map (expanded scope tree) places)
+  selected_is = ap (λ b. set_of (cond b (flat_map (expanded scope tree) places) (paths_among places))) recursive
 
-  found : Worked scope tree path places → IsNamed places tree path ⊎ (StandsBeneath places tree path × IsAskedFor scope path)
+  found : Selected scope tree path places → IsNamed places tree path ⊎ (StandsBeneath places tree path × IsAskedFor scope path)
   found (inl named) = inl (Contains-from_in (paths_among places) path named.0, named.1)
   found (inr (there, chosen)) = inr ((Contains-from_in (keys tree) path there.0, under_as (λ p. Contains (paths_among places) p) (λ p. In p (paths_among places)) (λ p. Contains-from_in (paths_among places) p) there.1), asked_from_test scope path chosen)
 
-  given : IsNamed places tree path ⊎ (StandsBeneath places tree path × IsAskedFor scope path) → Worked scope tree path places
+  given : IsNamed places tree path ⊎ (StandsBeneath places tree path × IsAskedFor scope path) → Selected scope tree path places
   given (inl named) = inl (In-from_contains (paths_among places) path named.0, named.1)
   given (inr (there, asked)) = inr ((In-from_contains (keys tree) path there.0, under_as (λ p. In p (paths_among places)) (λ p. Contains (paths_among places) p) (λ p. In-from_contains (paths_among places) p) there.1), test_from_asked scope path asked)
 
-  pub worked_exactly : Contains (worked_paths scope places tree) path ↔ (IsNamed places tree path ⊎ (StandsBeneath places tree path × IsAskedFor scope path))
-  worked_exactly = (
+  pub selected_exactly : Contains (selected_paths scope places tree) path ↔ (IsNamed places tree path ⊎ (StandsBeneath places tree path × IsAskedFor scope path))
+  selected_exactly = (
     λ h. found (from_expanded scope tree path places (In-set_of (flat_map (expanded scope tree) places) path
-        (In-from_contains (set_of (flat_map (expanded scope tree) places)) path (subst (λ ps. Contains ps path) worked_is h)))),
-    λ h. subst (λ ps. Contains ps path) (sym worked_is) (Contains-from_in (set_of (flat_map (expanded scope tree) places)) path
+        (In-from_contains (set_of (flat_map (expanded scope tree) places)) path (subst (λ ps. Contains ps path) selected_is h)))),
+    λ h. subst (λ ps. Contains ps path) (sym selected_is) (Contains-from_in (set_of (flat_map (expanded scope tree) places)) path
         (set_of-has (flat_map (expanded scope tree) places) path (to_expanded scope tree path places (given h)))),
   )
 
@@ -206,12 +206,12 @@ all_chosen scope path unlisted none =
 
 -- without going through folders
 module _ (scope : Scope) (places : List Place) (tree : Files) where
-  pub given_exactly : (path : List ℕ) → scope.recursive ≡ false → Contains (worked_paths scope places tree) path ↔ Contains (paths_among places) path
+  pub given_exactly : (path : List ℕ) → scope.recursive ≡ false → Contains (selected_paths scope places tree) path ↔ Contains (paths_among places) path
   given_exactly path alone =
-      let worked : worked_paths scope places tree ≡ set_of (paths_among places) = ap (λ b. set_of (cond b (flat_map (expanded scope tree) places) (paths_among places))) alone in (
-        λ h. Contains-from_in (paths_among places) path (In-set_of (paths_among places) path (In-from_contains (set_of (paths_among places)) path (subst (λ ps. Contains ps path) worked h))),
-        λ h. subst (λ ps. Contains ps path) (sym worked) (Contains-from_in (set_of (paths_among places)) path (set_of-has (paths_among places) path (In-from_contains (paths_among places) path h))),
+      let selected : selected_paths scope places tree ≡ set_of (paths_among places) = ap (λ b. set_of (cond b (flat_map (expanded scope tree) places) (paths_among places))) alone in (
+        λ h. Contains-from_in (paths_among places) path (In-set_of (paths_among places) path (In-from_contains (set_of (paths_among places)) path (subst (λ ps. Contains ps path) selected h))),
+        λ h. subst (λ ps. Contains ps path) (sym selected) (Contains-from_in (set_of (paths_among places)) path (set_of-has (paths_among places) path (In-from_contains (paths_among places) path h))),
       )
 
-  pub worked_ascend : ArePaths (worked_paths scope places tree)
-  worked_ascend = sorted-set_of (cond scope.recursive (flat_map (expanded scope tree) places) (paths_among places))
+  pub selected_ascend : ArePaths (selected_paths scope places tree)
+  selected_ascend = sorted-set_of (cond scope.recursive (flat_map (expanded scope tree) places) (paths_among places))

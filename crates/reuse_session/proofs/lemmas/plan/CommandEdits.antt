@@ -21,7 +21,7 @@ use Rattle.reuse_session.specs.plan.Outcome.{annotation_at, amendment_at, annota
 use Rattle.reuse_session.specs.plan.PathEdits.{PathEdit, refused_with, refused_alone, all_or_none, with_edit, or_first, edits_in}
 use Rattle.reuse_session.specs.plan.Reverting.{back_or_refused, reverted_at, taken_back_unless}
 use Rattle.reuse_session.specs.plan.TreeStyles.{OwnNames, styles_in}
-use Rattle.reuse_session.specs.plan.Worked.{with_table, worked_paths}
+use Rattle.reuse_session.specs.plan.Selected.{with_table, selected_paths}
 use Rattle.reuse_session.specs.declared.command.Command.TheVariants.{Annotate, Amend, ConvertDep5, Download, Revert}
 use Rattle.reuse_session.specs.declared.command.Place.{Place}
 use Rattle.reuse_session.specs.declared.command.Place.TheVariants as place
@@ -38,7 +38,7 @@ edits_at at [] = Ok []
 edits_at at (path ∷ paths) = or_first (at path) (edits_at at paths)
 
 abbrev pub edits_at_places : (List ℕ → Result (Option Edit) Refusal) → Scope → List Place → Files → Result (List Edit) Refusal
-edits_at_places at scope places tree = if not scope.recursive && has_root places then Err (IsFolder place.Root) else edits_at at (worked_paths scope places tree)
+edits_at_places at scope places tree = if not scope.recursive && has_root places then Err (IsFolder place.Root) else edits_at at (selected_paths scope places tree)
 
 abbrev pub edits_by_names : List Place → Additions → How → Scope → Files → Result OwnNames Refusal → Result (List Edit) Refusal
 edits_by_names places additions how scope tree (Err refusal) = Err refusal
@@ -82,14 +82,14 @@ of_annotation places additions how scope tree = by_styles (styles_in tree)
   where
     by_styles : (styles : Result OwnNames Refusal) → edits_in (annotations_by places additions how scope tree styles) ≡ edits_by_names places additions how scope tree styles
     by_styles (Err refusal) = refl
-    by_styles (Ok own) = edits_of_places (annotation_at how scope additions own tree) (worked_paths scope places tree) (not scope.recursive && has_root places)
+    by_styles (Ok own) = edits_of_places (annotation_at how scope additions own tree) (selected_paths scope places tree) (not scope.recursive && has_root places)
 
 pub of_amendment : (places : List Place) (amendments : Amendments) (scope : Scope) (tree : Files) → edits_of (Amend places amendments scope) tree ≡ amendment_edits places amendments scope tree
 of_amendment given amendments scope tree = by_styles (with_table scope given tree) (styles_in tree)
   where
     by_styles : (places : List Place) (styles : Result OwnNames Refusal) → edits_in (amendments_by places amendments scope tree styles) ≡ amendments_by_names places amendments scope tree styles
     by_styles places (Err refusal) = refl
-    by_styles places (Ok own) = edits_of_places (amendment_at amendments scope own tree) (worked_paths scope places tree) (not scope.recursive && has_root places)
+    by_styles places (Ok own) = edits_of_places (amendment_at amendments scope own tree) (selected_paths scope places tree) (not scope.recursive && has_root places)
 
 pub of_all_or_none : (given : Result (List Edit) Refusal) → edits_in (all_or_none given) ≡ given
 of_all_or_none (Err refusal) = refl

@@ -5,15 +5,15 @@ use Rattle.reuse_tree.specs.declared.store.Store.{Ghosts}
 use Rattle.reuse_session.specs.session.Calls.{LeavesRun}
 use Rattle.reuse_session.specs.plan.Counted.{skipped_count, skipped_planned}
 use Rattle.reuse_session.specs.plan.Edit.{Edit}
-use Rattle.reuse_session.specs.session.Fates.{fate_of, fates_of, limit_fates}
+use Rattle.reuse_session.specs.session.PathOutcomes.{path_outcome_of, path_outcomes_of, limit_path_outcomes}
 use Rattle.reuse_session.specs.journal.Journal.{State}
 use Rattle.reuse_session.specs.plan.Outcome.{edits_of, path_edits_of, is_too_many}
-use Rattle.reuse_session.specs.plan.PathPlans.{ArePlansOf, fate_planned}
+use Rattle.reuse_session.specs.plan.PathPlans.{ArePlansOf, path_outcome_planned}
 use Rattle.reuse_session.specs.session.Session.{store_of, StandsOn}
 use Rattle.reuse_session.specs.declared.command.Command.{Command}
 use Rattle.reuse_session.specs.declared.plan.counts.Counts.{Counts}
-use Rattle.reuse_session.specs.declared.fate.Fate.{Fate}
-use Rattle.reuse_session.specs.declared.fate.Fate.TheVariants as fate
+use Rattle.reuse_session.specs.declared.path_outcome.PathOutcome.{PathOutcome}
+use Rattle.reuse_session.specs.declared.path_outcome.PathOutcome.TheVariants as path_outcome
 use Rattle.reuse_session.specs.declared.plan.path_plan.PathPlan.{PathPlan}
 use Rattle.reuse_session.specs.declared.plan.path_plan.PathPlan.TheVariants as plan
 use Rattle.reuse_session.specs.declared.plan.path_plan.Policy.{Policy}
@@ -21,11 +21,11 @@ use Rattle.reuse_session.specs.declared.reply.Refusal.{Refusal}
 use Rattle.reuse_session.specs.declared.reply.Refusal.TheVariants as refusals
 use Rattle.reuse_session.specs.declared.reply.Reply.{Reply}
 use Rattle.reuse_session.specs.declared.session.Session.{Session}
-use Rattle.reuse_session.proofs.lemmas.plan.PathPlanning.{fates_are}
+use Rattle.reuse_session.proofs.lemmas.plan.PathPlanning.{path_outcomes_are}
 
 -- ---- files that are skipped
 
-skips_planned : (plans : List PathPlan) → skipped_planned plans ≡ skipped_count (map fate_planned plans)
+skips_planned : (plans : List PathPlan) → skipped_planned plans ≡ skipped_count (map path_outcome_planned plans)
 skips_planned [] = refl
 skips_planned (plan.Change change ∷ plans) = skips_planned plans
 skips_planned (plan.Unchanged path ∷ plans) = skips_planned plans
@@ -33,28 +33,28 @@ skips_planned (plan.Skipped path ∷ plans) = ap suc (skips_planned plans)
 skips_planned (plan.Refused refusal ∷ plans) = skips_planned plans
 
 -- no file is skipped since the edits are too many
-none_at_limit : (given : Result (List Edit) Refusal) → skipped_count (limit_fates given) ≡ 0
+none_at_limit : (given : Result (List Edit) Refusal) → skipped_count (limit_path_outcomes given) ≡ 0
 none_at_limit (Err refusal) = refl
 none_at_limit (Ok edits) = by_size (is_too_many edits)
   where
-    by_size : (b : Bool) → skipped_count (cond b (fate.Refused refusals.TooMany ∷ []) []) ≡ 0
+    by_size : (b : Bool) → skipped_count (cond b (path_outcome.Refused refusals.TooMany ∷ []) []) ≡ 0
     by_size true = refl
     by_size false = refl
 
-none_behind : (fates others : List Fate) → skipped_count others ≡ 0 → skipped_count (fates ++ others) ≡ skipped_count fates
+none_behind : (path_outcomes others : List PathOutcome) → skipped_count others ≡ 0 → skipped_count (path_outcomes ++ others) ≡ skipped_count path_outcomes
 none_behind [] others none = none
-none_behind (fate.Changes path ∷ fates) others none = none_behind fates others none
-none_behind (fate.Unchanged path ∷ fates) others none = none_behind fates others none
-none_behind (fate.Skipped path ∷ fates) others none = ap suc (none_behind fates others none)
-none_behind (fate.Refused refusal ∷ fates) others none = none_behind fates others none
+none_behind (path_outcome.Changes path ∷ path_outcomes) others none = none_behind path_outcomes others none
+none_behind (path_outcome.Unchanged path ∷ path_outcomes) others none = none_behind path_outcomes others none
+none_behind (path_outcome.Skipped path ∷ path_outcomes) others none = ap suc (none_behind path_outcomes others none)
+none_behind (path_outcome.Refused refusal ∷ path_outcomes) others none = none_behind path_outcomes others none
 
--- the plans of a command skip as many files as its fates say
-pub skips_are : (policy : Policy) (command : Command) (tree : Files) (plans : List PathPlan) → ArePlansOf policy tree (path_edits_of command tree) plans → skipped_planned plans ≡ skipped_count (fates_of command tree)
-unfolding fates_of
+-- the plans of a command skip as many files as its path outcomes say
+pub skips_are : (policy : Policy) (command : Command) (tree : Files) (plans : List PathPlan) → ArePlansOf policy tree (path_edits_of command tree) plans → skipped_planned plans ≡ skipped_count (path_outcomes_of command tree)
+unfolding path_outcomes_of
 skips_are policy command tree plans are =
     let all = path_edits_of command tree in
-    skips_planned plans ∙ ap skipped_count (fates_are policy tree all plans are)
-    ∙ sym (none_behind (map fate_of all) (limit_fates (edits_of command tree)) (none_at_limit (edits_of command tree)))
+    skips_planned plans ∙ ap skipped_count (path_outcomes_are policy tree all plans are)
+    ∙ sym (none_behind (map path_outcome_of all) (limit_path_outcomes (edits_of command tree)) (none_at_limit (edits_of command tree)))
 
 -- ---- sessions
 

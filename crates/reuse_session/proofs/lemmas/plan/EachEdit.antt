@@ -27,7 +27,7 @@ use Rattle.reuse_tree.specs.Listing.{is_folder}
 use Rattle.reuse_session.specs.plan.Outcome.{edits_of}
 use Rattle.reuse_session.specs.plan.Reverting.{taken_back_on, taken_back_unless}
 use Rattle.reuse_session.specs.plan.TreeStyles.{OwnNames, styles_in}
-use Rattle.reuse_session.specs.plan.Worked.{with_table, worked_paths}
+use Rattle.reuse_session.specs.plan.Selected.{with_table, selected_paths}
 use Rattle.reuse_session.specs.declared.command.Command.{Command}
 use Rattle.reuse_session.specs.declared.command.Command.TheVariants.{Annotate, Amend, ConvertDep5, Download, Revert}
 use Rattle.reuse_session.specs.declared.command.Place.{Place}
@@ -124,8 +124,8 @@ module _
         by_styles : (styles : Result OwnNames Refusal) → edits_by_names places additions how scope tree styles ≡ Ok edits → AllByRecursion P edits
         by_styles (Err refusal) e = absurd (cc)
         by_styles (Ok own) e =
-            all_edits (annotated_at how scope additions own tree) P (λ p edit k. of_annotated how scope additions p edit own k) (worked_paths scope places tree) edits
-            (if_not (not scope.recursive && has_root places) (refusals.IsFolder place.Root) (edits_at (annotated_at how scope additions own tree) (worked_paths scope places tree)) edits e)
+            all_edits (annotated_at how scope additions own tree) P (λ p edit k. of_annotated how scope additions p edit own k) (selected_paths scope places tree) edits
+            (if_not (not scope.recursive && has_root places) (refusals.IsFolder place.Root) (edits_at (annotated_at how scope additions own tree) (selected_paths scope places tree)) edits e)
     each_edit (Amend places amendments scope) edits wanted h = by_styles (with_table scope places tree) (styles_in tree) (sym (of_amendment places amendments scope tree) ∙ h)
       where
         of_amended : (own : OwnNames) (path : List ℕ) (edit : Edit) → amended_at amendments scope own tree path ≡ some_edit edit → P edit
@@ -134,8 +134,8 @@ module _
         by_styles : (places : List Place) (styles : Result OwnNames Refusal) → amendments_by_names places amendments scope tree styles ≡ Ok edits → AllByRecursion P edits
         by_styles places (Err refusal) e = absurd (cc)
         by_styles places (Ok own) e =
-            all_edits (amended_at amendments scope own tree) P (of_amended own) (worked_paths scope places tree) edits
-            (if_not (not scope.recursive && has_root places) (refusals.IsFolder place.Root) (edits_at (amended_at amendments scope own tree) (worked_paths scope places tree)) edits e)
+            all_edits (amended_at amendments scope own tree) P (of_amended own) (selected_paths scope places tree) edits
+            (if_not (not scope.recursive && has_root places) (refusals.IsFolder place.Root) (edits_at (amended_at amendments scope own tree) (selected_paths scope places tree)) edits e)
     each_edit ConvertDep5 edits wanted h = of_converted edits (sym (of_conversion tree) ∙ h)
     each_edit (Download ids texts) edits wanted h = of_downloaded ids texts edits (sym (of_download ids texts tree) ∙ h)
     each_edit (Revert changes touched skip_moved) edits wanted h =

@@ -34,7 +34,7 @@ use Rattle.reuse_tree.specs.Listing.{ArePaths, is_among, is_folder}
 use Rattle.reuse_session.specs.plan.Outcome.{edits_of}
 use Rattle.reuse_tree.specs.Tree.{is_of_tree}
 use Rattle.reuse_session.specs.plan.TreeStyles.{OwnNames, styles_in}
-use Rattle.reuse_session.specs.plan.Worked.{expanded, with_table, worked_paths}
+use Rattle.reuse_session.specs.plan.Selected.{expanded, with_table, selected_paths}
 use Rattle.reuse_session.specs.declared.command.Command.{Command}
 use Rattle.reuse_session.specs.declared.command.Command.TheVariants.{Annotate, Amend, ConvertDep5, Download, Revert}
 use Rattle.reuse_session.specs.declared.command.Place.{Place}
@@ -360,16 +360,16 @@ command_fits (Annotate places additions how scope) tree holds are edits h = by_n
     by_names : (styles : Result OwnNames Refusal) → edits_by_names places additions how scope tree styles ≡ Ok edits → AreFit tree edits
     by_names (Err refusal) e = absurd (cc)
     by_names (Ok own) e =
-        edits_fit (annotated_at how scope additions own tree) tree (λ p e k. is_placed how scope additions tree p e own k) are (worked_paths scope places tree) edits
-        (if_not (not scope.recursive && has_root places) (refusals.IsFolder place.Root) (edits_at (annotated_at how scope additions own tree) (worked_paths scope places tree)) edits e)
+        edits_fit (annotated_at how scope additions own tree) tree (λ p e k. is_placed how scope additions tree p e own k) are (selected_paths scope places tree) edits
+        (if_not (not scope.recursive && has_root places) (refusals.IsFolder place.Root) (edits_at (annotated_at how scope additions own tree) (selected_paths scope places tree)) edits e)
         (sorted-set_of (cond scope.recursive (flat_map (expanded scope tree) places) (paths_among places)))
 command_fits (Amend places amendments scope) tree holds are edits h = by_names (with_table scope places tree) (styles_in tree) (sym (of_amendment places amendments scope tree) ∙ h)
   where
     by_names : (places : List Place) (styles : Result OwnNames Refusal) → amendments_by_names places amendments scope tree styles ≡ Ok edits → AreFit tree edits
     by_names places (Err refusal) e = absurd (cc)
     by_names places (Ok own) e =
-        edits_fit (amended_at amendments scope own tree) tree (amendment_placed amendments scope own tree) are (worked_paths scope places tree) edits
-        (if_not (not scope.recursive && has_root places) (refusals.IsFolder place.Root) (edits_at (amended_at amendments scope own tree) (worked_paths scope places tree)) edits e)
+        edits_fit (amended_at amendments scope own tree) tree (amendment_placed amendments scope own tree) are (selected_paths scope places tree) edits
+        (if_not (not scope.recursive && has_root places) (refusals.IsFolder place.Root) (edits_at (amended_at amendments scope own tree) (selected_paths scope places tree)) edits e)
         (sorted-set_of (cond scope.recursive (flat_map (expanded scope tree) places) (paths_among places)))
 command_fits ConvertDep5 tree holds are edits h = fit_of tree edits (conversion_fits tree edits (sym (of_conversion tree) ∙ h))
 command_fits (Download ids texts) tree holds are edits h = fit_of tree edits (download_fits ids texts tree edits (sym (of_download ids texts tree) ∙ h))

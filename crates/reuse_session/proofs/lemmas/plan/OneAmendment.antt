@@ -20,7 +20,7 @@ use Rattle.reuse_session.specs.plan.Annotated.{IsStyleOf, HasKind, Pair}
 use Rattle.reuse_session.specs.plan.Conversion.{toml_path}
 use Rattle.reuse_session.specs.plan.Covered.{is_covered}
 use Rattle.reuse_session.specs.plan.TreeStyles.{OwnNames}
-use Rattle.reuse_session.specs.plan.Worked.{amended_paths}
+use Rattle.reuse_session.specs.plan.Selected.{amended_paths}
 use Rattle.reuse_session.specs.declared.command.Place.{Place}
 use Rattle.reuse_session.specs.declared.command.Scope.{Scope}
 use Rattle.reuse_session.proofs.lemmas.plan.AnnotationPlaces.{one_style}
@@ -112,7 +112,7 @@ module _ (places : List Place) (amendments : Amendments) (scope : Scope) (before
   same_pair path there =
       let here = Contains-from_in paths path there in
       let own = same_Ok two.own one.own (sym two.styles ∙ one.styles) in
-      let same = amended_one amendments scope one.own path _ _ _ (one.worked path here) (subst (λ names. IsAmended amendments scope names path _ _) own (two.worked path here)) in
+      let same = amended_one amendments scope one.own path _ _ _ (one.selected path here) (subst (λ names. IsAmended amendments scope names path _ _) own (two.selected path here)) in
       (ap (λ (pair : Pair). pair.file) same, ap (λ (pair : Pair). pair.neighbour) same)
 
   same_at : (q : List ℕ) → get after q ≡ get other q

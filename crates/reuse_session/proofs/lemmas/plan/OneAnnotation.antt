@@ -15,7 +15,7 @@ use Rattle.reuse_tree.proofs.FileMaps.{same_files}
 use Rattle.reuse_session.specs.plan.Annotate.{neighbour_of}
 use Rattle.reuse_session.specs.plan.Annotated.{Pair, IsSkipped, IsCommented, IsAccompanied, IsAnnotated, Annotates, file_written}
 use Rattle.reuse_session.specs.plan.TreeStyles.{OwnNames}
-use Rattle.reuse_session.specs.plan.Worked.{worked_paths}
+use Rattle.reuse_session.specs.plan.Selected.{selected_paths}
 use Rattle.reuse_session.specs.declared.command.Place.{Place}
 use Rattle.reuse_session.specs.declared.command.Scope.{Scope}
 use Rattle.reuse_session.proofs.lemmas.Results.{same_Ok}
@@ -82,13 +82,13 @@ module _ (of : List ℕ → List ℕ) (q : List ℕ) where
 
 module _ (places : List Place) (additions : Additions) (how : How) (scope : Scope) (before after other : Files) (one : Annotates places additions how scope before after) (two : Annotates places additions how scope before other) where
   abbrev paths : List (List ℕ)
-  paths = worked_paths scope places before
+  paths = selected_paths scope places before
 
   same_pair : (path : List ℕ) → In path paths → (get after path ≡ get other path) × (get after (neighbour_of path) ≡ get other (neighbour_of path))
   same_pair path there =
       let here = Contains-from_in paths path there in
       let own = same_Ok two.own one.own (sym two.styles ∙ one.styles) in
-      let same = annotated_one additions how scope one.own path _ _ _ (one.worked path here) (subst (λ names. IsAnnotated additions how scope names path _ _) own (two.worked path here)) in
+      let same = annotated_one additions how scope one.own path _ _ _ (one.selected path here) (subst (λ names. IsAnnotated additions how scope names path _ _) own (two.selected path here)) in
       (ap (λ (pair : Pair). pair.file) same, ap (λ (pair : Pair). pair.neighbour) same)
 
   same_at : (q : List ℕ) → get after q ≡ get other q

@@ -8,14 +8,14 @@ use Rattle.std.proofs.lemmas.List.Elements.{filter_map-append}
 use Rattle.reuse_tree.specs.Files.{Files}
 use Rattle.reuse_tree.specs.declared.change.Change.{Change}
 use Rattle.reuse_session.specs.plan.Edit.{Edit}
-use Rattle.reuse_session.specs.session.Fates.{fate_by, fate_of, limit_fates}
+use Rattle.reuse_session.specs.session.PathOutcomes.{path_outcome_by, path_outcome_of, limit_path_outcomes}
 use Rattle.std.specs.declared.vec.Vec.{Vec}
 use Rattle.reuse_session.specs.plan.PathEdits.{PathEdit, edited_at, refused_alone, all_or_none, with_edit, or_first, edits_in}
-use Rattle.reuse_session.specs.plan.PathPlans.{IsPlanOf, ArePlansOf, AnswersPlans, EndsWalk, change_planned, changes_planned, fate_planned, is_refusal, limit_planned}
+use Rattle.reuse_session.specs.plan.PathPlans.{IsPlanOf, ArePlansOf, AnswersPlans, EndsWalk, change_planned, changes_planned, path_outcome_planned, is_refusal, limit_planned}
 use Rattle.reuse_session.specs.session.Answer.{IsEarlyFailure}
 use Rattle.reuse_session.specs.session.Previews.{IsTold}
 use Rattle.reuse_session.specs.plan.Plan.{MakesEach, MakesEdits, IsRefusalOf}
-use Rattle.reuse_session.specs.declared.fate.Fate.TheVariants as fate
+use Rattle.reuse_session.specs.declared.path_outcome.PathOutcome.TheVariants as path_outcome
 use Rattle.reuse_session.specs.declared.plan.path_plan.PathPlan.{PathPlan}
 use Rattle.reuse_session.specs.declared.plan.path_plan.PathPlan.TheVariants as plan
 use Rattle.reuse_session.specs.declared.plan.path_plan.Policy.{Policy}
@@ -175,26 +175,26 @@ module _ (policy : Policy) (tree : Files) where
   edits_refused [] (p ∷ plans) are some = absurd are
   edits_refused (here ∷ all) [] are some = absurd are
 
-  fate_is : (here : PathEdit) (one : PathPlan) → IsPlanOf policy tree here one → fate_planned one ≡ fate_of here
-  fate_is here (plan.Change change) is = ap fate.Changes is.2.path ∙ sym (ap (fate_by here.path here.skipped) is.1)
-  fate_is here (plan.Unchanged path) is = ap fate.Unchanged is.0 ∙ sym (ap₂ (fate_by here.path) is.2 is.1)
-  fate_is here (plan.Skipped path) is = ap fate.Skipped is.0 ∙ sym (ap₂ (fate_by here.path) is.2 is.1)
-  fate_is here (plan.Refused refusal) is = sym (ap (fate_by here.path here.skipped) is.0)
+  path_outcome_is : (here : PathEdit) (one : PathPlan) → IsPlanOf policy tree here one → path_outcome_planned one ≡ path_outcome_of here
+  path_outcome_is here (plan.Change change) is = ap path_outcome.Changes is.2.path ∙ sym (ap (path_outcome_by here.path here.skipped) is.1)
+  path_outcome_is here (plan.Unchanged path) is = ap path_outcome.Unchanged is.0 ∙ sym (ap₂ (path_outcome_by here.path) is.2 is.1)
+  path_outcome_is here (plan.Skipped path) is = ap path_outcome.Skipped is.0 ∙ sym (ap₂ (path_outcome_by here.path) is.2 is.1)
+  path_outcome_is here (plan.Refused refusal) is = sym (ap (path_outcome_by here.path here.skipped) is.0)
 
-  pub fates_are : (all : List PathEdit) (plans : List PathPlan) → ArePlansOf policy tree all plans → map fate_planned plans ≡ map fate_of all
-  fates_are [] [] are = refl
-  fates_are (here ∷ all) (one ∷ plans) are = ap₂ (λ f fs. f ∷ fs) (fate_is here one are.0) (fates_are all plans are.1)
-  fates_are [] (p ∷ plans) are = absurd are
-  fates_are (here ∷ all) [] are = absurd are
+  pub path_outcomes_are : (all : List PathEdit) (plans : List PathPlan) → ArePlansOf policy tree all plans → map path_outcome_planned plans ≡ map path_outcome_of all
+  path_outcomes_are [] [] are = refl
+  path_outcomes_are (here ∷ all) (one ∷ plans) are = ap₂ (λ f fs. f ∷ fs) (path_outcome_is here one are.0) (path_outcomes_are all plans are.1)
+  path_outcomes_are [] (p ∷ plans) are = absurd are
+  path_outcomes_are (here ∷ all) [] are = absurd are
 
-  pub limit_is : (all : List PathEdit) (plans : List PathPlan) → ArePlansOf policy tree all plans → limit_planned (list_any is_refusal plans) (changes_planned plans) ≡ limit_fates (edits_in all)
+  pub limit_is : (all : List PathEdit) (plans : List PathPlan) → ArePlansOf policy tree all plans → limit_planned (list_any is_refusal plans) (changes_planned plans) ≡ limit_path_outcomes (edits_in all)
   limit_is all plans are = by_refusal (list_any is_refusal plans) refl
     where
-      by_refusal : (b : Bool) → list_any is_refusal plans ≡ b → limit_planned b (changes_planned plans) ≡ limit_fates (edits_in all)
-      by_refusal true e = sym (ap limit_fates (edits_refused all plans are e).1)
+      by_refusal : (b : Bool) → list_any is_refusal plans ≡ b → limit_planned b (changes_planned plans) ≡ limit_path_outcomes (edits_in all)
+      by_refusal true e = sym (ap limit_path_outcomes (edits_refused all plans are e).1)
       by_refusal false e =
           let made = changes_made all plans are e in
-          ap (λ b. cond b (fate.Refused refusals.TooMany ∷ []) []) (same_many tree (changes_planned plans) made.0 made.2) ∙ sym (ap limit_fates made.1)
+          ap (λ b. cond b (path_outcome.Refused refusals.TooMany ∷ []) []) (same_many tree (changes_planned plans) made.0 made.2) ∙ sym (ap limit_path_outcomes made.1)
 
 -- ---- one plan more
 
@@ -202,9 +202,9 @@ of_one : {A : Type 0} (o : Option A) → cons_option o [] ≡ option_to_list o
 of_one None = refl
 of_one (Some x) = refl
 
-pub fates_more : (plans : List PathPlan) (one : PathPlan) → map fate_planned (plans ++ one ∷ []) ≡ map fate_planned plans ++ fate_planned one ∷ []
-fates_more [] one = refl
-fates_more (p ∷ plans) one = ap (λ fs. fate_planned p ∷ fs) (fates_more plans one)
+pub path_outcomes_more : (plans : List PathPlan) (one : PathPlan) → map path_outcome_planned (plans ++ one ∷ []) ≡ map path_outcome_planned plans ++ path_outcome_planned one ∷ []
+path_outcomes_more [] one = refl
+path_outcomes_more (p ∷ plans) one = ap (λ fs. path_outcome_planned p ∷ fs) (path_outcomes_more plans one)
 
 pub changes_more : (plans : List PathPlan) (one : PathPlan) → changes_planned (plans ++ one ∷ []) ≡ changes_planned plans ++ option_to_list (change_planned one)
 changes_more plans one = filter_map-append change_planned plans (one ∷ []) ∙ ap (λ cs. changes_planned plans ++ cs) (of_one (change_planned one))

@@ -12,7 +12,7 @@ use Rattle.reuse_tree.specs.Files.{Files}
 use Rattle.reuse_session.specs.plan.Choice.{is_chosen}
 use Rattle.reuse_tree.specs.Listing.{is_folder}
 use Rattle.reuse_session.specs.plan.Shown.{ShowsBeneath}
-use Rattle.reuse_session.specs.plan.Worked.{expanded}
+use Rattle.reuse_session.specs.plan.Selected.{expanded}
 use Rattle.reuse_session.specs.declared.command.Place.{Place}
 use Rattle.reuse_session.specs.declared.command.Place.TheVariants.{Path}
 use Rattle.reuse_session.specs.declared.command.Scope.{Scope}

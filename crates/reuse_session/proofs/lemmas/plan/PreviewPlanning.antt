@@ -2,7 +2,7 @@
 use Rattle.std.proofs.Common.{◌≡◌, ◌∙◌, Bool, true, false, cond, List, None, Result, Ok, Err, refl, ap}
 use Rattle.std.specs.List.{list_any}
 use Rattle.reuse_tree.specs.Files.{Files}
-use Rattle.reuse_session.specs.session.Fates.{fates_of, first_refusal}
+use Rattle.reuse_session.specs.session.PathOutcomes.{path_outcomes_of, first_refusal}
 use Rattle.reuse_session.specs.plan.Outcome.{Edit, edited, edits_of, is_too_many, outcome_of, path_edits_of, tree_after}
 use Rattle.reuse_session.specs.plan.PathPlans.{ArePlansOf, are_too_many, changes_planned, is_refusal}
 use Rattle.reuse_session.specs.plan.Plan.{MakesEdits}
@@ -11,7 +11,7 @@ use Rattle.reuse_session.specs.declared.plan.path_plan.PathPlan.{PathPlan}
 use Rattle.reuse_session.specs.declared.plan.path_plan.Policy.TheVariants.{Collect}
 use Rattle.reuse_session.specs.declared.reply.Refusal.{Refusal}
 use Rattle.reuse_session.specs.declared.reply.Refusal.TheVariants.{TooMany}
-use Rattle.reuse_session.proofs.lemmas.plan.FateLaws.{accepted_without}
+use Rattle.reuse_session.proofs.lemmas.plan.PathOutcomeLaws.{accepted_without}
 use Rattle.reuse_session.proofs.lemmas.plan.PathPlanning.{changes_made, edits_refused}
 use Rattle.reuse_session.proofs.lemmas.plan.Planning.{same_many}
 
@@ -37,8 +37,8 @@ same_edits given one other is was = cc
 not_refused : (given : Result (List Edit) Refusal) (edits : List Edit) (refusal : Refusal) → given ≡ Ok edits → given ≡ Err refusal → ⊥
 not_refused given edits refusal is was = cc
 
--- where no fate is a refusal
-module _ (command : Command) (tree : Files) (plans : List PathPlan) (are : ArePlansOf Collect tree (path_edits_of command tree) plans) (accepted : first_refusal (fates_of command tree) ≡ None) where
+-- where no path outcome is a refusal
+module _ (command : Command) (tree : Files) (plans : List PathPlan) (are : ArePlansOf Collect tree (path_edits_of command tree) plans) (accepted : first_refusal (path_outcomes_of command tree) ≡ None) where
   given : (edits : List Edit) × (edits_of command tree ≡ Ok edits) × (is_too_many edits ≡ false)
   unfolding outcome_of
   given = let left = (accepted_without command tree).0 accepted in has_edits tree (edits_of command tree) left.0 left.1

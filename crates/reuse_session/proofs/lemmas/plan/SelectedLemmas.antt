@@ -24,7 +24,7 @@ use Rattle.reuse_session.specs.plan.Choice.{is_chosen, is_listed, is_passed_over
 use Rattle.reuse_session.specs.session.Command.{has_root, paths_among}
 use Rattle.reuse_session.specs.plan.Covered.{is_covered}
 use Rattle.reuse_session.specs.plan.Shown.{ShowsEach, ShowsPair, ShowsPlace, folders_for, with_neighbours}
-use Rattle.reuse_session.specs.plan.Worked.{expanded}
+use Rattle.reuse_session.specs.plan.Selected.{expanded}
 use Rattle.reuse_session.specs.declared.command.Place.{Place}
 use Rattle.reuse_session.specs.declared.command.Place.TheVariants.{Root, Path}
 use Rattle.reuse_session.specs.declared.command.Scope.{Scope}
@@ -186,7 +186,7 @@ module _ (scope : Scope) (places : List Place) (tree : Files) where
         ])
   ]
 
-  pub shows_worked : AreFiles tree → ShowsEach (Listed listed) tree (set_of (flat_map (expanded scope tree) places))
-  shows_worked are = record {
+  pub shows_selected : AreFiles tree → ShowsEach (Listed listed) tree (set_of (flat_map (expanded scope tree) places))
+  shows_selected are = record {
     each = all_of_in (ShowsPair listed tree) (set_of (flat_map (expanded scope tree) places)) (λ t h. shows_one are t (In-set_of (flat_map (expanded scope tree) places) t h));
   }

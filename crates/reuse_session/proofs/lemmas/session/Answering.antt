@@ -15,10 +15,10 @@ use Rattle.reuse_tree.specs.declared.way.Way.TheVariants as way
 use Rattle.reuse_tree.specs.declared.cause.Cause.{Cause}
 use Rattle.reuse_session.specs.session.Answer.{IsBrokenOrMemory, IsEarly, IsStop, IsNoClash, IsRunAnswer, HasCause, HasClash, RefusedAsRead, TellsNoFault}
 use Rattle.reuse_session.specs.session.Calls.{files_of, folder_of, IsCall, LeavesRun}
-use Rattle.reuse_session.specs.journal.Journal.{Recorded, State, Travels, rows_in}
+use Rattle.reuse_session.specs.journal.Journal.{Recorded, State, Replays, rows_in}
 use Rattle.reuse_session.specs.journal.JournalFiles.{head_path, entry_in, entry_path, number_of, EntrySays, IsFree}
 use Rattle.reuse_session.specs.journal.Losses.{AreSafeOn, IsNextBy, Survives}
-use Rattle.reuse_session.specs.session.Requests.{IsLook, MayFail, IfFailed, replied, LeadsTo, IsAfter, IsStopped, HasCallClash, KeepsFolder, SurvivesRequest, as_step, IsAnswered, Peeks}
+use Rattle.reuse_session.specs.session.Requests.{IsReading, MayFail, IfFailed, replied, LeadsTo, IsAfter, IsStopped, HasCallClash, KeepsFolder, SurvivesRequest, as_step, IsAnswered, ReadsOnlyWithCause}
 use Rattle.reuse_session.specs.session.RevertCalls.{IsAfterRevert, LeavesRevert, Reverts, as_run, touched_later}
 use Rattle.reuse_session.specs.session.Session.{store_of, is_broken, memory_of, IsKept, IsRun, IsSameBut, IsSameButTwo, Remembers, StandsOn, StopsAfter, StopsAfterRun}
 use Rattle.reuse_session.specs.session.Showing.{lists}
@@ -38,7 +38,7 @@ use Rattle.reuse_session.specs.declared.request.Request.TheVariants as requests
 use Rattle.reuse_session.specs.declared.session.Session.{Session}
 use Rattle.reuse_tree.specs.declared.cause.Cause.TheVariants as causes
 use Rattle.reuse_session.proofs.lemmas.journal.JournalLemmas.{same_entry}
-use Rattle.reuse_session.proofs.lemmas.session.Peeking.{refused, same_refusal, peek_call, peek_unclashed, still_stands, unclashed_read}
+use Rattle.reuse_session.proofs.lemmas.session.Peeking.{refused, same_refusal, read_only_call, read_only_unclashed, still_stands, unclashed_read}
 use Rattle.reuse_session.proofs.lemmas.journal.StepDoubt.{reads_are_safe}
 use Rattle.reuse_session.proofs.lemmas.session.StepsByNumber.{done_step, says_step}
 
@@ -65,22 +65,22 @@ pub call_replied : {A S : Type 0} (store : Ghosts S) (reply : A → Reply) (answ
 call_replied store reply (Ok value) old new call = record { refused = tt; interrupted = tt; fault = tt; later = call.later }
 call_replied store reply (Err refusal) old new call = record { refused = call.refused; interrupted = call.interrupted; fault = call.fault; later = call.later }
 
--- ---- what only looks
+-- ---- what only reads
 
-safe_look : {S : Type 0} (store : Ghosts S) (request : Request) (earlier held : State) (answer : Result Reply Refusal) (new : S) → IsLook request → AreSafeOn store earlier held new
+safe_look : {S : Type 0} (store : Ghosts S) (request : Request) (earlier held : State) (answer : Result Reply Refusal) (new : S) → IsReading request → AreSafeOn store earlier held new
     → SurvivesRequest store request earlier held answer new
 safe_look store (requests.Make call when) earlier held answer new look safe = absurd look
 safe_look store (requests.Preview call) earlier held answer new look safe = safe
 safe_look store requests.Log earlier held answer new look safe = safe
 safe_look store (requests.Show number) earlier held answer new look safe = safe
 
-clash_look : (request : Request) (held : State) (files : Files) (refusal : Refusal) → IsLook request → IsNoClash refusal → HasCallClash request held files refusal
+clash_look : (request : Request) (held : State) (files : Files) (refusal : Refusal) → IsReading request → IsNoClash refusal → HasCallClash request held files refusal
 clash_look (requests.Make call when) held files refusal look none = absurd look
 clash_look (requests.Preview call) held files refusal look none = none
 clash_look requests.Log held files refusal look none = none
 clash_look (requests.Show number) held files refusal look none = none
 
-folder_look : (request : Request) (held : State) (before after : Files) → IsLook request → after ≡ before → KeepsFolder request held before after
+folder_look : (request : Request) (held : State) (before after : Files) → IsReading request → after ≡ before → KeepsFolder request held before after
 folder_look (requests.Make call when) held before after look same = absurd look
 folder_look (requests.Preview call) held before after look same = same
 folder_look requests.Log held before after look same = same
@@ -103,7 +103,7 @@ show_fails number (Failed (Fault fault)) early = tt
 show_fails number (Failed Memory) early = tt
 show_fails number refusal early = tt
 
--- a log fails for want of memory alone, and answers its rows
+-- a log fails for an allocation failure alone, and answers its rows
 pub log_fails : (answer : Result (List Row) Refusal) → IfErr answer IsBrokenOrMemory → IfErr answer (IfFailed (MayFail requests.Log))
 log_fails (Ok rows) is = tt
 log_fails (Err Broken) is = tt
@@ -117,7 +117,7 @@ log_leads files session held (Err Broken) stands broken is kinds told = absurd (
 log_leads files session held (Err (Failed Memory)) stands broken is kinds told = absurd told
 log_leads files session held (Err refusal) stands broken is kinds told = absurd kinds
 
-module _ {S A : Type 0} (store : Ghosts S) (request : Request) (look : IsLook request) (reply : A → Reply) (answer : Result A Refusal) (old new : Session S) (peeks : Peeks store answer old new)
+module _ {S A : Type 0} (store : Ghosts S) (request : Request) (look : IsReading request) (reply : A → Reply) (answer : Result A Refusal) (old new : Session S) (reads_with_cause : ReadsOnlyWithCause store answer old new)
     (broken : answer ≡ Err Broken ↔ (is_broken old ≡ true)) (fails : IfErr answer (IfFailed (MayFail request)))
     (exact : store.honest (store_of new) → (held : State) → StandsOn store.files old held → TellsNoFault answer → LeadsTo request held (replied reply answer) held)
   where
@@ -137,18 +137,18 @@ module _ {S A : Type 0} (store : Ghosts S) (request : Request) (look : IsLook re
     pub answered_look : IsAnswered store request (replied reply answer) old new
     answered_look = record {
       broken = broken_replied reply answer _ broken;
-      exact = λ honest held stands told. (held, still_stands store answer old new held peeks honest stands, exact honest held stands (told_replied reply answer told));
-      stands = λ honest held stands. early_stands (replied reply answer) held (still_stands store answer old new held peeks honest stands);
-      doubt = λ honest held stands. no_stop _ answer peeks.unstopped;
+      exact = λ honest held stands told. (held, still_stands store answer old new held reads_with_cause honest stands, exact honest held stands (told_replied reply answer told));
+      stands = λ honest held stands. early_stands (replied reply answer) held (still_stands store answer old new held reads_with_cause honest stands);
+      doubt = λ honest held stands. no_stop _ answer reads_with_cause.unstopped;
       fails = err_replied reply answer _ fails;
-      survives = λ honest earlier held stands safe. safe_look store request earlier held (replied reply answer) (store_of new) look (reads_are_safe store earlier held (store_of old) (store_of new) peeks.reads safe);
-      looks = λ is. peeks.reads;
-      kept = λ is. peeks.kept;
-      clash = λ honest held stands. clashes held answer (peek_unclashed store answer old new peeks honest);
-      unclashed = λ honest held stands free. err_replied reply answer IsNoClash (peek_unclashed store answer old new peeks honest);
-      free = λ honest free. subst (λ (f : Files). IsFree (undo_folder_of f)) (sym (peeks.reads.files honest)) free;
-      folder = λ honest held stands. folder_look request held (files_of store old) (files_of store new) look (peeks.reads.files honest);
-      call = call_replied store reply answer old new (peek_call store answer old new peeks);
+      survives = λ honest earlier held stands safe. safe_look store request earlier held (replied reply answer) (store_of new) look (reads_are_safe store earlier held (store_of old) (store_of new) reads_with_cause.reads safe);
+      reads_only = λ is. reads_with_cause.reads;
+      kept = λ is. reads_with_cause.kept;
+      clash = λ honest held stands. clashes held answer (read_only_unclashed store answer old new reads_with_cause honest);
+      unclashed = λ honest held stands free. err_replied reply answer IsNoClash (read_only_unclashed store answer old new reads_with_cause honest);
+      free = λ honest free. subst (λ (f : Files). IsFree (undo_folder_of f)) (sym (reads_with_cause.reads.files honest)) free;
+      folder = λ honest held stands. folder_look request held (files_of store old) (files_of store new) look (reads_with_cause.reads.files honest);
+      call = call_replied store reply answer old new (read_only_call store answer old new reads_with_cause);
     }
 
 -- ---- a run, an undo and a redo
@@ -165,23 +165,23 @@ run_is_step (Ok reply) is = refl
 run_is_step (Err refusal) is = refl
 
 -- a reply of an undo or a redo is no revert's
-no_revert : (go : Way) (steps : List Recorded) (held left : State) (reverted : Reverted) → Travels go steps held (Ok (replies.Reverted reverted)) left → ⊥
-no_revert way.Undo [] held left reverted travels = let is = travels.0 in cc
-no_revert way.Do [] held left reverted travels = let is = travels.0 in cc
-no_revert way.Undo (step ∷ steps) held left reverted travels = let is = travels.0 in cc
-no_revert way.Do (step ∷ steps) held left reverted travels = let is = travels.0 in cc
+no_revert : (go : Way) (steps : List Recorded) (held left : State) (reverted : Reverted) → Replays go steps held (Ok (replies.Reverted reverted)) left → ⊥
+no_revert way.Undo [] held left reverted replays = let is = replays.0 in cc
+no_revert way.Do [] held left reverted replays = let is = replays.0 in cc
+no_revert way.Undo (step ∷ steps) held left reverted replays = let is = replays.0 in cc
+no_revert way.Do (step ∷ steps) held left reverted replays = let is = replays.0 in cc
 
-pub travel_is_step : (go : Way) (steps : List Recorded) (held : State) (Stands : State → Type 0) (answer : Result Reply Refusal) → (TellsNoFault answer → (left : State) × Stands left × Travels go steps held answer left)
+pub replay_is_step : (go : Way) (steps : List Recorded) (held : State) (Stands : State → Type 0) (answer : Result Reply Refusal) → (TellsNoFault answer → (left : State) × Stands left × Replays go steps held answer left)
     → as_step answer ≡ answer
-travel_is_step go steps held Stands (Ok (replies.Reverted reverted)) exact = let e = exact tt in absurd (no_revert go steps held e.0 reverted e.2)
-travel_is_step go steps held Stands (Ok reply) exact = refl
-travel_is_step go steps held Stands (Err refusal) exact = refl
+replay_is_step go steps held Stands (Ok (replies.Reverted reverted)) exact = let e = exact tt in absurd (no_revert go steps held e.0 reverted e.2)
+replay_is_step go steps held Stands (Ok reply) exact = refl
+replay_is_step go steps held Stands (Err refusal) exact = refl
 
 -- where an undo or a redo stopped, the next state is that after its step
-pub travel_doubt : (way : PendingWay) (held : State) (files : Files) (answer : Result Reply Refusal) → IfErr answer (λ refusal. IsStop refusal → StopsAfter way held files)
+pub replay_doubt : (way : PendingWay) (held : State) (files : Files) (answer : Result Reply Refusal) → IfErr answer (λ refusal. IsStop refusal → StopsAfter way held files)
     → IfErr answer (λ refusal. IsStop refusal → (second : State) × IsNextBy way held second × InDoubt held second files)
-travel_doubt way held files (Ok reply) doubt = tt
-travel_doubt way held files (Err refusal) doubt = λ stop. let left = doubt stop in (left.0, (left.1, left.2), left.3)
+replay_doubt way held files (Ok reply) doubt = tt
+replay_doubt way held files (Err refusal) doubt = λ stop. let left = doubt stop in (left.0, (left.1, left.2), left.3)
 
 -- ---- a revert
 

@@ -103,24 +103,24 @@ one_standing files held doubt =
 pub reached : {S : Type 0} (files : S → Files) (before : Files) (session : Session S) (state : Snapshots) (next : Option Snapshots) → AreLeft before state next
     → ((first second : State) → InDoubt first second before → StandsOn files session first ⊎ StandsOn files session second)
     → (s : Snapshots) × ((state ≡ s) ⊎ (next ≡ Some s)) × StandsAt files session s
-reached files before session state None left settles =
-    (state, inl refl, record { held = left.0; stands = ⊎_elim (λ (stands : StandsOn files session left.0). stands) (λ (stands : StandsOn files session left.0). stands) (settles left.0 left.0 (inl left.1)); holds = left.2 })
-reached files before session state (Some next) left settles =
+reached files before session state None left recovers =
+    (state, inl refl, record { held = left.0; stands = ⊎_elim (λ (stands : StandsOn files session left.0). stands) (λ (stands : StandsOn files session left.0). stands) (recovers left.0 left.0 (inl left.1)); holds = left.2 })
+reached files before session state (Some next) left recovers =
     ⊎_elim (λ (stands : StandsOn files session left.0). (state, inl refl, record { held = left.0; stands = stands; holds = left.2 }))
-    (λ (stands : StandsOn files session left.1). (next, inr refl, record { held = left.1; stands = stands; holds = left.3 })) (settles left.0 left.1 left.4)
+    (λ (stands : StandsOn files session left.1). (next, inr refl, record { held = left.1; stands = stands; holds = left.3 })) (recovers left.0 left.1 left.4)
 
 pub opens : {S : Type 0} (files : S → Files) (before : Files) (session : Session S) (old : Point) → AreLeft before old.state old.next
     → ((first second : State) → InDoubt first second before → StandsOn files session first ⊎ StandsOn files session second)
     → (new : Point) × Reopens (Ok Opened) old new × IsAt files (Open session) new
-opens files before session old left settles =
-    let r = reached files before session old.state old.next left settles in
+opens files before session old left recovers =
+    let r = reached files before session old.state old.next left recovers in
     (open_at r.0, (r.0, r.1, refl), (refl, r.2))
 
 -- where it fails the files are left as they were
 left_again : (before after : Files) (state : Snapshots) (next : Option Snapshots) → AreLeft before state next
     → ((first second : State) → InDoubt first second before → InDoubt first second after) → AreLeft after state next
-left_again before after state None left settles = (left.0, one_standing after left.0 (settles left.0 left.0 (inl left.1)), left.2)
-left_again before after state (Some next) left settles = (left.0, left.1, left.2, left.3, settles left.0 left.1 left.4)
+left_again before after state None left recovers = (left.0, one_standing after left.0 (recovers left.0 left.0 (inl left.1)), left.2)
+left_again before after state (Some next) left recovers = (left.0, left.1, left.2, left.3, recovers left.0 left.1 left.4)
 
 -- files that are left have standings
 pub some_doubt : (before : Files) (state : Snapshots) (next : Option Snapshots) → AreLeft before state next → (first : State) × (second : State) × InDoubt first second before
@@ -134,9 +134,9 @@ left_out refusal old failure = absurd failure
 pub stays_closed : {S : Type 0} (files : S → Files) (before : Files) (store : S) (refusal : Refusal) (old : Point) → AreLeft before old.state old.next
     → ((first second : State) → InDoubt first second before → IsFailure refusal × InDoubt first second (files store))
     → (new : Point) × Reopens (Err refusal) old new × IsAt files (Closed store) new
-stays_closed files before store refusal old left settles =
+stays_closed files before store refusal old left recovers =
     let some = some_doubt before old.state old.next left in
-    (closed old, left_out refusal old (settles some.0 some.1 some.2).0, (refl, left_again before (files store) old.state old.next left (λ first second doubt. (settles first second doubt).1)))
+    (closed old, left_out refusal old (recovers some.0 some.1 some.2).0, (refl, left_again before (files store) old.state old.next left (λ first second doubt. (recovers first second doubt).1)))
 
 -- no step is under way where nothing is pending
 pub none_under_way : (files : Files) (held : State) (way : PendingWay) (recorded : Recorded) (first : State) → IsStanding files held → IsUnderWay way recorded first files → ⊥

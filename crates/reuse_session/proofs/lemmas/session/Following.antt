@@ -1,4 +1,4 @@
--- A tree and a journal follow the machine of whole trees.
+-- A tree and a journal follow the reference model.
 use Rattle.std.proofs.Common.{◌≡◌, ◌⊎◌, ⊎_elim, ℕ, suc, ◌+◌, ◌<◌, true, false, cond, List, [], ◌∷◌, ◌++◌, length, map, reverse, Result, Ok, Err, refl, sym, ap, subst, ◌∙◌, arith}
 use Rattle.std.proofs.lemmas.List.{map-append, reverse-append, length-map, nil_from_length}
 use Rattle.reuse_tree.specs.Files.{Files, AreFiles}

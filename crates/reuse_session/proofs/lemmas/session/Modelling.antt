@@ -4,12 +4,12 @@ use Rattle.std.specs.List.{Contains}
 use Rattle.reuse_tree.specs.Files.{Files}
 use Rattle.reuse_tree.specs.Entry.{paths_of}
 use Rattle.reuse_tree.specs.declared.change.Change.{Change}
-use Rattle.reuse_session.specs.session.Fates.{fates_of}
+use Rattle.reuse_session.specs.session.PathOutcomes.{path_outcomes_of}
 use Rattle.reuse_session.specs.journal.Journal.{State, Recorded}
 use Rattle.reuse_session.specs.journal.JournalFiles.{number_of}
-use Rattle.reuse_session.specs.session.Machine.{Kept, Snapshots, is_full, ran_by, undone, redone, run_fates}
+use Rattle.reuse_session.specs.session.Machine.{Kept, Snapshots, is_full, ran_by, undone, redone, run_path_outcomes}
 use Rattle.reuse_session.specs.session.Model.{AreOf, IsUnkept, ShowsBy, command_back, as_reverted, RevertsTo, PreviewsBack, MakesTo, PreviewsTo, Gives}
-use Rattle.reuse_session.specs.session.Previews.{run_fates_on}
+use Rattle.reuse_session.specs.session.Previews.{run_path_outcomes_on}
 use Rattle.reuse_session.specs.session.Requests.{replied, PreviewsRevert, Previews, Makes, LeadsTo, IsAfterCall, IsAfter, IsStopped}
 use Rattle.reuse_session.specs.session.RevertCalls.{Reverts, TakesBack, IsAfterRevert, as_run, changed_or_none, left_of, touched_later}
 use Rattle.reuse_session.specs.session.Session.{HoldsSnapshots, IsRun, LeadOn, Runs}
@@ -18,7 +18,7 @@ use Rattle.reuse_session.specs.journal.Standing.{IsStanding}
 use Rattle.reuse_session.specs.session.Stops.{AreLeft}
 use Rattle.reuse_session.specs.declared.command.Command.{Command}
 use Rattle.reuse_session.specs.declared.command.Command.TheVariants.{Revert}
-use Rattle.reuse_session.specs.declared.fate.Fate.{Fate}
+use Rattle.reuse_session.specs.declared.path_outcome.PathOutcome.{PathOutcome}
 use Rattle.reuse_session.specs.declared.reply.Reply.{Reply}
 use Rattle.reuse_session.specs.declared.reply.Reply.TheVariants as replies
 use Rattle.reuse_session.specs.declared.reply.Reverted.{Reverted}
@@ -32,7 +32,7 @@ use Rattle.reuse_session.specs.declared.request.Request.TheVariants as requests
 use Rattle.reuse_session.proofs.lemmas.session.Driving.{ran_on, undo_next, redo_next}
 use Rattle.reuse_session.proofs.lemmas.session.Following.{undo_follows, redo_follows, log_follows, is_full_alike}
 use Rattle.reuse_session.proofs.lemmas.session.LaterSteps.{later_as_machine}
-use Rattle.reuse_session.proofs.lemmas.session.Previewing.{undo_foretold, redo_foretold}
+use Rattle.reuse_session.proofs.lemmas.session.Previewing.{undo_as_previewed, redo_as_previewed}
 use Rattle.reuse_session.proofs.lemmas.session.RunFollowing.{runs_as_machine}
 use Rattle.reuse_session.proofs.lemmas.session.StepsByNumber.{led_to_tree, shows_at, unkept}
 
@@ -69,7 +69,7 @@ unkept_on number tree steps future on none k d low same = at tree steps future o
     at tree (s ∷ steps) (kept ∷ future) on none (suc k) low same = at kept.tree steps future on.2 (λ i x lt. none (suc i) x (omega (arith, lt))) k (omega (arith, low)) same
 
 module _ (held : State) (state : Snapshots) (holds : HoldsSnapshots held state) where
-  -- ---- what only looks
+  -- ---- what only reads
 
   -- a step that is shown
   shown_by : (number : ℕ) (shown : Result Shown Refusal) → ShowsIn held.journal number shown → ShowsBy state number shown
@@ -78,29 +78,29 @@ module _ (held : State) (state : Snapshots) (holds : HoldsSnapshots held state) 
       (none.0, unkept number state.tree held.journal.done state.past holds.past none.1, unkept_on number state.tree held.journal.undone state.future holds.future none.2)
 
   -- what a run would do
-  run_alike : (command : Command) → run_fates_on held command ≡ run_fates state command
+  run_alike : (command : Command) → run_path_outcomes_on held command ≡ run_path_outcomes state command
   run_alike command =
-      sym (ap (λ b. cond b (Err JournalFull) (Ok (fates_of command held.tree))) (is_full_alike held state holds))
-      ∙ ap (λ t. cond (is_full (length state.past) state.used) (Err JournalFull) (Ok (fates_of command t))) holds.tree
+      sym (ap (λ b. cond b (Err JournalFull) (Ok (path_outcomes_of command held.tree))) (is_full_alike held state holds))
+      ∙ ap (λ t. cond (is_full (length state.past) state.used) (Err JournalFull) (Ok (path_outcomes_of command t))) holds.tree
 
   -- what a revert would do
-  previews_back : (number : ℕ) (skip_moved : Bool) (answer : Result (List Fate) Refusal) → PreviewsRevert number skip_moved held answer → PreviewsBack state number skip_moved answer
+  previews_back : (number : ℕ) (skip_moved : Bool) (answer : Result (List PathOutcome) Refusal) → PreviewsRevert number skip_moved held answer → PreviewsBack state number skip_moved answer
   previews_back number skip_moved answer previews =
       ⊎_elim (λ (none : (answer ≡ Err (NoSuchStep number)) × IsUnused number held.journal.done). inl (none.0, unkept number state.tree held.journal.done state.past holds.past none.1))
-      (λ (back : (step : Recorded) × Contains held.journal.done step × (number_of step ≡ number) × (answer ≡ run_fates_on held (Revert step.changes (touched_later number held.journal.done step.changes) skip_moved))).
+      (λ (back : (step : Recorded) × Contains held.journal.done step × (number_of step ≡ number) × (answer ≡ run_path_outcomes_on held (Revert step.changes (touched_later number held.journal.done step.changes) skip_moved))).
       let changes = back.0.changes in
       inr (
         changes,
         led_to_tree held state holds back.0 number back.1 back.2,
         back.3 ∙ run_alike (Revert changes (touched_later number held.journal.done changes) skip_moved)
-            ∙ ap (λ late. run_fates state (Revert changes late skip_moved)) (later_as_machine held state holds number changes),
+            ∙ ap (λ late. run_path_outcomes state (Revert changes late skip_moved)) (later_as_machine held state holds number changes),
       )) previews
 
-  pub previews_to : (call : Call) (fates : Result (List Fate) Refusal) → Previews call held fates → PreviewsTo state call fates
-  previews_to (calls.Run command) fates previews = previews ∙ run_alike command
-  previews_to calls.Undo fates previews = undo_foretold held state holds fates previews
-  previews_to calls.Redo fates previews = redo_foretold held state holds fates previews
-  previews_to (calls.Revert number skip_moved) fates previews = previews_back number skip_moved fates previews
+  pub previews_to : (call : Call) (path_outcomes : Result (List PathOutcome) Refusal) → Previews call held path_outcomes → PreviewsTo state call path_outcomes
+  previews_to (calls.Run command) path_outcomes previews = previews ∙ run_alike command
+  previews_to calls.Undo path_outcomes previews = undo_as_previewed held state holds path_outcomes previews
+  previews_to calls.Redo path_outcomes previews = redo_as_previewed held state holds path_outcomes previews
+  previews_to (calls.Revert number skip_moved) path_outcomes previews = previews_back number skip_moved path_outcomes previews
 
   -- ---- what is made
 

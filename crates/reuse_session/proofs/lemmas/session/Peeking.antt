@@ -1,4 +1,4 @@
--- Calls of a session that only look.
+-- Calls of a session that only read.
 use Rattle.std.proofs.Common.{◌≡◌, ◌≢◌, ◌∙◌, ◌<◌, ℕ, Bool, true, false, Result, Ok, Err, IfErr, refl, sym, ap, subst, arith}
 use Rattle.std.proofs.lemmas.Bool.{false≢true}
 use Rattle.reuse_tree.specs.Asked.{OnlyReads}
@@ -8,8 +8,8 @@ use Rattle.reuse_tree.specs.declared.store.Store.{Ghosts}
 use Rattle.reuse_session.specs.session.Answer.{TellsNoFault, IsBrokenOrMemory, IsEarly, IsStop, HasCause, IsNoClash, RefusedAsRead}
 use Rattle.reuse_session.specs.journal.Journal.{State}
 use Rattle.reuse_session.specs.session.Calls.{IsCall}
-use Rattle.reuse_session.specs.session.Previews.{OnlyLooks, IsPreviewRefusal}
-use Rattle.reuse_session.specs.session.Requests.{Peeks}
+use Rattle.reuse_session.specs.session.Previews.{ReadsOnly, IsPreviewRefusal}
+use Rattle.reuse_session.specs.session.Requests.{ReadsOnlyWithCause}
 use Rattle.reuse_session.specs.session.Session.{store_of, is_broken, StandsOn, IsKept}
 use Rattle.reuse_tree.specs.declared.cause.Cause.TheVariants as causes
 use Rattle.reuse_session.specs.declared.reply.Refusal.{Refusal}
@@ -32,24 +32,24 @@ caused Rose Higher on (Err (Failed (StoreFailed stores.Device))) h = on h
 caused Rose Higher on (Err (Failed (Interrupted causes.Device))) h = on h
 caused Rose Higher on (Err refusal) h = tt
 
--- ---- calls that only look
+-- ---- calls that only read
 
 pub unclashed_read : (refusal : Refusal) → (refusal ≢ Failed (StoreFailed stores.Clash)) → IsEarly refusal → IsNoClash refusal
 unclashed_read (Failed (StoreFailed stores.Clash)) none early = absurd (none refl)
 unclashed_read (Failed (Interrupted cause)) none early = absurd early
 unclashed_read refusal none early = tt
 
--- what only looks tells no clash
-pub peek_unclashed : {S A : Type 0} (store : Ghosts S) (answer : Result A Refusal) (old new : Session S) → Peeks store answer old new → store.honest (store_of new)
+-- what only reads tells no clash
+pub read_only_unclashed : {S A : Type 0} (store : Ghosts S) (answer : Result A Refusal) (old new : Session S) → ReadsOnlyWithCause store answer old new → store.honest (store_of new)
     → IfErr answer IsNoClash
-peek_unclashed store (Ok value) old new peeks honest = tt
-peek_unclashed store (Err refusal) old new peeks honest =
-    unclashed_read refusal (λ is. peeks.fails.clash honest (ap (λ r. Err r) is)) peeks.unstopped
+read_only_unclashed store (Ok value) old new reads_with_cause honest = tt
+read_only_unclashed store (Err refusal) old new reads_with_cause honest =
+    unclashed_read refusal (λ is. reads_with_cause.fails.clash honest (ap (λ r. Err r) is)) reads_with_cause.unstopped
 
--- a step that is shown only looks
-pub show_peeks : {S A : Type 0} (store : Ghosts S) (answer : Result A Refusal) (old new : Session S) → (is_broken old ≡ true → answer ≡ Err Broken) → OnlyReads store (store_of old) (store_of new)
-    → IsKept old new → RefusedAsRead store (store_of old) (store_of new) answer → IsCall store answer old new → Peeks store answer old new
-show_peeks {S} {A} store answer old new broken reads kept fails call =
+-- a step that is shown only reads
+pub show_reads_with_cause : {S A : Type 0} (store : Ghosts S) (answer : Result A Refusal) (old new : Session S) → (is_broken old ≡ true → answer ≡ Err Broken) → OnlyReads store (store_of old) (store_of new)
+    → IsKept old new → RefusedAsRead store (store_of old) (store_of new) answer → IsCall store answer old new → ReadsOnlyWithCause store answer old new
+show_reads_with_cause {S} {A} store answer old new broken reads kept fails call =
     record { reads = reads; kept = kept; fails = fails; unstopped = never_stops answer (is_broken old) refl broken call.interrupted; caused = call.fault }
   where
     never_stops : (answer : Result A Refusal) (b : Bool) → is_broken old ≡ b → (is_broken old ≡ true → answer ≡ Err Broken) → IfErr answer (λ refusal. IsStop refusal → is_broken new ≡ true) → IfErr answer IsEarly
@@ -59,11 +59,11 @@ show_peeks {S} {A} store answer old new broken reads kept fails call =
     never_stops (Err refusal) b is broken stops = tt
 
 -- the same of an answer that tells no fault, and of a refusal that is handed on
-pub peeks_ok : {S A B : Type 0} (store : Ghosts S) (first : Result A Refusal) (value : B) (old new : Session S) → Peeks store first old new → Peeks {A = B} store (Ok value) old new
-peeks_ok store first value old new peeks =
+pub reads_with_cause_ok : {S A B : Type 0} (store : Ghosts S) (first : Result A Refusal) (value : B) (old new : Session S) → ReadsOnlyWithCause store first old new → ReadsOnlyWithCause {A = B} store (Ok value) old new
+reads_with_cause_ok store first value old new reads_with_cause =
     record {
-      reads = peeks.reads;
-      kept = peeks.kept;
+      reads = reads_with_cause.reads;
+      kept = reads_with_cause.kept;
       fails = record { device = λ is. absurd (ok_is_no_err value _ is); clash = λ honest is. ok_is_no_err value _ is };
       unstopped = tt;
       caused = tt;
@@ -72,34 +72,34 @@ peeks_ok store first value old new peeks =
     ok_is_no_err : {B : Type 0} (value : B) (refusal : Refusal) → Ok value ≡ Err refusal → ⊥
     ok_is_no_err value refusal is = cc
 
-pub peeks_err : {S A B : Type 0} (store : Ghosts S) (refusal : Refusal) (old new : Session S) → Peeks {A = A} store (Err refusal) old new → Peeks {A = B} store (Err refusal) old new
-peeks_err {S} {A} {B} store refusal old new peeks =
+pub reads_with_cause_err : {S A B : Type 0} (store : Ghosts S) (refusal : Refusal) (old new : Session S) → ReadsOnlyWithCause {A = A} store (Err refusal) old new → ReadsOnlyWithCause {A = B} store (Err refusal) old new
+reads_with_cause_err {S} {A} {B} store refusal old new reads_with_cause =
     record {
-      reads = peeks.reads;
-      kept = peeks.kept;
+      reads = reads_with_cause.reads;
+      kept = reads_with_cause.kept;
       fails =
           record {
-            device = λ is. peeks.fails.device (ap (refused A) (same_refusal B refusal _ is));
-            clash = λ honest is. peeks.fails.clash honest (ap (refused A) (same_refusal B refusal _ is));
+            device = λ is. reads_with_cause.fails.device (ap (refused A) (same_refusal B refusal _ is));
+            clash = λ honest is. reads_with_cause.fails.clash honest (ap (refused A) (same_refusal B refusal _ is));
           };
-      unstopped = peeks.unstopped;
-      caused = peeks.caused;
+      unstopped = reads_with_cause.unstopped;
+      caused = reads_with_cause.caused;
     }
 
 -- the session still stands
-pub still_stands : {S A : Type 0} (store : Ghosts S) (answer : Result A Refusal) (old new : Session S) (held : State) → Peeks store answer old new → store.honest (store_of new)
+pub still_stands : {S A : Type 0} (store : Ghosts S) (answer : Result A Refusal) (old new : Session S) (held : State) → ReadsOnlyWithCause store answer old new → store.honest (store_of new)
     → StandsOn store.files old held → StandsOn store.files new held
-still_stands store answer old new held peeks honest stands = stands_still store.files old new held stands peeks.kept (peeks.reads.files honest)
+still_stands store answer old new held reads_with_cause honest stands = stands_still store.files old new held stands reads_with_cause.kept (reads_with_cause.reads.files honest)
 
 -- a preview looks
-pub preview_peeks : {S A : Type 0} (store : Ghosts S) (answer : Result A Refusal) (old new : Session S) → OnlyLooks store answer old new → IfErr answer IsPreviewRefusal → Peeks store answer old new
-preview_peeks store answer old new looks is =
+pub preview_reads_with_cause : {S A : Type 0} (store : Ghosts S) (answer : Result A Refusal) (old new : Session S) → ReadsOnly store answer old new → IfErr answer IsPreviewRefusal → ReadsOnlyWithCause store answer old new
+preview_reads_with_cause store answer old new reads_only is =
     record {
-      reads = looks.reads;
-      kept = looks.kept;
-      fails = looks.fails;
+      reads = reads_only.reads;
+      kept = reads_only.kept;
+      fails = reads_only.fails;
       unstopped = unstopped answer is;
-      caused = caused_by answer looks.fails is;
+      caused = caused_by answer reads_only.fails is;
     }
   where
     unstopped : {A : Type 0} (answer : Result A Refusal) → IfErr answer IsPreviewRefusal → IfErr answer IsEarly
@@ -120,9 +120,9 @@ told_again A B (Failed failure) told = absurd told
 told_again A B refusal told = tt
 
 -- what a look at an earlier one makes of it: one look, and then another
-pub peeks_on : {S A B : Type 0} (store : Ghosts S) (first : Result A Refusal) (second : Result B Refusal) (old mid new : Session S) → Peeks store first old mid → Peeks store second mid new
-    → Peeks store second old new
-peeks_on store first second old mid new one two =
+pub reads_with_cause_on : {S A B : Type 0} (store : Ghosts S) (first : Result A Refusal) (second : Result B Refusal) (old mid new : Session S) → ReadsOnlyWithCause store first old mid → ReadsOnlyWithCause store second mid new
+    → ReadsOnlyWithCause store second old new
+reads_with_cause_on store first second old mid new one two =
     record {
       reads = reads_more store (store_of old) (store_of mid) (store_of new) one.reads two.reads;
       kept = (two.kept.0 ∙ one.kept.0, two.kept.1 ∙ one.kept.1);
@@ -136,8 +136,8 @@ peeks_on store first second old mid new one two =
     }
 
 -- a log looks
-pub log_peeks : {S A : Type 0} (store : Ghosts S) (answer : Result A Refusal) (session : Session S) → IfErr answer IsBrokenOrMemory → Peeks store answer session session
-log_peeks {S} {A} store answer session is =
+pub log_reads_with_cause : {S A : Type 0} (store : Ghosts S) (answer : Result A Refusal) (session : Session S) → IfErr answer IsBrokenOrMemory → ReadsOnlyWithCause store answer session session
+log_reads_with_cause {S} {A} store answer session is =
     record {
       reads = reads_none store (store_of session);
       kept = (refl, refl);
@@ -158,13 +158,13 @@ log_peeks {S} {A} store answer session is =
     caused_none Rose (Err refusal) is = absurd is
 
 -- what any call leaves, of one that looks
-pub peek_call : {S A : Type 0} (store : Ghosts S) (answer : Result A Refusal) (old new : Session S) → Peeks store answer old new → IsCall store answer old new
-peek_call {S} {A} store answer old new peeks =
-    record { refused = kept answer; interrupted = stopped answer peeks.unstopped; fault = peeks.caused; later = later_reads store (store_of old) (store_of new) peeks.reads }
+pub read_only_call : {S A : Type 0} (store : Ghosts S) (answer : Result A Refusal) (old new : Session S) → ReadsOnlyWithCause store answer old new → IsCall store answer old new
+read_only_call {S} {A} store answer old new reads_with_cause =
+    record { refused = kept answer; interrupted = stopped answer reads_with_cause.unstopped; fault = reads_with_cause.caused; later = later_reads store (store_of old) (store_of new) reads_with_cause.reads }
   where
     kept : (answer : Result A Refusal) → IfErr answer (λ refusal. IsEarly refusal → IsKept old new)
     kept (Ok value) = tt
-    kept (Err refusal) = λ early. peeks.kept
+    kept (Err refusal) = λ early. reads_with_cause.kept
 
     stopped : (answer : Result A Refusal) → IfErr answer IsEarly → IfErr answer (λ refusal. IsStop refusal → is_broken new ≡ true)
     stopped (Ok value) early = tt

@@ -1,4 +1,4 @@
--- What a run answers and leaves from any standing, and that it follows the machine of whole trees.
+-- What a run answers and leaves from any standing, and that it follows the reference model.
 use Rattle.std.proofs.Common.{◌≡◌, ℕ, ◌+◌, false, List, [], ◌∷◌, length, Result, Ok, Err, refl, sym, ap, subst, ◌∙◌}
 use Rattle.std.proofs.lemmas.List.Elements.{All-nil}
 use Rattle.std.proofs.lemmas.List.{nil_from_length}

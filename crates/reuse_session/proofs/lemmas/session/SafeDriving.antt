@@ -8,7 +8,7 @@ use Rattle.reuse_session.specs.session.Driven.{StandsSafely, IsSafelyAt, GoesSaf
 use Rattle.reuse_session.specs.journal.Journal.{State}
 use Rattle.reuse_session.specs.journal.Losses.{AreSafeOn, AreInDoubt}
 use Rattle.reuse_session.specs.session.Machine.{Snapshots}
-use Rattle.reuse_session.specs.session.Previews.{OnlyLooks}
+use Rattle.reuse_session.specs.session.Previews.{ReadsOnly}
 use Rattle.reuse_session.specs.session.Session.{store_of, StandsOn}
 use Rattle.reuse_session.specs.journal.Standing.{InDoubt}
 use Rattle.reuse_session.specs.session.Requests.{IfFailed, MayFail}
@@ -27,12 +27,12 @@ use Rattle.reuse_session.proofs.lemmas.journal.StepDoubt.{reads_are_safe, synced
 
 -- ---- a request to an open session
 
--- one that only looks stands as safely
-pub looks_safely : {A S : Type 0} (store : Ghosts S) (answer : Result A Refusal) (old new : Session S) (state : Snapshots) → OnlyLooks store answer old new → store.honest (store_of new) → StandsSafely store old state → StandsSafely store new state
-looks_safely store answer old new state looks honest safely = record {
-  at = record { held = safely.at.held; stands = stands_still store.files old new safely.at.held safely.at.stands looks.kept (looks.reads.files honest); holds = safely.at.holds };
+-- one that only reads stands as safely
+pub looks_safely : {A S : Type 0} (store : Ghosts S) (answer : Result A Refusal) (old new : Session S) (state : Snapshots) → ReadsOnly store answer old new → store.honest (store_of new) → StandsSafely store old state → StandsSafely store new state
+looks_safely store answer old new state reads_only honest safely = record {
+  at = record { held = safely.at.held; stands = stands_still store.files old new safely.at.held safely.at.stands reads_only.kept (reads_only.reads.files honest); holds = safely.at.holds };
   earlier = safely.earlier;
-  safe = reads_are_safe store safely.earlier safely.at.held (store_of old) (store_of new) looks.reads safely.safe;
+  safe = reads_are_safe store safely.earlier safely.at.held (store_of old) (store_of new) reads_only.reads safely.safe;
 }
 
 -- one that wasn't interrupted leaves the session open
@@ -118,9 +118,9 @@ module _ {S : Type 0} (store : Ghosts S) (before : S) where
       → ((first second : State) → InDoubt first second (store.files before) → IsFailure refusal × InDoubt first second (store.files after))
       → ((earlier held second : State) → AreInDoubt store earlier held second before → AreInDoubt store earlier held second after)
       → (new : Point) × Reopens (Err refusal) old new × IsSafelyAt store (Closed after) new
-  closed_safely after refusal old found settles survives =
+  closed_safely after refusal old found recovers survives =
       let some = some_doubt (store.files before) old.state old.next (found_left store before old.state old.next found) in
-      (closed old, left_out refusal old (settles some.0 some.1 some.2).0, (refl, found_again after old.state old.next found survives))
+      (closed old, left_out refusal old (recovers some.0 some.1 some.2).0, (refl, found_again after old.state old.next found survives))
 
 -- where the files hold a state, and are all that may be left, it is found
 pub held_found : {S : Type 0} (store : Ghosts S) (new : S) (state : Snapshots) → AreLeft (store.files new) state None → IsSynced store new → MayBeFound store new state None

@@ -5,7 +5,7 @@ use Rattle.std.proofs.lemmas.Bool.Decides.{Decides-eqb}
 use Rattle.std.specs.declared.io.Error.{Error}
 use Rattle.reuse_undo.specs.disk.Asides.{IsNewIn, IsNewPlace}
 use Rattle.reuse_undo.specs.disk.FolderWrites.{IsCleared, IsPutAt, IsRemovedAt}
-use Rattle.reuse_undo.specs.disk.HeldFiles.{Place, Held, Holds, place_in}
+use Rattle.reuse_undo.specs.disk.FileStates.{Place, FileState, Holds, place_in}
 use Rattle.reuse_undo.specs.disk.Names.{IsNameOf}
 use Rattle.reuse_undo.specs.disk.SystemLaws.{IsAlikeBut, IsAlikeUnless, IsRemoved}
 use Rattle.reuse_undo.specs.disk.Written.{IsWritten}
@@ -14,7 +14,7 @@ use Rattle.reuse_undo.specs.declared.disk.place.Identity.{Identity}
 use Rattle.reuse_undo.proofs.lemmas.disk.SystemLemmas.{then_alike}
 
 -- written, after something differed at places for new files
-pub written_after_clearing : (new_files folder : Identity) (name bytes : List ℕ) (is : Bool) (a b c : Held) (is_done : Bool) → IsAlikeUnless (IsNewIn new_files) a b
+pub written_after_clearing : (new_files folder : Identity) (name bytes : List ℕ) (is : Bool) (a b c : FileState) (is_done : Bool) → IsAlikeUnless (IsNewIn new_files) a b
     → IsWritten (IsNewPlace new_files folder) (place_in folder name) bytes is b c is_done → IsWritten (IsNewPlace new_files folder) (place_in folder name) bytes is a c is_done
 written_after_clearing new_files folder name bytes is a b c is_done alike written =
     record {
@@ -24,7 +24,7 @@ written_after_clearing new_files folder name bytes is a b c is_done alike writte
     }
 
 -- not written, after something differed at places for new files
-pub cleared_alone : (path name : List ℕ) (new_files : Identity) (bytes : List ℕ) (is : Bool) (a b : Held) → IsNameOf path name → IsAlikeUnless (IsNewIn new_files) a b → IsPutAt path bytes is a b false
+pub cleared_alone : (path name : List ℕ) (new_files : Identity) (bytes : List ℕ) (is : Bool) (a b : FileState) → IsNameOf path name → IsAlikeUnless (IsNewIn new_files) a b → IsPutAt path bytes is a b false
 cleared_alone path name new_files bytes is a b named alike =
     record {
       new_files = new_files;
@@ -38,11 +38,11 @@ cleared_alone path name new_files bytes is a b named alike =
       };
     }
 
-pub cleared_at_error : {E : Type 0} (folder : Identity) (a b : Held) (answer : Result NewFile E) → IsErr answer → IsAlikeUnless (IsNewIn folder) a b → IsCleared a b answer
+pub cleared_at_error : {E : Type 0} (folder : Identity) (a b : FileState) (answer : Result NewFile E) → IsErr answer → IsAlikeUnless (IsNewIn folder) a b → IsCleared a b answer
 cleared_at_error folder a b (Ok new_file) bad alike = absurd (true≢false (sym bad))
 cleared_at_error folder a b (Err error) bad alike = record { folder = folder; others = alike; is_folder = tt }
 
-pub nothing_cleared : {E : Type 0} (held : Held) (answer : Result NewFile E) → IsErr answer → IsCleared held held answer
+pub nothing_cleared : {E : Type 0} (held : FileState) (answer : Result NewFile E) → IsErr answer → IsCleared held held answer
 nothing_cleared held answer bad = cleared_at_error (record { device = 0; number = 0 }) held held answer bad (λ place apart. refl)
 
 -- ---- each path has a name
@@ -68,13 +68,13 @@ some_name [] = ([], record { behind = inl refl; last = λ i short. omega (arith,
 some_name (byte ∷ path) = let one = some_name path in more byte path one.0 one.1 one.1.behind
 
 -- nothing was put
-pub nothing_put : (path bytes : List ℕ) (is : Bool) (held : Held) → IsPutAt path bytes is held held false
+pub nothing_put : (path bytes : List ℕ) (is : Bool) (held : FileState) → IsPutAt path bytes is held held false
 nothing_put path bytes is held =
     let one = some_name path in
     let any : Identity = record { device = 0; number = 0 } in cleared_alone path one.0 any bytes is held held one.1 (λ place apart. refl)
 
 -- put, after new files were cleared
-pub put_at : (path name : List ℕ) (new_files folder : Identity) (bytes : List ℕ) (is : Bool) (a b c : Held) (is_done : Bool) → IsNameOf path name → IsAlikeUnless (IsNewIn new_files) a b
+pub put_at : (path name : List ℕ) (new_files folder : Identity) (bytes : List ℕ) (is : Bool) (a b c : FileState) (is_done : Bool) → IsNameOf path name → IsAlikeUnless (IsNewIn new_files) a b
     → IsWritten (IsNewPlace new_files folder) (place_in folder name) bytes is b c is_done → IsPutAt path bytes is a c is_done
 put_at path name new_files folder bytes is a b c is_done named alike written =
     record {
@@ -85,12 +85,12 @@ put_at path name new_files folder bytes is a b c is_done named alike written =
       written = written_after_clearing new_files folder name bytes is a b c is_done alike written;
     }
 
-pub nothing_removed : (path : List ℕ) (held : Held) → IsRemovedAt path held held
+pub nothing_removed : (path : List ℕ) (held : FileState) → IsRemovedAt path held held
 nothing_removed path held =
     let one = some_name path in record { folder = record { device = 0; number = 0 }; name = one.0; is_named = one.1; others = λ place apart. refl }
 
 -- the name was to be removed, and was or wasn't
-pub removed_at : (path name : List ℕ) (folder : Identity) (a b : Held) (answer : Result (Unit {0}) Error) → IsNameOf path name
+pub removed_at : (path name : List ℕ) (folder : Identity) (a b : FileState) (answer : Result (Unit {0}) Error) → IsNameOf path name
     → MatchResult answer (λ _. IsRemoved (place_in folder name) a b) (λ _. IsAlikeBut (place_in folder name) a b) → IsRemovedAt path a b
 removed_at path name folder a b (Ok done) named removed = record { folder = folder; name = name; is_named = named; others = removed.others }
 removed_at path name folder a b (Err error) named alike = record { folder = folder; name = name; is_named = named; others = alike }

@@ -7,20 +7,20 @@ use Rattle.std.specs.Str.{bytes_eq}
 use Rattle.std.specs.declared.io.Error.{Error}
 use Rattle.reuse_undo.specs.declared.disk.system.Aside.{Aside}
 use Rattle.reuse_undo.specs.disk.Asides.{place_of, key_of}
-use Rattle.reuse_undo.specs.disk.HeldFiles.{FileKey, HeldFile, Place, Held, file, IsNot}
-use Rattle.reuse_undo.specs.disk.HeldFiles.FileKey.{Found, Made}
+use Rattle.reuse_undo.specs.disk.FileStates.{FileKey, StateFile, Place, FileState, file, IsNot}
+use Rattle.reuse_undo.specs.disk.FileStates.FileKey.{Found, Made}
 use Rattle.reuse_undo.specs.disk.SystemLaws.{IsAlike, IsAlikeBut, IsAlikeButFile, IsMade, IsFilled, IsSynced, IsRenamed, IsRemoved, MayBeRenamed}
 use Rattle.reuse_undo.specs.disk.SystemCall.{SystemCall, made_of}
 use Rattle.reuse_undo.specs.disk.SystemCall.SystemCall.{MakeCall, AppendCall, SyncCall, RenameCall, RemoveCall}
 use Rattle.reuse_undo.specs.disk.SystemCalls.{held_at_start, set, set_by, is_made, filled_if, filled, renamed, renamed_by, held_by, held_after, fate_at}
 
-set_here : (held : Held) (place : Place) (one : Option HeldFile) → set held place one place ≡ one
+set_here : (held : FileState) (place : Place) (one : Option StateFile) → set held place one place ≡ one
 set_here held place one = ap (λ b. cond b one (held place)) ((bytes_eq-Decides place place).1 refl)
 
-set_other : (held : Held) (place : Place) (one : Option HeldFile) → IsAlikeBut place held (set held place one)
+set_other : (held : FileState) (place : Place) (one : Option StateFile) → IsAlikeBut place held (set held place one)
 set_other held place one other apart = ap (λ b. cond b one (held other)) (false_from_ne_true _ (λ yes. apart ((bytes_eq-Decides other place).0 yes)))
 
-set_by_other : (fate : ℕ) (held : Held) (place : Place) (one : Option HeldFile) → IsAlikeBut place held (set_by fate held place one)
+set_by_other : (fate : ℕ) (held : FileState) (place : Place) (one : Option StateFile) → IsAlikeBut place held (set_by fate held place one)
 set_by_other zero held place one other apart = refl
 set_by_other (suc fate) held place one other apart = set_other held place one other apart
 
@@ -28,33 +28,33 @@ is_made-not : (number : ℕ) (key : FileKey) → key ≢ Made number → is_made
 is_made-not number (Found other) apart = refl
 is_made-not number (Made other) apart = false_from_ne_true _ (λ yes. apart (ap (λ n. Made n) ((Decides-eqb other number).0 yes)))
 
-filled_if-not : (number : ℕ) (bytes : List ℕ) (is : Bool) (one : Option HeldFile) → IsNot (Made number) one → filled_if number bytes is one ≡ one
+filled_if-not : (number : ℕ) (bytes : List ℕ) (is : Bool) (one : Option StateFile) → IsNot (Made number) one → filled_if number bytes is one ≡ one
 filled_if-not number bytes is None apart = refl
 filled_if-not number bytes is (Some held) apart = ap (λ b. cond b (file held.key (held.bytes ++ bytes) is) (Some held)) (is_made-not number held.key apart)
 
 filled_if-here : (number : ℕ) (bytes : List ℕ) (is : Bool) (had : List ℕ) (was : Bool) → filled_if number bytes is (file (Made number) had was) ≡ file (Made number) (had ++ bytes) is
 filled_if-here number bytes is had was = ap (λ b. cond b (file (Made number) (had ++ bytes) is) (file (Made number) had was)) ((Decides-eqb number number).1 refl)
 
-fills : (number : ℕ) (bytes : List ℕ) (is : Bool) (held : Held) → IsFilled (Made number) bytes is held (filled number bytes is held)
+fills : (number : ℕ) (bytes : List ℕ) (is : Bool) (held : FileState) → IsFilled (Made number) bytes is held (filled number bytes is held)
 fills number bytes is held =
     record {
       here = λ place had was e. ap (filled_if number bytes is) e ∙ filled_if-here number bytes is had was;
       others = λ place apart. filled_if-not number bytes is (held place) apart;
     }
 
-syncs : (number : ℕ) (held : Held) → IsSynced (Made number) held (filled number [] true held)
+syncs : (number : ℕ) (held : FileState) → IsSynced (Made number) held (filled number [] true held)
 syncs number held =
     let one = fills number [] true held in
     record { here = λ place had was e. one.here place had was e ∙ ap (λ bytes. file (Made number) bytes true) (append-nil had); others = one.others }
 
-renamed-others : (stays : Bool) (from to : Place) (held : Held) (place : Place) → place ≢ from → place ≢ to → renamed stays from to held place ≡ held place
+renamed-others : (stays : Bool) (from to : Place) (held : FileState) (place : Place) → place ≢ from → place ≢ to → renamed stays from to held place ≡ held place
 renamed-others true from to held place = λ apart other. set_other held to (held from) place other
 renamed-others false from to held place = λ apart other. set_other (set held from None) to (held from) place other ∙ set_other held from None place apart
 
-renames : (stays : Bool) (from to : Place) (held : Held) → IsRenamed from to held (renamed stays from to held)
+renames : (stays : Bool) (from to : Place) (held : FileState) → IsRenamed from to held (renamed stays from to held)
 renames stays from to held = record { there = set_here (cond stays held (set held from None)) to (held from); others = renamed-others stays from to held }
 
-may_rename : (fate : ℕ) (from to : Place) (held : Held) → MayBeRenamed from to held (renamed_by fate from to held)
+may_rename : (fate : ℕ) (from to : Place) (held : FileState) → MayBeRenamed from to held (renamed_by fate from to held)
 may_rename zero from to held = inl (λ place. refl)
 may_rename (suc fate) from to held = inr (renames (fate == 0) from to held)
 
@@ -64,45 +64,45 @@ abbrev KeyBelow : ℕ → FileKey → Type 0
 KeyBelow most (Found other) = Unit {0}
 KeyBelow most (Made other) = other < most
 
-abbrev IsBelow : ℕ → Option HeldFile → Type 0
+abbrev IsBelow : ℕ → Option StateFile → Type 0
 IsBelow most None = Unit {0}
 IsBelow most (Some held) = KeyBelow most held.key
 
-abbrev AreBelow : ℕ → Held → Type 0
+abbrev AreBelow : ℕ → FileState → Type 0
 AreBelow most held = (place : Place) → IsBelow most (held place)
 
 KeyBelow-more : (most : ℕ) (key : FileKey) → KeyBelow most key → KeyBelow (most + 1) key
 KeyBelow-more most (Found other) below = tt
 KeyBelow-more most (Made other) below = omega (arith, below)
 
-IsBelow-more : (most : ℕ) (one : Option HeldFile) → IsBelow most one → IsBelow (most + 1) one
+IsBelow-more : (most : ℕ) (one : Option StateFile) → IsBelow most one → IsBelow (most + 1) one
 IsBelow-more most None below = tt
 IsBelow-more most (Some held) below = KeyBelow-more most held.key below
 
-either : (most : ℕ) (one other : Option HeldFile) → IsBelow most one → IsBelow most other → (b : Bool) → IsBelow most (cond b one other)
+either : (most : ℕ) (one other : Option StateFile) → IsBelow most one → IsBelow most other → (b : Bool) → IsBelow most (cond b one other)
 either most one other new old true = new
 either most one other new old false = old
 
-set-below : (most : ℕ) (held : Held) (at : Place) (one : Option HeldFile) → IsBelow most one → AreBelow most held → AreBelow most (set held at one)
+set-below : (most : ℕ) (held : FileState) (at : Place) (one : Option StateFile) → IsBelow most one → AreBelow most held → AreBelow most (set held at one)
 set-below most held at one new old place = either most one (held place) new (old place) (bytes_eq place at)
 
-set_by-below : (most fate : ℕ) (held : Held) (at : Place) (one : Option HeldFile) → IsBelow most one → AreBelow most held → AreBelow most (set_by fate held at one)
+set_by-below : (most fate : ℕ) (held : FileState) (at : Place) (one : Option StateFile) → IsBelow most one → AreBelow most held → AreBelow most (set_by fate held at one)
 set_by-below most zero held at one new old = old
 set_by-below most (suc fate) held at one new old = set-below most held at one new old
 
-filled_if-below : (most number : ℕ) (bytes : List ℕ) (is : Bool) (one : Option HeldFile) → IsBelow most one → IsBelow most (filled_if number bytes is one)
+filled_if-below : (most number : ℕ) (bytes : List ℕ) (is : Bool) (one : Option StateFile) → IsBelow most one → IsBelow most (filled_if number bytes is one)
 filled_if-below most number bytes is None below = tt
 filled_if-below most number bytes is (Some held) below = either most (file held.key (held.bytes ++ bytes) is) (Some held) below below (is_made number held.key)
 
-renamed-below : (most : ℕ) (stays : Bool) (from to : Place) (held : Held) → AreBelow most held → AreBelow most (renamed stays from to held)
+renamed-below : (most : ℕ) (stays : Bool) (from to : Place) (held : FileState) → AreBelow most held → AreBelow most (renamed stays from to held)
 renamed-below most true from to held old = set-below most held to (held from) (old from) old
 renamed-below most false from to held old = set-below most (set held from None) to (held from) (old from) (set-below most held from None tt old)
 
-renamed_by-below : (most fate : ℕ) (from to : Place) (held : Held) → AreBelow most held → AreBelow most (renamed_by fate from to held)
+renamed_by-below : (most fate : ℕ) (from to : Place) (held : FileState) → AreBelow most held → AreBelow most (renamed_by fate from to held)
 renamed_by-below most zero from to held old = old
 renamed_by-below most (suc fate) from to held old = renamed-below most (fate == 0) from to held old
 
-more : (most : ℕ) (held : Held) → AreBelow most held → AreBelow (most + 1) held
+more : (most : ℕ) (held : FileState) → AreBelow most held → AreBelow (most + 1) held
 more most held old place = IsBelow-more most (held place) (old place)
 
 made-below : (made : ℕ) → IsBelow (made + 1) (file (Made made) [] false)
@@ -112,7 +112,7 @@ start-below : (files : List (Place × (ℕ × (List ℕ × Bool)))) → AreBelow
 start-below [] place = tt
 start-below (entry ∷ entries) place = either 0 (file (Found entry.1.0) entry.1.1.0 entry.1.1.1) (held_at_start entries place) tt (start-below entries place) (bytes_eq place entry.0)
 
-step-below : (fate : ℕ) (call : SystemCall) (calls : List SystemCall) (held : Held) → AreBelow (made_of calls) held → AreBelow (made_of (call ∷ calls)) (held_by fate (made_of calls) call held)
+step-below : (fate : ℕ) (call : SystemCall) (calls : List SystemCall) (held : FileState) → AreBelow (made_of calls) held → AreBelow (made_of (call ∷ calls)) (held_by fate (made_of calls) call held)
 step-below fate (MakeCall at true) calls held old = set-below (made_of calls + 1) held at (file (Made (made_of calls)) [] false) (made-below (made_of calls)) (more (made_of calls) held old)
 step-below fate (MakeCall at false) calls held old = set_by-below (made_of calls + 1) fate held at (file (Made (made_of calls)) [] false) (made-below (made_of calls)) (more (made_of calls) held old)
 step-below fate (AppendCall number bytes true) calls held old = λ place. filled_if-below (made_of calls) number bytes false (held place) (old place)
@@ -134,7 +134,7 @@ KeyBelow-not : (most : ℕ) (key : FileKey) → KeyBelow most key → key ≢ Ma
 KeyBelow-not most (Found other) below e = absurd (cc)
 KeyBelow-not most (Made other) below e = omega (arith, below, made_number e)
 
-IsBelow-not : (most : ℕ) (one : Option HeldFile) → IsBelow most one → IsNot (Made most) one
+IsBelow-not : (most : ℕ) (one : Option StateFile) → IsBelow most one → IsNot (Made most) one
 IsBelow-not most None below = tt
 IsBelow-not most (Some held) below = KeyBelow-not most held.key below
 

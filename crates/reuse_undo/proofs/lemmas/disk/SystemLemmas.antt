@@ -1,16 +1,16 @@
 -- What follows from the laws of the system's calls.
 use Rattle.std.proofs.Common.{◌≡◌, ◌≢◌, ◌⊎◌, inl, inr, ℕ, Bool, true, false, List, [], ◌++◌, Option, Result, Ok, Err, is_ok, true≢false, MatchResult, refl, sym, ◌∙◌, ap, subst, append_assoc}
 use Rattle.std.specs.declared.io.Error.{Error}
-use Rattle.reuse_undo.specs.disk.HeldFiles.{FileKey, HeldFile, Place, Held, Holds, file, IsNot}
+use Rattle.reuse_undo.specs.disk.FileStates.{FileKey, StateFile, Place, FileState, Holds, file, IsNot}
 use Rattle.reuse_undo.specs.disk.SystemLaws.{IsAlike, IsAlikeBut, IsAlikeButFile, IsMade, IsFilled, IsAppended, IsSynced, IsRenamed, MayBeRenamed}
 use Rattle.reuse_undo.specs.disk.Written.{IsSyncedIf, StandsAlone, IsWritten}
 
 -- what is alike but for the file, and then again
-pub alike_twice : (key : FileKey) (a b c : Held) → IsAlikeButFile key a b → IsAlikeButFile key b c → IsAlikeButFile key a c
+pub alike_twice : (key : FileKey) (a b c : FileState) → IsAlikeButFile key a b → IsAlikeButFile key b c → IsAlikeButFile key a c
 alike_twice key a b c first second place apart =
     let e = first place apart in second place (subst (λ held. IsNot key held) (sym e) apart) ∙ e
 
-pub filled_twice : (key : FileKey) (first second : List ℕ) (was is : Bool) (a b c : Held) → IsFilled key first was a b → IsFilled key second is b c → IsFilled key (first ++ second) is a c
+pub filled_twice : (key : FileKey) (first second : List ℕ) (was is : Bool) (a b c : FileState) → IsFilled key first was a b → IsFilled key second is b c → IsFilled key (first ++ second) is a c
 filled_twice key first second was is a b c one two =
     record {
       here = λ place had lasting e. two.here place (had ++ first) was (one.here place had lasting e) ∙ ap (λ bytes. file key bytes is) (append_assoc had first second);
@@ -18,18 +18,18 @@ filled_twice key first second was is a b c one two =
     }
 
 -- appended, and then again
-pub appended_before : (key : FileKey) (first second : List ℕ) (a b c : Held) (answer : Result (Unit {0}) Error) → IsAppended key first a b
+pub appended_before : (key : FileKey) (first second : List ℕ) (a b c : FileState) (answer : Result (Unit {0}) Error) → IsAppended key first a b
     → MatchResult answer (λ _. IsAppended key second b c) (λ _. IsAlikeButFile key b c)
     → MatchResult answer (λ _. IsAppended key (first ++ second) a c) (λ _. IsAlikeButFile key a c)
 appended_before key first second a b c (Ok done) one two = filled_twice key first second false false a b c one two
 appended_before key first second a b c (Err error) one two = alike_twice key a b c one.others two
 
 -- of a file that stands alone nothing else differs
-alone_alike : (key : FileKey) (from : Place) (a b : Held) → StandsAlone from key a → IsAlikeButFile key a b → IsAlikeBut from a b
+alone_alike : (key : FileKey) (from : Place) (a b : FileState) → StandsAlone from key a → IsAlikeButFile key a b → IsAlikeBut from a b
 alone_alike key from a b alone alike other apart = alike other (alone.alone other apart)
 
 -- completed, and then named or not
-pub put_by_renaming : (key : FileKey) (from to : Place) (bytes : List ℕ) (is : Bool) (a b c : Held) (answer : Result (Unit {0}) Error)
+pub put_by_renaming : (key : FileKey) (from to : Place) (bytes : List ℕ) (is : Bool) (a b c : FileState) (answer : Result (Unit {0}) Error)
     → StandsAlone from key a → IsFilled key bytes is a b → MatchResult answer (λ _. IsRenamed from to b c) (λ _. MayBeRenamed from to b c)
     → IsWritten (λ place. place ≡ from) to bytes is a c (is_ok answer)
 put_by_renaming key from to bytes is a b c (Ok done) alone filled renamed =
@@ -53,7 +53,7 @@ put_by_renaming key from to bytes is a b c (Err error) alone filled (inr renamed
     }
 
 -- not completed
-pub not_completed : (key : FileKey) (from to : Place) (bytes : List ℕ) (is : Bool) (a b : Held)
+pub not_completed : (key : FileKey) (from to : Place) (bytes : List ℕ) (is : Bool) (a b : FileState)
     → StandsAlone from key a → IsAlikeButFile key a b → IsWritten (λ place. place ≡ from) to bytes is a b false
 not_completed key from to bytes is a b alone alike =
     record {
@@ -63,7 +63,7 @@ not_completed key from to bytes is a b alone alike =
     }
 
 -- nothing differs but at a place for new files
-pub not_begun : (IsAside : Place → Type 0) (from to : Place) (bytes : List ℕ) (is : Bool) (a b : Held)
+pub not_begun : (IsAside : Place → Type 0) (from to : Place) (bytes : List ℕ) (is : Bool) (a b : FileState)
     → IsAside from → IsAlikeBut from a b → IsWritten IsAside to bytes is a b false
 not_begun IsAside from to bytes is a b at alike =
     record {
@@ -72,12 +72,12 @@ not_begun IsAside from to bytes is a b at alike =
       others = λ place no other. alike place (λ e. no (subst IsAside (sym e) at));
     }
 
-pub then_alike : {P : Type 0} (a b c : Option HeldFile) → b ≡ a → (c ≡ b) ⊎ P → (c ≡ a) ⊎ P
+pub then_alike : {P : Type 0} (a b c : Option StateFile) → b ≡ a → (c ≡ b) ⊎ P → (c ≡ a) ⊎ P
 then_alike a b c e (inl f) = inl (f ∙ e)
 then_alike a b c e (inr p) = inr p
 
 -- written, after something differed at a place for new files, which is one of several such places
-pub written_after : (IsAside : Place → Type 0) (from to : Place) (bytes : List ℕ) (is : Bool) (a b c : Held) (is_done : Bool)
+pub written_after : (IsAside : Place → Type 0) (from to : Place) (bytes : List ℕ) (is : Bool) (a b c : FileState) (is_done : Bool)
     → IsAside from → IsAlikeBut from a b → IsWritten (λ place. place ≡ from) to bytes is b c is_done → IsWritten IsAside to bytes is a c is_done
 written_after IsAside from to bytes is a b c is_done at alike written =
     let apart : (place : Place) → ¬ (IsAside place) → place ≢ from = λ place no e. no (subst IsAside (sym e) at) in
@@ -87,13 +87,13 @@ written_after IsAside from to bytes is a b c is_done at alike written =
       others = λ place no other. written.others place (apart place no) other ∙ alike place (apart place no);
     }
 
-either : (a b c : Held) (to : Place) (bytes : List ℕ) (is : Bool) → (b to ≡ a to) ⊎ Holds b to bytes is → (c to ≡ b to) ⊎ Holds c to bytes is → (c to ≡ a to) ⊎ Holds c to bytes is
+either : (a b c : FileState) (to : Place) (bytes : List ℕ) (is : Bool) → (b to ≡ a to) ⊎ Holds b to bytes is → (c to ≡ b to) ⊎ Holds c to bytes is → (c to ≡ a to) ⊎ Holds c to bytes is
 either a b c to bytes is one (inr stands) = inr stands
 either a b c to bytes is (inl e) (inl f) = inl (f ∙ e)
 either a b c to bytes is (inr stands) (inl f) = inr (stands.0, f ∙ stands.1)
 
 -- written once more, after it failed
-pub written_again : (IsAside : Place → Type 0) (to : Place) (bytes : List ℕ) (is : Bool) (a b c : Held) (was_done is_done : Bool)
+pub written_again : (IsAside : Place → Type 0) (to : Place) (bytes : List ℕ) (is : Bool) (a b c : FileState) (was_done is_done : Bool)
     → IsWritten IsAside to bytes is a b was_done → IsWritten IsAside to bytes is b c is_done → IsWritten IsAside to bytes is a c is_done
 written_again IsAside to bytes is a b c was_done is_done one two =
     record {

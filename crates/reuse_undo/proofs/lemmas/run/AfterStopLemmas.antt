@@ -49,20 +49,20 @@ module _ (held : State) (state : Snapshots) (holds : HoldsSnapshots held state) 
 reached : (before : Files) (request : Request) (answer : Result Reply Refusal) (after : Files) (state : Snapshots) (next : Option Snapshots) → AreLeft before state next
     → ((first second : State) → InDoubt first second before → AnswersOn request first answer after ⊎ AnswersOn request second answer after)
     → (s : Snapshots) × ((state ≡ s) ⊎ (next ≡ Some s)) × ((held : State) × HoldsSnapshots held s × AnswersOn request held answer after)
-reached before request answer after state None left settles =
-    (state, inl refl, (left.0, left.2, ⊎_elim (λ (on : AnswersOn request left.0 answer after). on) (λ (on : AnswersOn request left.0 answer after). on) (settles left.0 left.0 (inl left.1))))
-reached before request answer after state (Some next) left settles =
+reached before request answer after state None left recovers =
+    (state, inl refl, (left.0, left.2, ⊎_elim (λ (on : AnswersOn request left.0 answer after). on) (λ (on : AnswersOn request left.0 answer after). on) (recovers left.0 left.0 (inl left.1))))
+reached before request answer after state (Some next) left recovers =
     ⊎_elim (λ (on : AnswersOn request left.0 answer after). (state, inl refl, (left.0, left.2, on))) (λ (on : AnswersOn request left.1 answer after). (next, inr refl, (left.1, left.3, on)))
-    (settles left.0 left.1 left.4)
+    (recovers left.0 left.1 left.4)
 
 pub answers_after_stop : (before : Files) (request : Request) (answer : Result Reply Refusal) (after : Files) (start : Point) → AreLeft before start.state start.next
     → RequestLeaves before request answer after → (end : Point) × AnswersAfterStop request answer start end × AreLeft after end.state end.next
 answers_after_stop before request answer after start left carries =
     ⊎_elim (λ (refused : (refusal : Refusal) × (answer ≡ Err refusal) × IsUnopened before refusal after).
-    let c = stays_closed (λ (f : Files). f) before after refused.0 start left refused.2.settles in
+    let c = stays_closed (λ (f : Files). f) before after refused.0 start left refused.2.recovers in
     (c.0, inl (refused.0, refused.1, c.1), c.2.1))
     (λ (made : IsMade before request answer after).
-    let r = reached before request answer after start.state start.next left made.settles in
+    let r = reached before request answer after start.state start.next left made.recovers in
     let on = r.2.2 in
     let m = met r.2.0 r.0 r.2.1 on.0 after on.1 request answer on.2 in
     (m.0, inr (r.0, r.1, m.1), m.2)) carries
@@ -72,7 +72,7 @@ pub told_of_end : {X : Type 0} (telling : Telling) (IsAnswer : X → Result Repl
     → TellsAnswer telling (λ answer. (end : X) × IsAnswer end answer × Ends end) old new result → (end : X) × TellsAnswer telling (IsAnswer end) old new result × Ends end
 told_of_end telling IsAnswer Ends old new (Ok count) told = (told.1.0, (told.0, told.1.1, told.2, told.3, told.4), told.1.2)
 told_of_end telling IsAnswer Ends old new (Err (faults.Refused refusal)) told = (told.0.0, (told.0.1, told.1), told.0.2)
-told_of_end telling IsAnswer Ends old new (Err (faults.WouldRefuse fates)) told = (told.0.0, (told.0.1, told.1, told.2), told.0.2)
+told_of_end telling IsAnswer Ends old new (Err (faults.WouldRefuse path_outcomes)) told = (told.0.0, (told.0.1, told.1, told.2), told.0.2)
 told_of_end telling IsAnswer Ends old new (Err (faults.NoDiff refusal)) told = let is = told.0.1 in (is.0, ((told.0.0, is.1, told.0.2), told.1), is.2)
 told_of_end telling IsAnswer Ends old new (Err faults.InUse) told = absurd told
 told_of_end telling IsAnswer Ends old new (Err faults.Write) told = (told.1.0, (told.0, told.1.1, told.2, told.3, told.4), told.1.2)

@@ -65,12 +65,12 @@ pub carried : {S : Type 0} (files : S → Files) (before : Files) (request : Req
     → ((held : State) → StandsOn files session held → IfErr answer (HasCallClash request held (files (store_of session))))
     → IsSameBut head_path (undo_folder_of before) (undo_folder_of (files (store_of session))) → ((held : State) → StandsOn files session held → KeepsFolder request held (files (store_of session)) after)
     → RequestLeaves before request answer after
-carried files before request session answer after opened settles meets clashes same keeps =
+carried files before request session answer after opened recovers meets clashes same keeps =
     inr (record {
       made = (opened.0, files (store_of session), opened.2, meets opened.0 opened.1, clashes opened.0 opened.1, same, keeps opened.0 opened.1);
-      settles = λ first second doubt.
+      recovers = λ first second doubt.
           ⊎_elim (λ (stands : StandsOn files session first). inl (files (store_of session), stands.standing, meets first stands))
-          (λ (stands : StandsOn files session second). inr (files (store_of session), stands.standing, meets second stands)) (settles first second doubt);
+          (λ (stands : StandsOn files session second). inr (files (store_of session), stands.standing, meets second stands)) (recovers first second doubt);
     })
 
 -- a session that opened on a standing stands on it, and the files are the same
@@ -78,7 +78,7 @@ pub found_again : {S : Type 0} (files : S → Files) (before : Files) (session :
     → (found : State) × StandsOn files session found × OpensOn before found (files (store_of session))
     → ((first second : State) → InDoubt first second before → StandsOn files session first ⊎ StandsOn files session second)
     → StandsOn files session held × (files (store_of session) ≡ before)
-found_again files before session held standing opened settles = (
-  ⊎_elim (λ (stands : StandsOn files session held). stands) (λ (stands : StandsOn files session held). stands) (settles held held (inl standing)),
+found_again files before session held standing opened recovers = (
+  ⊎_elim (λ (stands : StandsOn files session held). stands) (λ (stands : StandsOn files session held). stands) (recovers held held (inl standing)),
   stays_open before (files (store_of session)) held opened.0 standing opened.2,
 )

@@ -73,8 +73,8 @@ same_inside outer inner contents has_failed request telling before after old new
           let at = carried.after_stop (a.gives honest) start (subst (λ f. AreLeft f start.state start.next) (sym b.files) found) in
           (at.0, at.1, subst (λ f. AreLeft f (at.0).state (at.0).next) a.files at.2);
       drawn = λ honest held standing. carried.drawn (a.gives honest) held (subst (λ f. IsStanding f held) (sym b.files) standing);
-      looks = λ honest look held standing.
-          reads_inside outer inner before after old new b a (carried.looks (a.gives honest) look held (subst (λ f. IsStanding f held) (sym b.files) standing));
+      reads_only = λ honest look held standing.
+          reads_inside outer inner before after old new b a (carried.reads_only (a.gives honest) look held (subst (λ f. IsStanding f held) (sym b.files) standing));
       quiet = carried.quiet;
       failed = carried.failed;
       fault = rose_inside result (outer.failures before) (outer.failures after) (inner.failures old) (inner.failures new) b.failures a.failures carried.fault;

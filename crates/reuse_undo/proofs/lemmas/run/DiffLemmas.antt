@@ -14,12 +14,12 @@ use Rattle.reuse_undo.specs.declared.run.fault.Fault.TheVariants as faults
 use Rattle.reuse_undo.specs.declared.cli.line.OutputFormat.TheVariants.{Diff}
 use Rattle.reuse_undo.specs.declared.cli.line.Telling.{Telling}
 use Rattle.reuse_session.specs.declared.reply.Reply.{Reply}
-use Rattle.reuse_undo.specs.print.Told.{Finishes, IsAccepted, IsBehind, IsDiffBehind, IsDiffOf, IsForeseen, IsNoDiff, IsNoRecord, IsToldText, IsWanted}
+use Rattle.reuse_undo.specs.print.Told.{Finishes, IsAccepted, IsBehind, IsDiffBehind, IsDiffOf, IsDrawnPreview, IsNoDiff, IsNoRecord, IsToldText, IsWanted}
 use Rattle.reuse_undo.specs.print.Outputs.{AddsFront}
 use Rattle.reuse_undo.specs.run.RunLine.{IfNoDiff}
 use Rattle.reuse_undo.specs.print.WriterFaults.{IsOfDiff, IsUndrawn}
 
-wanted : {A S : Type 0} (store : Ghosts S) (old new : S) (telling : Telling) (told : Reply) (diff : Result (Vec ℕ A) Fault) → IsForeseen telling told → IfErr diff (IsOfDiff store old new)
+wanted : {A S : Type 0} (store : Ghosts S) (old new : S) (telling : Telling) (told : Reply) (diff : Result (Vec ℕ A) Fault) → IsDrawnPreview telling told → IfErr diff (IsOfDiff store old new)
     → IsDiffOf telling told diff
 wanted store old new telling told (Ok diff) is fault = inr is
 wanted store old new telling told (Err (faults.NoDiff refusal)) is fault = is
@@ -61,7 +61,7 @@ accepted_where telling (Err refusal) is = absurd is
 
 -- no diff stands behind an answer that has none
 none_behind : (told : Reply) (diff : List ℕ) → IsNoRecord told → diff ≡ [] → IsDiffBehind told diff
-none_behind (replies.Preview fates) diff is none = inl none
+none_behind (replies.Preview path_outcomes) diff is none = inl none
 none_behind replies.Opened diff is none = none
 none_behind (replies.Changed paths) diff is none = none
 none_behind replies.NothingChanged diff is none = none
@@ -72,14 +72,14 @@ none_behind (replies.Shown shown) diff is none = absurd is
 none_behind (replies.Reverted reverted) diff is none = none
 
 -- some, of a call that was only looked at
-foreseen_behind : (telling : Telling) (told : Reply) (diff : List ℕ) → IsForeseen telling told → IsDiffBehind told diff
-foreseen_behind telling told diff is = subst (λ t. IsDiffBehind t diff) (sym is.2) (inr is.3)
+planned_behind : (telling : Telling) (told : Reply) (diff : List ℕ) → IsDrawnPreview telling told → IsDiffBehind told diff
+planned_behind telling told diff is = subst (λ t. IsDiffBehind t diff) (sym is.2) (inr is.3)
 
 -- and behind the lines of an answer that is no step
 pub behind : {A : Type 0} (telling : Telling) (told : Reply) (diff : Result (Vec ℕ A) Fault) → (telling.format ≡ Diff → IsNoRecord told) → IsDiffOf telling told diff → IsBehind telling told diff
 behind telling told (Ok diff) is (inl none) = λ format. none_behind told diff.items (is format) none
-behind telling told (Ok diff) is (inr foreseen) = λ format. foreseen_behind telling told diff.items foreseen
-behind telling told (Err (faults.NoDiff refusal)) is foreseen = foreseen
+behind telling told (Ok diff) is (inr planned) = λ format. planned_behind telling told diff.items planned
+behind telling told (Err (faults.NoDiff refusal)) is planned = planned
 behind telling told (Err faults.Memory) is same = same
 behind telling told (Err other) is same = same
 

@@ -3,14 +3,14 @@ use Rattle.std.proofs.Common.{◌≡◌, inl, inr, ℕ, List, Result, Ok, Err, I
 use Rattle.std.specs.declared.vec.Vec.{Vec}
 use Rattle.reuse_tree.specs.Files.{Files}
 use Rattle.reuse_session.specs.journal.Journal.{State}
-use Rattle.reuse_session.specs.session.Requests.{IsLook, Meets, replied}
-use Rattle.reuse_session.specs.declared.fate.Fate.{Fate}
+use Rattle.reuse_session.specs.session.Requests.{IsReading, Meets, replied}
+use Rattle.reuse_session.specs.declared.path_outcome.PathOutcome.{PathOutcome}
 use Rattle.reuse_session.specs.declared.reply.Refusal.{Refusal}
 use Rattle.reuse_session.specs.declared.reply.Reply.TheVariants as replies
 use Rattle.reuse_undo.specs.run.Drawn.{IsDiffOfCall, IsDrawnText, IsTreeDiff, WouldLeave}
 use Rattle.reuse_undo.specs.print.Outputs.{AddsSome}
 use Rattle.reuse_undo.specs.run.RunLine.{RequestLeaves}
-use Rattle.reuse_undo.specs.print.Told.{Finishes, HasBehind, IsForeseen, IsWanted, WouldBeMade}
+use Rattle.reuse_undo.specs.print.Told.{Finishes, HasBehind, IsDrawnPreview, IsWanted, WouldBeMade}
 use Rattle.reuse_undo.specs.declared.run.fault.Fault.{Fault}
 use Rattle.reuse_undo.specs.declared.cli.line.OutputFormat.TheVariants.{Diff}
 use Rattle.reuse_undo.specs.declared.cli.line.Telling.{Telling}
@@ -20,8 +20,8 @@ use Rattle.reuse_session.specs.declared.reply.Reply.{Reply}
 
 -- ---- where a diff is wanted
 
--- what would leave a tree only looks
-would_look : (request : Request) (held : State) (tree : Files) → WouldLeave request held tree → IsLook request
+-- what would leave a tree only reads
+would_look : (request : Request) (held : State) (tree : Files) → WouldLeave request held tree → IsReading request
 would_look (requests.Preview call) held tree would = tt
 would_look request held tree would = absurd would
 
@@ -42,8 +42,8 @@ told_diff request held tree (Ok text) would all = all tree would
 told_diff request held tree (Err fault) would all = tt
 
 pub drawn_where_wanted : {A : Type 0} (telling : Telling) (request : Request) (held : State) (answer : Result Reply Refusal) (diff : Result (Vec ℕ A) Fault)
-    → (IsWanted telling answer → IsLook request → IfOk diff (λ text. IsDiffOfCall request held text.items))
-    → IfOk answer (λ told. IsForeseen telling told → IfOk diff (λ text. IsDiffOfCall request held text.items))
+    → (IsWanted telling answer → IsReading request → IfOk diff (λ text. IsDiffOfCall request held text.items))
+    → IfOk answer (λ told. IsDrawnPreview telling told → IfOk diff (λ text. IsDiffOfCall request held text.items))
 drawn_where_wanted telling request held (Err refusal) diff drawn = tt
 drawn_where_wanted telling request held (Ok told) diff drawn =
     λ wanted. diff_of_call request held diff (λ after would. told_diff request held after diff would (drawn wanted (would_look request held after would)))
@@ -54,32 +54,32 @@ drawn_where_wanted telling request held (Ok told) diff drawn =
 abbrev answered : Reply → Result Reply Refusal
 answered told = Ok told
 
-told_fates : (told : Reply) (fates : Result (List Fate) Refusal) → answered told ≡ replied replies.Preview fates → (f : List Fate) × (told ≡ replies.Preview f)
-told_fates told (Ok fates) is = (fates, cc)
-told_fates told (Err refusal) is = absurd (cc)
+told_path_outcomes : (told : Reply) (path_outcomes : Result (List PathOutcome) Refusal) → answered told ≡ replied replies.Preview path_outcomes → (f : List PathOutcome) × (told ≡ replies.Preview f)
+told_path_outcomes told (Ok path_outcomes) is = (path_outcomes, cc)
+told_path_outcomes told (Err refusal) is = absurd (cc)
 
 meets_tells : (request : Request) (held found : State) (tree after : Files) (told : Reply) → WouldLeave request held tree → Meets request found (Ok told) after
-    → (fates : List Fate) × (told ≡ replies.Preview fates)
-meets_tells (requests.Preview call) held found tree after told would meets = told_fates told meets.1.0 meets.1.1
+    → (path_outcomes : List PathOutcome) × (told ≡ replies.Preview path_outcomes)
+meets_tells (requests.Preview call) held found tree after told would meets = told_path_outcomes told meets.1.0 meets.1.1
 meets_tells request held found tree after told would meets = absurd would
 
--- the dry run of a call that would leave a tree tells fates
+-- the dry run of a call that would leave a tree tells path outcomes
 pub previews_tell : (request : Request) (held : State) (tree before after : Files) (told : Reply) → WouldLeave request held tree → RequestLeaves before request (Ok told) after
-    → (fates : List Fate) × (told ≡ replies.Preview fates)
+    → (path_outcomes : List PathOutcome) × (told ≡ replies.Preview path_outcomes)
 previews_tell request held tree before after told would (inl unopened) = let e = unopened.1 in absurd (cc)
 previews_tell request held tree before after told would (inr made) = meets_tells request held (made.made).0 tree after told would (made.made).3
 
 -- ---- lines and diff
 
-pub drawn_in_lines : {A : Type 0} (telling : Telling) (before after : Files) (told : Reply) (fates : List Fate) (old new : List ℕ) (outcome : Result ℕ Fault) (diff : Result (Vec ℕ A) Fault)
-    → told ≡ replies.Preview fates → telling.format ≡ Diff → Finishes telling told old new outcome
-    → (IsForeseen telling told → IfOk outcome (λ count. IsOkAnd diff (λ text. AddsSome old new (HasBehind telling.names told text.items))))
-    → (IsForeseen telling told → IfOk diff (λ text. IsTreeDiff before after text.items)) → IfOk outcome (λ count. AddsSome old new (IsDrawnText telling.names before after))
-drawn_in_lines telling before after told fates old new (Err fault) diff is wants finishes behind drawn = tt
-drawn_in_lines telling before after told fates old new (Ok count) (Err fault) is wants finishes behind drawn =
-    absurd (behind (wants, fates, is, subst WouldBeMade is (finishes.1).1))
-drawn_in_lines telling before after told fates old new (Ok count) (Ok diff) is wants finishes behind drawn =
-    let foreseen : IsForeseen telling told = (wants, fates, is, subst WouldBeMade is (finishes.1).1) in
-    let adds = behind foreseen in
+pub drawn_in_lines : {A : Type 0} (telling : Telling) (before after : Files) (told : Reply) (path_outcomes : List PathOutcome) (old new : List ℕ) (outcome : Result ℕ Fault) (diff : Result (Vec ℕ A) Fault)
+    → told ≡ replies.Preview path_outcomes → telling.format ≡ Diff → Finishes telling told old new outcome
+    → (IsDrawnPreview telling told → IfOk outcome (λ count. IsOkAnd diff (λ text. AddsSome old new (HasBehind telling.names told text.items))))
+    → (IsDrawnPreview telling told → IfOk diff (λ text. IsTreeDiff before after text.items)) → IfOk outcome (λ count. AddsSome old new (IsDrawnText telling.names before after))
+drawn_in_lines telling before after told path_outcomes old new (Err fault) diff is wants finishes behind drawn = tt
+drawn_in_lines telling before after told path_outcomes old new (Ok count) (Err fault) is wants finishes behind drawn =
+    absurd (behind (wants, path_outcomes, is, subst WouldBeMade is (finishes.1).1))
+drawn_in_lines telling before after told path_outcomes old new (Ok count) (Ok diff) is wants finishes behind drawn =
+    let planned : IsDrawnPreview telling told = (wants, path_outcomes, is, subst WouldBeMade is (finishes.1).1) in
+    let adds = behind planned in
     let has = subst (λ (answer : Reply). HasBehind telling.names answer diff.items adds.0) is adds.1.0 in
-    (adds.0, (record { fates = fates; lines = has.0; diff = diff.items; told = has.1; drawn = drawn foreseen; whole = has.2 }, adds.1.1))
+    (adds.0, (record { path_outcomes = path_outcomes; lines = has.0; diff = diff.items; told = has.1; drawn = drawn planned; whole = has.2 }, adds.1.1))

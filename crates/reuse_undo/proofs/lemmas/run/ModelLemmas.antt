@@ -40,7 +40,7 @@ unopened refusal state new h = absurd h
 
 still_held : (state : Snapshots) (before : Files) (refusal : Refusal) (after : Files) → HoldState before state → IsUnopened before refusal after → HoldState after state
 still_held state before refusal after held refused =
-    let point = stays_closed (λ (f : Files). f) before after refusal (closed (open_at state)) held refused.settles in
+    let point = stays_closed (λ (f : Files). f) before after refusal (closed (open_at state)) held refused.recovers in
     subst (λ (p : Point). AreLeft after p.state p.next) (unopened refusal state point.0 point.1) point.2.1
 
 failed : (state : Snapshots) (request : Request) (refusal : Refusal) (after : Files) → IsFailure refusal → HoldState after state → FollowsModel state request (Err refusal) after
@@ -55,9 +55,9 @@ carries_step state before request answer after held carries =
     let first = held.0 in
     ⊎_elim (λ (refused : (refusal : Refusal) × (answer ≡ Err refusal) × IsUnopened before refusal after).
     subst (λ a. FollowsModel state request a after) (sym refused.1)
-    (failed state request refused.0 after (refused.2.settles first first (inl held.1)).0 (still_held state before refused.0 after held refused.2)))
+    (failed state request refused.0 after (refused.2.recovers first first (inl held.1)).0 (still_held state before refused.0 after held refused.2)))
     (λ (made : IsMade before request answer after).
-    let on = ⊎_elim (λ (on : AnswersOn request first answer after). on) (λ (on : AnswersOn request first answer after). on) (made.settles first first (inl held.1)) in
+    let on = ⊎_elim (λ (on : AnswersOn request first answer after). on) (λ (on : AnswersOn request first answer after). on) (made.recovers first first (inl held.1)) in
     met first state held.2 before after held.1 request answer on.2) carries
 
 -- the same, of an equal answer
@@ -70,7 +70,7 @@ carries_as before after request answer same carries is = subst (λ (a : Result R
 pub told_of : (telling : Telling) (IsAnswer : Result Reply Refusal → Type 0) (told : Reply) (old new : List ℕ) (result : Result ℕ Fault) → IsAnswer (Ok told)
     → Finishes telling told old new result → TellsAnswer telling IsAnswer old new result
 told_of telling IsAnswer told old new (Ok count) is finished = (told, is, finished.1.1, finished.0, finished.1.0)
-told_of telling IsAnswer told old new (Err (faults.WouldRefuse fates)) is finished = (
+told_of telling IsAnswer told old new (Err (faults.WouldRefuse path_outcomes)) is finished = (
   subst (λ t. IsAnswer (Ok t)) finished.1.0 is,
   finished.1.1,
   subst (λ t. AddsSome old new (IsToldText telling t)) finished.1.0 finished.0,
@@ -84,7 +84,7 @@ told_of telling IsAnswer told old new (Err faults.InUse) is finished = absurd fi
 -- what is printed is no refusal
 pub no_refusal : (telling : Telling) (told : Reply) (old new : List ℕ) (result : Result ℕ Fault) (Claim : Refusal → Type 0) → Finishes telling told old new result → IfRefused result Claim
 no_refusal telling told old new (Ok count) Claim finished = tt
-no_refusal telling told old new (Err (faults.WouldRefuse fates)) Claim finished = tt
+no_refusal telling told old new (Err (faults.WouldRefuse path_outcomes)) Claim finished = tt
 no_refusal telling told old new (Err (faults.NoDiff refusal)) Claim finished = tt
 no_refusal telling told old new (Err faults.Write) Claim finished = tt
 no_refusal telling told old new (Err faults.Memory) Claim finished = tt

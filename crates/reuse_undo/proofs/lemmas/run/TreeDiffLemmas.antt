@@ -18,7 +18,7 @@ use Rattle.reuse_tree.specs.declared.way.Way.TheVariants as go
 use Rattle.reuse_tree.proofs.Differ.{changed_by_entry, changed_by_none, only_keys}
 use Rattle.reuse_tree.proofs.DifferingPaths.{among_changed, changed_ascend}
 use Rattle.reuse_tree.proofs.TreeLemmas.{among_keys}
-use Rattle.reuse_session.specs.journal.Journal.{Recorded, State, changes_ahead, Travels}
+use Rattle.reuse_session.specs.journal.Journal.{Recorded, State, changes_ahead, Replays}
 use Rattle.reuse_session.specs.journal.JournalFiles.{entry_in, entry_path}
 use Rattle.reuse_session.specs.plan.Outcome.{outcome_of}
 use Rattle.reuse_session.specs.plan.Plan.{IsPlan}
@@ -36,9 +36,9 @@ use Rattle.reuse_session.specs.declared.reply.Reverted.{Reverted}
 use Rattle.reuse_session.specs.declared.session.Session.{Session}
 use Rattle.reuse_session.proofs.lemmas.journal.JournalLemmas.{same_entry}
 use Rattle.reuse_session.proofs.lemmas.session.StepsByNumber.{says_step}
-use Rattle.reuse_undo.specs.run.Drawn.{AreDiffs, Foretells, IsPathDiff, IsTreeDiff}
+use Rattle.reuse_undo.specs.run.Drawn.{AreDiffs, LeadsAsPreviewed, IsPathDiff, IsTreeDiff}
 use Rattle.reuse_undo.specs.print.RowLines.{AreJoined}
-use Rattle.reuse_undo.specs.declared.run.line.foreseen.Foreseen.{Foreseen}
+use Rattle.reuse_undo.specs.declared.run.line.planned.PlannedChanges.{PlannedChanges}
 
 -- ---- the paths at which two trees differ, either way
 
@@ -101,21 +101,21 @@ one_outcome : (one other : Files) → outcome_is one ≡ outcome_is other → on
 one_outcome one other is = cc
 
 -- changes that are gone through this way
-abbrev pub going : Way → List Change → Foreseen
+abbrev pub going : Way → List Change → PlannedChanges
 going way changes = record { changes = changes; way = way }
 
 -- and the changes that were planned lead there
-pub plan_foretells : (outcome : Result Files Refusal) (before after : Files) (changes : List Change) → IsPlan outcome before changes → outcome ≡ Ok after → Foretells (going go.Do changes) before after
-plan_foretells outcome before after changes plan is =
+pub plan_previews : (outcome : Result Files Refusal) (before after : Files) (changes : List Change) → IsPlan outcome before changes → outcome ≡ Ok after → LeadsAsPreviewed (going go.Do changes) before after
+plan_previews outcome before after changes plan is =
     let leads = subst (LeadsAll changes before) (one_outcome plan.after after (sym plan.outcome ∙ is)) plan.leads in
     elim plan.good [
-      | inl none ↦ none_foretells changes none leads
+      | inl none ↦ none_previews changes none leads
       | inr entry ↦ record { leads = record { small = entry.small; leads = leads }; paths = changed_by_entry changes before after entry leads }
     ]
   where
-    none_foretells : (changes : List Change) → changes ≡ [] → LeadsAll changes before after → Foretells (going go.Do changes) before after
-    none_foretells [] none leads = record { leads = record { small = λ k d low. absurd (omega (arith, low)); leads = leads }; paths = changed_by_none before after leads }
-    none_foretells (change ∷ rest) none leads = absurd (cc)
+    none_previews : (changes : List Change) → changes ≡ [] → LeadsAll changes before after → LeadsAsPreviewed (going go.Do changes) before after
+    none_previews [] none leads = record { leads = record { small = λ k d low. absurd (omega (arith, low)); leads = leads }; paths = changed_by_none before after leads }
+    none_previews (change ∷ rest) none leads = absurd (cc)
 
 -- ---- a step
 
@@ -127,11 +127,11 @@ step_paths go.Do changes before after entry leads = changed_by_entry changes bef
 step_paths go.Undo changes before after entry leads = changed_back before after ∙ changed_by_entry changes after before entry (back_leads changes before after leads)
 
 -- an undo or a redo that is accepted has a step to go on with, and its changes lead there
-pub travel_foretells : (way : Way) (steps : List Recorded) (held : State) (reply : Reply) (new : State) (changes : List Change) → Travels way steps held (Ok reply) new
-    → changes_ahead steps ≡ Some changes → IsEntry changes → Foretells (going way changes) held.tree new.tree
-travel_foretells way [] held reply new changes travels next entry = absurd (cc)
-travel_foretells way (step ∷ steps) held reply new changes travels next entry =
-    let leads = subst (λ made. LeadsBy way made held.tree new.tree) (some_changes step.changes changes next) travels.2 in
+pub replay_previews : (way : Way) (steps : List Recorded) (held : State) (reply : Reply) (new : State) (changes : List Change) → Replays way steps held (Ok reply) new
+    → changes_ahead steps ≡ Some changes → IsEntry changes → LeadsAsPreviewed (going way changes) held.tree new.tree
+replay_previews way [] held reply new changes replays next entry = absurd (cc)
+replay_previews way (step ∷ steps) held reply new changes replays next entry =
+    let leads = subst (λ made. LeadsBy way made held.tree new.tree) (some_changes step.changes changes next) replays.2 in
     record { leads = record { small = entry.small; leads = leads }; paths = step_paths way changes held.tree new.tree entry leads }
   where
     some_changes : (one other : List Change) → Some one ≡ Some other → one ≡ other

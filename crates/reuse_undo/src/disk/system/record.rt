@@ -2,7 +2,7 @@
 ghost use Rattle.std.specs.Prelude.{◌≡◌, ℕ, Bool, List, [], ◌∷◌};
 ghost use Rattle.std.specs.Borrow.{ftrue};
 ghost use Rattle.std.specs.Coded.{coded_list, coded_ℕ, coded_bool, coded×};
-ghost use Rattle.reuse_undo.specs.disk.HeldFiles.{Place};
+ghost use Rattle.reuse_undo.specs.disk.FileStates.{Place};
 ghost use Rattle.reuse_undo.specs.disk.SystemCall.{SystemCall};
 
 use crate::disk::place::Identity;

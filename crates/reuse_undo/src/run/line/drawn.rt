@@ -13,7 +13,7 @@ ghost use Rattle.reuse_undo.specs.print.RowLines.{AppendsSome};
 ghost use Rattle.reuse_undo.specs.print.WriterFaults.{IsOfDiff};
 ghost use Rattle.reuse_undo.specs.declared.run.fault.Fault.TheVariants as faults;
 
-use super::foreseen::Foreseen;
+use super::planned::PlannedChanges;
 use crate::print::diff::{Turn, bytes_of, print_diff};
 use crate::run::fault::{Fault, in_memory};
 use reuse_session::Refusal;
@@ -23,13 +23,17 @@ use std::alloc::Global;
 
 /// The diff of what would change: of each path that the file as it is and as the call leaves it, in
 /// the order of the changes. It only reads.
-pub fn draw<S: Store>(alloc: Global, store: &mut S, foreseen: &Foreseen) -> Result<Vec<u8>, Fault>
-    ensures drawn { S.honest store.new → (before : Files) → (after : Files) → tree_of (S.files store.old) ≡ before → WouldLead foreseen.now before after
-        → IfOk result (λ text. AreDiffs before after foreseen.now.changes text.items) }
+pub fn draw<S: Store>(
+    alloc: Global,
+    store: &mut S,
+    planned: &PlannedChanges,
+) -> Result<Vec<u8>, Fault>
+    ensures drawn { S.honest store.new → (before : Files) → (after : Files) → tree_of (S.files store.old) ≡ before → WouldLead planned.now before after
+        → IfOk result (λ text. AreDiffs before after planned.now.changes text.items) }
     ensures reads { OnlyReads S.Store store.old store.new }
     ensures fault { IfErr result (IsOfDiff S.Store store.old store.new) }
 {
-    draw_all(alloc, store, foreseen.changes.as_slice(), foreseen.way)
+    draw_all(alloc, store, planned.changes.as_slice(), planned.way)
 }
 
 // The diff of changes that are gone through this way.

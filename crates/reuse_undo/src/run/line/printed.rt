@@ -4,17 +4,17 @@ ghost use Rattle.reuse_undo.specs.print.DiffText.{AreRecords};
 ghost use Rattle.reuse_undo.specs.print.Outputs.{AddsSome};
 ghost use Rattle.reuse_undo.specs.print.RowLines.{AppendsSome};
 ghost use Rattle.reuse_undo.specs.run.RunLine.{IfNoDiff};
-ghost use Rattle.reuse_undo.specs.print.Told.{Accepts, Finishes, HasBehind, is_refusal, is_refused, IsBehind, IsDiffBehind, IsDiffOf, IsForeseen, IsTextIn, IsToldText, TellsFailure};
+ghost use Rattle.reuse_undo.specs.print.Told.{Accepts, Finishes, HasBehind, is_refusal, is_refused, IsBehind, IsDiffBehind, IsDiffOf, IsDrawnPreview, IsTextIn, IsToldText, TellsFailure};
 ghost use Rattle.reuse_undo.specs.declared.run.fault.Fault.TheVariants as faults;
 
 use crate::cli::line::{OutputFormat, Telling};
 use crate::print::diff::print_record;
 use crate::print::lines::{path_count, print_reply};
-use crate::print::objects::{print_fate_objects, print_row_objects, print_shown_object};
+use crate::print::objects::{print_path_outcome_objects, print_row_objects, print_shown_object};
 use crate::print::output::{Sink, write_text};
 use crate::print::shown_name::Names;
 use crate::run::fault::{Fault, in_memory};
-use reuse_session::{Fate, Fates, Reply};
+use reuse_session::{PathOutcome, PathOutcomes, Reply};
 use reuse_tree::Change;
 use std::alloc::Global;
 use std::io::{self, Write};
@@ -30,7 +30,7 @@ pub fn finish<O: Sink>(
 ) -> Result<usize, Fault>
     requires { IsDiffOf telling told diff }
     ensures told { Finishes telling told (O.contents out.old) (O.contents out.new) result }
-    ensures behind { IsForeseen telling told → IfOk result (λ count. IsOkAnd diff (λ text. AddsSome (O.contents out.old) (O.contents out.new) (HasBehind telling.names told text.items))) }
+    ensures behind { IsDrawnPreview telling told → IfOk result (λ count. IsOkAnd diff (λ text. AddsSome (O.contents out.old) (O.contents out.new) (HasBehind telling.names told text.items))) }
     ensures undrawn { IfNoDiff result (λ refusal. (diff ≡ Err (faults.NoDiff refusal)) × (out.new ≡ out.old)) }
     ensures failed { TellsFailure (O.failed out.old) (O.failed out.new) result }
 {
@@ -53,7 +53,7 @@ fn print<O: Sink>(
 ) -> Result<(), Fault>
     requires { IsDiffOf telling told.now diff }
     ensures printed { OnOk result (AddsSome (O.contents out.old) (O.contents out.new) (IsToldText telling told.now)) }
-    ensures behind { IsForeseen telling told.now → OnOk result (IsOkAnd diff (λ text. AddsSome (O.contents out.old) (O.contents out.new) (HasBehind telling.names told.now text.items))) }
+    ensures behind { IsDrawnPreview telling told.now → OnOk result (IsOkAnd diff (λ text. AddsSome (O.contents out.old) (O.contents out.new) (HasBehind telling.names told.now text.items))) }
     ensures kept { OnOk result (O.failed out.new ≡ O.failed out.old) }
     ensures told { IfErr result (λ fault. Finishes telling told.now (O.contents out.old) (O.contents out.new) (Err fault)) }
     ensures undrawn { IfNoDiff result (λ refusal. (diff ≡ Err (faults.NoDiff refusal)) × (out.new ≡ out.old)) }
@@ -85,7 +85,7 @@ fn whole_diff(
 ) -> Result<Vec<u8>, Fault>
     requires { IsDiffOf telling told.now diff }
     ensures behind { IsBehind telling told.now result }
-    ensures same { IsForeseen telling told.now → result ≡ diff }
+    ensures same { IsDrawnPreview telling told.now → result ≡ diff }
     ensures undrawn { IfNoDiff result (λ refusal. diff ≡ Err (faults.NoDiff refusal)) }
 {
     match (telling.format, told) {
@@ -135,7 +135,11 @@ fn print_objects<W: Write>(out: &mut W, alloc: Global, names: Names, told: &Repl
 {
     match told {
         Reply::Log(rows) => print_row_objects(out, alloc, rows.as_slice()),
-        Reply::Preview(fates) => print_fate_objects(out, alloc, fates.as_slice()),
+        Reply::Preview(path_outcomes) => print_path_outcome_objects(
+            out,
+            alloc,
+            path_outcomes.as_slice(),
+        ),
         Reply::Shown(shown) => print_shown_object(out, alloc, shown),
         reply => print_reply(out, names, reply),
     }
@@ -147,30 +151,32 @@ fn accept(told: Reply) -> Result<usize, Fault>
     ensures { Accepts told result }
 {
     match told {
-        Reply::Preview(fates) => accept_fates(fates),
+        Reply::Preview(path_outcomes) => accept_path_outcomes(path_outcomes),
         reply => Ok(path_count(&reply)),
     }
 }
 
-fn accept_fates(fates: Fates) -> Result<usize, Fault>
-    ensures { Accepts (Reply.Preview fates) result }
+fn accept_path_outcomes(path_outcomes: PathOutcomes) -> Result<usize, Fault>
+    ensures { Accepts (Reply.Preview path_outcomes) result }
 {
-    if is_refused(fates.as_slice()) {
-        Err(Fault::WouldRefuse(fates))
+    if is_refused(path_outcomes.as_slice()) {
+        Err(Fault::WouldRefuse(path_outcomes))
     } else {
-        Ok(path_count(&Reply::Preview(fates)))
+        Ok(path_count(&Reply::Preview(path_outcomes)))
     }
 }
 
-/// Whether one of the fates is a refusal.
-pub fn is_refused(fates: &[Fate]) -> bool
-    ensures { result ≡ is_refused fates.now }
+/// Whether one of the path outcomes is a refusal.
+pub fn is_refused(path_outcomes: &[PathOutcome]) -> bool
+    ensures { result ≡ is_refused path_outcomes.now }
 {
-    fates.iter().any(|fate| is_refusal(fate))
+    path_outcomes
+        .iter()
+        .any(|path_outcome| is_refusal(path_outcome))
 }
 
-fn is_refusal(fate: &Fate) -> bool
-    ensures { result ≡ is_refusal fate.now }
+fn is_refusal(path_outcome: &PathOutcome) -> bool
+    ensures { result ≡ is_refusal path_outcome.now }
 {
-    matches!(fate, Fate::Refused(_))
+    matches!(path_outcome, PathOutcome::Refused(_))
 }

@@ -7,7 +7,7 @@ use Rattle.reuse_session.proofs.events.Driven.«open».Goals as goal
 
 pub returns-in-Ok-clause-reopens : goal.returns-in-Ok-clause-reopens
 returns-in-Ok-clause-reopens g c honest old left =
-    opens g.S.Store.files (g.S.Store.files c.args.store) c.in-Ok.session old left (λ first second doubt. c.in-Ok.ensures.settles first second doubt honest)
+    opens g.S.Store.files (g.S.Store.files c.args.store) c.in-Ok.session old left (λ first second doubt. c.in-Ok.ensures.recovers first second doubt honest)
 
 pub returns-in-Ok-clause-survives : goal.returns-in-Ok-clause-survives
 returns-in-Ok-clause-survives g c honest old found =
@@ -18,11 +18,11 @@ returns-in-Ok-clause-free g c honest free = free_stays _ _ head_path (inl refl) 
 
 pub returns-in-Err-clause-reopens : goal.returns-in-Err-clause-reopens
 returns-in-Err-clause-reopens g c honest old left =
-    stays_closed g.S.Store.files (g.S.Store.files c.args.store) c.in-Err.store c.in-Err.refusal old left (λ first second doubt. c.in-Err.ensures.settles first second doubt honest)
+    stays_closed g.S.Store.files (g.S.Store.files c.args.store) c.in-Err.store c.in-Err.refusal old left (λ first second doubt. c.in-Err.ensures.recovers first second doubt honest)
 
 pub returns-in-Err-clause-survives : goal.returns-in-Err-clause-survives
 returns-in-Err-clause-survives g c honest old found =
-    closed_safely g.S.Store c.args.store c.in-Err.store c.in-Err.refusal old found (λ first second doubt. c.in-Err.ensures.settles first second doubt honest)
+    closed_safely g.S.Store c.args.store c.in-Err.store c.in-Err.refusal old found (λ first second doubt. c.in-Err.ensures.recovers first second doubt honest)
     (λ earlier held next doubt. c.in-Err.ensures.survives earlier held next doubt honest)
 
 pub returns-in-Err-clause-free : goal.returns-in-Err-clause-free

@@ -20,13 +20,13 @@ use Rattle.reuse_session.specs.journal.Journal.{Journal, State}
 use Rattle.reuse_session.specs.journal.Standing.{IsStanding, InDoubt}
 use Rattle.reuse_tree.specs.Tree.{undo_folder_of}
 use Rattle.reuse_session.proofs.lemmas.journal.OpeningLemmas.{as_many_listed}
-use Rattle.reuse_session.proofs.lemmas.journal.FilesInDoubt.{IsPending, doubt_bad, none_pending, read_pending, read_opens, read_settles, settled_opens, still_in_doubt, left_in_doubt}
+use Rattle.reuse_session.proofs.lemmas.journal.FilesInDoubt.{IsPending, doubt_bad, none_pending, read_pending, read_opens, read_recovers, settled_opens, still_in_doubt, left_in_doubt}
 use Rattle.reuse_session.proofs.lemmas.journal.OpeningDoubt.{doubt_stays, files_in_doubt, reads_standing, refused_in_doubt}
 use Rattle.reuse_session.proofs.lemmas.Asking.{opening_too, reading_cause, reading_no_clash}
 use Rattle.reuse_session.proofs.lemmas.session.OnlyReading.{is_refused, passed_on, still_caused}
-use Rattle.reuse_session.proofs.lemmas.journal.Settling.{read_failure}
+use Rattle.reuse_session.proofs.lemmas.journal.PendingRecovery.{read_failure}
 use Rattle.reuse_session.proofs.journal.opening.open_journal.Given.{Over}
-use Rattle.reuse_session.proofs.journal.opening.open_journal.Goals.{After-settle}
+use Rattle.reuse_session.proofs.journal.opening.open_journal.Goals.{After-recover_pending}
 use Rattle.reuse_session.proofs.journal.opening.open_journal.Goals as goal
 
 -- an answer tells no refusal
@@ -58,7 +58,7 @@ returns-in_err-pending g c =
       bad = λ h path e. c.read_journal.ensures.bad h path (passed_on result call given was e);
       moved = λ h path e. absurd (IfErr-at_err IsReadRefusal (passed_on result call given was e) c.read_journal.ensures.refusal);
       interrupted = λ h cause e. absurd (IfErr-at_err IsReadRefusal (passed_on result call given was e) c.read_journal.ensures.refusal);
-      settles = λ h first second doubt.
+      recovers = λ h first second doubt.
           let failure = read_failure refusal kind (λ path e. doubt_bad first second (store.files old) doubt path (c.read_journal.ensures.bad h path (was ∙ ap (λ x. Err x) e))) in
           let memories = λ (memory : Memory). (IsStanding (store.files new) first × Remembers memory first.journal) ⊎ (IsStanding (store.files new) second × Remembers memory second.journal) in
           left_in_doubt result refusal refusal memories first second (store.files new) is refl failure (subst (InDoubt first second) (sym (reads.files h)) doubt);
@@ -91,7 +91,7 @@ returns-in-None g c =
       bad = λ h path e. absurd (no_refusal memory (BadJournal path) e);
       moved = λ h path e. absurd (no_refusal memory (Moved path) e);
       interrupted = λ h cause e. absurd (no_refusal memory (Failed (Interrupted cause)) e);
-      settles = λ h first second doubt. read_settles (store.files old) (store.files new) memory (read h).0 (read h).1 (reads.files h) first second doubt;
+      recovers = λ h first second doubt. read_recovers (store.files old) (store.files new) memory (read h).0 (read h).1 (reads.files h) first second doubt;
       survives = λ h earlier held next doubt. reads_standing store earlier held next old new reads h memory (read h).0 (read h).1 doubt;
       texts = λ h. inl (reads.files h);
       written = λ h head says. omega (arith, reads.written);
@@ -107,15 +107,15 @@ returns-in-None g c =
     }
 
 -- what is known once a pending step was settled, whichever way that went
-module _ (g : Over) (c : After-settle g) (honest : g.S.Store.honest c.settle.new.store) where
+module _ (g : Over) (c : After-recover_pending g) (honest : g.S.Store.honest c.recover_pending.new.store) where
   -- reading the journal left the files as they were
   same_files : g.S.Store.files c.read_journal.new.store ≡ g.S.Store.files c.args.store.now
-  same_files = c.read_journal.ensures.reads.files (c.settle.ensures.later.was_honest honest)
+  same_files = c.read_journal.ensures.reads.files (c.recover_pending.ensures.later.was_honest honest)
 
   -- the journal that was read
   read_before : (journal : Journal) × IsRead (g.S.Store.files c.args.store.now) (Some c.in-Some.pending) c.in_ok-pending.history journal
   read_before =
-      let r = c.in_ok-pending.ensures.ok (c.settle.ensures.later.was_honest honest) in
+      let r = c.in_ok-pending.ensures.ok (c.recover_pending.ensures.later.was_honest honest) in
       (r.0, subst (λ p. IsRead (g.S.Store.files c.args.store.now) p c.in_ok-pending.history r.0) c.in-Some.is r.1)
 
   read_after : IsRead (g.S.Store.files c.read_journal.new.store) (Some c.in-Some.pending) c.in_ok-pending.history read_before.0
@@ -129,29 +129,29 @@ module _ (g : Over) (c : After-settle g) (honest : g.S.Store.honest c.settle.new
 
   -- reading the journal left what may be left in doubt
   mid_in_doubt : (earlier held next : State) → AreInDoubt g.S.Store earlier held next c.args.store.now → AreInDoubt g.S.Store earlier held next c.read_journal.new.store
-  mid_in_doubt earlier held next = doubt_stays g.S.Store earlier held next c.args.store.now c.read_journal.new.store c.read_journal.ensures.reads (c.settle.ensures.later.was_honest honest)
+  mid_in_doubt earlier held next = doubt_stays g.S.Store earlier held next c.args.store.now c.read_journal.new.store c.read_journal.ensures.reads (c.recover_pending.ensures.later.was_honest honest)
 
   -- a standing has nothing pending
   never_standing : (held : State) → IsStanding (g.S.Store.files c.args.store.now) held → ⊥
   never_standing held standing = none_pending _ held standing c.in-Some.pending c.in_ok-pending.history read_before.0 read_before.1
 
-  folder_kept : IsSameBut head_path (undo_folder_of (g.S.Store.files c.args.store.now)) (undo_folder_of (g.S.Store.files c.settle.new.store))
+  folder_kept : IsSameBut head_path (undo_folder_of (g.S.Store.files c.args.store.now)) (undo_folder_of (g.S.Store.files c.recover_pending.new.store))
   folder_kept =
-      subst (λ f. IsSameBut head_path (undo_folder_of f) (undo_folder_of (g.S.Store.files c.settle.new.store))) same_files (c.settle.ensures.folder honest read_before.0 read_after)
+      subst (λ f. IsSameBut head_path (undo_folder_of f) (undo_folder_of (g.S.Store.files c.recover_pending.new.store))) same_files (c.recover_pending.ensures.folder honest read_before.0 read_after)
 
   head_written : (head : Head) → HeadSays (map.get (undo_folder_of (g.S.Store.files c.args.store.now)) head_path) head
-      → g.S.Store.written c.settle.new.store ≤ g.S.Store.written c.args.store.now + head_room (length (listed head))
+      → g.S.Store.written c.recover_pending.new.store ≤ g.S.Store.written c.args.store.now + head_room (length (listed head))
   head_written head says =
       let read = read_before.1 in
       let count = as_many_listed (undo_folder_of (g.S.Store.files c.args.store.now)) read_before.0 (Some c.in-Some.pending) c.in_ok-pending.history head read.keeps read.remembers says in
-      omega (arith, c.settle.ensures.written honest read_before.0 read_after, count, c.read_journal.ensures.reads.written)
+      omega (arith, c.recover_pending.ensures.written honest read_before.0 read_after, count, c.read_journal.ensures.reads.written)
 
-  moves_to_open : MovesToOpen g.S.Store c.args.store.now c.settle.new.store
+  moves_to_open : MovesToOpen g.S.Store c.args.store.now c.recover_pending.new.store
   moves_to_open =
       let kept = read_before.1.keeps in
       ⊎_elim
-      (λ (none : g.S.Store.moves c.settle.new.store ≡ g.S.Store.moves c.read_journal.new.store). inl (none ∙ c.read_journal.ensures.reads.moves))
-      (λ (some : (entry : Entry) × EntrySays (map.get (undo_folder_of (g.S.Store.files c.read_journal.new.store)) (entry_path c.in-Some.pending.entry)) entry × (g.S.Store.moves c.settle.new.store ≤ g.S.Store.moves c.read_journal.new.store + length entry.changes + 1)).
+      (λ (none : g.S.Store.moves c.recover_pending.new.store ≡ g.S.Store.moves c.read_journal.new.store). inl (none ∙ c.read_journal.ensures.reads.moves))
+      (λ (some : (entry : Entry) × EntrySays (map.get (undo_folder_of (g.S.Store.files c.read_journal.new.store)) (entry_path c.in-Some.pending.entry)) entry × (g.S.Store.moves c.recover_pending.new.store ≤ g.S.Store.moves c.read_journal.new.store + length entry.changes + 1)).
       inr (
         some.0,
         record {
@@ -163,60 +163,60 @@ module _ (g : Over) (c : After-settle g) (honest : g.S.Store.honest c.settle.new
         },
         omega (arith, some.2, c.read_journal.ensures.reads.moves),
       ))
-      (c.settle.ensures.moves honest)
+      (c.recover_pending.ensures.moves honest)
 
-pub returns-in_err-settle-in-Some : goal.returns-in_err-settle-in-Some
-returns-in_err-settle-in-Some g c =
-    let s = (goal.at.returns-in_err-settle-in-Some g c).After-settle in
+pub returns-in_err-recover_pending-in-Some : goal.returns-in_err-recover_pending-in-Some
+returns-in_err-recover_pending-in-Some g c =
+    let s = (goal.at.returns-in_err-recover_pending-in-Some g c).After-recover_pending in
     let store = g.S.Store in
     let old = c.args.store.now in
     let mid = c.read_journal.new.store in
-    let new = c.settle.new.store in
-    let call = c.settle.result in
-    let result = c.from_residual-in_err-settle-in-Some.result in
-    let refusal = c.in_err-settle-in-Some.field-0.0 in
-    let was = c.in_err-settle-in-Some.was in
-    let given = c.from_residual-in_err-settle-in-Some.ensures.1 in
+    let new = c.recover_pending.new.store in
+    let call = c.recover_pending.result in
+    let result = c.from_residual-in_err-recover_pending-in-Some.result in
+    let refusal = c.in_err-recover_pending-in-Some.field-0.0 in
+    let was = c.in_err-recover_pending-in-Some.was in
+    let given = c.from_residual-in_err-recover_pending-in-Some.ensures.1 in
     let is = is_refused result given in
     let reads = c.read_journal.ensures.reads in
-    let told = c.in_err-settle-in-Some.ensures in
+    let told = c.in_err-recover_pending-in-Some.ensures in
     record {
-      opened = λ h. IfOk-from_err result (λ memory. (held : State) × Remembers memory held.journal × OpensOn (store.files old) held (store.files new)) c.from_residual-in_err-settle-in-Some.ensures.0;
-      bad = λ h path e. absurd (c.settle.ensures.no_bad h _ (read_after g s h) path (passed_on result call given was e));
-      moved = λ h path e. subst (λ f. IsStuckAt f path) (same_files g s h) (c.settle.ensures.moved h _ (read_after g s h) path (passed_on result call given was e));
-      interrupted = λ h cause e. subst (λ f. StopsOpening f (store.files new)) (same_files g s h) (c.settle.ensures.interrupted h _ (read_after g s h) cause (passed_on result call given was e));
-      settles = λ h first second doubt.
+      opened = λ h. IfOk-from_err result (λ memory. (held : State) × Remembers memory held.journal × OpensOn (store.files old) held (store.files new)) c.from_residual-in_err-recover_pending-in-Some.ensures.0;
+      bad = λ h path e. absurd (c.recover_pending.ensures.no_bad h _ (read_after g s h) path (passed_on result call given was e));
+      moved = λ h path e. subst (λ f. IsStuckAt f path) (same_files g s h) (c.recover_pending.ensures.moved h _ (read_after g s h) path (passed_on result call given was e));
+      interrupted = λ h cause e. subst (λ f. StopsOpening f (store.files new)) (same_files g s h) (c.recover_pending.ensures.interrupted h _ (read_after g s h) cause (passed_on result call given was e));
+      recovers = λ h first second doubt.
           let step = pending_in_doubt g s h first second doubt in
-          let left = told.settles h _ (read_after g s h) step.step first step.number step.under in
+          let left = told.recovers h _ (read_after g s h) step.step first step.number step.under in
           let memories = λ (memory : Memory). (IsStanding (store.files new) first × Remembers memory first.journal) ⊎ (IsStanding (store.files new) second × Remembers memory second.journal) in
           left_in_doubt result refusal refusal memories first second (store.files new) is refl left.0
           (still_in_doubt first second (store.files mid) (store.files new) c.in-Some.pending c.in_ok-pending.history step left.1);
       survives = λ h earlier held next doubt.
           let left = told.survives h _ (read_after g s h) earlier held next (mid_in_doubt g s h earlier held next doubt) in
           subst (λ r. MatchResult r (OpensSafely store earlier held next new) (λ refusal. AreInDoubt store earlier held next new)) (sym is) left;
-      texts = λ h. IfOk-from_err result (λ memory. (store.files new ≡ store.files old) ⊎ HasHeadText memory (store.files new)) c.from_residual-in_err-settle-in-Some.ensures.0;
+      texts = λ h. IfOk-from_err result (λ memory. (store.files new ≡ store.files old) ⊎ HasHeadText memory (store.files new)) c.from_residual-in_err-recover_pending-in-Some.ensures.0;
       written = head_written g s;
       moves = moves_to_open g s;
       early = subst (λ r. IfErr r (λ refusal. IsEarly refusal → OnlyReads store old new)) (sym is) (λ early. reads_more store old mid new reads (told.early early));
-      late = λ cause e other. omega (arith, reads.moves, c.settle.ensures.late cause (passed_on result call given was e) other);
+      late = λ cause e other. omega (arith, reads.moves, c.recover_pending.ensures.late cause (passed_on result call given was e) other);
       quiet = λ h held standing. absurd (never_standing g s h held standing);
       folder = folder_kept g s;
       refusal = subst (λ r. IfErr r IsOpenRefusal) (sym is) told.refusal;
       clash = λ h. subst (λ r. IfErr r IsNoClash) (sym is) (told.clash h _ (read_after g s h));
       fault = subst (λ r. IfErr r (HasCause (store.failures old < store.failures new))) (sym is)
           (still_caused refusal (store.failures mid < store.failures new) (store.failures old < store.failures new) (λ rose. omega (arith, reads.failures, rose)) told.fault);
-      later = later_more store old mid new (later_reads store old mid reads) c.settle.ensures.later;
+      later = later_more store old mid new (later_reads store old mid reads) c.recover_pending.ensures.later;
     }
 
-pub returns-in_ok-settle-in-Some : goal.returns-in_ok-settle-in-Some
-returns-in_ok-settle-in-Some g c =
-    let s = (goal.at.returns-in_ok-settle-in-Some g c).After-settle in
+pub returns-in_ok-recover_pending-in-Some : goal.returns-in_ok-recover_pending-in-Some
+returns-in_ok-recover_pending-in-Some g c =
+    let s = (goal.at.returns-in_ok-recover_pending-in-Some g c).After-recover_pending in
     let store = g.S.Store in
     let old = c.args.store.now in
     let mid = c.read_journal.new.store in
-    let new = c.settle.new.store in
+    let new = c.recover_pending.new.store in
     let memory = c.in_ok-pending.history in
-    let done = c.in_ok-settle-in-Some.ensures in
+    let done = c.in_ok-recover_pending-in-Some.ensures in
     record {
       opened = λ h.
           let read = read_before g s h in
@@ -225,9 +225,9 @@ returns-in_ok-settle-in-Some g c =
       bad = λ h path e. absurd (no_refusal memory (BadJournal path) e);
       moved = λ h path e. absurd (no_refusal memory (Moved path) e);
       interrupted = λ h cause e. absurd (no_refusal memory (Failed (Interrupted cause)) e);
-      settles = λ h first second doubt.
+      recovers = λ h first second doubt.
           let step = pending_in_doubt g s h first second doubt in
-          inl (done.settles h _ (read_after g s h) step.step first step.number step.under, step.remembers);
+          inl (done.recovers h _ (read_after g s h) step.step first step.number step.under, step.remembers);
       survives = λ h earlier held next doubt.
           let step = pending_in_doubt g s h held next (files_in_doubt store earlier held next old doubt) in
           let left = done.survives h _ (read_after g s h) earlier held next (mid_in_doubt g s h earlier held next doubt) in
@@ -242,5 +242,5 @@ returns-in_ok-settle-in-Some g c =
       refusal = tt;
       clash = λ h. tt;
       fault = tt;
-      later = later_more store old mid new (later_reads store old mid c.read_journal.ensures.reads) c.settle.ensures.later;
+      later = later_more store old mid new (later_reads store old mid c.read_journal.ensures.reads) c.recover_pending.ensures.later;
     }

@@ -29,7 +29,7 @@ use Rattle.reuse_session.proofs.lemmas.session.OnlyReading.{is_refused, passed_o
 use Rattle.reuse_session.proofs.lemmas.journal.OpeningLemmas.{recorded}
 use Rattle.reuse_session.proofs.lemmas.journal.RecoveredFiles.{can_all, has_pending, is_part, is_recovered, skipped_ascend, stops_recovering, stuck_first, tells}
 use Rattle.reuse_session.proofs.lemmas.journal.RecoveryDoubt.{part_stands, part_stops, partly_on, refused_on_the_way, rolled_on_the_way, some_left}
-use Rattle.reuse_session.proofs.lemmas.journal.Settling.{at_same, head_fits, is_entry, pending_readable, settled_good}
+use Rattle.reuse_session.proofs.lemmas.journal.PendingRecovery.{at_same, head_fits, is_entry, pending_readable, settled_good}
 use Rattle.reuse_session.proofs.journal.recovery.recover_step.Given.{Over}
 use Rattle.reuse_session.proofs.journal.recovery.recover_step.Goals.{After-find_each, In_ok-found, After-roll_back_part}
 use Rattle.reuse_session.proofs.journal.recovery.recover_step.Goals as goal
@@ -64,7 +64,7 @@ returns-in_err-refuse_first-clause-moved g c honest journal read path e =
           path first.1.0 (sym c.as_slice-2.ensures.value ∙ first.1.1),
     )
 
--- what is known once those that can be set back are rolled back, whichever way that went
+-- what is known once those that can be rolled back are rolled back, whichever way that went
 module _ (g : Over) (c : After-roll_back_part g) (at : In_ok-found g) (honest : g.S.Store.honest c.roll_back_part.new.store) (journal : Journal) (read : IsRead (g.S.Store.files c.args.store.now) (Some c.args.pending) c.args.history.now journal)
     (its_says : EntrySays (get (undo_folder_of (g.S.Store.files c.args.store.now)) (entry_path c.args.pending.entry)) c.in_ok-entry.entry)
     (its_found : AreFound (way_of c.args.pending.way) (tree_of (g.S.Store.files c.args.store.now)) c.in_ok-entry.entry.changes c.in_ok-found.found.changed.items c.in_ok-found.found.skipped.items)
@@ -80,7 +80,7 @@ module _ (g : Over) (c : After-roll_back_part g) (at : In_ok-found g) (honest : 
         c.as_slice-5.ensures.value ∙ c.changes_besides-part.ensures (subst ArePaths (sym c.as_slice-3.ensures.value) ascend)
         ∙ ap (λ paths. changes_besides paths c.into_vec.result.items) c.as_slice-3.ensures.value ∙ ap (changes_besides c.in_ok-found.found.skipped.items) c.into_vec.ensures
 
-    -- what rolling back says of what it was given is said of the step's changes that can be set back
+    -- what rolling back says of what it was given is said of the step's changes that can be rolled back
     of_step : (Says : Files → Way → List Change → Type 0) → Says (g.S.Store.files c.find_each.new.store) c.way-way.result c.as_slice-5.result.now
         → Says (g.S.Store.files c.args.store.now) (way_of c.args.pending.way) (changes_besides c.in_ok-found.found.skipped.items c.in_ok-entry.entry.changes)
     of_step Says = at_same Says (g.S.Store.files c.find_each.new.store) (g.S.Store.files c.args.store.now) c.way-way.result (way_of c.args.pending.way) c.as_slice-5.result.now (changes_besides c.in_ok-found.found.skipped.items c.in_ok-entry.entry.changes) same c.way-way.ensures part_is
@@ -224,7 +224,7 @@ returns-in_err-path-clause-lasting g c honest journal read way step held awaits 
     (is_refused c.from_residual-in_err-path.result c.from_residual-in_err-path.ensures.1) tt
     (looked_at g at) honest awaits
 
--- what is known of files that await recovery, once those that can be set back are rolled back
+-- what is known of files that await recovery, once those that can be rolled back are rolled back
 module _ (g : Over) (c : After-roll_back_part g) (at : In_ok-found g)
     (honest : g.S.Store.honest c.roll_back_part.new.store) (journal : Journal)
     (read : IsRead (g.S.Store.files c.args.store.now) (Some c.args.pending) c.args.history.now journal)

@@ -54,7 +54,7 @@ returns-then-is_empty-clause-left g c honest part start partly sure cause e =
     cleared_with_doubt g.S.Store c.args.way c.args.head.now.text.now c.args.changes.now none start c.args.store.now
     c.clear_head.new.store partly (c.clear_head.ensures.left honest have cause e)
 
--- where some changes can be set back, they are changes of an entry
+-- where some changes can be rolled back, they are changes of an entry
 some_entry : (changes : List Change) → 0 < length changes → ArePart changes → IsEntry changes
 some_entry changes some (inl none) = absurd (omega (arith, some, ap length none))
 some_entry changes some (inr good) = good

@@ -90,8 +90,8 @@ returns-in-Err-clause-clash g c honest good free =
     (told_no_clash c.set_all_back.new.started c.in-Err.cause (λ e. none.0 (c.in-Err.is ∙ ap (λ x. Err x) e)) (λ e. none.1 (c.in-Err.is ∙ ap (λ x. Err x) e)))
 
 -- on the way from a tree no change is in doubt
-pub returns-in_err-test_each-clause-settles : goal.returns-in_err-test_each-clause-settles
-returns-in_err-test_each-clause-settles g c honest good start are partly path e =
+pub returns-in_err-test_each-clause-recovers : goal.returns-in_err-test_each-clause-recovers
+returns-in_err-test_each-clause-recovers g c honest good start are partly path e =
     let tree = tree_of (g.S.Store.files c.args.store.now) in
     let p = err_from_is_err_and c.from_residual.result c.from_residual.ensures.1 in
     let from = p.1 in
@@ -161,8 +161,8 @@ returns-in-Err-clause-refusal g c = subst IsRollBackRefusal (sym c.told.ensures)
 pub returns-in-Err-clause-moved : goal.returns-in-Err-clause-moved
 returns-in-Err-clause-moved g c honest good path e = absurd (never_moved c.set_all_back.new.started c.in-Err.cause path (ap (λ r. Err r) c.told.ensures) e)
 
-pub returns-in-Err-clause-settles : goal.returns-in-Err-clause-settles
-returns-in-Err-clause-settles g c honest good start are partly path e = never_moved c.set_all_back.new.started c.in-Err.cause path (ap (λ r. Err r) c.told.ensures) e
+pub returns-in-Err-clause-recovers : goal.returns-in-Err-clause-recovers
+returns-in-Err-clause-recovers g c honest good start are partly path e = never_moved c.set_all_back.new.started c.in-Err.cause path (ap (λ r. Err r) c.told.ensures) e
 
 pub returns-in-Err-clause-tested : goal.returns-in-Err-clause-tested
 returns-in-Err-clause-tested g c honest good cause e = c.in_ok-test_each.ensures.ready (c.sync.ensures.reads.was_honest (c.set_all_back.ensures.later.was_honest honest)) good

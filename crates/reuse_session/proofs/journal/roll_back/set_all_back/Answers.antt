@@ -29,7 +29,7 @@ use Rattle.reuse_session.proofs.journal.roll_back.set_all_back.Goals as goal
 here : (g : Over) (c : After-change-item g) → IsEntry c.args.changes.now → IsOfEntry c.change-item.result
 here g c = of_entry c.args.changes.now c.loop-change.change-index c.loop-change-test.true c.change-item.result c.change-item.is
 
--- where it stops at a change, before that is set back or after it, some are still made
+-- where it stops at a change, before that is rolled back or after it, some are still made
 some_at_stop : (way : Way) (changes : List Change) (good : IsEntry changes) (i : ℕ) (lt : i < length changes) (change : Change) (is : change ≡ get_or changes i change) (start old now after : Files)
     → ArePartlyMade way changes start (tree_of old) → ArePartlyMade way (take i changes) (tree_of now) (tree_of old)
     → (after ≡ now) ⊎ LeadsByOneChange (opposite way) change now after → SomeMade way changes start (tree_of after)
@@ -104,7 +104,7 @@ returns-in_err-set_back-clause-stopped g c honest good start partly =
       folder_stopped g at.After-set_back honest good stops,
     ))
 
--- some of the changes are set back then
+-- some of the changes are rolled back then
 back_at_stop : (way : Way) (changes : List Change) (good : IsEntry changes) (i : ℕ) (lt : i < length changes) (change : Change) (is : change ≡ get_or changes i change) (old now after : Files)
     → ArePartlyMade way (take i changes) (tree_of now) (tree_of old) → (after ≡ now) ⊎ LeadsByOneChange (opposite way) change now after → SomeMade (opposite way) changes (tree_of old) (tree_of after)
 back_at_stop way changes good i lt change is old now after back (inl same) =
@@ -167,7 +167,7 @@ returns-clause-notes g c =
     let kept = c.loop-change.invariant in
     notes_last g.S.Store c.args.started.now c.loop-change.started c.args.store.now c.loop-change.store c.put_head.new.store kept.walk.later (omega (arith, c.put_head.ensures.moves, c.sync.ensures.reads.moves))
 
--- each change that could be set back can be
+-- each change that could be rolled back can be
 pub returns-in_err-set_back-clause-cause : goal.returns-in_err-set_back-clause-cause
 returns-in_err-set_back-clause-cause g c honest good all free =
     let i = c.loop-change.change-index in

@@ -16,11 +16,11 @@ returns-clause-plans c tree are =
     let texts = c.args.texts.now in
     let ids = set_of c.args.ids.now in
     let policy = c.args.policy in
-    let worked : c.deref.result.now ≡ ids = c.deref.ensures.value ∙ c.in_ok-ids.ensures in
+    let selected : c.deref.result.now ≡ ids = c.deref.ensures.value ∙ c.in_ok-ids.ensures in
     let empty : length c.in-Ok.found.refused.items ≡ 0 = grind (arith, nat_tests, c.is_empty.ensures, c.if-not-is_empty.false, c.in-Ok.found.refused.ok.0) in
     let none = none_of policy tree (id_refusals tree texts c.deref.result.now) c.in-Ok.found.refused.items (c.in-Ok.ensures.refused tree are) (no_plans c.in-Ok.found.refused.items empty) in
-    let still : id_refusals tree texts ids ≡ [] = ap (id_refusals tree texts) (sym worked) ∙ none in
-    let made = c.in-Ok.ensures.made tree are none ∙ ap (map licence_path) worked in
+    let still : id_refusals tree texts ids ≡ [] = ap (id_refusals tree texts) (sym selected) ∙ none in
+    let made = c.in-Ok.ensures.made tree are none ∙ ap (map licence_path) selected in
     subst (λ refused. ArePlansOf policy tree (or_else refused (all_or_none (download_edits c.args.ids.now texts tree))) c.in_ok-all_changes.field-0.items) (sym still)
     (subst (ArePlansOf policy tree (all_or_none (download_edits c.args.ids.now texts tree))) (sym c.in_ok-all_changes.ensures)
     (all_made policy tree (download_edits c.args.ids.now texts tree) c.in_ok-made.made.items

@@ -5,14 +5,14 @@ use Rattle.reuse_tree.specs.Entry.{change_size, entry_size}
 use Rattle.reuse_tree.specs.Files.{tree_of}
 use Rattle.reuse_tree.specs.declared.change.Change.{Change}
 use Rattle.reuse_tree.proofs.TreeLemmas.{tree_are_files}
-use Rattle.reuse_session.specs.session.Fates.{fates_of, first_refusal}
+use Rattle.reuse_session.specs.session.PathOutcomes.{path_outcomes_of, first_refusal}
 use Rattle.reuse_session.specs.plan.Outcome.{edits_of, outcome_of, path_edits_of}
 use Rattle.reuse_session.specs.plan.PathPlans.{limit_planned}
 use Rattle.reuse_session.specs.plan.Plan.{MakesEdits}
 use Rattle.reuse_session.specs.declared.plan.path_plan.Policy.TheVariants.{Collect}
 use Rattle.reuse_session.proofs.lemmas.plan.EditOrder.{sorted_plan}
 use Rattle.reuse_session.proofs.lemmas.plan.Fitting.{command_fits}
-use Rattle.reuse_session.proofs.lemmas.plan.PathPlanning.{fates_are, limit_is}
+use Rattle.reuse_session.proofs.lemmas.plan.PathPlanning.{path_outcomes_are, limit_is}
 use Rattle.reuse_session.proofs.lemmas.plan.PreviewPlanning.{accepted_few, accepted_made}
 use Rattle.reuse_session.proofs.plan.run.plan_preview.Goals as goal
 
@@ -20,15 +20,15 @@ use Rattle.reuse_session.proofs.plan.run.plan_preview.Goals as goal
 as_many : (changes sorted : List Change) → IsPermutation changes sorted → (nat_lt 100_000 (length sorted) || nat_lt 268_435_456 (entry_size sorted)) ≡ (nat_lt 100_000 (length changes) || nat_lt 268_435_456 (entry_size changes))
 as_many changes sorted moved = ap₂ (λ m n. nat_lt 100_000 m || nat_lt 268_435_456 (256 + n)) (length_permutation changes sorted moved) (sum_by-IsPermutation change_size changes sorted moved)
 
-pub returns-clause-fates : goal.returns-clause-fates
-unfolding fates_of
-returns-clause-fates g c honest =
+pub returns-clause-path_outcomes : goal.returns-clause-path_outcomes
+unfolding path_outcomes_of
+returns-clause-path_outcomes g c honest =
     let tree = tree_of (g.S.Store.files c.args.store.now) in
     let all = path_edits_of c.args.command.now tree in
     let are = c.in_ok-plans.ensures.plans honest in
     let planned = c.in_ok-of in
-    c.in_ok-with_limit.ensures.fates
-    ∙ ap₂ (λ fs more. fs ++ more) (planned.ensures.fates ∙ fates_are Collect tree all c.in_ok-plans.plans.items are)
+    c.in_ok-with_limit.ensures.path_outcomes
+    ∙ ap₂ (λ fs more. fs ++ more) (planned.ensures.path_outcomes ∙ path_outcomes_are Collect tree all c.in_ok-plans.plans.items are)
     (ap₂ limit_planned planned.ensures.refused planned.ensures.changes ∙ limit_is Collect tree all c.in_ok-plans.plans.items are)
 
 pub returns-clause-changes : goal.returns-clause-changes
@@ -39,7 +39,7 @@ returns-clause-changes g c honest none =
     let command = c.args.command.now in
     let plans = c.in_ok-plans.plans.items in
     let are = c.in_ok-plans.ensures.plans honest in
-    let accepted = ap first_refusal (sym (returns-clause-fates g c honest)) ∙ none in
+    let accepted = ap first_refusal (sym (returns-clause-path_outcomes g c honest)) ∙ none in
     let planned = c.in_ok-of in
     let limited = c.in_ok-with_limit in
     let changes = planned.field-0.changes.items in
@@ -53,7 +53,7 @@ pub returns-clause-recorded : goal.returns-clause-recorded
 returns-clause-recorded g c honest none =
     let tree = tree_of (g.S.Store.files c.args.store.now) in
     let command = c.args.command.now in
-    let accepted = ap first_refusal (sym (returns-clause-fates g c honest)) ∙ none in
+    let accepted = ap first_refusal (sym (returns-clause-path_outcomes g c honest)) ∙ none in
     let planned = c.in_ok-of in (
       planned.field-0.changes.items,
       c.in_ok-with_limit.ensures.moved,

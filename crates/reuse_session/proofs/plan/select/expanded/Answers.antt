@@ -2,7 +2,7 @@ use Rattle.std.proofs.Common.{◌≡◌, ◌++◌, ◌∙◌, sym, ap, subst}
 use Rattle.reuse_tree.specs.Files.{tree_of}
 use Rattle.reuse_tree.proofs.AskedLemmas.{reads_more}
 use Rattle.reuse_session.specs.plan.Shown.{ShowsPlace}
-use Rattle.reuse_session.specs.plan.Worked.{expanded}
+use Rattle.reuse_session.specs.plan.Selected.{expanded}
 use Rattle.reuse_session.proofs.lemmas.plan.PlaceLemmas.{expanded_more}
 use Rattle.reuse_session.proofs.plan.select.expanded.Goals as goal
 

@@ -5,7 +5,7 @@ use Rattle.reuse_tree.specs.Asked.{OnlyReads}
 use Rattle.reuse_tree.specs.Files.{tree_of}
 use Rattle.reuse_tree.specs.Listing.{ArePaths}
 use Rattle.reuse_session.specs.plan.Shown.{ShowsPlace}
-use Rattle.reuse_session.specs.plan.Worked.{expanded}
+use Rattle.reuse_session.specs.plan.Selected.{expanded}
 use Rattle.reuse_session.proofs.plan.select.expanded.Given as goal
 
 -- nothing but readings so far, and what stands in the place of the places so far

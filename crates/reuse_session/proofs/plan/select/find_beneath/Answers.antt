@@ -7,13 +7,13 @@ use Rattle.reuse_tree.specs.Listing.{ArePaths, listed_paths}
 use Rattle.reuse_tree.proofs.TreeLemmas.{tree_are_files}
 use Rattle.reuse_session.specs.plan.Choice.{is_passed_over}
 use Rattle.reuse_session.specs.plan.Shown.{folders_for, ShowsEach, ShowsPlace}
-use Rattle.reuse_session.specs.plan.Worked.{expanded}
+use Rattle.reuse_session.specs.plan.Selected.{expanded}
 use Rattle.reuse_session.specs.declared.plan.select.Listing.TheVariants.{Listed}
 use Rattle.std.proofs.lemmas.Result.{err_from_is_err_and}
 use Rattle.reuse_tree.proofs.AskedLemmas.{reads_more}
 use Rattle.reuse_session.specs.session.Answer.{IsEarlyFailure}
 use Rattle.reuse_session.proofs.lemmas.Asking.{told, failed, later, look_faults}
-use Rattle.reuse_session.proofs.lemmas.plan.SelectedLemmas.{listed, listed_ascend, shows_each_place, shows_worked}
+use Rattle.reuse_session.proofs.lemmas.plan.SelectedLemmas.{listed, listed_ascend, shows_each_place, shows_selected}
 use Rattle.reuse_session.proofs.plan.select.find_beneath.Given.{Over}
 use Rattle.reuse_session.proofs.plan.select.find_beneath.Goals.{In_ok-expanded}
 use Rattle.reuse_session.proofs.plan.select.find_beneath.Goals as goal
@@ -52,7 +52,7 @@ returns-clause-shown g c honest =
     let start = c.list_selected.ensures.asks.reads.was_honest (before g at honest) in
     subst (λ ps. ShowsEach (Listed ps) tree c.sorted-paths.result.items) (sym (c.new.ensures ∙ listed_is g at honest))
     (subst (ShowsEach (Listed (listed scope places tree)) tree) (sym (c.sorted-paths.ensures ∙ ap set_of (found g at honest)))
-    (shows_worked scope places tree (tree_are_files files (g.met.S.Store.are_files c.args.store.now start))))
+    (shows_selected scope places tree (tree_are_files files (g.met.S.Store.are_files c.args.store.now start))))
 
 pub returns-clause-asks : goal.returns-clause-asks
 returns-clause-asks g c = told g.S.Store IsEarlyFailure _ _ (Ok _) tt tt (reads_more g.S.Store _ _ _ c.list_selected.ensures.asks.reads c.expanded.ensures.reads)

@@ -4,7 +4,7 @@ use Rattle.reuse_tree.specs.Files.{tree_of}
 use Rattle.reuse_session.specs.plan.Outcome.{amendments_by}
 use Rattle.reuse_session.specs.plan.PathPlans.{AnswersPlans}
 use Rattle.reuse_session.specs.plan.TreeStyles.{styles_in}
-use Rattle.reuse_session.specs.plan.Worked.{with_table}
+use Rattle.reuse_session.specs.plan.Selected.{with_table}
 use Rattle.reuse_session.proofs.lemmas.plan.PathPlanning.{alone_as}
 use Rattle.reuse_session.proofs.plan.walk.plan_amendment.Goals as goal
 

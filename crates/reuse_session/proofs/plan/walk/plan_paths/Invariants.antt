@@ -10,7 +10,7 @@ use Rattle.reuse_session.proofs.plan.walk.plan_paths.Given as goal
 abbrev pub invariant-loop-path : goal.invariant-loop-path
 invariant-loop-path g l = record {
   reads : OnlyReads g.S.Store l.initial.store l.store;
-  so_far : g.S.Store.honest l.store → ShowsEach l.listing (tree_of (g.S.Store.files l.initial.store)) l.worked
-      → WalkedSoFar l.policy (tree_of (g.S.Store.files l.initial.store)) (map (at_by l.asked (tree_of (g.S.Store.files l.initial.store))) l.worked)
-      (map (at_by l.asked (tree_of (g.S.Store.files l.initial.store))) (drop l.path-index l.worked)) l.plans.items;
+  so_far : g.S.Store.honest l.store → ShowsEach l.listing (tree_of (g.S.Store.files l.initial.store)) l.selected
+      → WalkedSoFar l.policy (tree_of (g.S.Store.files l.initial.store)) (map (at_by l.asked (tree_of (g.S.Store.files l.initial.store))) l.selected)
+      (map (at_by l.asked (tree_of (g.S.Store.files l.initial.store))) (drop l.path-index l.selected)) l.plans.items;
 }

@@ -5,7 +5,7 @@ use Rattle.reuse_session.specs.plan.Asked.{at_by, scope_of}
 use Rattle.reuse_session.specs.session.Command.{has_root}
 use Rattle.reuse_session.specs.plan.PathEdits.{PathEdit, refused_alone}
 use Rattle.reuse_session.specs.plan.PathPlans.{AnswersPlans}
-use Rattle.reuse_session.specs.plan.Worked.{worked_paths}
+use Rattle.reuse_session.specs.plan.Selected.{selected_paths}
 use Rattle.reuse_session.specs.declared.plan.annotation.Asked.{Asked}
 use Rattle.reuse_session.specs.declared.command.Place.{Place}
 use Rattle.reuse_session.specs.declared.command.Place.TheVariants as place
@@ -15,7 +15,7 @@ use Rattle.reuse_session.proofs.plan.walk.plan_places.Goals as goal
 
 -- what is done, by whether the root is given where folders aren't gone through
 abbrev done_where : Asked → Files → List Place → Bool → List PathEdit
-done_where asked tree places root = cond root (refused_alone (IsFolder place.Root)) (map (at_by asked tree) (worked_paths (scope_of asked) places tree))
+done_where asked tree places root = cond root (refused_alone (IsFolder place.Root)) (map (at_by asked tree) (selected_paths (scope_of asked) places tree))
 
 -- the root is given, and folders aren't gone through
 abbrev is_root_given : List Place → Scope → Bool
@@ -34,10 +34,10 @@ returns-in-Ok-clause-plans g c honest =
     let policy = c.args.policy in
     let tree = tree_of (g.S.Store.files c.args.store.now) in
     let read = c.plan_paths.ensures.asks.reads.was_honest honest in
-    let same = ap tree_of (c.find_worked.ensures.asks.reads.files read) in
-    let worked = c.deref.ensures.value ∙ c.in-Ok.ensures.paths read ∙ ap (λ s. worked_paths s places tree) c.scope-2.ensures in
-    let shown = subst (λ t. ShowsEach c.in-Ok.worked.listing t c.deref.result.now) (sym same)
-    (subst (ShowsEach c.in-Ok.worked.listing tree) (sym c.deref.ensures.value) (c.in-Ok.ensures.shown read)) in
+    let same = ap tree_of (c.find_selected.ensures.asks.reads.files read) in
+    let selected = c.deref.ensures.value ∙ c.in-Ok.ensures.paths read ∙ ap (λ s. selected_paths s places tree) c.scope-2.ensures in
+    let shown = subst (λ t. ShowsEach c.in-Ok.selected.listing t c.deref.result.now) (sym same)
+    (subst (ShowsEach c.in-Ok.selected.listing tree) (sym c.deref.ensures.value) (c.in-Ok.ensures.shown read)) in
     subst (λ b. AnswersPlans policy tree (done_where asked tree places b) c.plan_paths.result) (sym (ap (is_root_given places) (sym c.scope.ensures) ∙ sym c.gives_root.ensures ∙ c.if-gives_root.false))
-    (subst (λ t. AnswersPlans policy t (map (at_by asked t) (worked_paths (scope_of asked) places tree)) c.plan_paths.result) same
-    (subst (λ ps. AnswersPlans policy (tree_of (g.S.Store.files c.find_worked.new.store)) (map (at_by asked (tree_of (g.S.Store.files c.find_worked.new.store))) ps) c.plan_paths.result) worked (c.plan_paths.ensures.plans honest shown)))
+    (subst (λ t. AnswersPlans policy t (map (at_by asked t) (selected_paths (scope_of asked) places tree)) c.plan_paths.result) same
+    (subst (λ ps. AnswersPlans policy (tree_of (g.S.Store.files c.find_selected.new.store)) (map (at_by asked (tree_of (g.S.Store.files c.find_selected.new.store))) ps) c.plan_paths.result) selected (c.plan_paths.ensures.plans honest shown)))

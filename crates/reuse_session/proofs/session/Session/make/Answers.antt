@@ -16,7 +16,7 @@ use Rattle.reuse_session.specs.declared.reply.Reply.TheVariants as replies
 use Rattle.reuse_session.specs.declared.request.Call.{Call}
 use Rattle.reuse_session.specs.declared.request.Call.TheVariants as calls
 use Rattle.reuse_session.specs.declared.request.Request.TheVariants as requests
-use Rattle.reuse_session.proofs.lemmas.session.Answering.{broken_replied, call_replied, err_replied, told_replied, make_fails, run_is_step, travel_is_step, revert_is_step, revert_stands, revert_doubt, revert_clash, revert_folder, revert_free, travel_doubt}
+use Rattle.reuse_session.proofs.lemmas.session.Answering.{broken_replied, call_replied, err_replied, told_replied, make_fails, run_is_step, replay_is_step, revert_is_step, revert_stands, revert_doubt, revert_clash, revert_folder, revert_free, replay_doubt}
 use Rattle.reuse_session.proofs.lemmas.session.Driving.{stands_early}
 use Rattle.reuse_session.proofs.lemmas.session.OnlyReading.{early_files}
 use Rattle.reuse_session.proofs.lemmas.journal.StepAnswers.{back_no_clash, run_no_clash}
@@ -37,7 +37,7 @@ returns-in-Run g c =
       fails = make_fails (calls.Run c.in-Run.command) c.args.when answer;
       survives = λ honest earlier held stands safe.
           subst (λ a. Survives store (IsRun c.in-Run.command c.args.when held) earlier held a (store_of new)) (sym (run_is_step answer run.kinds)) (run.survives honest earlier held stands safe);
-      looks = λ look. absurd look;
+      reads_only = λ look. absurd look;
       kept = λ look. absurd look;
       clash = λ honest held stands.
           subst (λ n. IfErr answer (HasClash (Clashes (files_of store old) (entry_path (n + 1))) (Clashes (files_of store old) head_path))) stands.remembers.used (run.leaves.clash honest);
@@ -62,12 +62,12 @@ returns-in-Undo g c =
       exact = undo.exact;
       stands = λ honest held stands.
           stands_early store.files old new held answer stands undo.call.refused (early_files store (store_of old) (store_of new) answer undo.leaves.early honest);
-      doubt = λ honest held stands. travel_doubt ways.Undo held (files_of store new) answer (undo.leaves.doubt honest held stands);
+      doubt = λ honest held stands. replay_doubt ways.Undo held (files_of store new) answer (undo.leaves.doubt honest held stands);
       fails = make_fails calls.Undo c.args.when answer;
       survives = λ honest earlier held stands safe.
           subst (λ a. Survives store (IsNextBy ways.Undo held) earlier held a (store_of new))
-          (sym (travel_is_step way.Undo held.journal.done held (StandsOn store.files new) answer (undo.exact honest held stands))) (undo.survives honest earlier held stands safe);
-      looks = λ look. absurd look;
+          (sym (replay_is_step way.Undo held.journal.done held (StandsOn store.files new) answer (undo.exact honest held stands))) (undo.survives honest earlier held stands safe);
+      reads_only = λ look. absurd look;
       kept = λ look. absurd look;
       clash = λ honest held stands. undo.leaves.clash honest;
       unclashed = λ honest held stands free. back_no_clash (files_of store old) held stands.standing free answer (undo.leaves.clash honest);
@@ -88,12 +88,12 @@ returns-in-Redo g c =
       exact = redo.exact;
       stands = λ honest held stands.
           stands_early store.files old new held answer stands redo.call.refused (early_files store (store_of old) (store_of new) answer redo.leaves.early honest);
-      doubt = λ honest held stands. travel_doubt ways.Redo held (files_of store new) answer (redo.leaves.doubt honest held stands);
+      doubt = λ honest held stands. replay_doubt ways.Redo held (files_of store new) answer (redo.leaves.doubt honest held stands);
       fails = make_fails calls.Redo c.args.when answer;
       survives = λ honest earlier held stands safe.
           subst (λ a. Survives store (IsNextBy ways.Redo held) earlier held a (store_of new))
-          (sym (travel_is_step way.Do held.journal.undone held (StandsOn store.files new) answer (redo.exact honest held stands))) (redo.survives honest earlier held stands safe);
-      looks = λ look. absurd look;
+          (sym (replay_is_step way.Do held.journal.undone held (StandsOn store.files new) answer (redo.exact honest held stands))) (redo.survives honest earlier held stands safe);
+      reads_only = λ look. absurd look;
       kept = λ look. absurd look;
       clash = λ honest held stands. redo.leaves.clash honest;
       unclashed = λ honest held stands free. back_no_clash (files_of store old) held stands.standing free answer (redo.leaves.clash honest);
@@ -122,7 +122,7 @@ returns-in-Revert g c =
       fails = make_fails (calls.Revert number skip_moved) c.args.when answer;
       survives = λ honest earlier held stands safe.
           subst (λ a. Survives store (IsAfterRevert number skip_moved when held) earlier held a (store_of new)) (sym (revert_is_step result)) (revert.survives honest earlier held stands safe);
-      looks = λ look. absurd look;
+      reads_only = λ look. absurd look;
       kept = λ look. absurd look;
       clash = λ honest held stands.
           subst (λ n. IfErr answer (HasClash (Clashes (files_of store old) (entry_path (n + 1))) (Clashes (files_of store old) head_path))) stands.remembers.used

@@ -31,16 +31,16 @@ returns-in-Err-clause-exact g c honest told =
     (λ path e. c.in-Err.ensures.bad honest path (ap (λ refusal. Err refusal) e))
     (λ path e. c.in-Err.ensures.moved honest path (ap (λ refusal. Err refusal) e))
 
-pub returns-in-Ok-clause-settles : goal.returns-in-Ok-clause-settles
-returns-in-Ok-clause-settles g c first second doubt honest =
+pub returns-in-Ok-clause-recovers : goal.returns-in-Ok-clause-recovers
+returns-in-Ok-clause-recovers g c first second doubt honest =
     let files = g.S.Store.files c.open_journal.new.store in
     ⊎_elim
     (λ (h : IsStanding files first × Remembers c.in-Ok.history first.journal). inl (record { whole = refl; standing = h.0; remembers = h.1 }))
     (λ (h : IsStanding files second × Remembers c.in-Ok.history second.journal). inr (record { whole = refl; standing = h.0; remembers = h.1 }))
-    (c.in-Ok.ensures.settles honest first second doubt)
+    (c.in-Ok.ensures.recovers honest first second doubt)
 
-pub returns-in-Err-clause-settles : goal.returns-in-Err-clause-settles
-returns-in-Err-clause-settles g c first second doubt honest = c.in-Err.ensures.settles honest first second doubt
+pub returns-in-Err-clause-recovers : goal.returns-in-Err-clause-recovers
+returns-in-Err-clause-recovers g c first second doubt honest = c.in-Err.ensures.recovers honest first second doubt
 
 pub returns-in-Ok-clause-survives : goal.returns-in-Ok-clause-survives
 returns-in-Ok-clause-survives g c earlier held next doubt honest =

@@ -1,29 +1,29 @@
 use Rattle.std.proofs.Common.{◌≡◌, ◌∙◌}
-use Rattle.reuse_session.specs.session.Fates.{fates_of}
+use Rattle.reuse_session.specs.session.PathOutcomes.{path_outcomes_of}
 use Rattle.reuse_session.proofs.lemmas.session.Previewing.{alone_err, alone_looks, alone_ok, alone_where, told_alone}
 use Rattle.reuse_session.proofs.session.Session.preview.Goals as goal
 
 pub returns-clause-broken : goal.returns-clause-broken
-returns-clause-broken g c = alone_where c.preview_changes.result c.fates_alone.result c.fates_alone.ensures _ _ c.preview_changes.ensures.broken
+returns-clause-broken g c = alone_where c.preview_changes.result c.path_outcomes_alone.result c.path_outcomes_alone.ensures _ _ c.preview_changes.ensures.broken
 
 pub returns-clause-full : goal.returns-clause-full
-returns-clause-full g c = alone_where c.preview_changes.result c.fates_alone.result c.fates_alone.ensures _ _ c.preview_changes.ensures.full
+returns-clause-full g c = alone_where c.preview_changes.result c.path_outcomes_alone.result c.path_outcomes_alone.ensures _ _ c.preview_changes.ensures.full
 
 pub returns-clause-exact : goal.returns-clause-exact
 returns-clause-exact g c honest held stands =
-    alone_ok c.preview_changes.result c.fates_alone.result c.fates_alone.ensures (λ fates. fates ≡ fates_of c.args.command.now held.tree) (c.preview_changes.ensures.exact honest held stands)
+    alone_ok c.preview_changes.result c.path_outcomes_alone.result c.path_outcomes_alone.ensures (λ path_outcomes. path_outcomes ≡ path_outcomes_of c.args.command.now held.tree) (c.preview_changes.ensures.exact honest held stands)
 
 pub returns-clause-answers : goal.returns-clause-answers
 returns-clause-answers g c honest held stands told =
-    c.fates_alone.ensures ∙ c.preview_changes.ensures.answers honest held stands (told_alone c.preview_changes.result c.fates_alone.result c.fates_alone.ensures told)
+    c.path_outcomes_alone.ensures ∙ c.preview_changes.ensures.answers honest held stands (told_alone c.preview_changes.result c.path_outcomes_alone.result c.path_outcomes_alone.ensures told)
 
 pub returns-clause-machine : goal.returns-clause-machine
 returns-clause-machine g c honest state stands_at told =
-    c.fates_alone.ensures ∙ c.preview_changes.ensures.machine honest state stands_at (told_alone c.preview_changes.result c.fates_alone.result c.fates_alone.ensures told)
+    c.path_outcomes_alone.ensures ∙ c.preview_changes.ensures.machine honest state stands_at (told_alone c.preview_changes.result c.path_outcomes_alone.result c.path_outcomes_alone.ensures told)
 
-pub returns-clause-looks : goal.returns-clause-looks
-returns-clause-looks g c =
-    alone_looks c.preview_changes.result c.fates_alone.result c.fates_alone.ensures g.S.Store c.args.self.now c.preview_changes.new.self c.preview_changes.ensures.looks
+pub returns-clause-reads_only : goal.returns-clause-reads_only
+returns-clause-reads_only g c =
+    alone_looks c.preview_changes.result c.path_outcomes_alone.result c.path_outcomes_alone.ensures g.S.Store c.args.self.now c.preview_changes.new.self c.preview_changes.ensures.reads_only
 
 pub returns-clause-refusal : goal.returns-clause-refusal
-returns-clause-refusal g c = alone_err c.preview_changes.result c.fates_alone.result c.fates_alone.ensures _ c.preview_changes.ensures.refusal
+returns-clause-refusal g c = alone_err c.preview_changes.result c.path_outcomes_alone.result c.path_outcomes_alone.ensures _ c.preview_changes.ensures.refusal

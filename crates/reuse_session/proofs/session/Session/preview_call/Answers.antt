@@ -1,29 +1,29 @@
 use Rattle.std.proofs.Common.{sym, subst}
 use Rattle.reuse_session.specs.session.Requests.{Previews}
 use Rattle.reuse_session.specs.declared.request.Call.{Call}
-use Rattle.reuse_session.proofs.lemmas.session.Peeking.{preview_peeks}
+use Rattle.reuse_session.proofs.lemmas.session.Peeking.{preview_reads_with_cause}
 use Rattle.reuse_session.proofs.session.Session.preview_call.Goals as goal
 
 pub returns-in-Run-clause-exact : goal.returns-in-Run-clause-exact
 returns-in-Run-clause-exact g c honest held stands told =
     subst (λ (call : Call). Previews call held c.preview.result) (sym c.in-Run.is) (c.preview.ensures.answers honest held stands told)
 
-pub returns-in-Run-clause-looks : goal.returns-in-Run-clause-looks
-returns-in-Run-clause-looks g c = preview_peeks g.S.Store c.preview.result c.args.self.now c.preview.new.self c.preview.ensures.looks c.preview.ensures.refusal
+pub returns-in-Run-clause-reads_only : goal.returns-in-Run-clause-reads_only
+returns-in-Run-clause-reads_only g c = preview_reads_with_cause g.S.Store c.preview.result c.args.self.now c.preview.new.self c.preview.ensures.reads_only c.preview.ensures.refusal
 
 pub returns-in-Undo-clause-exact : goal.returns-in-Undo-clause-exact
 returns-in-Undo-clause-exact g c honest held stands told =
     subst (λ (call : Call). Previews call held c.preview_undo.result) (sym c.in-Undo.is) (c.preview_undo.ensures.exact honest held stands told)
 
-pub returns-in-Undo-clause-looks : goal.returns-in-Undo-clause-looks
-returns-in-Undo-clause-looks g c = preview_peeks g.S.Store c.preview_undo.result c.args.self.now c.preview_undo.new.self c.preview_undo.ensures.looks c.preview_undo.ensures.refusal
+pub returns-in-Undo-clause-reads_only : goal.returns-in-Undo-clause-reads_only
+returns-in-Undo-clause-reads_only g c = preview_reads_with_cause g.S.Store c.preview_undo.result c.args.self.now c.preview_undo.new.self c.preview_undo.ensures.reads_only c.preview_undo.ensures.refusal
 
 pub returns-in-Redo-clause-exact : goal.returns-in-Redo-clause-exact
 returns-in-Redo-clause-exact g c honest held stands told =
     subst (λ (call : Call). Previews call held c.preview_redo.result) (sym c.in-Redo.is) (c.preview_redo.ensures.exact honest held stands told)
 
-pub returns-in-Redo-clause-looks : goal.returns-in-Redo-clause-looks
-returns-in-Redo-clause-looks g c = preview_peeks g.S.Store c.preview_redo.result c.args.self.now c.preview_redo.new.self c.preview_redo.ensures.looks c.preview_redo.ensures.refusal
+pub returns-in-Redo-clause-reads_only : goal.returns-in-Redo-clause-reads_only
+returns-in-Redo-clause-reads_only g c = preview_reads_with_cause g.S.Store c.preview_redo.result c.args.self.now c.preview_redo.new.self c.preview_redo.ensures.reads_only c.preview_redo.ensures.refusal
 
 pub returns-in-Revert-clause-exact : goal.returns-in-Revert-clause-exact
 returns-in-Revert-clause-exact g c honest held stands told =

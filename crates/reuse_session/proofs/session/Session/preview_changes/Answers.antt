@@ -1,51 +1,51 @@
 use Rattle.std.proofs.Common.{◌≡◌, ◌∙◌, true, false, None, Err, IfOk, refl, sym, subst}
-use Rattle.reuse_session.specs.session.Fates.{fates_of, first_refusal}
+use Rattle.reuse_session.specs.session.PathOutcomes.{path_outcomes_of, first_refusal}
 use Rattle.reuse_session.specs.plan.Outcome.{edits_of, outcome_of}
 use Rattle.reuse_session.specs.plan.Plan.{IsPlan, Records}
-use Rattle.reuse_session.specs.declared.fate.Previewed.{Previewed}
+use Rattle.reuse_session.specs.declared.path_outcome.Previewed.{Previewed}
 use Rattle.reuse_session.specs.declared.reply.Refusal.TheVariants.{JournalFull}
 use Rattle.reuse_session.proofs.lemmas.session.Following.{is_full_alike}
-use Rattle.reuse_session.proofs.lemmas.session.Previewing.{alone_fates, alone_refusal, alone_told, run_foretold, run_foretold_on}
+use Rattle.reuse_session.proofs.lemmas.session.Previewing.{alone_path_outcomes, alone_refusal, alone_told, run_as_previewed, run_as_previewed_on}
 use Rattle.reuse_session.proofs.lemmas.session.Running.{full_alike}
 use Rattle.reuse_session.proofs.session.Session.preview_changes.Goals as goal
 
 pub returns-then-is_full-clause-machine : goal.returns-then-is_full-clause-machine
 returns-then-is_full-clause-machine g c honest state stands_at told =
-    run_foretold c.args.command.now stands_at.held.tree state true (Err JournalFull) stands_at.holds.tree
+    run_as_previewed c.args.command.now stands_at.held.tree state true (Err JournalFull) stands_at.holds.tree
     (is_full_alike stands_at.held state stands_at.holds ∙ full_alike g.S.Store.files c.args.self.now stands_at.held stands_at.stands ∙ sym c.is_full.ensures ∙ c.if-is_full.true) refl told
 
 pub returns-clause-exact : goal.returns-clause-exact
 returns-clause-exact g c honest held stands =
-    subst (λ t. IfOk c.plan_preview.result (λ (previewed : Previewed). previewed.fates ≡ fates_of c.args.command.now t)) stands.standing.tree (c.plan_preview.ensures.fates honest)
+    subst (λ t. IfOk c.plan_preview.result (λ (previewed : Previewed). previewed.path_outcomes ≡ path_outcomes_of c.args.command.now t)) stands.standing.tree (c.plan_preview.ensures.path_outcomes honest)
 
 pub returns-clause-machine : goal.returns-clause-machine
 returns-clause-machine g c honest state stands_at told =
     let answer = c.plan_preview.result in
     let tree = stands_at.held.tree in
-    run_foretold c.args.command.now tree state false _ stands_at.holds.tree
+    run_as_previewed c.args.command.now tree state false _ stands_at.holds.tree
     (is_full_alike stands_at.held state stands_at.holds ∙ full_alike g.S.Store.files c.args.self.now stands_at.held stands_at.stands ∙ sym c.is_full.ensures ∙ c.if-is_full.false) (
-      alone_fates answer (λ fates. fates ≡ fates_of c.args.command.now tree) (returns-clause-exact g c honest stands_at.held stands_at.stands),
+      alone_path_outcomes answer (λ path_outcomes. path_outcomes ≡ path_outcomes_of c.args.command.now tree) (returns-clause-exact g c honest stands_at.held stands_at.stands),
       alone_refusal answer _ c.plan_preview.ensures.refusal,
     ) (alone_told answer told)
 
 pub returns-then-is_full-clause-answers : goal.returns-then-is_full-clause-answers
 returns-then-is_full-clause-answers g c honest held stands told =
-    run_foretold_on c.args.command.now held true (Err JournalFull) (full_alike g.S.Store.files c.args.self.now held stands ∙ sym c.is_full.ensures ∙ c.if-is_full.true) refl told
+    run_as_previewed_on c.args.command.now held true (Err JournalFull) (full_alike g.S.Store.files c.args.self.now held stands ∙ sym c.is_full.ensures ∙ c.if-is_full.true) refl told
 
 pub returns-clause-answers : goal.returns-clause-answers
 returns-clause-answers g c honest held stands told =
     let answer = c.plan_preview.result in
-    run_foretold_on c.args.command.now held false _ (full_alike g.S.Store.files c.args.self.now held stands ∙ sym c.is_full.ensures ∙ c.if-is_full.false) (
-      alone_fates answer (λ fates. fates ≡ fates_of c.args.command.now held.tree) (returns-clause-exact g c honest held stands),
+    run_as_previewed_on c.args.command.now held false _ (full_alike g.S.Store.files c.args.self.now held stands ∙ sym c.is_full.ensures ∙ c.if-is_full.false) (
+      alone_path_outcomes answer (λ path_outcomes. path_outcomes ≡ path_outcomes_of c.args.command.now held.tree) (returns-clause-exact g c honest held stands),
       alone_refusal answer _ c.plan_preview.ensures.refusal,
     ) (alone_told answer told)
 
 pub returns-clause-plan : goal.returns-clause-plan
 returns-clause-plan g c honest held stands =
-    subst (λ t. IfOk c.plan_preview.result (λ (previewed : Previewed). first_refusal previewed.fates ≡ None → IsPlan (outcome_of c.args.command.now t) t previewed.changes)) stands.standing.tree
+    subst (λ t. IfOk c.plan_preview.result (λ (previewed : Previewed). first_refusal previewed.path_outcomes ≡ None → IsPlan (outcome_of c.args.command.now t) t previewed.changes)) stands.standing.tree
     (c.plan_preview.ensures.changes honest)
 
 pub returns-clause-recorded : goal.returns-clause-recorded
 returns-clause-recorded g c honest held stands =
-    subst (λ t. IfOk c.plan_preview.result (λ (previewed : Previewed). first_refusal previewed.fates ≡ None → Records t (edits_of c.args.command.now t) previewed.changes)) stands.standing.tree
+    subst (λ t. IfOk c.plan_preview.result (λ (previewed : Previewed). first_refusal previewed.path_outcomes ≡ None → Records t (edits_of c.args.command.now t) previewed.changes)) stands.standing.tree
     (c.plan_preview.ensures.recorded honest)

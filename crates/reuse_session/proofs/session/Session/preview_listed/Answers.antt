@@ -6,14 +6,14 @@ use Rattle.reuse_tree.specs.Entry.{IsEntry}
 use Rattle.reuse_session.specs.journal.History.{remember_moved}
 use Rattle.reuse_session.specs.journal.Journal.{Recorded, changes_ahead}
 use Rattle.reuse_session.specs.journal.JournalFiles.{entry_in}
-use Rattle.reuse_session.specs.session.Previews.{Foresees}
+use Rattle.reuse_session.specs.session.Previews.{PreviewsReplay}
 use Rattle.reuse_session.specs.session.Session.{memory_of}
-use Rattle.reuse_session.specs.declared.fate.Previewed.{Previewed}
+use Rattle.reuse_session.specs.declared.path_outcome.Previewed.{Previewed}
 use Rattle.reuse_session.specs.declared.reply.Reply.{Reply}
 use Rattle.reuse_session.proofs.lemmas.session.OnlyReading.{is_refused}
-use Rattle.reuse_session.proofs.lemmas.session.Previewing.{any_told, travel_foretold}
+use Rattle.reuse_session.proofs.lemmas.session.Previewing.{any_told, replay_as_previewed}
 use Rattle.reuse_session.proofs.lemmas.journal.StepAnswers.{read_told}
-use Rattle.reuse_session.proofs.lemmas.session.Travelling.{next_of, next_says, next_changes}
+use Rattle.reuse_session.proofs.lemmas.session.Replaying.{next_of, next_says, next_changes}
 use Rattle.reuse_session.proofs.session.Session.preview_listed.Goals as goal
 
 -- the entry can't be read
@@ -30,19 +30,19 @@ pub returns-clause-exact : goal.returns-clause-exact
 returns-clause-exact g c honest held stands told =
     let store = g.S.Store in
     let way = c.args.way in
-    let read = c.travel_fates.ensures.reads.was_honest honest in
+    let read = c.replay_path_outcomes.ensures.reads.was_honest honest in
     let unread = c.read_entry.ensures.reads.files read in
     let next = next_of way store.files c.args.self.now held c.args.listed c.requires.0 (remember_moved way c.requires.0 c.args.listed (memory_of c.args.self.now)) stands c.requires.1 refl in
     let made = c.as_slice.result.now in
     let changes : next.step.changes ≡ made = next_changes next c.number.result c.number.ensures c.in_ok-entry.entry (c.in_ok-entry.ensures.ok read) ∙ sym c.as_slice.ensures in
     let good : IsEntry made = subst IsEntry (sym c.as_slice.ensures) c.in_ok-entry.ensures.good in
-    subst (λ steps. Foresees way steps held.tree (Ok c.in_ok-fates.fates)) (sym next.list)
-    (travel_foretold way next.step next.steps made held.tree (tree_of (store.files c.read_entry.new.store)) (Ok c.in_ok-fates.fates) changes (ap tree_of unread ∙ stands.standing.tree)
-    (c.in_ok-fates.ensures.fates honest good) tt told)
+    subst (λ steps. PreviewsReplay way steps held.tree (Ok c.in_ok-path_outcomes.path_outcomes)) (sym next.list)
+    (replay_as_previewed way next.step next.steps made held.tree (tree_of (store.files c.read_entry.new.store)) (Ok c.in_ok-path_outcomes.path_outcomes) changes (ap tree_of unread ∙ stands.standing.tree)
+    (c.in_ok-path_outcomes.ensures.path_outcomes honest good) tt told)
 
 pub returns-clause-changes : goal.returns-clause-changes
 returns-clause-changes g c honest held stands =
     let way = c.args.way in
-    let read = c.travel_fates.ensures.reads.was_honest honest in
+    let read = c.replay_path_outcomes.ensures.reads.was_honest honest in
     let next = next_of way g.S.Store.files c.args.self.now held c.args.listed c.requires.0 (remember_moved way c.requires.0 c.args.listed (memory_of c.args.self.now)) stands c.requires.1 refl in
     ap (λ (steps : List Recorded). changes_ahead steps) next.list ∙ ap (λ (made : List Change). Some made) (next_changes next c.number.result c.number.ensures c.in_ok-entry.entry (c.in_ok-entry.ensures.ok read))

@@ -1,8 +1,8 @@
 use Rattle.std.proofs.Common.{Err, ap, sym, subst}
-use Rattle.reuse_session.specs.session.Previews.{fates_alone, Foresees}
+use Rattle.reuse_session.specs.session.Previews.{path_outcomes_alone, PreviewsReplay}
 use Rattle.reuse_session.specs.session.Session.{memory_of}
 use Rattle.reuse_session.proofs.lemmas.journal.MemoryLemmas.{none_ahead}
-use Rattle.reuse_session.proofs.lemmas.session.Previewing.{step_foretold}
+use Rattle.reuse_session.proofs.lemmas.session.Previewing.{step_as_previewed}
 use Rattle.reuse_session.proofs.lemmas.Results.{none_unless_some}
 use Rattle.reuse_session.proofs.session.Session.preview_step.Goals as goal
 
@@ -10,12 +10,12 @@ pub returns-in_default-clause-exact : goal.returns-in_default-clause-exact
 returns-in_default-clause-exact g c honest held stands told =
     let way = c.args.way in
     let none = c.next.ensures.none (none_unless_some c.next.result c.in_default.not-Some) in
-    subst (λ steps. Foresees way steps held.tree (Err c.end_of.result)) (sym ((none_ahead way (memory_of c.args.self.now) held.journal stands.remembers).0 none)) (ap (λ r. Err r) c.end_of.ensures)
+    subst (λ steps. PreviewsReplay way steps held.tree (Err c.end_of.result)) (sym ((none_ahead way (memory_of c.args.self.now) held.journal stands.remembers).0 none)) (ap (λ r. Err r) c.end_of.ensures)
 
 pub returns-in_default-clause-machine : goal.returns-in_default-clause-machine
 returns-in_default-clause-machine g c honest state stands_at told =
-    step_foretold c.args.way stands_at.held state stands_at.holds _ (returns-in_default-clause-exact g c honest stands_at.held stands_at.stands told)
+    step_as_previewed c.args.way stands_at.held state stands_at.holds _ (returns-in_default-clause-exact g c honest stands_at.held stands_at.stands told)
 
 pub returns-clause-machine : goal.returns-clause-machine
 returns-clause-machine g c honest state stands_at told =
-    step_foretold c.args.way stands_at.held state stands_at.holds (fates_alone c.preview_listed.result) (c.preview_listed.ensures.exact honest stands_at.held stands_at.stands told)
+    step_as_previewed c.args.way stands_at.held state stands_at.holds (path_outcomes_alone c.preview_listed.result) (c.preview_listed.ensures.exact honest stands_at.held stands_at.stands told)

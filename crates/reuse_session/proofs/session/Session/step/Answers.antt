@@ -39,20 +39,20 @@ stop_cause Rose causes.Memory rose = tt
 within : (old new first second one two : ℕ) → new ≤ old + first + second → first ≤ one → second ≤ two → new ≤ old + one + two
 within old new first second one two a b c = omega arith
 
--- a call that is refused for want of memory has done nothing
+-- a call that is refused for an allocation failure has done nothing
 call_none : {S : Type 0} (store : Ghosts S) (session : Session S) (answer : Result (Unit {0}) Refusal) → answer ≡ Err (Failed Memory) → IsCall store answer session session
 call_none store session answer e =
     subst (λ r. IsCall store r session session) (sym e) (record { refused = λ early. (refl, refl); interrupted = λ stop. absurd stop; fault = tt; later = later_none store (store_of session) })
 
-pub carry_out-carried-requires : goal.carry_out-carried-requires
-carry_out-carried-requires g c honest =
+pub commit_step-carried-requires : goal.commit_step-carried-requires
+commit_step-carried-requires g c honest =
     subst (λ w. CanGo w (tree_of (g.S.Store.files (store_of c.args.self.now))) c.args.changes.now) (sym c.way.ensures) (c.requires honest)
 
 pub returns-in-Ok-clause-moves : goal.returns-in-Ok-clause-moves
 returns-in-Ok-clause-moves g c honest held second stands is =
     let store = g.S.Store in
     let files = store.files (store_of c.args.self.now) in
-    let after = store.files c.carry_out-carried.new.store in
+    let after = store.files c.commit_step-carried.new.store in
     let settled = c.in_ok-settled.settled.items in
     let out : IsCarriedOut (way_of c.args.pending.way) is.step.changes settled files after =
     subst (λ w. IsCarriedOut w is.step.changes settled files after) c.way.ensures
@@ -61,7 +61,7 @@ returns-in-Ok-clause-moves g c honest held second stands is =
     record {
       whole = stands.whole;
       standing = carried files after c.args.pending.way is.step held second stands.standing is.kept is.is_step (subst IsEntry (sym is.changes) is.entry)
-          (g.met.S.Store.are_files c.carry_out-carried.new.store honest) settled out (good_second (memory_of c.args.self.now) files held second stands.standing stands.remembers is settled c.in_ok-settled.ensures.good);
+          (g.met.S.Store.are_files c.commit_step-carried.new.store honest) settled out (good_second (memory_of c.args.self.now) files held second stands.standing stands.remembers is settled c.in_ok-settled.ensures.good);
       remembers = is.remembers;
     }
 
@@ -69,7 +69,7 @@ pub returns-in-Err-clause-moves : goal.returns-in-Err-clause-moves
 returns-in-Err-clause-moves g c honest held second stands is stop =
     let store = g.S.Store in
     let files = store.files (store_of c.args.self.now) in
-    let after = store.files c.carry_out-carried.new.store in
+    let after = store.files c.commit_step-carried.new.store in
     let before = c.in_ok-before.before.items in
     let settled = c.in_ok-settled.settled.items in
     let memory = memory_of c.args.self.now in
@@ -79,7 +79,7 @@ returns-in-Err-clause-moves g c honest held second stands is stop =
     (subst (λ cs. Left c.way.result cs before settled) (sym is.changes)
     (subst (λ text. Left c.way.result c.args.changes.now before text) c.deref-2.ensures.value
     (subst (λ text. Left c.way.result c.args.changes.now text c.deref-2.result.now) c.deref.ensures.value (c.in-Err.ensures.stopped honest is.entry)))) in
-    stopped files after c.args.pending.way is.step held second stands.standing is.kept is.is_step (subst IsEntry (sym is.changes) is.entry) (g.met.S.Store.are_files c.carry_out-carried.new.store honest) before settled left
+    stopped files after c.args.pending.way is.step held second stands.standing is.kept is.is_step (subst IsEntry (sym is.changes) is.entry) (g.met.S.Store.are_files c.commit_step-carried.new.store honest) before settled left
     (good_between memory files held second stands.standing stands.remembers is before c.in_ok-before.ensures.good)
     (good_second memory files held second stands.standing stands.remembers is settled c.in_ok-settled.ensures.good)
 
@@ -87,39 +87,39 @@ pub returns-in-Err-clause-clash : goal.returns-in-Err-clause-clash
 returns-in-Err-clause-clash g c honest good can =
     let files = g.S.Store.files (store_of c.args.self.now) in
     let can_now = subst (λ w. All (CanBeMade w (tree_of files)) c.args.changes.now) (sym c.way.ensures) can in
-    stop_clash ⊥ (Clashes files head_path) c.in-Err.cause (λ e. c.carry_out-carried.ensures.moved honest good can_now (c.in-Err.is ∙ ap (λ x. Err x) e))
-    (λ e. c.carry_out-carried.ensures.clash honest good can_now (c.in-Err.is ∙ ap (λ x. Err x) e))
+    stop_clash ⊥ (Clashes files head_path) c.in-Err.cause (λ e. c.commit_step-carried.ensures.moved honest good can_now (c.in-Err.is ∙ ap (λ x. Err x) e))
+    (λ e. c.commit_step-carried.ensures.clash honest good can_now (c.in-Err.is ∙ ap (λ x. Err x) e))
 
 pub returns-in-Ok-clause-texts : goal.returns-in-Ok-clause-texts
 returns-in-Ok-clause-texts g c honest good =
-    let after = g.S.Store.files c.carry_out-carried.new.store in
+    let after = g.S.Store.files c.commit_step-carried.new.store in
     file_in_folder after head_path head_path refl refl ∙ (c.in-Ok.ensures.done honest good).sets.here
     ∙ ap (λ text. Some text) (c.deref-2.ensures.value ∙ c.in_ok-settled.ensures.text)
 
 pub returns-in-Err-clause-late : goal.returns-in-Err-clause-late
 returns-in-Err-clause-late g c good stop =
     let some = some_text c.in_ok-before.before.items (head_listing (memory_of c.args.self.now) (Some c.args.pending)) c.in_ok-before.ensures.text in
-    omega (arith, some, ap length c.deref.ensures.value, c.carry_out-carried.ensures.begun good)
+    omega (arith, some, ap length c.deref.ensures.value, c.commit_step-carried.ensures.begun good)
 
 pub returns-in-Ok-clause-written : goal.returns-in-Ok-clause-written
 returns-in-Ok-clause-written g c sound after good =
-    within _ _ _ _ _ _ (c.carry_out-carried.ensures.written good) (subst (λ text. length text ≤ head_room (listed_count (memory_of c.args.self.now))) (sym c.deref.ensures.value) (c.in_ok-before.ensures.bound sound))
+    within _ _ _ _ _ _ (c.commit_step-carried.ensures.written good) (subst (λ text. length text ≤ head_room (listed_count (memory_of c.args.self.now))) (sym c.deref.ensures.value) (c.in_ok-before.ensures.bound sound))
     (subst (λ text. length text ≤ head_room (listed_count c.args.moved)) (sym c.deref-2.ensures.value) (c.in_ok-settled.ensures.bound after))
 
 pub returns-in-Err-clause-written : goal.returns-in-Err-clause-written
 returns-in-Err-clause-written g c sound after good =
-    within _ _ _ _ _ _ (c.carry_out-carried.ensures.written good) (subst (λ text. length text ≤ head_room (listed_count (memory_of c.args.self.now))) (sym c.deref.ensures.value) (c.in_ok-before.ensures.bound sound))
+    within _ _ _ _ _ _ (c.commit_step-carried.ensures.written good) (subst (λ text. length text ≤ head_room (listed_count (memory_of c.args.self.now))) (sym c.deref.ensures.value) (c.in_ok-before.ensures.bound sound))
     (subst (λ text. length text ≤ head_room (listed_count c.args.moved)) (sym c.deref-2.ensures.value) (c.in_ok-settled.ensures.bound after))
 
 pub returns-in-Ok-clause-call : goal.returns-in-Ok-clause-call
-returns-in-Ok-clause-call g c = record { refused = tt; interrupted = tt; fault = tt; later = c.carry_out-carried.ensures.later }
+returns-in-Ok-clause-call g c = record { refused = tt; interrupted = tt; fault = tt; later = c.commit_step-carried.ensures.later }
 
 pub returns-in-Err-clause-call : goal.returns-in-Err-clause-call
 returns-in-Err-clause-call g c = record {
   refused = λ early. absurd early;
   interrupted = λ stop. refl;
-  fault = stop_cause _ c.in-Err.cause (λ e. c.carry_out-carried.ensures.device (c.in-Err.is ∙ ap (λ x. Err x) e));
-  later = c.carry_out-carried.ensures.later;
+  fault = stop_cause _ c.in-Err.cause (λ e. c.commit_step-carried.ensures.device (c.in-Err.is ∙ ap (λ x. Err x) e));
+  later = c.commit_step-carried.ensures.later;
 }
 
 pub returns-in_err-before-clause-call : goal.returns-in_err-before-clause-call
@@ -146,7 +146,7 @@ returns-in-Err-clause-survives g c honest earlier held second stands is safe has
     let store = g.S.Store in
     let old = store_of c.args.self.now in
     let files = store.files old in
-    let new = c.carry_out-carried.new.store in
+    let new = c.commit_step-carried.new.store in
     let before = c.in_ok-before.before.items in
     let settled = c.in_ok-settled.settled.items in
     let memory = memory_of c.args.self.now in

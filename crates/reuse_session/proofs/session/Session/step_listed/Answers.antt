@@ -2,10 +2,10 @@ use Rattle.std.proofs.Common.{◌≡◌, Err, ap, sym, subst, ◌∙◌}
 use Rattle.std.specs.List.{All}
 use Rattle.reuse_tree.specs.Files.{tree_of}
 use Rattle.reuse_session.specs.session.Answer.{TellsNoFault}
-use Rattle.reuse_session.specs.session.Calls.{LeavesTravel}
+use Rattle.reuse_session.specs.session.Calls.{LeavesReplay}
 use Rattle.reuse_tree.specs.Entry.{IsEntry, CanBeMade, IsFirstStuck}
 use Rattle.reuse_tree.specs.Head.{way_of, listed_way}
-use Rattle.reuse_session.specs.journal.Journal.{Recorded, State, Travels, ahead, reply_of}
+use Rattle.reuse_session.specs.journal.Journal.{Recorded, State, Replays, ahead, reply_of}
 use Rattle.reuse_session.specs.journal.JournalFiles.{entry_in, IsKeptIn}
 use Rattle.reuse_session.specs.journal.Losses.{AreSafeOn, IsNextBy, Survives}
 use Rattle.reuse_session.specs.journal.Standing.{IsStep}
@@ -16,9 +16,9 @@ use Rattle.reuse_tree.specs.Asked.{OnlyReads, Leaves}
 use Rattle.reuse_tree.specs.Tree.{undo_folder_of}
 use Rattle.reuse_tree.proofs.AskedLemmas.{reads_more}
 use Rattle.reuse_session.proofs.lemmas.session.OnlyReading.{is_refused, read_early, tested_early}
-use Rattle.reuse_session.proofs.lemmas.journal.StepDoubt.{kept_next, reads_are_safe, safe_entries, survives_early, survives_stop, survives_travel}
+use Rattle.reuse_session.proofs.lemmas.journal.StepDoubt.{kept_next, reads_are_safe, safe_entries, survives_early, survives_stop, survives_replay}
 use Rattle.reuse_session.proofs.lemmas.journal.StepAnswers.{still_stands, read_told, failed_untold}
-use Rattle.reuse_session.proofs.lemmas.session.Travelling.{Prepared, same_way, next_of, next_says, next_changes, stuck, ready, step_leaves, stop_leaves}
+use Rattle.reuse_session.proofs.lemmas.session.Replaying.{Prepared, same_way, next_of, next_says, next_changes, stuck, ready, step_leaves, stop_leaves}
 use Rattle.reuse_session.proofs.session.Session.step_listed.Given.{Over}
 use Rattle.reuse_session.proofs.session.Session.step_listed.Goals.{After-of_listed}
 use Rattle.reuse_session.proofs.session.Session.step_listed.Goals as goal
@@ -49,7 +49,7 @@ returns-in_err-paths-clause-exact g c honest held stands told =
     (c.prepare.ensures.moved honest (subst IsEntry (sym c.as_slice-changes.ensures) c.in_ok-entry.ensures.good) told_as.0 (c.in_err-paths.was ∙ ap (λ x. Err x) told_as.1)) in (
       held,
       still_stands store.files session c.prepare.new.store held (c.prepare.ensures.reads.files honest ∙ unread) stands,
-      subst (λ r. Travels way (ahead way held.journal) held r held) (sym (is ∙ ap (λ x. Err x) told_as.1)) (stuck next c.as_slice-changes.result.now told_as.0 changes first),
+      subst (λ r. Replays way (ahead way held.journal) held r held) (sym (is ∙ ap (λ x. Err x) told_as.1)) (stuck next c.as_slice-changes.result.now told_as.0 changes first),
     )
 
 -- what is known once the changes of the entry were tested
@@ -90,7 +90,7 @@ pub returns-in_err-step-clause-leaves : goal.returns-in_err-step-clause-leaves
 returns-in_err-step-clause-leaves g c =
     let tested = (goal.at.returns-in_err-step-clause-leaves g c).After-of_listed in
     let was_honest = c.step.ensures.call.later.was_honest in
-    subst (λ r. LeavesTravel g.S.Store c.args.way r c.args.self.now c.step.new.self) (sym (is_refused c.from_residual-in_err-step.result c.from_residual-in_err-step.ensures.1))
+    subst (λ r. LeavesReplay g.S.Store c.args.way r c.args.self.now c.step.new.self) (sym (is_refused c.from_residual-in_err-step.result c.from_residual-in_err-step.ensures.1))
     (stop_leaves g.S.Store c.args.way c.args.self.now c.step.new.self c.prepare.new.store (only_read g tested) was_honest c.as_slice-changes.result.now (pending_of g tested) c.in_ok-moved.moved
     (good g tested) (prepared_step g tested) c.step.ensures.folder c.step.ensures.written c.step.ensures.asks
     c.in_err-step.field-0.0 c.in_err-step.ensures.refused c.in_err-step.ensures.moves c.in_err-step.ensures.late
@@ -99,7 +99,7 @@ returns-in_err-step-clause-leaves g c =
 pub returns-clause-exact : goal.returns-clause-exact
 returns-clause-exact g c honest held stands told =
     let here = prepared_step g (goal.at.returns-clause-exact g c).After-of_listed (c.step.ensures.call.later.was_honest honest) held stands in
-    (here.second, c.in_ok-step.ensures.moves honest held here.second here.stands here.is, here.travels c.reply_of.result (c.reply_of.ensures ∙ ap (reply_of c.args.way) c.in_ok-paths.ensures.paths))
+    (here.second, c.in_ok-step.ensures.moves honest held here.second here.stands here.is, here.replays c.reply_of.result (c.reply_of.ensures ∙ ap (reply_of c.args.way) c.in_ok-paths.ensures.paths))
 
 pub returns-clause-leaves : goal.returns-clause-leaves
 returns-clause-leaves g c =
@@ -147,5 +147,5 @@ pub returns-clause-survives : goal.returns-clause-survives
 returns-clause-survives g c honest earlier held stands safe =
     let at = (goal.at.returns-clause-survives g c).After-of_listed in
     let here = prepared_step g at (c.step.ensures.call.later.was_honest honest) held stands in
-    survives_travel g.S.Store (IsNextBy (listed_way c.args.way) held) earlier held (store_of c.step.new.self) c.args.way _ c.reply_of.result c.reply_of.ensures
+    survives_replay g.S.Store (IsNextBy (listed_way c.args.way) held) earlier held (store_of c.step.new.self) c.args.way _ c.reply_of.result c.reply_of.ensures
     (c.in_ok-step.ensures.survives honest earlier held here.second here.stands here.is (safe_then g at earlier held safe) (kept_then g at earlier held safe here.is.step here.second here.goes))

@@ -3,5 +3,5 @@ use Rattle.reuse_undo.specs.print.Lines.{would_change}
 use Rattle.reuse_undo.proofs.print.lines.change_count.Given as goal
 
 -- so many of the paths so far would change
-abbrev pub invariant-loop-fate : goal.invariant-loop-fate
-invariant-loop-fate l = l.count ≡ count_by would_change (take l.fate-index l.fates)
+abbrev pub invariant-loop-path_outcome : goal.invariant-loop-path_outcome
+invariant-loop-path_outcome l = l.count ≡ count_by would_change (take l.path_outcome-index l.path_outcomes)

@@ -31,6 +31,6 @@ returns-in-Err-clause-refused g c honest = inl (record {
   no_clash = c.in-Err.ensures.clash honest;
   unchanged = λ early. (c.in-Err.ensures.early early).files honest;
   stopped = c.in-Err.ensures.interrupted honest;
-  settles = λ first second doubt. c.in-Err.ensures.settles first second doubt honest;
+  recovers = λ first second doubt. c.in-Err.ensures.recovers first second doubt honest;
   folder = c.in-Err.ensures.folder honest;
 })

@@ -17,28 +17,28 @@ returns-in-Ok-clause-carries g c honest =
     let before = files c.args.store in
     let request = c.args.request.now in
     let answer = c.ask_for-answer.result.0 in
-    let is_honest = subst g.S.Store.honest c.into_store.ensures (c.draw_foreseen-store.ensures.reads.was_honest honest) in
+    let is_honest = subst g.S.Store.honest c.into_store.ensures (c.draw_planned-store.ensures.reads.was_honest honest) in
     let was_honest = c.ask_for-answer.ensures.answered.call.later.was_honest is_honest in
-    subst (λ f. RequestLeaves before request answer f) (sym (c.draw_foreseen-store.ensures.reads.files honest ∙ ap files c.into_store.ensures))
+    subst (λ f. RequestLeaves before request answer f) (sym (c.draw_planned-store.ensures.reads.files honest ∙ ap files c.into_store.ensures))
     (carried files before request c.in-Ok.opened answer (files (store_of c.ask_for-answer.new.session)) (c.in-Ok.ensures.opened was_honest)
-    (λ first second doubt. c.in-Ok.ensures.settles first second doubt was_honest) (meets_by g.S.Store request answer c.in-Ok.opened c.ask_for-answer.new.session c.ask_for-answer.ensures.answered is_honest) (c.ask_for-answer.ensures.answered.clash is_honest)
+    (λ first second doubt. c.in-Ok.ensures.recovers first second doubt was_honest) (meets_by g.S.Store request answer c.in-Ok.opened c.ask_for-answer.new.session c.ask_for-answer.ensures.answered is_honest) (c.ask_for-answer.ensures.answered.clash is_honest)
     (c.in-Ok.ensures.folder was_honest) (c.ask_for-answer.ensures.answered.folder is_honest))
 
-pub returns-in-Ok-clause-looks : goal.returns-in-Ok-clause-looks
-returns-in-Ok-clause-looks g c honest look held standing =
-    let is_honest = subst g.S.Store.honest c.into_store.ensures (c.draw_foreseen-store.ensures.reads.was_honest honest) in
+pub returns-in-Ok-clause-reads_only : goal.returns-in-Ok-clause-reads_only
+returns-in-Ok-clause-reads_only g c honest look held standing =
+    let is_honest = subst g.S.Store.honest c.into_store.ensures (c.draw_planned-store.ensures.reads.was_honest honest) in
     let opened = store_of c.in-Ok.opened in
     let asked = store_of c.ask_for-answer.new.session in
     let found = c.in-Ok.ensures.quiet (c.ask_for-answer.ensures.answered.call.later.was_honest is_honest) held standing in
-    reads_more g.S.Store c.args.store asked c.draw_foreseen-store.result.0 (reads_more g.S.Store c.args.store opened asked found (c.ask_for-answer.ensures.answered.looks look)) (subst (λ s. OnlyReads g.S.Store s c.draw_foreseen-store.result.0) c.into_store.ensures c.draw_foreseen-store.ensures.reads)
+    reads_more g.S.Store c.args.store asked c.draw_planned-store.result.0 (reads_more g.S.Store c.args.store opened asked found (c.ask_for-answer.ensures.answered.reads_only look)) (subst (λ s. OnlyReads g.S.Store s c.draw_planned-store.result.0) c.into_store.ensures c.draw_planned-store.ensures.reads)
 
 pub returns-in-Ok-clause-clash : goal.returns-in-Ok-clause-clash
 returns-in-Ok-clause-clash g c honest held standing =
     let files = g.S.Store.files in
-    let is_honest = subst g.S.Store.honest c.into_store.ensures (c.draw_foreseen-store.ensures.reads.was_honest honest) in
+    let is_honest = subst g.S.Store.honest c.into_store.ensures (c.draw_planned-store.ensures.reads.was_honest honest) in
     let was_honest = c.ask_for-answer.ensures.answered.call.later.was_honest is_honest in
     let found =
-    found_again files (files c.args.store) c.in-Ok.opened held standing (c.in-Ok.ensures.opened was_honest) (λ first second doubt. c.in-Ok.ensures.settles first second doubt was_honest) in
+    found_again files (files c.args.store) c.in-Ok.opened held standing (c.in-Ok.ensures.opened was_honest) (λ first second doubt. c.in-Ok.ensures.recovers first second doubt was_honest) in
     subst (λ f. IfErr c.ask_for-answer.result.0 (HasCallClash c.args.request.now held f)) found.1 (c.ask_for-answer.ensures.answered.clash is_honest held found.0)
 
 pub returns-in-Ok-clause-fault : goal.returns-in-Ok-clause-fault
@@ -47,14 +47,14 @@ returns-in-Ok-clause-fault g c =
     let opened = failures (store_of c.in-Ok.opened) in
     let left = failures (store_of c.ask_for-answer.new.session) in
     let first = failures c.args.store in
-    let last = failures c.draw_foreseen-store.result.0 in
-    caused (opened < left) (first < last) (λ rose. omega (arith, rose, c.in-Ok.ensures.later.failures, (subst (λ s. OnlyReads g.S.Store s c.draw_foreseen-store.result.0) c.into_store.ensures c.draw_foreseen-store.ensures.reads).failures)) c.ask_for-answer.result.0 c.ask_for-answer.ensures.answered.call.fault
+    let last = failures c.draw_planned-store.result.0 in
+    caused (opened < left) (first < last) (λ rose. omega (arith, rose, c.in-Ok.ensures.later.failures, (subst (λ s. OnlyReads g.S.Store s c.draw_planned-store.result.0) c.into_store.ensures c.draw_planned-store.ensures.reads).failures)) c.ask_for-answer.result.0 c.ask_for-answer.ensures.answered.call.fault
 
 pub returns-in-Ok-clause-failures : goal.returns-in-Ok-clause-failures
-returns-in-Ok-clause-failures g c = omega (arith, c.in-Ok.ensures.later.failures, c.ask_for-answer.ensures.answered.call.later.failures, (subst (λ s. OnlyReads g.S.Store s c.draw_foreseen-store.result.0) c.into_store.ensures c.draw_foreseen-store.ensures.reads).failures)
+returns-in-Ok-clause-failures g c = omega (arith, c.in-Ok.ensures.later.failures, c.ask_for-answer.ensures.answered.call.later.failures, (subst (λ s. OnlyReads g.S.Store s c.draw_planned-store.result.0) c.into_store.ensures c.draw_planned-store.ensures.reads).failures)
 
 pub returns-in-Ok-clause-was_honest : goal.returns-in-Ok-clause-was_honest
-returns-in-Ok-clause-was_honest g c honest = c.in-Ok.ensures.later.was_honest (c.ask_for-answer.ensures.answered.call.later.was_honest (subst g.S.Store.honest c.into_store.ensures (c.draw_foreseen-store.ensures.reads.was_honest honest)))
+returns-in-Ok-clause-was_honest g c honest = c.in-Ok.ensures.later.was_honest (c.ask_for-answer.ensures.answered.call.later.was_honest (subst g.S.Store.honest c.into_store.ensures (c.draw_planned-store.ensures.reads.was_honest honest)))
 
 pub returns-in-Err-clause-carries : goal.returns-in-Err-clause-carries
 returns-in-Err-clause-carries g c honest =
@@ -68,13 +68,13 @@ returns-in-Err-clause-carries g c honest =
         no_clash = c.in-Err.ensures.clash honest;
         unchanged = λ early. (c.in-Err.ensures.early early).files honest;
         stopped = c.in-Err.ensures.interrupted honest;
-        settles = λ first second doubt. c.in-Err.ensures.settles first second doubt honest;
+        recovers = λ first second doubt. c.in-Err.ensures.recovers first second doubt honest;
         folder = c.in-Err.ensures.folder honest;
       },
     )
 
-pub returns-in-Err-clause-looks : goal.returns-in-Err-clause-looks
-returns-in-Err-clause-looks g c honest look held standing = c.in-Err.ensures.quiet honest held standing
+pub returns-in-Err-clause-reads_only : goal.returns-in-Err-clause-reads_only
+returns-in-Err-clause-reads_only g c honest look held standing = c.in-Err.ensures.quiet honest held standing
 
 pub returns-in-Err-clause-clash : goal.returns-in-Err-clause-clash
 returns-in-Err-clause-clash g c honest held standing = unclashed c.args.request.now held (g.S.Store.files c.args.store) c.in-Err.refusal (c.in-Err.ensures.clash honest)
@@ -82,13 +82,13 @@ returns-in-Err-clause-clash g c honest held standing = unclashed c.args.request.
 pub returns-in-Ok-clause-diff : goal.returns-in-Ok-clause-diff
 returns-in-Ok-clause-diff g c =
     let asked = c.ask_for-answer in
-    let drawn = c.draw_foreseen-store in
+    let drawn = c.draw_planned-store in
     diff_for g.S.Store c.into_store.result drawn.result.0 c.args.telling asked.result.0 drawn.result.1 (is_some asked.result.1)
     (λ some. wanted_where c.args.telling asked.result.0 (held_of asked.result.1 _ asked.ensures.wanted some)) (λ none. drawn.ensures.none (is_none_of asked.result.1 none)) drawn.ensures.diff
 
 pub returns-in-Ok-clause-undrawn : goal.returns-in-Ok-clause-undrawn
 returns-in-Ok-clause-undrawn g c =
-    let drawn = c.draw_foreseen-store in
+    let drawn = c.draw_planned-store in
     undrawn_by g.S.Store c.args.store drawn.result.0 drawn.result.1
     (diff_after g.S.Store c.args.store c.into_store.result drawn.result.0 drawn.result.1
     (subst (λ s. g.S.Store.failures c.args.store ≤ g.S.Store.failures s) (sym c.into_store.ensures) (omega (arith, c.in-Ok.ensures.later.failures, c.ask_for-answer.ensures.answered.call.later.failures)))
@@ -98,13 +98,13 @@ pub returns-in-Ok-clause-drawn : goal.returns-in-Ok-clause-drawn
 returns-in-Ok-clause-drawn g c honest held standing =
     let files = g.S.Store.files in
     let asked = c.ask_for-answer in
-    let drawn = c.draw_foreseen-store in
+    let drawn = c.draw_planned-store in
     let request = c.args.request.now in
     let is_honest = subst g.S.Store.honest c.into_store.ensures (drawn.ensures.reads.was_honest honest) in
     let was_honest = asked.ensures.answered.call.later.was_honest is_honest in
     let found =
-    found_again files (files c.args.store) c.in-Ok.opened held standing (c.in-Ok.ensures.opened was_honest) (λ first second doubt. c.in-Ok.ensures.settles first second doubt was_honest) in
+    found_again files (files c.args.store) c.in-Ok.opened held standing (c.in-Ok.ensures.opened was_honest) (λ first second doubt. c.in-Ok.ensures.recovers first second doubt was_honest) in
     drawn_where_wanted c.args.telling request held asked.result.0 drawn.result.1 (λ wanted look.
-    let same = ap tree_of (ap files c.into_store.ensures ∙ (asked.ensures.answered.looks look).files is_honest) ∙ found.0.standing.tree in
+    let same = ap tree_of (ap files c.into_store.ensures ∙ (asked.ensures.answered.reads_only look).files is_honest) ∙ found.0.standing.tree in
     diff_of_call request held drawn.result.1 (λ after would.
-    drawn.ensures.drawn honest held.tree after same (asked.ensures.foretells (format_where c.args.telling asked.result.0 wanted) is_honest held found.0 after would (accepted_where c.args.telling asked.result.0 wanted))))
+    drawn.ensures.drawn honest held.tree after same (asked.ensures.previews (format_where c.args.telling asked.result.0 wanted) is_honest held found.0 after would (accepted_where c.args.telling asked.result.0 wanted))))

@@ -6,7 +6,7 @@ use Rattle.reuse_undo.specs.run.AfterStops.{AnswersAfterStop}
 use Rattle.reuse_undo.specs.run.Drawn.{IsDiffOfCall}
 use Rattle.reuse_session.specs.session.Requests.{HasCallClash}
 use Rattle.reuse_undo.specs.run.RunLine.{RequestLeaves, FollowsModel}
-use Rattle.reuse_undo.specs.print.Told.{IsForeseen}
+use Rattle.reuse_undo.specs.print.Told.{IsDrawnPreview}
 use Rattle.reuse_undo.specs.print.WriterFaults.{IsUndrawn}
 use Rattle.reuse_session.specs.declared.reply.Reply.{Reply}
 use Rattle.reuse_undo.proofs.lemmas.run.AfterStopLemmas.{answers_after_stop, told_of_end}
@@ -39,10 +39,10 @@ returns-in-Ok g c =
       drawn = λ honest held standing wants tree would.
           let tells = previews_tell request held tree before after c.in-Ok.told would (carries honest) in
           drawn_in_lines c.args.telling held.tree tree c.in-Ok.told tells.0 old new outcome c.call-store.result.2 tells.1 wants told c.finish.ensures.behind
-          (λ foreseen. told_diff request held tree c.call-store.result.2 would
-          (IfOk-at_ok (λ (answer : Reply). IsForeseen c.args.telling answer → IfOk c.call-store.result.2 (λ text. IsDiffOfCall request held text.items)) c.in-Ok.is
-          (c.call-store.ensures.drawn honest held standing) foreseen));
-      looks = c.call-store.ensures.looks;
+          (λ planned. told_diff request held tree c.call-store.result.2 would
+          (IfOk-at_ok (λ (answer : Reply). IsDrawnPreview c.args.telling answer → IfOk c.call-store.result.2 (λ text. IsDiffOfCall request held text.items)) c.in-Ok.is
+          (c.call-store.ensures.drawn honest held standing) planned));
+      reads_only = c.call-store.ensures.reads_only;
       quiet = no_refusal _ _ _ _ outcome (λ refusal. c.finish.new.out ≡ c.args.out.now) told;
       failed = c.finish.ensures.failed;
       fault = no_refusal _ _ _ _ outcome _ told;
@@ -64,7 +64,7 @@ returns-in-Err g c =
       machine = λ honest state held. (carries_step state before request (Err c.in-Err.refusal) after held (carries honest), refl);
       after_stop = λ honest start found. let at = answers_after_stop before request (Err c.in-Err.refusal) after start found (carries honest) in (at.0, (at.1, refl), at.2);
       drawn = λ honest held standing wants tree would. tt;
-      looks = c.call-store.ensures.looks;
+      reads_only = c.call-store.ensures.reads_only;
       quiet = refl;
       failed = refl;
       fault = subst (λ answer. IfErr answer (HasCause (g.S.Store.failures c.args.store < g.S.Store.failures left))) c.in-Err.is c.call-store.ensures.fault;

@@ -1,7 +1,7 @@
 use Rattle.std.proofs.Common.{rules, ◌≡◌, false, is_ok}
 use Rattle.reuse_tree.specs.Parts.{joined}
 use Rattle.reuse_undo.specs.disk.Asides.{IsNewIn, IsNewPlace}
-use Rattle.reuse_undo.specs.disk.HeldFiles.{place_in}
+use Rattle.reuse_undo.specs.disk.FileStates.{place_in}
 use Rattle.reuse_undo.specs.disk.Names.{IsNameOf}
 use Rattle.reuse_undo.specs.disk.SystemCalls.{held_after}
 use Rattle.reuse_undo.specs.disk.SystemLaws.{IsAlikeUnless}

@@ -1,0 +1,14 @@
+use Rattle.reuse_session.proofs.lemmas.plan.AmendedPlaces.{amended_exactly, amended_given, amended_ascend}
+use Rattle.reuse_session.proofs.lemmas.plan.Choosing.{selected_exactly, given_exactly, selected_ascend, all_chosen}
+use Rattle.reuse_session.proofs.laws.selected_paths_are_asked_for.Goals as goal
+
+pub returns : goal.returns
+returns c = record {
+  asked = selected_exactly;
+  given = given_exactly;
+  ascend = selected_ascend;
+  all = all_chosen;
+  amended = amended_exactly;
+  amended_given = amended_given;
+  amended_ascend = amended_ascend;
+}

@@ -1,0 +1,14 @@
+use Rattle.std.proofs.Common.{Err, sym, subst}
+use Rattle.reuse_session.specs.journal.Journal.{State, Replays, ahead}
+use Rattle.reuse_session.specs.session.Session.{StandsOn}
+use Rattle.reuse_session.proofs.lemmas.Results.{none_unless_some}
+use Rattle.reuse_session.proofs.lemmas.session.Replaying.{none_next}
+use Rattle.reuse_session.proofs.session.Session.replay.Goals as goal
+
+pub returns-in_default-clause-exact : goal.returns-in_default-clause-exact
+returns-in_default-clause-exact g c honest held stands told =
+    let files = g.S.Store.files in
+    let session = c.args.self.now in
+    let way = c.args.way in
+    subst (λ r. (left : State) × StandsOn files session left × Replays way (ahead way held.journal) held (Err r) left) (sym c.end_of.ensures)
+    (none_next way files session held stands (c.next.ensures.none (none_unless_some c.next.result c.in_default.not-Some)))

@@ -1,0 +1,144 @@
+//! A session goes one step back, or on again.
+ghost use Rattle.std.specs.Prelude.{◌≡◌, ◌↔◌, ◌⊎◌, ◌++◌, ◌∷◌, [], List, true, false, IfErr};
+ghost use Rattle.reuse_tree.specs.Head.{listed_way};
+ghost use Rattle.reuse_tree.specs.declared.way.Way.TheVariants as go;
+ghost use Rattle.reuse_session.specs.session.Answer.{TellsNoFault, IsOpenRefusal};
+ghost use Rattle.reuse_session.specs.session.Calls.{IsCall, LeavesReplay};
+ghost use Rattle.reuse_session.specs.journal.History.{entries_ahead};
+ghost use Rattle.reuse_session.specs.journal.Journal.{State, Replays, Undoes, Redoes, ahead, end_of, reply_of};
+ghost use Rattle.reuse_session.specs.journal.Losses.{SurvivesCall, IsNextBy};
+ghost use Rattle.reuse_session.specs.session.Machine.{Snapshots, undone, redone};
+ghost use Rattle.reuse_session.specs.session.Session.{store_of, is_broken, memory_of, Follows, StandsAt, StandsOn};
+ghost use Rattle.reuse_session.specs.declared.journal.history.ListedEntry.{ListedEntry};
+
+use crate::journal::files::read_entry;
+use crate::journal::history::ListedEntry;
+use crate::journal::prepare::prepare;
+use crate::reply::{Paths, Refusal, Reply};
+use crate::session::Session;
+use reuse_tree::{Pending, PendingWay, Store, Way};
+use std::alloc::Global;
+
+impl<S: Store + Drop> Session<S> {
+    /// Takes the last step back, which is the next to be redone then. It answers the step's paths.
+    ///
+    /// It is refused as `Broken` or `NothingToUndo`, as `Moved` at the first path that isn't as the
+    /// step left it or that can't be made, or for an I/O error or an allocation failure, before
+    /// the step is pending. Where it stops later it is `Interrupted`.
+    pub fn undo(&mut self, alloc: Global) -> Result<Reply, Refusal>
+        ensures broken { (result ≡ Err Refusal.Broken) ↔ (is_broken self.old ≡ true) }
+        ensures nothing { (result ≡ Err Refusal.NothingToUndo) ↔ ((is_broken self.old ≡ false) × ((memory_of self.old).done ≡ [])) }
+        ensures stays { (result ≡ Err Refusal.Broken) ⊎ (result ≡ Err Refusal.NothingToUndo) → self.new ≡ self.old }
+
+        // Unless the answer tells an I/O error or an allocation failure, it is accepted exactly
+        // where each file is as the step left it and no path that it makes clashes. It then takes
+        // these changes back, and changes nothing else.
+        ensures exact { S.honest (store_of self.new) → (held : State) → StandsOn S.files self.old held
+            → TellsNoFault result → (left : State) × StandsOn S.files self.new left × Undoes held.journal.done held result left }
+        ensures machine { S.honest (store_of self.new) → (state : Snapshots) → StandsAt S.files self.old state
+            → TellsNoFault result → Follows S.files result self.new (undone state state.past) }
+
+        // What is left after a loss of power, at any moment of the call.
+        ensures survives { SurvivesCall S.Store (IsNextBy (listed_way go.Undo)) result self.old self.new }
+        // What any call leaves, and what an undo leaves of the files, whatever it answers.
+        ensures call { IsCall S.Store result self.old self.new }
+        ensures leaves { LeavesReplay S.Store go.Undo result self.old self.new }
+    {
+        self.replay(alloc, Way::Undo)
+    }
+
+    /// Makes the step again that was taken back last. It answers the step's paths.
+    ///
+    /// It is refused as `Broken` or `NothingToRedo`, as `Moved` at the first path that isn't as it
+    /// was before the step or that can't be made, or for an I/O error or an allocation failure,
+    /// before the step is pending. Where it stops later it is `Interrupted`.
+    pub fn redo(&mut self, alloc: Global) -> Result<Reply, Refusal>
+        ensures broken { (result ≡ Err Refusal.Broken) ↔ (is_broken self.old ≡ true) }
+        ensures nothing { (result ≡ Err Refusal.NothingToRedo) ↔ ((is_broken self.old ≡ false) × ((memory_of self.old).undone ≡ [])) }
+        ensures stays { (result ≡ Err Refusal.Broken) ⊎ (result ≡ Err Refusal.NothingToRedo) → self.new ≡ self.old }
+
+        // Unless the answer tells an I/O error or an allocation failure, it is accepted exactly
+        // where each file is as it was before the step and no path that it makes clashes. It then
+        // makes these changes, and changes nothing else.
+        ensures exact { S.honest (store_of self.new) → (held : State) → StandsOn S.files self.old held
+            → TellsNoFault result → (left : State) × StandsOn S.files self.new left × Redoes held.journal.undone held result left }
+        ensures machine { S.honest (store_of self.new) → (state : Snapshots) → StandsAt S.files self.old state
+            → TellsNoFault result → Follows S.files result self.new (redone state state.future) }
+
+        // What is left after a loss of power, at any moment of the call.
+        ensures survives { SurvivesCall S.Store (IsNextBy (listed_way go.Do)) result self.old self.new }
+        // What any call leaves, and what a redo leaves of the files, whatever it answers.
+        ensures call { IsCall S.Store result self.old self.new }
+        ensures leaves { LeavesReplay S.Store go.Do result self.old self.new }
+    {
+        self.replay(alloc, Way::Do)
+    }
+
+    // Goes one step this way: takes the last one done back, or makes the next undone one again.
+    fn replay(&mut self, alloc: Global, way: Way) -> Result<Reply, Refusal>
+        ensures broken { (result ≡ Err Refusal.Broken) ↔ (is_broken self.old ≡ true) }
+        ensures nothing { (result ≡ Err (end_of way)) ↔ ((is_broken self.old ≡ false) × (entries_ahead way (memory_of self.old) ≡ [])) }
+        ensures stays { (result ≡ Err Refusal.Broken) ⊎ (result ≡ Err (end_of way)) → self.new ≡ self.old }
+        ensures exact { S.honest (store_of self.new) → (held : State) → StandsOn S.files self.old held
+            → TellsNoFault result → (left : State) × StandsOn S.files self.new left × Replays way (ahead way held.journal) held result left }
+        ensures survives { SurvivesCall S.Store (IsNextBy (listed_way way)) result self.old self.new }
+        ensures call { IsCall S.Store result self.old self.new }
+        ensures leaves { LeavesReplay S.Store way result self.old self.new }
+    {
+        if self.broken {
+            return Err(Refusal::Broken);
+        }
+        let Some(listed) = self.history.next(way) else {
+            return Err(end_of(way));
+        };
+        self.step_listed(alloc, listed, way)
+    }
+
+    // Tests that the changes of the next entry this way can be made, and makes them.
+    fn step_listed(
+        &mut self,
+        alloc: Global,
+        listed: ListedEntry,
+        way: Way,
+    ) -> Result<Reply, Refusal>
+        requires { (front : List ListedEntry) × (entries_ahead way (memory_of self.now) ≡ front ++ listed ∷ []) }
+        ensures exact { S.honest (store_of self.new) → (held : State) → StandsOn S.files self.old held
+            → TellsNoFault result → (left : State) × StandsOn S.files self.new left × Replays way (ahead way held.journal) held result left }
+        ensures survives { SurvivesCall S.Store (IsNextBy (listed_way way)) result self.old self.new }
+        ensures call { IsCall S.Store result self.old self.new }
+        ensures leaves { LeavesReplay S.Store way result self.old self.new }
+        ensures kinds { IfErr result IsOpenRefusal }
+    {
+        let moved = self.history.after(alloc, listed, way)?;
+        let number = listed.number();
+        let entry = read_entry(alloc, &mut self.store, number)?;
+        let changes = entry.changes.as_slice();
+        let paths = prepare(alloc, &mut self.store, changes, way)?;
+        let pending = Pending {
+            entry: number,
+            way: PendingWay::of_listed(way),
+        };
+        self.step(alloc, changes, pending, moved)?;
+        Ok(reply_of(way, paths))
+    }
+}
+
+// The refusal where no step is this way.
+pub(crate) fn end_of(way: Way) -> Refusal
+    ensures { result ≡ end_of way }
+{
+    match way {
+        Way::Do => Refusal::NothingToRedo,
+        Way::Undo => Refusal::NothingToUndo,
+    }
+}
+
+// The answer after a step this way.
+fn reply_of(way: Way, paths: Paths) -> Reply
+    ensures { result ≡ reply_of way paths }
+{
+    match way {
+        Way::Do => Reply::Redone(paths),
+        Way::Undo => Reply::Undone(paths),
+    }
+}

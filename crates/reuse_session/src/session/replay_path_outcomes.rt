@@ -1,0 +1,53 @@
+//! What an undo or a redo would do, path by path.
+ghost use Rattle.std.specs.Prelude.{◌≡◌, IfOk, IfErr, true};
+ghost use Rattle.reuse_tree.specs.Change.{path_of, IsProper};
+ghost use Rattle.reuse_tree.specs.Entry.{IsEntry, IsSmall};
+ghost use Rattle.reuse_tree.specs.Tree.{is_of_tree};
+ghost use Rattle.reuse_session.specs.session.PathOutcomes.{IsPathOutcomeOf, ArePathOutcomesOf};
+ghost use Rattle.reuse_session.specs.session.Answer.{IsEarlyFailure};
+ghost use Rattle.reuse_session.specs.session.Reading.{tree_of, OnlyReads, ReadsAlone, RefusedAsRead};
+
+use crate::path_outcome::{PathOutcome, PathOutcomes};
+use crate::reply::Refusal;
+use reuse_tree::perform::can_be_made;
+use reuse_tree::{Change, Store, Way};
+use std::alloc::Global;
+
+/// The path outcomes of the changes of an entry, gone through this way: each path changes, or is
+/// refused as `Moved`.
+pub(crate) fn replay_path_outcomes<S: Store>(
+    alloc: Global,
+    store: &mut S,
+    changes: &[Change],
+    way: Way,
+) -> Result<PathOutcomes, Refusal>
+    ensures path_outcomes { S.honest store.new → IsEntry changes.now → IfOk result (ArePathOutcomesOf way (tree_of (S.files store.old)) changes.now) }
+    ensures fails { RefusedAsRead S.Store store.old store.new result }
+    ensures reads { OnlyReads S.Store store.old store.new }
+    ensures refusal { IfErr result IsEarlyFailure }
+{
+    let mut path_outcomes = Vec::new(alloc);
+    for change in changes {
+        path_outcomes.push(change_path_outcome(alloc, store, change, way)?)?;
+    }
+    Ok(PathOutcomes::new(path_outcomes))
+}
+
+// The path outcome of a change.
+fn change_path_outcome<S: Store>(
+    alloc: Global,
+    store: &mut S,
+    change: &Change,
+    way: Way,
+) -> Result<PathOutcome, Refusal>
+    ensures path_outcome { S.honest store.new → IsProper change.now → IsSmall change.now → is_of_tree (path_of change.now) ≡ true
+        → IfOk result (IsPathOutcomeOf way (tree_of (S.files store.old)) change.now) }
+    ensures asks { ReadsAlone S.Store IsEarlyFailure store.old store.new result }
+{
+    let path = change.path().try_clone(alloc)?;
+    if can_be_made(alloc, store, change, way)? {
+        Ok(PathOutcome::Changes(path))
+    } else {
+        Ok(PathOutcome::Refused(Refusal::Moved(path)))
+    }
+}

@@ -1,0 +1,128 @@
+-- Dry runs that are answered with what would change.
+use Rattle.std.proofs.Common.{◌≡◌, ◌↔◌, ◌∙◌, ℕ, Bool, true, false, List, [], ◌∷◌, Option, Some, None, IfSome, IsSomeAnd, Result, Ok, Err, IfOk, refl, sym, ap, subst}
+use Rattle.std.proofs.lemmas.Bool.{false≢true}
+use Rattle.reuse_tree.specs.Entry.{IsEntry}
+use Rattle.reuse_tree.specs.Files.{Files}
+use Rattle.reuse_tree.specs.declared.store.Store.{Ghosts}
+use Rattle.reuse_tree.specs.declared.way.Way.{Way}
+use Rattle.reuse_tree.specs.declared.way.Way.TheVariants as go
+use Rattle.reuse_session.specs.session.Answer.{TellsNoFault}
+use Rattle.reuse_session.specs.session.PathOutcomes.{first_refusal}
+use Rattle.reuse_session.specs.journal.Journal.{State, ahead, changes_ahead, Replays}
+use Rattle.reuse_session.specs.plan.Outcome.{outcome_of}
+use Rattle.reuse_session.specs.plan.Plan.{IsPlan}
+use Rattle.reuse_session.specs.session.Previews.{path_outcomes_alone}
+use Rattle.reuse_session.specs.session.Session.{store_of, is_broken, StandsOn}
+use Rattle.reuse_session.specs.declared.command.Command.{Command}
+use Rattle.reuse_session.specs.declared.request.Call.{Call}
+use Rattle.reuse_session.specs.declared.path_outcome.PathOutcome.{PathOutcome}
+use Rattle.reuse_session.specs.declared.path_outcome.PathOutcome.TheVariants as path_outcome
+use Rattle.reuse_session.specs.declared.path_outcome.Previewed.{Previewed}
+use Rattle.reuse_session.specs.declared.reply.Refusal.{Refusal}
+use Rattle.reuse_session.specs.declared.reply.Refusal.TheVariants.{Broken}
+use Rattle.reuse_session.specs.declared.reply.Reply.{Reply}
+use Rattle.reuse_session.specs.declared.reply.Reply.TheVariants as replies
+use Rattle.reuse_session.specs.declared.session.Session.{Session}
+use Rattle.reuse_session.proofs.lemmas.session.Answering.{answered_look, fails_early, preview_fails}
+use Rattle.reuse_session.proofs.lemmas.session.Peeking.{refused, same_refusal, reads_with_cause_err, reads_with_cause_ok}
+use Rattle.reuse_session.proofs.lemmas.session.Previewing.{alone_where, told_alone}
+use Rattle.reuse_undo.specs.run.Drawn.{planned_in, planned_unless, LeadsAsPreviewed, IsAnsweredWith, WouldLeave}
+use Rattle.reuse_session.specs.session.Requests.{IsAnswered, ReadsOnlyWithCause, Previews, replied}
+use Rattle.reuse_undo.specs.print.Told.{is_refused, IsAccepted}
+use Rattle.reuse_session.specs.declared.request.Request.{Request}
+use Rattle.reuse_session.specs.declared.request.Request.TheVariants as requests
+use Rattle.reuse_undo.specs.declared.run.line.planned.PlannedChanges.{PlannedChanges}
+use Rattle.reuse_undo.proofs.lemmas.run.TreeDiffLemmas.{going, plan_previews, replay_previews}
+
+-- ---- what is answered
+
+alone_reads_with_cause : {S : Type 0} (store : Ghosts S) (answer : Result Previewed Refusal) (old new : Session S) → ReadsOnlyWithCause store answer old new → ReadsOnlyWithCause store (path_outcomes_alone answer) old new
+alone_reads_with_cause store (Ok previewed) old new reads_with_cause = reads_with_cause_ok store (Ok previewed) previewed.path_outcomes old new reads_with_cause
+alone_reads_with_cause store (Err refusal) old new reads_with_cause = reads_with_cause_err store refusal old new reads_with_cause
+
+-- a look whose path outcomes are told alone
+module _ {S : Type 0} (store : Ghosts S) (answer : Result Previewed Refusal) (told : Result Reply Refusal) (old new : Session S) (is : told ≡ replied replies.Preview (path_outcomes_alone answer))
+    (reads_with_cause : ReadsOnlyWithCause store answer old new) (broken : answer ≡ Err Broken ↔ (is_broken old ≡ true)) where
+  pub call_answered : (call : Call) → (store.honest (store_of new) → (held : State) → StandsOn store.files old held → TellsNoFault answer → Previews call held (path_outcomes_alone answer))
+      → IsAnswered store (requests.Preview call) told old new
+  call_answered call right =
+      let alone = alone_reads_with_cause store answer old new reads_with_cause in
+      subst (λ a. IsAnswered store (requests.Preview call) a old new) (sym is)
+      (answered_look store (requests.Preview call) tt replies.Preview (path_outcomes_alone answer) old new alone (alone_where answer (path_outcomes_alone answer) refl Broken (is_broken old ≡ true) broken)
+      (fails_early (requests.Preview call) (preview_fails call) (path_outcomes_alone answer) alone.unstopped)
+      (λ honest held stands t. (path_outcomes_alone answer, refl, right honest held stands (told_alone answer (path_outcomes_alone answer) refl t), refl)))
+
+-- whether the session was broken, where a look came before, and where only that was made
+pub broken_again : {S : Type 0} (old mid : Session S) (answer : Result Previewed Refusal) → is_broken mid ≡ is_broken old → (answer ≡ Err Broken ↔ (is_broken mid ≡ true)) → (answer ≡ Err Broken ↔ (is_broken old ≡ true))
+broken_again old mid answer same broken = (λ is. sym same ∙ broken.0 is, λ is. broken.1 (same ∙ is))
+
+pub broken_same : {A : Type 0} {P : Type 0} (first : Result A Refusal) (refusal : Refusal) → first ≡ Err refusal → (first ≡ Err Broken ↔ P) → (refused Previewed refusal ≡ refused Previewed Broken ↔ P)
+broken_same {A} first refusal is broken =
+    (λ e. broken.0 (is ∙ ap (refused A) (same_refusal Previewed refusal Broken e)), λ p. ap (refused Previewed) (same_refusal A refusal Broken (sym is ∙ broken.1 p)))
+
+-- ---- what would change
+
+-- it is there only where none of the path outcomes is a refusal
+accepted_in : (way : Way) (answer : Result Previewed Refusal) → IfSome (planned_in way answer) (λ planned. IsAccepted (replied replies.Preview (path_outcomes_alone answer)))
+accepted_in way (Err refusal) = tt
+accepted_in way (Ok previewed) = by_refusal (is_refused previewed.path_outcomes) refl
+  where
+    by_refusal : (b : Bool) → is_refused previewed.path_outcomes ≡ b → IfSome (planned_unless b previewed.changes way) (λ planned. IsAccepted (replied replies.Preview (path_outcomes_alone (Ok previewed))))
+    by_refusal true is = tt
+    by_refusal false is = (previewed.path_outcomes, refl, is)
+
+same_path_outcomes : (one other : List PathOutcome) → replies.Preview one ≡ replies.Preview other → one ≡ other
+same_path_outcomes one other is = cc
+
+-- and there it is
+accepted_some : (way : Way) (answer : Result Previewed Refusal) (IsThat : PlannedChanges → Type 0) → IsAccepted (replied replies.Preview (path_outcomes_alone answer))
+    → IfOk answer (λ previewed. is_refused previewed.path_outcomes ≡ false → IsThat (going way previewed.changes)) → IsSomeAnd (planned_in way answer) IsThat
+accepted_some way (Err refusal) IsThat accepted all = absurd accepted
+accepted_some way (Ok previewed) IsThat accepted all = by_refusal (is_refused previewed.path_outcomes) refl
+  where
+    by_refusal : (b : Bool) → is_refused previewed.path_outcomes ≡ b → IsSomeAnd (planned_unless b previewed.changes way) IsThat
+    by_refusal true is = absurd (false≢true (sym accepted.2 ∙ ap is_refused (sym (same_path_outcomes previewed.path_outcomes accepted.0 accepted.1)) ∙ is))
+    by_refusal false is = all is
+
+none_first : (path_outcomes : List PathOutcome) → is_refused path_outcomes ≡ false → first_refusal path_outcomes ≡ None
+none_first [] none = refl
+none_first (path_outcome.Refused first ∷ path_outcomes) none = absurd (false≢true (sym none))
+none_first (path_outcome.Changes path ∷ path_outcomes) none = none_first path_outcomes none
+none_first (path_outcome.Unchanged path ∷ path_outcomes) none = none_first path_outcomes none
+none_first (path_outcome.Skipped path ∷ path_outcomes) none = none_first path_outcomes none
+
+-- a run's changes lead to the tree of the command's outcome
+pub run_previews : (command : Command) (held : State) (answer : Result Previewed Refusal) (after : Files)
+    → IfOk answer (λ previewed. first_refusal previewed.path_outcomes ≡ None → IsPlan (outcome_of command held.tree) held.tree previewed.changes) → outcome_of command held.tree ≡ Ok after
+    → IsAccepted (replied replies.Preview (path_outcomes_alone answer)) → IsSomeAnd (planned_in go.Do answer) (λ planned. LeadsAsPreviewed planned held.tree after)
+run_previews command held answer after plan left accepted = accepted_some go.Do answer (λ planned. LeadsAsPreviewed planned held.tree after) accepted (planned answer plan)
+  where
+    planned : (answer : Result Previewed Refusal) → IfOk answer (λ previewed. first_refusal previewed.path_outcomes ≡ None → IsPlan (outcome_of command held.tree) held.tree previewed.changes)
+        → IfOk answer (λ previewed. is_refused previewed.path_outcomes ≡ false → LeadsAsPreviewed (going go.Do previewed.changes) held.tree after)
+    planned (Err refusal) plan = tt
+    planned (Ok previewed) plan = λ none. plan_previews (outcome_of command held.tree) held.tree after previewed.changes (plan (none_first previewed.path_outcomes none)) left
+
+-- a step's changes lead to the tree that an undo or a redo leaves
+pub step_previews : (way : Way) (held : State) (answer : Result Previewed Refusal) (reply : Reply) (new : State) (after : Files) → Replays way (ahead way held.journal) held (Ok reply) new
+    → new.tree ≡ after → IfOk answer (λ previewed. changes_ahead (ahead way held.journal) ≡ Some previewed.changes) → IfOk answer (λ previewed. IsEntry previewed.changes)
+    → IsAccepted (replied replies.Preview (path_outcomes_alone answer)) → IsSomeAnd (planned_in way answer) (λ planned. LeadsAsPreviewed planned held.tree after)
+step_previews way held answer reply new after replays is next entry accepted = accepted_some way answer (λ planned. LeadsAsPreviewed planned held.tree after) accepted (leads answer next entry)
+  where
+    leads : (answer : Result Previewed Refusal) → IfOk answer (λ previewed. changes_ahead (ahead way held.journal) ≡ Some previewed.changes) → IfOk answer (λ previewed. IsEntry previewed.changes)
+        → IfOk answer (λ previewed. is_refused previewed.path_outcomes ≡ false → LeadsAsPreviewed (going way previewed.changes) held.tree after)
+    leads (Err refusal) next entry = tt
+    leads (Ok previewed) next entry =
+        λ none. subst (LeadsAsPreviewed (going way previewed.changes) held.tree) is (replay_previews way (ahead way held.journal) held reply new previewed.changes replays next entry)
+
+-- ---- both
+
+pub answered_with : {S : Type 0} (store : Ghosts S) (request : Request) (way : Way) (answer : Result Previewed Refusal) (told : Result Reply Refusal) (planned : Option PlannedChanges) (old new : Session S)
+    → told ≡ replied replies.Preview (path_outcomes_alone answer) → planned ≡ planned_in way answer → IsAnswered store request told old new
+    → (store.honest (store_of new) → (held : State) → StandsOn store.files old held → (after : Files) → WouldLeave request held after → IsAccepted (replied replies.Preview (path_outcomes_alone answer))
+    → IsSomeAnd (planned_in way answer) (λ planned. LeadsAsPreviewed planned held.tree after)) → IsAnsweredWith store request told planned old new
+answered_with store request way answer told planned old new is was answered previews = record {
+  answered = answered;
+  accepted = subst (λ (f : Option PlannedChanges). IfSome f (λ g. IsAccepted told)) (sym was) (subst (λ (t : Result Reply Refusal). IfSome (planned_in way answer) (λ g. IsAccepted t)) (sym is) (accepted_in way answer));
+  previews = λ honest held stands after would accepted.
+      subst (λ (f : Option PlannedChanges). IsSomeAnd f (λ g. LeadsAsPreviewed g held.tree after)) (sym was) (previews honest held stands after would (subst (λ (t : Result Reply Refusal). IsAccepted t) is accepted));
+}

@@ -1,0 +1,302 @@
+//! What is found out about a call beside its outcome, for notes.
+ghost use Rattle.reuse_tree.specs.Asked.{OnlyReads};
+
+use crate::cli::line::Line;
+use crate::disk::{DiskStore, Failure, Kept};
+use crate::run::above::journal_above;
+use crate::run::damage::{Damage, Headless, damage_of, is_gone, steps_without_head};
+use crate::run::fault::Fault;
+use reuse_session::{
+    Call, Command, Counts, Head, PathOutcome, Refusal, Request, Scope, Session, Unknown,
+    decode_head,
+};
+use reuse_text::{Bytes, LONGEST_FILE};
+use reuse_tree::{PathText, Reading, Store};
+use std::alloc::Global;
+use std::fs::{self, File};
+use std::io::ErrorKind;
+use std::rt::Files;
+
+const HEAD: &str = ".reuse/undo/head.json";
+
+const TABLE: &str = "REUSE.toml";
+
+/// What each paragraph of the table begins with.
+const TABLE_PARAGRAPH: &str = "[[annotations]]";
+
+/// What a call is to do.
+#[derive(Clone, Copy, PartialEq, Eq)]
+pub enum Task {
+    /// To make a step.
+    Step,
+    /// To make the step of a conversion.
+    Conversion,
+    /// To take a step back.
+    Undo,
+    /// To make a step again.
+    Redo,
+    /// To take a step back by a new one.
+    Revert,
+    /// To tell what that would do.
+    PreviewRevert,
+    /// To roll back what a stopped run left.
+    Recover,
+    /// To take steps out of the history.
+    Forget,
+    /// To change nothing.
+    Look,
+}
+
+impl Task {
+    fn of(request: &Request) -> Task {
+        match request {
+            Request::Make(Call::Run(Command::ConvertDep5), _) => Task::Conversion,
+            Request::Make(Call::Run(_), _) => Task::Step,
+            Request::Make(Call::Undo, _) => Task::Undo,
+            Request::Make(Call::Redo, _) => Task::Redo,
+            Request::Make(Call::Revert { .. }, _) => Task::Revert,
+            Request::Preview(Call::Revert { .. }) => Task::PreviewRevert,
+            Request::Preview(_) | Request::Log | Request::Show(_) => Task::Look,
+        }
+    }
+}
+
+/// What was found out about a call.
+#[derive(Drop)]
+pub struct Diagnostics {
+    pub task: Task,
+    /// The root, as it was named.
+    root: Option<String>,
+    /// The folder of the texts of a download.
+    pub texts: Option<String>,
+    /// The nearest folder above the root that has a journal.
+    pub above: Option<String>,
+    /// The step that a stopped run had begun.
+    pub begun: Option<u32>,
+    /// Whether that step was rolled back by the call.
+    pub is_rolled_back: bool,
+    /// What was done to owners and names of files.
+    pub kept: Kept,
+    /// The files of steps in a journal that had no head before the call.
+    pub headless: Option<Headless>,
+    /// What is wrong with the file that the journal was refused for.
+    pub damage: Option<Damage>,
+    /// Whether nothing has the path of the file that was refused as moved.
+    pub is_gone: bool,
+    /// Whether the table that was made says nothing of any file.
+    pub is_table_empty: bool,
+    /// What the call counted.
+    pub counts: Counts,
+    /// How many files have names that aren't recognised, where the call was refused for one or
+    /// passed them over.
+    pub unrecognised: usize,
+    /// The call of the store that failed.
+    pub failure: Option<Failure>,
+    /// The root, where it was no folder.
+    pub missing_root: Option<String>,
+    /// Whether folders were sought by their paths, since the system doesn't show open ones.
+    pub is_by_path: bool,
+}
+
+impl Diagnostics {
+    /// What is found before the call of a line. Want of memory or a fault leaves a finding out.
+    pub fn before<R: Files + AllocGlobal + Clone + Drop>(
+        rt: &R,
+        alloc: Global,
+        line: &Line,
+        begun: Option<u32>,
+    ) -> Diagnostics {
+        let task = Task::of(&line.request);
+        let mut diagnostics = Diagnostics::of(rt, alloc, line.root.as_str(), task, begun);
+        diagnostics.texts = match &line.texts {
+            Some(folder) => String::from_str(alloc, folder.as_str()).ok(),
+            None => None,
+        };
+        diagnostics
+    }
+
+    /// The same before a task in this root.
+    pub fn of<R: Files + AllocGlobal + Clone + Drop>(
+        rt: &R,
+        alloc: Global,
+        root: &str,
+        task: Task,
+        begun: Option<u32>,
+    ) -> Diagnostics {
+        Diagnostics {
+            task,
+            root: String::from_str(alloc, root).ok(),
+            texts: None,
+            above: journal_above(rt, alloc, root),
+            begun,
+            is_rolled_back: false,
+            kept: Kept {
+                changed: 0,
+                linked: 0,
+            },
+            headless: steps_without_head(rt, alloc, root),
+            damage: None,
+            is_gone: false,
+            is_table_empty: false,
+            counts: Counts::none(),
+            unrecognised: 0,
+            failure: None,
+            missing_root: missing_root(rt, alloc, root),
+            is_by_path: false,
+        }
+    }
+
+    /// Adds what is found after the call of a line.
+    pub fn look_after<R: Files<File = File> + AllocGlobal + Clone + Drop>(
+        &mut self,
+        rt: &R,
+        alloc: Global,
+        mut folder: DiskStore<R>,
+        request: &Request,
+        outcome: &Result<usize, Fault>,
+    ) {
+        self.look_at_folder(rt, alloc, &mut folder, outcome);
+        if self.task == Task::Conversion {
+            self.is_table_empty = is_table_empty(alloc, &mut folder);
+        }
+        self.unrecognised = self.unrecognised_by(alloc, folder, request, outcome);
+    }
+
+    /// Of how many files the names aren't recognised, where the call was refused for one or passed
+    /// them over. A call that was made has counted them. One that was refused stopped at the first,
+    /// so it is looked at once more. Want of memory or a fault leaves them out.
+    fn unrecognised_by<S: Store + Drop>(
+        &self,
+        alloc: Global,
+        folder: S,
+        request: &Request,
+        outcome: &Result<usize, Fault>,
+    ) -> usize {
+        let Request::Make(Call::Run(command), _) = request else {
+            return 0;
+        };
+        match (command, outcome) {
+            (_, Err(Fault::Refused(Refusal::Unrecognised(_)))) => {
+                unrecognised_names(alloc, folder, command).unwrap_or(0)
+            }
+            (Command::Annotate { scope, .. }, Ok(_)) if passes_over(scope) => self.counts.skipped,
+            _ => 0,
+        }
+    }
+
+    /// Adds what is found after any task.
+    pub fn look_at_folder<R: Files<File = File> + AllocGlobal + Clone + Drop>(
+        &mut self,
+        rt: &R,
+        alloc: Global,
+        folder: &mut DiskStore<R>,
+        outcome: &Result<usize, Fault>,
+    ) {
+        self.failure = folder.take_failure();
+        self.is_by_path = folder.is_by_path();
+        self.is_rolled_back = folder.rolled_back().is_some();
+        self.kept = folder.kept();
+        if let Err(
+            Fault::Refused(Refusal::BadJournal(path)) | Fault::NoDiff(Refusal::BadJournal(path)),
+        ) = outcome
+        {
+            self.damage = damage_of(alloc, folder, path);
+        }
+        if let (Some(path), Some(root)) = (moved_path(outcome), &self.root) {
+            self.is_gone = is_gone(rt, alloc, root.as_str(), path).unwrap_or(false);
+        }
+    }
+}
+
+/// The path that was refused as moved, or the first one that would be.
+fn moved_path(outcome: &Result<usize, Fault>) -> Option<&PathText> {
+    match outcome {
+        Err(Fault::Refused(Refusal::Moved(path))) => Some(path),
+        Err(Fault::WouldRefuse(path_outcomes)) => path_outcomes
+            .as_slice()
+            .iter()
+            .find_map(|path_outcome| match path_outcome {
+                PathOutcome::Refused(Refusal::Moved(path)) => Some(path),
+                _ => None,
+            }),
+        _ => None,
+    }
+}
+
+/// The root, where it is known to be no folder.
+fn missing_root(rt: &impl Files, alloc: Global, root: &str) -> Option<String> {
+    let is_missing = match fs::metadata(rt, root) {
+        Ok(found) => !found.is_dir(),
+        Err(error) => matches!(error.kind(), ErrorKind::NotFound | ErrorKind::NotADirectory),
+    };
+    if is_missing {
+        String::from_str(alloc, root).ok()
+    } else {
+        None
+    }
+}
+
+/// Whether the files that are skipped are those whose names aren't recognised.
+fn passes_over(scope: &Scope) -> bool {
+    scope.unknown == Unknown::Skip && !scope.skip_existing
+}
+
+/// Of how many files that the annotation goes through the names aren't recognised.
+fn unrecognised_names<S: Store + Drop>(
+    alloc: Global,
+    folder: S,
+    command: &Command,
+) -> Option<usize> {
+    let mut session = Session::open(alloc, folder).ok()?;
+    let path_outcomes = session.preview(alloc, command).ok()?;
+    Some(unrecognised_among(path_outcomes.as_slice()))
+}
+
+/// How many of the path outcomes are refusals of names that aren't recognised.
+pub fn unrecognised_among(path_outcomes: &[PathOutcome]) -> usize {
+    path_outcomes
+        .iter()
+        .filter(|path_outcome| matches!(
+            path_outcome,
+            PathOutcome::Refused(Refusal::Unrecognised(_))
+        ))
+        .count()
+}
+
+fn read<S: Store>(alloc: Global, store: &mut S, path: &str) -> Option<Bytes>
+    ensures { OnlyReads S.Store store.old store.new }
+{
+    let path = PathText::new(alloc, path).ok()?;
+    match store.read(alloc, &path, LONGEST_FILE) {
+        Ok(Reading::Found(bytes)) => Some(bytes),
+        _ => None,
+    }
+}
+
+fn head_of<S: Store>(alloc: Global, store: &mut S) -> Option<Head>
+    ensures { OnlyReads S.Store store.old store.new }
+{
+    let text = read(alloc, store, HEAD)?;
+    decode_head(alloc, text.as_slice()).ok()
+}
+
+/// The step that is under way.
+pub fn begun_step<S: Store>(alloc: Global, store: &mut S) -> Option<u32>
+    ensures { OnlyReads S.Store store.old store.new }
+{
+    let pending = head_of(alloc, store)?.pending?;
+    Some(pending.entry)
+}
+
+/// Whether there is a table, and it has no paragraph.
+fn is_table_empty<S: Store>(alloc: Global, store: &mut S) -> bool
+    ensures { OnlyReads S.Store store.old store.new }
+{
+    match read(alloc, store, TABLE) {
+        Some(bytes) => match str::from_utf8(bytes.as_slice()) {
+            Ok(text) => !text.contains(TABLE_PARAGRAPH),
+            Err(_) => false,
+        },
+        None => false,
+    }
+}

@@ -1,0 +1,100 @@
+//! Dry runs that are answered with what would change, of which a diff is drawn. What they tell and
+//! what would change are of one plan.
+ghost use Rattle.std.specs.Prelude.{◌≡◌};
+ghost use Rattle.reuse_session.specs.session.Previews.{path_outcomes_alone};
+ghost use Rattle.reuse_undo.specs.run.Drawn.{planned_in, planned_unless, IsAnsweredWith};
+ghost use Rattle.reuse_session.specs.session.Requests.{replied};
+
+use super::printed::is_refused;
+use reuse_session::{Answer, Call, Changes, Previewed, Refusal, Reply, Request, Session};
+use reuse_tree::{Store, Way};
+use std::alloc::Global;
+
+/// What a call would change, and which way the changes are gone through.
+#[derive(Drop)]
+pub struct PlannedChanges {
+    pub changes: Changes,
+    pub way: Way,
+}
+
+/// Makes the call. Of a dry run without a refusal what would change is answered too.
+pub fn ask_with_changes<S: Store + Drop>(
+    alloc: Global,
+    session: &mut Session<S>,
+    request: &Request,
+) -> (Answer, Option<PlannedChanges>)
+    ensures { IsAnsweredWith S.Store request.now result.0 result.1 session.old session.new }
+{
+    match request {
+        Request::Preview(call) => call_with_changes(alloc, session, call),
+        _ => (session.answer(alloc, request), None),
+    }
+}
+
+// The dry run of a call.
+fn call_with_changes<S: Store + Drop>(
+    alloc: Global,
+    session: &mut Session<S>,
+    call: &Call,
+) -> (Answer, Option<PlannedChanges>)
+    ensures { IsAnsweredWith S.Store (Request.Preview call.now) result.0 result.1 session.old session.new }
+{
+    match call {
+        Call::Run(command) => told_with(session.preview_changes(alloc, command), Way::Do),
+        Call::Undo => told_with(session.preview_step(alloc, Way::Undo), Way::Undo),
+        Call::Redo => told_with(session.preview_step(alloc, Way::Do), Way::Do),
+        Call::Revert { number, skip_moved } => {
+            revert_with_changes(alloc, session, *number, *skip_moved)
+        }
+    }
+}
+
+// The dry run of taking a step back.
+fn revert_with_changes<S: Store + Drop>(
+    alloc: Global,
+    session: &mut Session<S>,
+    number: u32,
+    skip_moved: bool,
+) -> (Answer, Option<PlannedChanges>)
+    ensures { IsAnsweredWith S.Store (Request.Preview (Call.Revert number skip_moved)) result.0 result.1 session.old session.new }
+{
+    match session.revert_command(alloc, number, skip_moved) {
+        Ok(command) => {
+            let previewed = session.preview_changes(alloc, &command);
+            drop(command);
+            told_with(previewed, Way::Do)
+        }
+        Err(refusal) => (Err(refusal), None),
+    }
+}
+
+// What is told of a preview, and what would change where none of the path outcomes is a refusal.
+fn told_with(answer: Result<Previewed, Refusal>, way: Way) -> (Answer, Option<PlannedChanges>)
+    ensures told { result.0 ≡ replied Reply.Preview (path_outcomes_alone answer) }
+    ensures planned { result.1 ≡ planned_in way answer }
+{
+    match answer {
+        Ok(
+            Previewed {
+                path_outcomes,
+                changes,
+            },
+        ) => {
+            let planned = planned_of(is_refused(path_outcomes.as_slice()), changes, way);
+            (Ok(Reply::Preview(path_outcomes)), planned)
+        }
+        Err(refusal) => (Err(refusal), None),
+    }
+}
+
+// What would change, unless that is refused.
+fn planned_of(is_refused: bool, changes: Changes, way: Way) -> Option<PlannedChanges>
+    ensures { result ≡ planned_unless is_refused changes way }
+{
+    if is_refused {
+        drop(changes);
+        None
+    } else {
+        Some(PlannedChanges { changes, way })
+    }
+}
