@@ -56,7 +56,7 @@ ghost use Rattle.reuse_session.specs.declared.path_outcome.PathOutcome.TheVarian
 ghost use Rattle.reuse_session.specs.declared.plan.licence.LicenceText.{LicenceText};
 ghost use Rattle.reuse_session.specs.declared.reply.Refusal.{Refusal};
 ghost use Rattle.reuse_session.specs.declared.reply.Refusal.TheVariants.{Moved};
-ghost use Rattle.reuse_session.specs.declared.reply.Reply.{Reply};
+ghost use Rattle.reuse_session.specs.declared.reply.Response.{Response};
 ghost use Rattle.reuse_session.specs.declared.request.Request.{Request};
 
 use reuse_header::{
@@ -88,7 +88,7 @@ pub fn entries_lead_in_turn()
 pub fn downloads_put_each_text()
     ensures accepted { (ids : List (List ℕ)) (texts : List LicenceText) (tree : Files) → ((after : Files) × (outcome_of (Download ids texts) tree ≡ Ok after)) ↔ CanDownload ids texts tree }
     ensures made { (ids : List (List ℕ)) (texts : List LicenceText) (tree after : Files) → outcome_of (Download ids texts) tree ≡ Ok after → PutsTexts ids texts tree after }
-    ensures left { (ids : List (List ℕ)) (texts : List LicenceText) (when : ℕ) (old new : State) (reply : Reply) → Runs (Download ids texts) when old (Ok reply) new
+    ensures left { (ids : List (List ℕ)) (texts : List LicenceText) (when : ℕ) (old new : State) (reply : Response) → Runs (Download ids texts) when old (Ok reply) new
         → PutsTexts ids texts old.tree new.tree }
 {}
 
@@ -108,7 +108,7 @@ pub fn annotations_change_chosen_places_alone()
         → Annotates places additions how scope tree after }
     ensures one { (places : List Place) (additions : Additions) (how : How) (scope : Scope) (before after other : Files) → Annotates places additions how scope before after
         → Annotates places additions how scope before other → after ≡ other }
-    ensures left { (places : List Place) (additions : Additions) (how : How) (scope : Scope) (when : ℕ) (old new : State) (reply : Reply) → Runs (Annotate places additions how scope) when old (Ok reply) new
+    ensures left { (places : List Place) (additions : Additions) (how : How) (scope : Scope) (when : ℕ) (old new : State) (reply : Response) → Runs (Annotate places additions how scope) when old (Ok reply) new
         → Annotates places additions how scope old.tree new.tree }
     ensures texts { (places : List Place) (additions : Additions) (how : How) (scope : Scope) (before after : Files) → Annotates places additions how scope before after
         → ArePlain additions → AreUtf8 additions → (path : List ℕ) → StaysOrIsText before after path }
@@ -134,7 +134,7 @@ pub fn amendments_change_selected_places_alone()
     ensures one { (places : List Place) (amendments : Amendments) (scope : Scope) (before after other : Files) → Amends places amendments scope before after
         → Amends places amendments scope before other → after ≡ other }
     ensures files { (places : List Place) (amendments : Amendments) (scope : Scope) (before after : Files) → Amends places amendments scope before after → HaveSamePaths before after }
-    ensures left { (places : List Place) (amendments : Amendments) (scope : Scope) (when : ℕ) (old new : State) (reply : Reply) → Runs (Amend places amendments scope) when old (Ok reply) new
+    ensures left { (places : List Place) (amendments : Amendments) (scope : Scope) (when : ℕ) (old new : State) (reply : Response) → Runs (Amend places amendments scope) when old (Ok reply) new
         → Amends places amendments scope old.tree new.tree }
 {
     amending_keeps_other_bytes();
@@ -147,7 +147,7 @@ pub fn amendments_change_selected_places_alone()
 pub fn conversions_put_a_table()
     ensures accepted { (tree : Files) → ((after : Files) × (outcome_of ConvertDep5 tree ≡ Ok after)) ↔ CanConvert tree }
     ensures made { (tree after : Files) → outcome_of ConvertDep5 tree ≡ Ok after → PutsTable tree after }
-    ensures left { (when : ℕ) (old new : State) (reply : Reply) → Runs ConvertDep5 when old (Ok reply) new → PutsTable old.tree new.tree }
+    ensures left { (when : ℕ) (old new : State) (reply : Response) → Runs ConvertDep5 when old (Ok reply) new → PutsTable old.tree new.tree }
 {}
 
 /// What an edit of a command tells beside the file that it leaves, and by which an entry has its
@@ -213,7 +213,7 @@ pub fn selected_paths_are_asked_for()
 pub fn reverts_take_steps_back()
     ensures undo { (changes : List Change) (skip_moved : Bool) (before after : Files) → IsEntry changes → AreAllSealed true changes → AreFiles before → LeadsAll changes before after
         → outcome_of (Revert changes [] skip_moved) after ≡ Ok before }
-    ensures left { (changes : List Change) (skip_moved : Bool) (before : Files) (when : ℕ) (old new : State) (reply : Reply) → IsEntry changes → AreAllSealed true changes → AreFiles before
+    ensures left { (changes : List Change) (skip_moved : Bool) (before : Files) (when : ℕ) (old new : State) (reply : Response) → IsEntry changes → AreAllSealed true changes → AreFiles before
         → LeadsAll changes before old.tree → Runs (Revert changes [] skip_moved) when old (Ok reply) new → new.tree ≡ before }
     ensures returned { (changes : List Change) (touched : List (List ℕ)) (skip_moved : Bool) (before after now reverted : Files) (path : List ℕ) → IsEntry changes → LeadsAll changes before after
         → outcome_of (Revert changes touched skip_moved) now ≡ Ok reverted → (skip_moved ≡ false) ⊎ (¬ (Clashes now path) × (is_among touched path ≡ false))
@@ -264,13 +264,13 @@ pub fn steps_follow_path_outcomes()
     ensures refused { (way : Way) (tree : Files) (changes : List Change) (path_outcomes : List PathOutcome) (refusal : Refusal) → ArePathOutcomesOf way tree changes path_outcomes
         → (first_refusal path_outcomes ≡ Some refusal) ↔ ((path : List ℕ) × (refusal ≡ Moved path) × IsFirstStuck way tree changes path) }
     ensures accepted { (way : Way) (tree : Files) (changes : List Change) (path_outcomes : List PathOutcome) → ArePathOutcomesOf way tree changes path_outcomes → (first_refusal path_outcomes ≡ None) ↔ All (CanBeMade way tree) changes }
-    ensures preview_of { (way : Way) (steps : List Recorded) (old new : State) (path_outcomes : List PathOutcome) (result : Result Reply Refusal) (refusal : Refusal) → PreviewsReplay way steps old.tree (Ok path_outcomes)
+    ensures preview_of { (way : Way) (steps : List Recorded) (old new : State) (path_outcomes : List PathOutcome) (result : Result Response Refusal) (refusal : Refusal) → PreviewsReplay way steps old.tree (Ok path_outcomes)
         → Replays way steps old result new → (result ≡ Err refusal) ↔ (first_refusal path_outcomes ≡ Some refusal) }
 {}
 
 /// To a request that names no step by its number the model gives one answer, and is in one state
 /// then.
 pub fn model_gives_one_answer()
-    ensures one { (state : Snapshots) (request : Request) (first second : Result Reply Refusal) (next other : Snapshots) → IsByTrees request
+    ensures one { (state : Snapshots) (request : Request) (first second : Result Response Refusal) (next other : Snapshots) → IsByTrees request
         → Gives state request first next → Gives state request second other → (first ≡ second) × (next ≡ other) }
 {}

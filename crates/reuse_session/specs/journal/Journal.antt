@@ -8,8 +8,8 @@ use Rattle.reuse_session.specs.session.Machine.{Label, row_of}
 use Rattle.reuse_tree.specs.declared.way.Way.{Way}
 use Rattle.reuse_tree.specs.declared.way.Way.TheVariants as way
 use Rattle.reuse_session.specs.declared.reply.Row.{Row}
-use Rattle.reuse_session.specs.declared.reply.Reply.{Reply}
-use Rattle.reuse_session.specs.declared.reply.Reply.TheVariants as reply
+use Rattle.reuse_session.specs.declared.reply.Response.{Response}
+use Rattle.reuse_session.specs.declared.reply.Response.TheVariants as reply
 use Rattle.reuse_session.specs.declared.reply.Refusal.{Refusal}
 use Rattle.reuse_session.specs.declared.reply.Refusal.TheVariants.{Moved, NothingToUndo, NothingToRedo}
 
@@ -31,7 +31,7 @@ pub record State : Type 0 where
 
 -- Each change of the step can be made this way, and they are made. Or the first that can't be names the refusal, and
 -- nothing changes.
-abbrev pub GoesOneStep : Way → Recorded → (List (List ℕ) → Reply) → Journal → State → Result Reply Refusal → State → Type 0
+abbrev pub GoesOneStep : Way → Recorded → (List (List ℕ) → Response) → Journal → State → Result Response Refusal → State → Type 0
 GoesOneStep way step reply moved old (Ok given) new =
     (given ≡ reply (paths_of step.changes)) × All (CanBeMade way old.tree) step.changes × LeadsBy way step.changes old.tree new.tree × (new.journal ≡ moved)
 GoesOneStep way step reply moved old (Err refusal) new =
@@ -58,7 +58,7 @@ moved_on way.Undo step steps old = record { done = steps; undone = step ∷ old.
 moved_on way.Do step steps old = record { done = step ∷ old.done; undone = steps; used = old.used }
 
 -- the answer with a step's paths, and that where there is no step
-abbrev pub reply_of : Way → List (List ℕ) → Reply
+abbrev pub reply_of : Way → List (List ℕ) → Response
 reply_of way.Undo = reply.Undone
 reply_of way.Do = reply.Redone
 
@@ -67,16 +67,16 @@ end_of way.Undo = NothingToUndo
 end_of way.Do = NothingToRedo
 
 -- what a call answers and leaves that goes one step this way
-abbrev pub Replays : Way → List Recorded → State → Result Reply Refusal → State → Type 0
+abbrev pub Replays : Way → List Recorded → State → Result Response Refusal → State → Type 0
 Replays way [] old result new = (result ≡ Err (end_of way)) × (new ≡ old)
 Replays way (step ∷ steps) old result new = GoesOneStep way step (reply_of way) (moved_on way step steps old.journal) old result new
 
 -- what undo answers and leaves: the last step done is taken back, and is the next to be redone
-abbrev pub Undoes : List Recorded → State → Result Reply Refusal → State → Type 0
+abbrev pub Undoes : List Recorded → State → Result Response Refusal → State → Type 0
 Undoes = Replays way.Undo
 
 -- what redo answers and leaves: the next step undone is made again, and is the last done
-abbrev pub Redoes : List Recorded → State → Result Reply Refusal → State → Type 0
+abbrev pub Redoes : List Recorded → State → Result Response Refusal → State → Type 0
 Redoes = Replays way.Do
 
 -- the rows of a log: the steps done, the oldest first, then those undone, the next to be redone first

@@ -16,8 +16,8 @@ use Rattle.reuse_session.specs.journal.Journal.{Recorded, State}
 use Rattle.reuse_session.specs.journal.JournalFiles.{head_path}
 use Rattle.reuse_session.specs.journal.Recovery.{RecoversTo}
 use Rattle.reuse_session.specs.declared.reply.Recovered.{Recovered}
-use Rattle.reuse_session.specs.declared.reply.Reply.{Reply}
-use Rattle.reuse_session.specs.declared.reply.Reply.TheVariants.{NothingChanged}
+use Rattle.reuse_session.specs.declared.reply.Response.{Response}
+use Rattle.reuse_session.specs.declared.reply.Response.TheVariants.{NothingChanged}
 use Rattle.reuse_session.specs.declared.reply.Refusal.{Refusal}
 use Rattle.reuse_session.specs.declared.failure.Failure.TheVariants.{Interrupted}
 use Rattle.reuse_session.specs.declared.reply.Refusal.TheVariants.{Failed}
@@ -50,7 +50,7 @@ AreInDoubt store earlier held next new =
 -- What a loss of power may leave after a call of a session that stood on the standing: behind a step what is there; where a step was
 -- stopped, the files are in doubt between the standing and such a next one, and so is all that may be left; and else it is safe on the
 -- standing, as it was before.
-abbrev pub Survives : {S : Type 0} → Ghosts S → (State → Type 0) → (earlier held : State) → Result Reply Refusal → S → Type 0
+abbrev pub Survives : {S : Type 0} → Ghosts S → (State → Type 0) → (earlier held : State) → Result Response Refusal → S → Type 0
 Survives store IsNext earlier held (Ok NothingChanged) new = AreSafeOn store earlier held new
 Survives store IsNext earlier held (Ok reply) new = IsSynced store new
 Survives store IsNext earlier held (Err (Failed (Interrupted cause))) new = (next : State) × IsNext next × AreInDoubt store earlier held next new
@@ -61,7 +61,7 @@ abbrev pub IsNextBy : PendingWay → State → State → Type 0
 IsNextBy way held next = (step : Recorded) × IsStep way step held next
 
 -- so it is after a call, from whatever standing all that might be left before was safe on
-abbrev pub SurvivesCall : {S : Type 0} → Ghosts S → (IsNext : State → State → Type 0) → Result Reply Refusal → Session S → Session S → Type 0
+abbrev pub SurvivesCall : {S : Type 0} → Ghosts S → (IsNext : State → State → Type 0) → Result Response Refusal → Session S → Session S → Type 0
 SurvivesCall store IsNext result old new =
     store.honest (store_of new) → (earlier held : State) → StandsOn store.files old held → AreSafeOn store earlier held (store_of old)
     → Survives store (IsNext held) earlier held result (store_of new)

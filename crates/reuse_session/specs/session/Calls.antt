@@ -14,8 +14,8 @@ use Rattle.reuse_tree.specs.Tree.{undo_folder_of}
 use Rattle.reuse_session.specs.declared.command.Command.{Command}
 use Rattle.reuse_tree.specs.declared.way.Way.{Way}
 use Rattle.reuse_tree.specs.declared.journal.entry.Entry.{Entry}
-use Rattle.reuse_session.specs.declared.reply.Reply.{Reply}
-use Rattle.reuse_session.specs.declared.reply.Reply.TheVariants.{Changed}
+use Rattle.reuse_session.specs.declared.reply.Response.{Response}
+use Rattle.reuse_session.specs.declared.reply.Response.TheVariants.{Changed}
 use Rattle.reuse_session.specs.declared.reply.Refusal.{Refusal}
 use Rattle.reuse_session.specs.declared.session.Session.{Session}
 
@@ -41,7 +41,7 @@ pub record IsCall {A S : Type 0} (store : Ghosts S) (result : Result A Refusal) 
   pub later : IsLater store (store_of old) (store_of new)
 
 -- What an undo or a redo leaves. It puts nothing in the journal but heads.
-pub record LeavesReplay {S : Type 0} (store : Ghosts S) (way : Way) (result : Result Reply Refusal) (old new : Session S) : Type 0 where
+pub record LeavesReplay {S : Type 0} (store : Ghosts S) (way : Way) (result : Result Response Refusal) (old new : Session S) : Type 0 where
   -- a refusal before the step is pending has only read
   pub early : IfErr result (λ refusal. IsEarly refusal → OnlyReads store (store_of old) (store_of new))
   -- where it stops later something was put, and the files are in doubt between the standing before the call and that after it
@@ -63,7 +63,7 @@ pub record LeavesReplay {S : Type 0} (store : Ghosts S) (way : Way) (result : Re
   pub free : store.honest (store_of new) → IsFree (folder_of store old) → IsFree (folder_of store new)
 
 -- What a run leaves. It puts nothing in the journal but the next entry and heads.
-pub record LeavesRun {S : Type 0} (store : Ghosts S) (command : Command) (when : ℕ) (result : Result Reply Refusal) (old new : Session S) : Type 0 where
+pub record LeavesRun {S : Type 0} (store : Ghosts S) (command : Command) (when : ℕ) (result : Result Response Refusal) (old new : Session S) : Type 0 where
   -- a refusal before the step is pending changes nothing but the file of the next entry, which no head lists
   pub unchanged : store.honest (store_of new) → IfErr result (λ refusal. IsEarly refusal → IsSameBut (next_path old) (files_of store old) (files_of store new))
   pub stands : store.honest (store_of new) → (held : State) → StandsOn store.files old held → IfErr result (λ refusal. IsEarly refusal → StandsOn store.files new held)

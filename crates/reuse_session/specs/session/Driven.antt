@@ -12,7 +12,7 @@ use Rattle.reuse_session.specs.declared.request.Request.{Request}
 use Rattle.reuse_session.specs.declared.reply.Refusal.{Refusal}
 use Rattle.reuse_session.specs.declared.failure.Failure.TheVariants.{Interrupted}
 use Rattle.reuse_session.specs.declared.reply.Refusal.TheVariants.{Failed}
-use Rattle.reuse_session.specs.declared.reply.Reply.{Reply}
+use Rattle.reuse_session.specs.declared.reply.Response.{Response}
 use Rattle.reuse_session.specs.declared.session.Session.{Session}
 use Rattle.reuse_session.specs.declared.events.Driven.{Driven}
 use Rattle.reuse_session.specs.declared.events.Driven.TheVariants.{Open, Closed}
@@ -40,8 +40,8 @@ IsSafelyAt store (Closed new) point = (point.is_open ≡ false) × MayBeFound st
 
 -- What a request leaves of an open session that stood safely at the state. It stands safely there still, or at the model's next, or was stopped on
 -- the way.
-abbrev pub GoesSafely : {S : Type 0} → Ghosts S → Request → Result Reply Refusal → Snapshots → Session S → Type 0
+abbrev pub GoesSafely : {S : Type 0} → Ghosts S → Request → Result Response Refusal → Snapshots → Session S → Type 0
 GoesSafely store request (Err (Failed (Interrupted cause))) state new =
-    (given : Result Reply Refusal) × (next : Snapshots) × Gives state request given next × MayBeFound store (store_of new) state (Some next)
+    (given : Result Response Refusal) × (next : Snapshots) × Gives state request given next × MayBeFound store (store_of new) state (Some next)
 GoesSafely store request (Err (Failed failure)) state new = StandsSafely store new state
 GoesSafely store request answer state new = (next : Snapshots) × Gives state request answer next × StandsSafely store new next

@@ -12,8 +12,8 @@ use Rattle.reuse_tree.specs.declared.command_name.CommandName.{CommandName}
 use Rattle.reuse_session.specs.declared.path_outcome.PathOutcome.{PathOutcome}
 use Rattle.reuse_session.specs.declared.path_outcome.PathOutcome.TheVariants.{Changes}
 use Rattle.reuse_session.specs.declared.reply.Row.{Row}
-use Rattle.reuse_session.specs.declared.reply.Reply.{Reply}
-use Rattle.reuse_session.specs.declared.reply.Reply.TheVariants.{Changed, NothingChanged, Undone, Redone}
+use Rattle.reuse_session.specs.declared.reply.Response.{Response}
+use Rattle.reuse_session.specs.declared.reply.Response.TheVariants.{Changed, NothingChanged, Undone, Redone}
 use Rattle.reuse_session.specs.declared.reply.Refusal.{Refusal}
 use Rattle.reuse_session.specs.declared.reply.Refusal.TheVariants.{JournalFull, NothingToUndo, NothingToRedo}
 
@@ -37,7 +37,7 @@ pub record Snapshots : Type 0 where
 
 -- an answer, and what is kept then
 abbrev pub Step : Type 0
-Step = Result Reply Refusal × Snapshots
+Step = Result Response Refusal × Snapshots
 
 -- the command gave this tree, which differs at these paths
 abbrev pub taken : Snapshots → ℕ → CommandName → Files → List (List ℕ) → Step

@@ -13,8 +13,8 @@ use Rattle.reuse_session.specs.declared.command.Command.TheVariants.{Revert}
 use Rattle.reuse_session.specs.declared.events.Event.{Event}
 use Rattle.reuse_session.specs.declared.events.Event.TheVariants as events
 use Rattle.reuse_session.specs.declared.path_outcome.PathOutcome.{PathOutcome}
-use Rattle.reuse_session.specs.declared.reply.Reply.{Reply}
-use Rattle.reuse_session.specs.declared.reply.Reply.TheVariants as replies
+use Rattle.reuse_session.specs.declared.reply.Response.{Response}
+use Rattle.reuse_session.specs.declared.reply.Response.TheVariants as replies
 use Rattle.reuse_session.specs.declared.reply.Refusal.{Refusal}
 use Rattle.reuse_session.specs.declared.reply.Refusal.TheVariants.{NoSuchStep}
 use Rattle.reuse_session.specs.declared.reply.Shown.{Shown}
@@ -24,7 +24,7 @@ use Rattle.reuse_session.specs.declared.request.Request.{Request}
 use Rattle.reuse_session.specs.declared.request.Request.TheVariants as requests
 
 -- the answer and the state are those of the step
-abbrev pub AreOf : Step → Result Reply Refusal → Snapshots → Type 0
+abbrev pub AreOf : Step → Result Response Refusal → Snapshots → Type 0
 AreOf given answer next = (answer ≡ given.0) × (next ≡ given.1)
 
 -- ---- steps by their numbers
@@ -43,13 +43,13 @@ abbrev pub command_back : Snapshots → ℕ → Bool → List Change → Command
 command_back state number skip_moved changes = Revert changes (changed_later number state.tree state.past changes) skip_moved
 
 -- how that run is answered: by the paths that changed, and the others of the step
-abbrev pub as_reverted : List Change → Result Reply Refusal → Result Reply Refusal
+abbrev pub as_reverted : List Change → Result Response Refusal → Result Response Refusal
 as_reverted changes (Ok (replies.Changed paths)) = Ok (replies.Reverted (record { changed = paths; skipped = left_of (paths_of changes) paths }))
 as_reverted changes (Ok reply) = Ok (replies.Reverted (record { changed = []; skipped = left_of (paths_of changes) [] }))
 as_reverted changes (Err refusal) = Err refusal
 
 -- a revert is the run that takes back what the step of the number changed, or no step that is done has the number
-abbrev pub RevertsTo : Snapshots → ℕ → Bool → ℕ → Result Reply Refusal → Snapshots → Type 0
+abbrev pub RevertsTo : Snapshots → ℕ → Bool → ℕ → Result Response Refusal → Snapshots → Type 0
 RevertsTo state number skip_moved when answer next =
     ((answer ≡ Err (NoSuchStep number)) × IsUnkept number state.past × (next ≡ state))
     ⊎ ((changes : List Change) × LedTo number changes state.tree state.past
@@ -64,7 +64,7 @@ PreviewsBack state number skip_moved answer =
 -- ---- requests
 
 -- the call at this moment
-abbrev pub MakesTo : Snapshots → Call → ℕ → Result Reply Refusal → Snapshots → Type 0
+abbrev pub MakesTo : Snapshots → Call → ℕ → Result Response Refusal → Snapshots → Type 0
 MakesTo state (calls.Run command) when answer next = AreOf (ran_by state command when) answer next
 MakesTo state calls.Undo when answer next = AreOf (undone state state.past) answer next
 MakesTo state calls.Redo when answer next = AreOf (redone state state.future) answer next
@@ -78,7 +78,7 @@ PreviewsTo state calls.Redo answer = answer ≡ redo_path_outcomes state.tree st
 PreviewsTo state (calls.Revert number skip_moved) answer = PreviewsBack state number skip_moved answer
 
 -- asked this in the state, the model gives the answer and is in the next state then
-abbrev pub Gives : Snapshots → Request → Result Reply Refusal → Snapshots → Type 0
+abbrev pub Gives : Snapshots → Request → Result Response Refusal → Snapshots → Type 0
 Gives state (requests.Make call when) answer next = MakesTo state call when answer next
 Gives state (requests.Preview call) answer next = (path_outcomes : Result (List PathOutcome) Refusal) × (answer ≡ replied replies.Preview path_outcomes) × PreviewsTo state call path_outcomes × (next ≡ state)
 Gives state requests.Log answer next = (answer ≡ Ok (replies.Log (rows_of state))) × (next ≡ state)
@@ -94,12 +94,12 @@ IsByTrees request = Unit {0}
 -- ---- events
 
 -- a request, or to be opened again
-abbrev pub GivesEvent : Snapshots → Event → Result Reply Refusal → Snapshots → Type 0
+abbrev pub GivesEvent : Snapshots → Event → Result Response Refusal → Snapshots → Type 0
 GivesEvent state (events.Ask request) answer next = Gives state request answer next
 GivesEvent state events.Reopen answer next = (answer ≡ Ok replies.Opened) × (next ≡ state)
 
 -- the model gives the answers to the events, one after the other, from the one state to the other
-abbrev pub AnswersAll : List Event → List (Result Reply Refusal) → (state end : Snapshots) → Type 0
+abbrev pub AnswersAll : List Event → List (Result Response Refusal) → (state end : Snapshots) → Type 0
 AnswersAll [] [] state end = end ≡ state
 AnswersAll (event ∷ events) (answer ∷ answers) state end = (next : Snapshots) × GivesEvent state event answer next × AnswersAll events answers next end
 AnswersAll [] (answer ∷ answers) state end = ⊥

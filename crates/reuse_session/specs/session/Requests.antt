@@ -23,8 +23,8 @@ use Rattle.reuse_session.specs.declared.failure.Failure.TheVariants.{Interrupted
 use Rattle.reuse_session.specs.declared.path_outcome.PathOutcome.{PathOutcome}
 use Rattle.reuse_session.specs.declared.reply.Refusal.{Refusal}
 use Rattle.reuse_session.specs.declared.reply.Refusal.TheVariants.{Broken, Failed, NoSuchStep}
-use Rattle.reuse_session.specs.declared.reply.Reply.{Reply}
-use Rattle.reuse_session.specs.declared.reply.Reply.TheVariants as replies
+use Rattle.reuse_session.specs.declared.reply.Response.{Response}
+use Rattle.reuse_session.specs.declared.reply.Response.TheVariants as replies
 use Rattle.reuse_session.specs.declared.reply.Reverted.{Reverted}
 use Rattle.reuse_session.specs.declared.reply.Shown.{Shown}
 use Rattle.reuse_session.specs.declared.request.Call.{Call}
@@ -53,7 +53,7 @@ IfFailed Claim (Failed failure) = Claim failure
 IfFailed Claim refusal = Unit {0}
 
 -- the value as a reply, or the refusal
-abbrev pub replied : {A : Type 0} → (A → Reply) → Result A Refusal → Result Reply Refusal
+abbrev pub replied : {A : Type 0} → (A → Response) → Result A Refusal → Result Response Refusal
 replied reply (Ok value) = Ok (reply value)
 replied reply (Err refusal) = Err refusal
 
@@ -73,7 +73,7 @@ Previews calls.Redo old answer = PreviewsReplay go.Do old.journal.undone old.tre
 Previews (calls.Revert number skip_moved) old answer = PreviewsRevert number skip_moved old answer
 
 -- what a call answers, and which state it leaves
-abbrev pub Makes : Call → ℕ → State → Result Reply Refusal → State → Type 0
+abbrev pub Makes : Call → ℕ → State → Result Response Refusal → State → Type 0
 Makes (calls.Run command) when old answer new = Runs command when old answer new
 Makes calls.Undo when old answer new = Undoes old.journal.done old answer new
 Makes calls.Redo when old answer new = Redoes old.journal.undone old answer new
@@ -81,7 +81,7 @@ Makes (calls.Revert number skip_moved) when old answer new =
     (reverted : Result Reverted Refusal) × (answer ≡ replied replies.Reverted reverted) × Reverts number skip_moved when old reverted new
 
 -- the same of a request; what only reads leaves the state
-abbrev pub LeadsTo : Request → State → Result Reply Refusal → State → Type 0
+abbrev pub LeadsTo : Request → State → Result Response Refusal → State → Type 0
 LeadsTo (requests.Make call when) old answer new = Makes call when old answer new
 LeadsTo (requests.Preview call) old answer new = (path_outcomes : Result (List PathOutcome) Refusal) × (answer ≡ replied replies.Preview path_outcomes) × Previews call old path_outcomes × (new ≡ old)
 LeadsTo requests.Log old answer new = (answer ≡ Ok (replies.Log (rows_in old.journal))) × (new ≡ old)
@@ -106,7 +106,7 @@ abbrev pub IsStopped : Request → State → Files → Type 0
 IsStopped request old files = (new : State) × IsAfter request old new × InDoubt old new files
 
 -- What a request is answered and leaves. One that failed early leaves the state.
-abbrev pub Meets : Request → State → Result Reply Refusal → Files → Type 0
+abbrev pub Meets : Request → State → Result Response Refusal → Files → Type 0
 Meets request old (Err (Failed (Interrupted cause))) files = MayFail request (Interrupted cause) × IsStopped request old files
 Meets request old (Err (Failed failure)) files = MayFail request failure × IsStanding files old
 Meets request old answer files = (new : State) × LeadsTo request old answer new × IsStanding files new
@@ -132,17 +132,17 @@ KeepsFolder (requests.Make calls.Redo when) old before after = IsSameBut head_pa
 KeepsFolder request old before after = after ≡ before
 
 -- the answer as that of a run, by which paths changed
-abbrev pub as_step : Result Reply Refusal → Result Reply Refusal
+abbrev pub as_step : Result Response Refusal → Result Response Refusal
 as_step (Ok (replies.Reverted reverted)) = Ok (changed_or_none reverted.changed)
 as_step answer = answer
 
 -- After a loss of power, at any moment of a call, what is left is the state before it or that after it. What only reads leaves what was safe.
-abbrev pub SurvivesRequest : {S : Type 0} → Ghosts S → Request → (earlier held : State) → Result Reply Refusal → S → Type 0
+abbrev pub SurvivesRequest : {S : Type 0} → Ghosts S → Request → (earlier held : State) → Result Response Refusal → S → Type 0
 SurvivesRequest store (requests.Make call when) earlier held answer new = Survives store (IsAfterCall call when held) earlier held (as_step answer) new
 SurvivesRequest store request earlier held answer new = AreSafeOn store earlier held new
 
 -- how a session answers a request
-pub record IsAnswered {S : Type 0} (store : Ghosts S) (request : Request) (answer : Result Reply Refusal) (old new : Session S) : Type 0 where
+pub record IsAnswered {S : Type 0} (store : Ghosts S) (request : Request) (answer : Result Response Refusal) (old new : Session S) : Type 0 where
   -- a session that was interrupted answers nothing more
   pub broken : (answer ≡ Err Broken) ↔ (is_broken old ≡ true)
   -- unless it fails, the answer and the state that is left are those of the request

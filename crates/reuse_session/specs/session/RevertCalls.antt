@@ -21,17 +21,17 @@ use Rattle.reuse_session.specs.declared.command.Command.TheVariants.{Revert}
 use Rattle.reuse_tree.specs.declared.journal.entry.Entry.{Entry}
 use Rattle.reuse_session.specs.declared.reply.Refusal.{Refusal}
 use Rattle.reuse_session.specs.declared.reply.Refusal.TheVariants.{NoSuchStep}
-use Rattle.reuse_session.specs.declared.reply.Reply.{Reply}
-use Rattle.reuse_session.specs.declared.reply.Reply.TheVariants.{Changed, NothingChanged}
+use Rattle.reuse_session.specs.declared.reply.Response.{Response}
+use Rattle.reuse_session.specs.declared.reply.Response.TheVariants.{Changed, NothingChanged}
 use Rattle.reuse_session.specs.declared.reply.Reverted.{Reverted}
 use Rattle.reuse_session.specs.declared.session.Session.{Session}
 
 -- the answer as that of a run
-abbrev pub changed_or_none : List (List ℕ) → Reply
+abbrev pub changed_or_none : List (List ℕ) → Response
 changed_or_none [] = NothingChanged
 changed_or_none (path ∷ paths) = Changed (path ∷ paths)
 
-abbrev pub as_run : Result Reverted Refusal → Result Reply Refusal
+abbrev pub as_run : Result Reverted Refusal → Result Response Refusal
 as_run (Ok reverted) = Ok (changed_or_none reverted.changed)
 as_run (Err refusal) = Err refusal
 

@@ -23,8 +23,8 @@ use Rattle.reuse_tree.specs.declared.journal.head.Pending.{Pending}
 use Rattle.reuse_tree.specs.declared.journal.head.PendingWay.{PendingWay}
 use Rattle.reuse_tree.specs.declared.journal.head.PendingWay.TheVariants as ways
 use Rattle.reuse_session.specs.declared.session.Session.{Session}
-use Rattle.reuse_session.specs.declared.reply.Reply.{Reply}
-use Rattle.reuse_session.specs.declared.reply.Reply.TheVariants.{Changed, NothingChanged}
+use Rattle.reuse_session.specs.declared.reply.Response.{Response}
+use Rattle.reuse_session.specs.declared.reply.Response.TheVariants.{Changed, NothingChanged}
 use Rattle.reuse_session.specs.declared.reply.Refusal.{Refusal}
 
 -- the store of a session
@@ -109,7 +109,7 @@ pub record StandsAt {S : Type 0} (files : S → Files) (session : Session S) (st
   pub holds : HoldsSnapshots held state
 
 -- the call answers as the machine does, and the session stands at its state
-abbrev pub Follows : {S : Type 0} → (S → Files) → Result Reply Refusal → Session S → Step → Type 0
+abbrev pub Follows : {S : Type 0} → (S → Files) → Result Response Refusal → Session S → Step → Type 0
 Follows files result session step = (result ≡ step.0) × StandsAt files session step.1
 
 -- the second standing is that after a run of the command
@@ -125,7 +125,7 @@ pub record IsRun (command : Command) (when : ℕ) (first second : State) : Type 
 
 -- what a run answers and leaves: a command that gives another tree is one step, and its paths are answered; one that gives the same
 -- tree leaves all, and so does a refusal, which is that of a full journal or the command's own
-abbrev pub Runs : Command → ℕ → State → Result Reply Refusal → State → Type 0
+abbrev pub Runs : Command → ℕ → State → Result Response Refusal → State → Type 0
 Runs command when old (Ok (Changed paths)) new = (paths ≡ changed_paths old.tree new.tree) × IsRun command when old new
 Runs command when old (Ok NothingChanged) new = (is_full (length old.journal.done) old.journal.used ≡ false) × (outcome_of command old.tree ≡ Ok old.tree) × (new ≡ old)
 Runs command when old (Err JournalFull) new = (is_full (length old.journal.done) old.journal.used ≡ true) × (new ≡ old)

@@ -13,8 +13,8 @@ use Rattle.reuse_session.specs.journal.Standing.{IsStanding, InDoubt}
 use Rattle.reuse_session.specs.declared.events.Event.{Event}
 use Rattle.reuse_session.specs.declared.events.Event.TheVariants as event
 use Rattle.reuse_session.specs.declared.request.Request.{Request}
-use Rattle.reuse_session.specs.declared.reply.Reply.{Reply}
-use Rattle.reuse_session.specs.declared.reply.Reply.TheVariants.{Opened}
+use Rattle.reuse_session.specs.declared.reply.Response.{Response}
+use Rattle.reuse_session.specs.declared.reply.Response.TheVariants.{Opened}
 use Rattle.reuse_session.specs.declared.reply.Refusal.{Refusal}
 use Rattle.reuse_session.specs.declared.failure.Failure.TheVariants.{Interrupted}
 use Rattle.reuse_session.specs.declared.reply.Refusal.TheVariants.{Broken, Failed}
@@ -37,28 +37,28 @@ abbrev pub IsReached : Point → Snapshots → Type 0
 IsReached point state = (point.state ≡ state) ⊎ (point.next ≡ Some state)
 
 -- An opening goes on from the state, or from that after the step that stopped. Where it fails it is left out.
-abbrev pub Reopens : Result Reply Refusal → Point → Point → Type 0
+abbrev pub Reopens : Result Response Refusal → Point → Point → Type 0
 Reopens (Ok Opened) old new = (state : Snapshots) × IsReached old state × (new ≡ open_at state)
 Reopens (Err (Failed failure)) old new = new ≡ closed old
 Reopens answer old new = ⊥
 
 -- A request to an open session. One that was interrupted closes it, and its step is kept or left out; one that failed earlier is left out; and
 -- every other is answered as by the model.
-abbrev pub Continues : Request → Result Reply Refusal → Point → Point → Type 0
+abbrev pub Continues : Request → Result Response Refusal → Point → Point → Type 0
 Continues request (Err (Failed (Interrupted cause))) old new =
     MayFail request (Interrupted cause)
-    × (given : Result Reply Refusal) × (next : Snapshots) × Gives old.state request given next × (new ≡ record { is_open = false; state = old.state; next = Some next })
+    × (given : Result Response Refusal) × (next : Snapshots) × Gives old.state request given next × (new ≡ record { is_open = false; state = old.state; next = Some next })
 Continues request (Err (Failed failure)) old new = MayFail request failure × (new ≡ old)
 Continues request answer old new = (next : Snapshots) × Gives old.state request answer next × (new ≡ open_at next)
 
 -- while no session is open, all but an opening is refused as broken
-abbrev pub AnswersEvent : Bool → Event → Result Reply Refusal → Point → Point → Type 0
+abbrev pub AnswersEvent : Bool → Event → Result Response Refusal → Point → Point → Type 0
 AnswersEvent is_open event.Reopen answer old new = Reopens answer old new
 AnswersEvent true (event.Ask request) answer old new = Continues request answer old new
 AnswersEvent false (event.Ask request) answer old new = (answer ≡ Err Broken) × (new ≡ old)
 
 -- the events are answered so, one after the other, and lead from one point to the other
-abbrev pub RunsWithStops : List Event → List (Result Reply Refusal) → Point → Point → Type 0
+abbrev pub RunsWithStops : List Event → List (Result Response Refusal) → Point → Point → Type 0
 RunsWithStops [] [] old new = new ≡ old
 RunsWithStops (event ∷ events) (answer ∷ answers) old new = (point : Point) × AnswersEvent old.is_open event answer old point × RunsWithStops events answers point new
 RunsWithStops [] (answer ∷ answers) old new = ⊥
@@ -66,7 +66,7 @@ RunsWithStops (event ∷ events) [] old new = ⊥
 
 -- there is a count of the store's failures after each answer, from the first to the last, none less than the one before it; and where
 -- the answer tells a device fault it is greater
-abbrev pub HaveCauses : List (Result Reply Refusal) → ℕ → ℕ → Type 0
+abbrev pub HaveCauses : List (Result Response Refusal) → ℕ → ℕ → Type 0
 HaveCauses [] first last = first ≤ last
 HaveCauses (answer ∷ answers) first last = (next : ℕ) × (first ≤ next) × IfErr answer (HasCause (first < next)) × HaveCauses answers next last
 

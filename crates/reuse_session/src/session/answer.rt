@@ -3,7 +3,7 @@ ghost use Rattle.std.specs.Prelude.{◌≡◌, ◌↔◌, true};
 ghost use Rattle.reuse_session.specs.session.Requests.{replied};
 
 use crate::path_outcome::PathOutcomes;
-use crate::reply::{Answer, Refusal, Reply, Reverted, Rows, Shown};
+use crate::reply::{Answer, Refusal, Response, Reverted, Rows, Shown};
 use crate::request::{Call, Request};
 use crate::session::Session;
 use reuse_tree::{Moment, Store};
@@ -85,37 +85,37 @@ impl<S: Store + Drop> Session<S> {
 }
 
 fn path_outcomes_replied(answer: Result<PathOutcomes, Refusal>) -> Answer
-    ensures { result ≡ replied Reply.Preview answer }
+    ensures { result ≡ replied Response.Preview answer }
 {
     match answer {
-        Ok(path_outcomes) => Ok(Reply::Preview(path_outcomes)),
+        Ok(path_outcomes) => Ok(Response::Preview(path_outcomes)),
         Err(refusal) => Err(refusal),
     }
 }
 
 fn rows_replied(answer: Result<Rows, Refusal>) -> Answer
-    ensures { result ≡ replied Reply.Log answer }
+    ensures { result ≡ replied Response.Log answer }
 {
     match answer {
-        Ok(rows) => Ok(Reply::Log(rows)),
+        Ok(rows) => Ok(Response::Log(rows)),
         Err(refusal) => Err(refusal),
     }
 }
 
 fn shown_replied(answer: Result<Shown, Refusal>) -> Answer
-    ensures { result ≡ replied Reply.Shown answer }
+    ensures { result ≡ replied Response.Shown answer }
 {
     match answer {
-        Ok(shown) => Ok(Reply::Shown(shown)),
+        Ok(shown) => Ok(Response::Shown(shown)),
         Err(refusal) => Err(refusal),
     }
 }
 
 fn reverted_replied(answer: Result<Reverted, Refusal>) -> Answer
-    ensures { result ≡ replied Reply.Reverted answer }
+    ensures { result ≡ replied Response.Reverted answer }
 {
     match answer {
-        Ok(reverted) => Ok(Reply::Reverted(reverted)),
+        Ok(reverted) => Ok(Response::Reverted(reverted)),
         Err(refusal) => Err(refusal),
     }
 }

@@ -14,7 +14,7 @@ ghost use Rattle.reuse_session.specs.declared.journal.history.ListedEntry.{Liste
 use crate::journal::files::read_entry;
 use crate::journal::history::ListedEntry;
 use crate::journal::prepare::prepare;
-use crate::reply::{Paths, Refusal, Reply};
+use crate::reply::{Paths, Refusal, Response};
 use crate::session::Session;
 use reuse_tree::{Pending, PendingWay, Store, Way};
 use std::alloc::Global;
@@ -25,7 +25,7 @@ impl<S: Store + Drop> Session<S> {
     /// It is refused as `Broken` or `NothingToUndo`, as `Moved` at the first path that isn't as the
     /// step left it or that can't be made, or for an I/O error or an allocation failure, before
     /// the step is pending. Where it stops later it is `Interrupted`.
-    pub fn undo(&mut self, alloc: Global) -> Result<Reply, Refusal>
+    pub fn undo(&mut self, alloc: Global) -> Result<Response, Refusal>
         ensures broken { (result ≡ Err Refusal.Broken) ↔ (is_broken self.old ≡ true) }
         ensures nothing { (result ≡ Err Refusal.NothingToUndo) ↔ ((is_broken self.old ≡ false) × ((memory_of self.old).done ≡ [])) }
         ensures stays { (result ≡ Err Refusal.Broken) ⊎ (result ≡ Err Refusal.NothingToUndo) → self.new ≡ self.old }
@@ -52,7 +52,7 @@ impl<S: Store + Drop> Session<S> {
     /// It is refused as `Broken` or `NothingToRedo`, as `Moved` at the first path that isn't as it
     /// was before the step or that can't be made, or for an I/O error or an allocation failure,
     /// before the step is pending. Where it stops later it is `Interrupted`.
-    pub fn redo(&mut self, alloc: Global) -> Result<Reply, Refusal>
+    pub fn redo(&mut self, alloc: Global) -> Result<Response, Refusal>
         ensures broken { (result ≡ Err Refusal.Broken) ↔ (is_broken self.old ≡ true) }
         ensures nothing { (result ≡ Err Refusal.NothingToRedo) ↔ ((is_broken self.old ≡ false) × ((memory_of self.old).undone ≡ [])) }
         ensures stays { (result ≡ Err Refusal.Broken) ⊎ (result ≡ Err Refusal.NothingToRedo) → self.new ≡ self.old }
@@ -75,7 +75,7 @@ impl<S: Store + Drop> Session<S> {
     }
 
     // Goes one step this way: takes the last one done back, or makes the next undone one again.
-    fn replay(&mut self, alloc: Global, way: Way) -> Result<Reply, Refusal>
+    fn replay(&mut self, alloc: Global, way: Way) -> Result<Response, Refusal>
         ensures broken { (result ≡ Err Refusal.Broken) ↔ (is_broken self.old ≡ true) }
         ensures nothing { (result ≡ Err (end_of way)) ↔ ((is_broken self.old ≡ false) × (entries_ahead way (memory_of self.old) ≡ [])) }
         ensures stays { (result ≡ Err Refusal.Broken) ⊎ (result ≡ Err (end_of way)) → self.new ≡ self.old }
@@ -100,7 +100,7 @@ impl<S: Store + Drop> Session<S> {
         alloc: Global,
         listed: ListedEntry,
         way: Way,
-    ) -> Result<Reply, Refusal>
+    ) -> Result<Response, Refusal>
         requires { (front : List ListedEntry) × (entries_ahead way (memory_of self.now) ≡ front ++ listed ∷ []) }
         ensures exact { S.honest (store_of self.new) → (held : State) → StandsOn S.files self.old held
             → TellsNoFault result → (left : State) × StandsOn S.files self.new left × Replays way (ahead way held.journal) held result left }
@@ -134,11 +134,11 @@ pub(crate) fn end_of(way: Way) -> Refusal
 }
 
 // The answer after a step this way.
-fn reply_of(way: Way, paths: Paths) -> Reply
+fn reply_of(way: Way, paths: Paths) -> Response
     ensures { result ≡ reply_of way paths }
 {
     match way {
-        Way::Do => Reply::Redone(paths),
-        Way::Undo => Reply::Undone(paths),
+        Way::Do => Response::Redone(paths),
+        Way::Undo => Response::Undone(paths),
     }
 }

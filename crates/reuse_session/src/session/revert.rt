@@ -6,7 +6,7 @@ ghost use Rattle.reuse_session.specs.session.RevertCalls.{as_run, left_of};
 
 use crate::command::Command;
 use crate::journal::prepare::paths_of;
-use crate::reply::{Paths, Refusal, Reply, Reverted};
+use crate::reply::{Paths, Refusal, Response, Reverted};
 use crate::session::Session;
 use crate::session::later_steps::read_back;
 use reuse_tree::{Moment, PathText, Store, is_among};
@@ -113,12 +113,12 @@ impl<S: Store + Drop> Session<S> {
 }
 
 // The answer of the run that takes back a step of these paths.
-fn told(alloc: Global, answer: Result<Reply, Refusal>, paths: Paths) -> Result<Reverted, Refusal>
+fn told(alloc: Global, answer: Result<Response, Refusal>, paths: Paths) -> Result<Reverted, Refusal>
     ensures same { IsRunAnswer answer → as_run result ≡ answer }
     ensures skipped { IfOk result (λ reverted. ArePaths reverted.changed → reverted.skipped ≡ left_of paths reverted.changed) }
 {
     match answer {
-        Ok(Reply::Changed(changed)) => Ok(reverted(paths, changed)),
+        Ok(Response::Changed(changed)) => Ok(reverted(paths, changed)),
         Ok(_) => Ok(reverted(paths, Paths::new(Vec::new(alloc)))),
         Err(refusal) => Err(refusal),
     }

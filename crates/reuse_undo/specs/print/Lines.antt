@@ -6,9 +6,9 @@ use Rattle.reuse_tree.specs.declared.change.Change.TheVariants.{Make, Drop, Spli
 use Rattle.reuse_undo.specs.print.RowLines.{AreRowLines, IsRowLine}
 use Rattle.reuse_session.specs.declared.path_outcome.PathOutcome.{PathOutcome}
 use Rattle.reuse_session.specs.declared.path_outcome.PathOutcome.TheVariants.{Changes, Unchanged, Skipped, Refused}
-use Rattle.reuse_session.specs.declared.reply.Reply.{Reply}
-use Rattle.reuse_session.specs.declared.reply.Reply.TheVariants as replies
-use Rattle.reuse_session.specs.declared.reply.Reply.TheVariants.{Opened, Changed, NothingChanged, Undone, Redone, Log, Preview}
+use Rattle.reuse_session.specs.declared.reply.Response.{Response}
+use Rattle.reuse_session.specs.declared.reply.Response.TheVariants as replies
+use Rattle.reuse_session.specs.declared.reply.Response.TheVariants.{Opened, Changed, NothingChanged, Undone, Redone, Log, Preview}
 use Rattle.reuse_session.specs.declared.reply.Reverted.{Reverted}
 use Rattle.reuse_session.specs.declared.reply.Shown.{Shown}
 use Rattle.reuse_undo.specs.print.ShownNames.{shown}
@@ -63,7 +63,7 @@ abbrev pub reverted_text : Names → Reverted → List ℕ
 reverted_text names reverted = changed_text names reverted.changed ++ lines_of names (codes "skipped") reverted.skipped
 
 -- what a reply is printed as; that a session was opened is not told
-abbrev pub IsReplyText : Names → Reply → List ℕ → Type 0
+abbrev pub IsReplyText : Names → Response → List ℕ → Type 0
 IsReplyText names Opened text = text ≡ []
 IsReplyText names (Changed paths) text = text ≡ lines_of names (codes "changed") paths
 IsReplyText names NothingChanged text = text ≡ codes "nothing changed" ++ 10 ∷ []
@@ -80,7 +80,7 @@ would_change (Changes path) = true
 would_change path_outcome = false
 
 -- how many paths a reply tells that changed, or that would change
-abbrev pub path_count : Reply → ℕ
+abbrev pub path_count : Response → ℕ
 path_count Opened = 0
 path_count (Changed paths) = length paths
 path_count NothingChanged = 0

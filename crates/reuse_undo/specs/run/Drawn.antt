@@ -16,8 +16,8 @@ use Rattle.reuse_session.specs.session.Session.{store_of, StandsOn}
 use Rattle.reuse_session.specs.declared.path_outcome.PathOutcome.{PathOutcome}
 use Rattle.reuse_session.specs.declared.path_outcome.Previewed.{Previewed}
 use Rattle.reuse_session.specs.declared.reply.Refusal.{Refusal}
-use Rattle.reuse_session.specs.declared.reply.Reply.{Reply}
-use Rattle.reuse_session.specs.declared.reply.Reply.TheVariants.{Preview}
+use Rattle.reuse_session.specs.declared.reply.Response.{Response}
+use Rattle.reuse_session.specs.declared.reply.Response.TheVariants.{Preview}
 use Rattle.reuse_session.specs.declared.session.Session.{Session}
 use Rattle.reuse_undo.specs.print.DiffText.{IsDiff}
 use Rattle.reuse_undo.specs.print.RowLines.{AreJoined}
@@ -50,7 +50,7 @@ WouldLead planned before after = AreSmallSteps planned.way planned.changes befor
 
 -- Made on the committed state, the call whose dry run is asked for is accepted and leaves this tree.
 abbrev pub WouldLeave : Request → State → Files → Type 0
-WouldLeave (requests.Preview call) held after = (when : ℕ) × (reply : Reply) × (new : State) × Makes call when held (Ok reply) new × (new.tree ≡ after)
+WouldLeave (requests.Preview call) held after = (when : ℕ) × (reply : Response) × (new : State) × Makes call when held (Ok reply) new × (new.tree ≡ after)
 WouldLeave request held after = ⊥
 
 -- the diff of two trees: of each path at which they differ, in byte order, what it holds in the one and in the other
@@ -88,13 +88,13 @@ planned_in way (Ok previewed) = planned_unless (is_refused previewed.path_outcom
 planned_in way (Err refusal) = None
 
 -- where a dry run was answered without a refusal, what would change is there, and leads to whatever tree the call would leave
-abbrev pub LeadsAsPreviewedAccepted : {S : Type 0} → Ghosts S → Request → Result Reply Refusal → Option PlannedChanges → Session S → Session S → Type 0
+abbrev pub LeadsAsPreviewedAccepted : {S : Type 0} → Ghosts S → Request → Result Response Refusal → Option PlannedChanges → Session S → Session S → Type 0
 LeadsAsPreviewedAccepted store request answer planned old new =
     store.honest (store_of new) → (held : State) → StandsOn store.files old held → (after : Files) → WouldLeave request held after → IsAccepted answer
     → IsSomeAnd planned (λ planned. LeadsAsPreviewed planned held.tree after)
 
 -- the request is answered, and of a dry run without a refusal what would change is there, and of nothing else
-pub record IsAnsweredWith {S : Type 0} (store : Ghosts S) (request : Request) (answer : Result Reply Refusal) (planned : Option PlannedChanges) (old new : Session S) : Type 0 where
+pub record IsAnsweredWith {S : Type 0} (store : Ghosts S) (request : Request) (answer : Result Response Refusal) (planned : Option PlannedChanges) (old new : Session S) : Type 0 where
   pub answered : IsAnswered store request answer old new
   pub accepted : IfSome planned (λ planned. IsAccepted answer)
   pub previews : LeadsAsPreviewedAccepted store request answer planned old new

@@ -6,7 +6,7 @@ ghost use Rattle.reuse_undo.specs.print.RowLines.{AppendsSome};
 
 use crate::print::rows::{print_row, print_rows};
 use crate::print::shown_name::{Names, print_name};
-use reuse_session::{PathOutcome, Reply, Reverted, Shown};
+use reuse_session::{PathOutcome, Response, Reverted, Shown};
 use reuse_tree::{Change, PathText};
 use std::io::{self, Write};
 
@@ -35,19 +35,23 @@ pub fn print_paths<W: Write>(
 
 /// Prints a reply: a line for each path or row. That a session was opened is not printed, nor the
 /// refusals of a preview.
-pub fn print_reply<W: Write>(out: &mut W, names: Names, reply: &Reply) -> io::Result<()>
+pub fn print_reply<W: Write>(out: &mut W, names: Names, reply: &Response) -> io::Result<()>
     ensures { OnOk result (AppendsSome (W.contents out.old) (W.contents out.new) (IsReplyText names reply.now)) }
 {
     match reply {
-        Reply::Changed(paths) => print_paths(out, names, "changed", paths.as_slice()),
-        Reply::Undone(paths) => print_paths(out, names, "undone", paths.as_slice()),
-        Reply::Redone(paths) => print_paths(out, names, "redone", paths.as_slice()),
-        Reply::NothingChanged => writeln!(out, "nothing changed"),
-        Reply::Log(rows) => print_rows(out, rows.as_slice()),
-        Reply::Preview(path_outcomes) => print_path_outcomes(out, names, path_outcomes.as_slice()),
-        Reply::Shown(shown) => print_shown(out, names, shown),
-        Reply::Reverted(reverted) => print_reverted(out, names, reverted),
-        Reply::Opened => Ok(()),
+        Response::Changed(paths) => print_paths(out, names, "changed", paths.as_slice()),
+        Response::Undone(paths) => print_paths(out, names, "undone", paths.as_slice()),
+        Response::Redone(paths) => print_paths(out, names, "redone", paths.as_slice()),
+        Response::NothingChanged => writeln!(out, "nothing changed"),
+        Response::Log(rows) => print_rows(out, rows.as_slice()),
+        Response::Preview(path_outcomes) => print_path_outcomes(
+            out,
+            names,
+            path_outcomes.as_slice(),
+        ),
+        Response::Shown(shown) => print_shown(out, names, shown),
+        Response::Reverted(reverted) => print_reverted(out, names, reverted),
+        Response::Opened => Ok(()),
     }
 }
 
@@ -127,16 +131,16 @@ fn print_reverted_paths<W: Write>(out: &mut W, names: Names, paths: &[PathText])
 }
 
 /// How many paths a reply tells that changed, or that would change.
-pub fn path_count(reply: &Reply) -> usize
+pub fn path_count(reply: &Response) -> usize
     ensures { result ≡ path_count reply.now }
 {
     match reply {
-        Reply::Changed(paths) | Reply::Undone(paths) | Reply::Redone(paths) => {
+        Response::Changed(paths) | Response::Undone(paths) | Response::Redone(paths) => {
             paths.as_slice().len()
         }
-        Reply::Preview(path_outcomes) => change_count(path_outcomes.as_slice()),
-        Reply::Reverted(reverted) => reverted.changed.as_slice().len(),
-        Reply::NothingChanged | Reply::Log(_) | Reply::Shown(_) | Reply::Opened => 0,
+        Response::Preview(path_outcomes) => change_count(path_outcomes.as_slice()),
+        Response::Reverted(reverted) => reverted.changed.as_slice().len(),
+        Response::NothingChanged | Response::Log(_) | Response::Shown(_) | Response::Opened => 0,
     }
 }
 

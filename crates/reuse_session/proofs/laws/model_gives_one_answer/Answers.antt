@@ -3,14 +3,14 @@ use Rattle.reuse_session.specs.session.Machine.{Snapshots}
 use Rattle.reuse_session.specs.session.Model.{Gives, IsByTrees}
 use Rattle.reuse_session.specs.session.Requests.{replied}
 use Rattle.reuse_session.specs.declared.reply.Refusal.{Refusal}
-use Rattle.reuse_session.specs.declared.reply.Reply.{Reply}
-use Rattle.reuse_session.specs.declared.reply.Reply.TheVariants as replies
+use Rattle.reuse_session.specs.declared.reply.Response.{Response}
+use Rattle.reuse_session.specs.declared.reply.Response.TheVariants as replies
 use Rattle.reuse_session.specs.declared.request.Call.TheVariants as calls
 use Rattle.reuse_session.specs.declared.request.Request.{Request}
 use Rattle.reuse_session.specs.declared.request.Request.TheVariants as requests
 use Rattle.reuse_session.proofs.laws.model_gives_one_answer.Goals as goal
 
-one : (state : Snapshots) (request : Request) (first second : Result Reply Refusal) (next other : Snapshots) → IsByTrees request → Gives state request first next → Gives state request second other
+one : (state : Snapshots) (request : Request) (first second : Result Response Refusal) (next other : Snapshots) → IsByTrees request → Gives state request first next → Gives state request second other
     → (first ≡ second) × (next ≡ other)
 one state (requests.Make (calls.Run command) when) first second next other is a b = (a.0 ∙ sym b.0, a.1 ∙ sym b.1)
 one state (requests.Make calls.Undo when) first second next other is a b = (a.0 ∙ sym b.0, a.1 ∙ sym b.1)

@@ -20,7 +20,7 @@ use Rattle.reuse_session.specs.declared.session.Session.{Session}
 use Rattle.reuse_tree.specs.declared.way.Way.{Way}
 use Rattle.reuse_tree.specs.declared.way.Way.TheVariants.{Do, Undo}
 use Rattle.reuse_tree.specs.declared.cause.Cause.TheVariants as causes
-use Rattle.reuse_session.specs.declared.reply.Reply.{Reply}
+use Rattle.reuse_session.specs.declared.reply.Response.{Response}
 use Rattle.reuse_session.specs.declared.reply.Refusal.{Refusal}
 use Rattle.reuse_session.specs.declared.failure.Failure.TheVariants.{Memory as OutOfMemory, Fault, Interrupted}
 use Rattle.reuse_session.specs.declared.reply.Refusal.TheVariants.{BadJournal, Failed}
@@ -55,17 +55,17 @@ stands_beside files session store held room same stands = record {
 -- ---- refusals of a listed entry's step
 
 -- none of these is told without a fault
-pub read_told : (refusal : Refusal) → IsReadRefusal refusal → TellsNoFault {A = Reply} (Err refusal) → ((path : List ℕ) → refusal ≡ BadJournal path → ⊥) → ⊥
+pub read_told : (refusal : Refusal) → IsReadRefusal refusal → TellsNoFault {A = Response} (Err refusal) → ((path : List ℕ) → refusal ≡ BadJournal path → ⊥) → ⊥
 read_told (Failed failure) is told never = told
 read_told (BadJournal path) is told never = never path refl
 read_told refusal is told never = is
 
-failure_told : (refusal : Refusal) → IsFailure refusal → TellsNoFault {A = Reply} (Err refusal) → ⊥
+failure_told : (refusal : Refusal) → IsFailure refusal → TellsNoFault {A = Response} (Err refusal) → ⊥
 failure_told (Failed failure) is told = told
 failure_told refusal is told = is
 
 -- nor is a call that failed so
-pub failed_untold : (refusal : Refusal) (result : Result Reply Refusal) → IsErrAnd result (λ given. given ≡ refusal) → IsFailure refusal → TellsNoFault result → ⊥
+pub failed_untold : (refusal : Refusal) (result : Result Response Refusal) → IsErrAnd result (λ given. given ≡ refusal) → IsFailure refusal → TellsNoFault result → ⊥
 failed_untold refusal result is fails told = failure_told refusal fails (subst TellsNoFault (is_refused result is) told)
 
 pub put_fails : (refusal : Refusal) → IsEarlyFailure refusal → IsFailure refusal
@@ -97,7 +97,7 @@ module _ (entry head : Type 0) where
   clash_of other more on_entry on_head refusal clash = tt
 
   -- where neither can be, none is told
-  pub never_clashes : (entry → ⊥) → (head → ⊥) → (answer : Result Reply Refusal) → IfErr answer (HasClash entry head) → IfErr answer IsNoClash
+  pub never_clashes : (entry → ⊥) → (head → ⊥) → (answer : Result Response Refusal) → IfErr answer (HasClash entry head) → IfErr answer IsNoClash
   never_clashes no_entry no_head (Ok reply) clash = tt
   never_clashes no_entry no_head (Err (Failed (Fault faults.Clash))) clash = no_entry clash
   never_clashes no_entry no_head (Err (Failed (Interrupted causes.Clash))) clash = no_head clash
@@ -122,7 +122,7 @@ pub tree_of_standing : (files : Files) (held : State) → IsStanding files held 
 tree_of_standing files held standing = subst IsTree (sym standing.tree) standing.good
 
 -- where no path of a file of the journal is a folder, a call tells no clash
-module _ (files : Files) (held : State) (standing : IsStanding files held) (free : IsFree (undo_folder_of files)) (answer : Result Reply Refusal) where
+module _ (files : Files) (held : State) (standing : IsStanding files held) (free : IsFree (undo_folder_of files)) (answer : Result Response Refusal) where
   head_free : Clashes files head_path → ⊥
   head_free clash = no_clash_at files head_path (tree_of_standing files held standing) (inl refl) free clash
 

@@ -22,8 +22,8 @@ use Rattle.reuse_session.specs.journal.JournalFiles.{head_path, entry_path, entr
 use Rattle.reuse_session.specs.journal.Losses.{IsSafeOn, AreSafeOn, AreInDoubt, StopsWithDoubt, Survives}
 use Rattle.reuse_session.specs.session.Answer.{IsEarly, IsStop}
 use Rattle.reuse_session.specs.session.Session.{IsSameBut}
-use Rattle.reuse_session.specs.declared.reply.Reply.{Reply}
-use Rattle.reuse_session.specs.declared.reply.Reply.TheVariants.{NothingChanged}
+use Rattle.reuse_session.specs.declared.reply.Response.{Response}
+use Rattle.reuse_session.specs.declared.reply.Response.TheVariants.{NothingChanged}
 use Rattle.reuse_session.specs.declared.reply.Refusal.{Refusal}
 use Rattle.reuse_session.specs.declared.failure.Failure.TheVariants.{Interrupted}
 use Rattle.reuse_session.specs.declared.reply.Refusal.TheVariants.{Failed}
@@ -155,14 +155,14 @@ survives_stop store IsNext earlier held next new (Failed (Interrupted cause)) ea
 survives_stop store IsNext earlier held next new refusal early is doubt = early tt
 
 -- by another word for the next standing
-pub survives_weaker : {S : Type 0} (store : Ghosts S) (IsNext IsOther : State → Type 0) (earlier held : State) (new : S) (result : Result Reply Refusal) → ((next : State) → IsNext next → IsOther next) → Survives store IsNext earlier held result new
+pub survives_weaker : {S : Type 0} (store : Ghosts S) (IsNext IsOther : State → Type 0) (earlier held : State) (new : S) (result : Result Response Refusal) → ((next : State) → IsNext next → IsOther next) → Survives store IsNext earlier held result new
     → Survives store IsOther earlier held result new
 survives_weaker store IsNext IsOther earlier held new (Ok NothingChanged) weaker survives = survives
 survives_weaker store IsNext IsOther earlier held new (Ok reply) weaker survives = survives
 survives_weaker store IsNext IsOther earlier held new (Err (Failed (Interrupted cause))) weaker survives = (survives.0, weaker survives.0 survives.1, survives.2)
 survives_weaker store IsNext IsOther earlier held new (Err refusal) weaker survives = survives
 
-pub survives_replay : {S : Type 0} (store : Ghosts S) (IsNext : State → Type 0) (earlier held : State) (new : S) (way : Way) (paths : List (List ℕ)) (reply : Reply) → reply ≡ reply_of way paths → IsSynced store new → Survives store IsNext earlier held (Ok reply) new
+pub survives_replay : {S : Type 0} (store : Ghosts S) (IsNext : State → Type 0) (earlier held : State) (new : S) (way : Way) (paths : List (List ℕ)) (reply : Response) → reply ≡ reply_of way paths → IsSynced store new → Survives store IsNext earlier held (Ok reply) new
 survives_replay store IsNext earlier held new go.Do paths reply is synced = subst (λ r. Survives store IsNext earlier held (Ok r) new) (sym is) synced
 survives_replay store IsNext earlier held new go.Undo paths reply is synced = subst (λ r. Survives store IsNext earlier held (Ok r) new) (sym is) synced
 

@@ -19,7 +19,7 @@ use Rattle.reuse_session.specs.declared.plan.path_plan.PathPlan.TheVariants as p
 use Rattle.reuse_session.specs.declared.plan.path_plan.Policy.{Policy}
 use Rattle.reuse_session.specs.declared.reply.Refusal.{Refusal}
 use Rattle.reuse_session.specs.declared.reply.Refusal.TheVariants as refusals
-use Rattle.reuse_session.specs.declared.reply.Reply.{Reply}
+use Rattle.reuse_session.specs.declared.reply.Response.{Response}
 use Rattle.reuse_session.specs.declared.session.Session.{Session}
 use Rattle.reuse_session.proofs.lemmas.plan.PathPlanning.{path_outcomes_are}
 
@@ -67,7 +67,7 @@ still_counted files session counted held stands = record {
 }
 
 -- nor of what a run leaves
-pub leaves_counted : {S : Type 0} (store : Ghosts S) (old new : Session S) (counted : Counts) (command : Command) (when : ℕ) (result : Result Reply Refusal)
+pub leaves_counted : {S : Type 0} (store : Ghosts S) (old new : Session S) (counted : Counts) (command : Command) (when : ℕ) (result : Result Response Refusal)
     → LeavesRun store command when result (record old { counts = counted }) new → LeavesRun store command when result old new
 leaves_counted store old new counted command when result leaves = record {
   unchanged = leaves.unchanged;

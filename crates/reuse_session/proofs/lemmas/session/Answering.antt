@@ -28,8 +28,8 @@ use Rattle.reuse_session.specs.declared.failure.Fault.TheVariants as stores
 use Rattle.reuse_session.specs.declared.failure.Failure.TheVariants.{Fault, Memory, Interrupted}
 use Rattle.reuse_session.specs.declared.reply.Refusal.{Refusal}
 use Rattle.reuse_session.specs.declared.reply.Refusal.TheVariants.{Broken, NoSuchStep, Failed}
-use Rattle.reuse_session.specs.declared.reply.Reply.{Reply}
-use Rattle.reuse_session.specs.declared.reply.Reply.TheVariants as replies
+use Rattle.reuse_session.specs.declared.reply.Response.{Response}
+use Rattle.reuse_session.specs.declared.reply.Response.TheVariants as replies
 use Rattle.reuse_session.specs.declared.reply.Reverted.{Reverted}
 use Rattle.reuse_session.specs.declared.reply.Row.{Row}
 use Rattle.reuse_session.specs.declared.request.Call.{Call}
@@ -45,29 +45,29 @@ use Rattle.reuse_session.proofs.lemmas.session.StepsByNumber.{done_step, says_st
 -- ---- answers as replies
 
 -- what holds of a refusal holds of it as a reply's
-pub err_replied : {A : Type 0} (reply : A → Reply) (answer : Result A Refusal) (P : Refusal → Type 0) → IfErr answer P → IfErr (replied reply answer) P
+pub err_replied : {A : Type 0} (reply : A → Response) (answer : Result A Refusal) (P : Refusal → Type 0) → IfErr answer P → IfErr (replied reply answer) P
 err_replied reply (Ok value) P h = tt
 err_replied reply (Err refusal) P h = h
 
-pub told_replied : {A : Type 0} (reply : A → Reply) (answer : Result A Refusal) → TellsNoFault (replied reply answer) → TellsNoFault answer
+pub told_replied : {A : Type 0} (reply : A → Response) (answer : Result A Refusal) → TellsNoFault (replied reply answer) → TellsNoFault answer
 told_replied reply (Ok value) told = tt
 told_replied reply (Err (Failed failure)) told = absurd told
 told_replied reply (Err refusal) told = tt
 
-is_replied : {A : Type 0} (reply : A → Reply) (answer : Result A Refusal) (refusal : Refusal) → replied reply answer ≡ Err refusal → answer ≡ Err refusal
+is_replied : {A : Type 0} (reply : A → Response) (answer : Result A Refusal) (refusal : Refusal) → replied reply answer ≡ Err refusal → answer ≡ Err refusal
 is_replied reply (Ok value) refusal is = absurd (cc)
-is_replied {A} reply (Err other) refusal is = ap (refused A) (same_refusal Reply other refusal is)
+is_replied {A} reply (Err other) refusal is = ap (refused A) (same_refusal Response other refusal is)
 
-pub broken_replied : {A : Type 0} (reply : A → Reply) (answer : Result A Refusal) (P : Type 0) → (answer ≡ Err Broken ↔ P) → (replied reply answer ≡ Err Broken ↔ P)
+pub broken_replied : {A : Type 0} (reply : A → Response) (answer : Result A Refusal) (P : Type 0) → (answer ≡ Err Broken ↔ P) → (replied reply answer ≡ Err Broken ↔ P)
 broken_replied reply answer P h = (λ is. h.0 (is_replied reply answer Broken is), λ p. ap (replied reply) (h.1 p))
 
-pub call_replied : {A S : Type 0} (store : Ghosts S) (reply : A → Reply) (answer : Result A Refusal) (old new : Session S) → IsCall store answer old new → IsCall store (replied reply answer) old new
+pub call_replied : {A S : Type 0} (store : Ghosts S) (reply : A → Response) (answer : Result A Refusal) (old new : Session S) → IsCall store answer old new → IsCall store (replied reply answer) old new
 call_replied store reply (Ok value) old new call = record { refused = tt; interrupted = tt; fault = tt; later = call.later }
 call_replied store reply (Err refusal) old new call = record { refused = call.refused; interrupted = call.interrupted; fault = call.fault; later = call.later }
 
 -- ---- what only reads
 
-safe_look : {S : Type 0} (store : Ghosts S) (request : Request) (earlier held : State) (answer : Result Reply Refusal) (new : S) → IsReading request → AreSafeOn store earlier held new
+safe_look : {S : Type 0} (store : Ghosts S) (request : Request) (earlier held : State) (answer : Result Response Refusal) (new : S) → IsReading request → AreSafeOn store earlier held new
     → SurvivesRequest store request earlier held answer new
 safe_look store (requests.Make call when) earlier held answer new look safe = absurd look
 safe_look store (requests.Preview call) earlier held answer new look safe = safe
@@ -117,11 +117,11 @@ log_leads files session held (Err Broken) stands broken is kinds told = absurd (
 log_leads files session held (Err (Failed Memory)) stands broken is kinds told = absurd told
 log_leads files session held (Err refusal) stands broken is kinds told = absurd kinds
 
-module _ {S A : Type 0} (store : Ghosts S) (request : Request) (look : IsReading request) (reply : A → Reply) (answer : Result A Refusal) (old new : Session S) (reads_with_cause : ReadsOnlyWithCause store answer old new)
+module _ {S A : Type 0} (store : Ghosts S) (request : Request) (look : IsReading request) (reply : A → Response) (answer : Result A Refusal) (old new : Session S) (reads_with_cause : ReadsOnlyWithCause store answer old new)
     (broken : answer ≡ Err Broken ↔ (is_broken old ≡ true)) (fails : IfErr answer (IfFailed (MayFail request)))
     (exact : store.honest (store_of new) → (held : State) → StandsOn store.files old held → TellsNoFault answer → LeadsTo request held (replied reply answer) held)
   where
-    early_stands : (answer : Result Reply Refusal) (held : State) → StandsOn store.files new held → IfErr answer (λ refusal. IsEarly refusal → StandsOn store.files new held)
+    early_stands : (answer : Result Response Refusal) (held : State) → StandsOn store.files new held → IfErr answer (λ refusal. IsEarly refusal → StandsOn store.files new held)
     early_stands (Ok value) held stands = tt
     early_stands (Err refusal) held stands = λ early. stands
 
@@ -159,7 +159,7 @@ make_fails call when (Err (Failed failure)) = tt
 make_fails call when (Err refusal) = tt
 
 -- their answers are steps as they are
-pub run_is_step : (answer : Result Reply Refusal) → IsRunAnswer answer → as_step answer ≡ answer
+pub run_is_step : (answer : Result Response Refusal) → IsRunAnswer answer → as_step answer ≡ answer
 run_is_step (Ok (replies.Reverted reverted)) is = absurd is
 run_is_step (Ok reply) is = refl
 run_is_step (Err refusal) is = refl
@@ -171,14 +171,14 @@ no_revert way.Do [] held left reverted replays = let is = replays.0 in cc
 no_revert way.Undo (step ∷ steps) held left reverted replays = let is = replays.0 in cc
 no_revert way.Do (step ∷ steps) held left reverted replays = let is = replays.0 in cc
 
-pub replay_is_step : (go : Way) (steps : List Recorded) (held : State) (Stands : State → Type 0) (answer : Result Reply Refusal) → (TellsNoFault answer → (left : State) × Stands left × Replays go steps held answer left)
+pub replay_is_step : (go : Way) (steps : List Recorded) (held : State) (Stands : State → Type 0) (answer : Result Response Refusal) → (TellsNoFault answer → (left : State) × Stands left × Replays go steps held answer left)
     → as_step answer ≡ answer
 replay_is_step go steps held Stands (Ok (replies.Reverted reverted)) exact = let e = exact tt in absurd (no_revert go steps held e.0 reverted e.2)
 replay_is_step go steps held Stands (Ok reply) exact = refl
 replay_is_step go steps held Stands (Err refusal) exact = refl
 
 -- where an undo or a redo stopped, the next state is that after its step
-pub replay_doubt : (way : PendingWay) (held : State) (files : Files) (answer : Result Reply Refusal) → IfErr answer (λ refusal. IsStop refusal → StopsAfter way held files)
+pub replay_doubt : (way : PendingWay) (held : State) (files : Files) (answer : Result Response Refusal) → IfErr answer (λ refusal. IsStop refusal → StopsAfter way held files)
     → IfErr answer (λ refusal. IsStop refusal → (second : State) × IsNextBy way held second × InDoubt held second files)
 replay_doubt way held files (Ok reply) doubt = tt
 replay_doubt way held files (Err refusal) doubt = λ stop. let left = doubt stop in (left.0, (left.1, left.2), left.3)

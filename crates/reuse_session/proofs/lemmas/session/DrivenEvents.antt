@@ -6,8 +6,8 @@ use Rattle.reuse_session.specs.declared.failure.Fault.TheVariants as faults
 use Rattle.reuse_session.specs.declared.events.Event.{Event}
 use Rattle.reuse_session.specs.declared.events.Event.TheVariants as asked
 use Rattle.reuse_tree.specs.declared.cause.Cause.TheVariants as causes
-use Rattle.reuse_session.specs.declared.reply.Reply.{Reply}
-use Rattle.reuse_session.specs.declared.reply.Reply.TheVariants.{Opened}
+use Rattle.reuse_session.specs.declared.reply.Response.{Response}
+use Rattle.reuse_session.specs.declared.reply.Response.TheVariants.{Opened}
 use Rattle.reuse_session.specs.declared.request.Request.{Request}
 use Rattle.reuse_session.specs.declared.reply.Refusal.{Refusal}
 use Rattle.reuse_session.specs.declared.failure.Failure.TheVariants.{Memory, Fault, Interrupted}
@@ -21,7 +21,7 @@ use Rattle.reuse_session.proofs.lemmas.session.Driving.{answers_reopen}
 -- ---- many events
 
 -- one more event at the end
-pub runs_more : (events : List Event) (answers : List (Result Reply Refusal)) (event : Event) (answer : Result Reply Refusal) (old mid new : Point)
+pub runs_more : (events : List Event) (answers : List (Result Response Refusal)) (event : Event) (answer : Result Response Refusal) (old mid new : Point)
     → RunsWithStops events answers old mid → AnswersEvent mid.is_open event answer mid new → RunsWithStops (events ++ event ∷ []) (answers ++ answer ∷ []) old new
 runs_more [] [] event answer old mid new runs last = (new, subst (λ (p : Point). AnswersEvent p.is_open event answer p new) runs last, refl)
 runs_more (e ∷ events) (a ∷ answers) event answer old mid new runs last = (runs.0, runs.1, runs_more events answers event answer runs.0 mid new runs.2 last)
@@ -33,50 +33,50 @@ take_none [] = refl
 take_none (event ∷ events) = refl
 
 -- the opening alone
-pub runs_first : (events : List Event) (answers : List (Result Reply Refusal)) (answer : Result Reply Refusal) (old new : Point) → answers ≡ answer ∷ [] → Reopens answer old new
+pub runs_first : (events : List Event) (answers : List (Result Response Refusal)) (answer : Result Response Refusal) (old new : Point) → answers ≡ answer ∷ [] → Reopens answer old new
     → RunsWithStops (asked.Reopen ∷ take 0 events) answers old new
 runs_first events answers answer old new items h =
     let whole : RunsWithStops (asked.Reopen ∷ []) (answer ∷ []) old new = (new, answers_reopen old.is_open answer old new h, refl) in
     subst (λ (es : List Event). RunsWithStops (asked.Reopen ∷ es) answers old new) (sym (take_none events))
-    (subst (λ (list : List (Result Reply Refusal)). RunsWithStops (asked.Reopen ∷ []) list old new) (sym items) whole)
+    (subst (λ (list : List (Result Response Refusal)). RunsWithStops (asked.Reopen ∷ []) list old new) (sym items) whole)
 
 take_event : (events : List Event) (i : ℕ) (event : Event) → i < length events → event ≡ get_or events i event → take i events ++ event ∷ [] ≡ take (i + 1) events
 take_event events i event lt is = ap (λ e. take i events ++ e ∷ []) is ∙ sym (take_more events i event lt)
 
-pub runs_next : (events : List Event) (i : ℕ) (event : Event) → i < length events → event ≡ get_or events i event → (answers more : List (Result Reply Refusal)) (answer : Result Reply Refusal)
+pub runs_next : (events : List Event) (i : ℕ) (event : Event) → i < length events → event ≡ get_or events i event → (answers more : List (Result Response Refusal)) (answer : Result Response Refusal)
     → more ≡ answers ++ answer ∷ [] → (old mid new : Point) → RunsWithStops (asked.Reopen ∷ take i events) answers old mid → AnswersEvent mid.is_open event answer mid new
     → RunsWithStops (asked.Reopen ∷ take (i + 1) events) more old new
 runs_next events i event lt is answers more answer items old mid new runs last =
     let whole : RunsWithStops (asked.Reopen ∷ (take i events ++ event ∷ [])) (answers ++ answer ∷ []) old new = runs_more (asked.Reopen ∷ take i events) answers event answer old mid new runs last in
     subst (λ (es : List Event). RunsWithStops (asked.Reopen ∷ es) more old new) (take_event events i event lt is)
-    (subst (λ (list : List (Result Reply Refusal)). RunsWithStops (asked.Reopen ∷ (take i events ++ event ∷ [])) list old new) (sym items) whole)
+    (subst (λ (list : List (Result Response Refusal)). RunsWithStops (asked.Reopen ∷ (take i events ++ event ∷ [])) list old new) (sym items) whole)
 
-pub all_told : (answers : List (Result Reply Refusal)) (answer : Result Reply Refusal) → AllByRecursion TellsNoFault answers → TellsNoFault answer → AllByRecursion TellsNoFault (answers ++ answer ∷ [])
+pub all_told : (answers : List (Result Response Refusal)) (answer : Result Response Refusal) → AllByRecursion TellsNoFault answers → TellsNoFault answer → AllByRecursion TellsNoFault (answers ++ answer ∷ [])
 all_told [] answer told last = (last, tt)
 all_told (a ∷ answers) answer told last = (told.0, all_told answers answer told.1 last)
 
 -- a fault that has one cause has the other that follows
-caused : (Rose Higher : Type 0) → (Rose → Higher) → (answer : Result Reply Refusal) → IfErr answer (HasCause Rose) → IfErr answer (HasCause Higher)
+caused : (Rose Higher : Type 0) → (Rose → Higher) → (answer : Result Response Refusal) → IfErr answer (HasCause Rose) → IfErr answer (HasCause Higher)
 caused Rose Higher on (Ok reply) h = tt
 caused Rose Higher on (Err (Failed (Fault faults.Device))) h = on h
 caused Rose Higher on (Err (Failed (Interrupted causes.Device))) h = on h
 caused Rose Higher on (Err refusal) h = tt
 
 -- the answers so far and one more have their causes
-pub one_more : (first before after : ℕ) → before ≤ after → (answers : List (Result Reply Refusal)) (answer : Result Reply Refusal)
+pub one_more : (first before after : ℕ) → before ≤ after → (answers : List (Result Response Refusal)) (answer : Result Response Refusal)
     → HaveCauses answers first before → IfErr answer (HasCause (before < after)) → HaveCauses (answers ++ answer ∷ []) first after
 one_more first before after le [] answer causes last =
     (after, omega (arith, causes, le), caused (before < after) (first < after) (λ rose. omega (arith, rose, causes)) answer last, omega arith)
 one_more first before after le (a ∷ answers) answer causes last = (causes.0, causes.1, causes.2, one_more causes.0 before after le answers answer causes.3 last)
 
 -- the first answer has its cause
-pub first_one : (first after : ℕ) → first ≤ after → (answers : List (Result Reply Refusal)) (answer : Result Reply Refusal) → answers ≡ answer ∷ [] → IfErr answer (HasCause (first < after))
+pub first_one : (first after : ℕ) → first ≤ after → (answers : List (Result Response Refusal)) (answer : Result Response Refusal) → answers ≡ answer ∷ [] → IfErr answer (HasCause (first < after))
     → HaveCauses answers first after
 first_one first after le answers answer items cause =
-    subst (λ (list : List (Result Reply Refusal)). HaveCauses list first after) (sym items) (one_more first first after le [] answer (omega arith) cause)
+    subst (λ (list : List (Result Response Refusal)). HaveCauses list first after) (sym items) (one_more first first after le [] answer (omega arith) cause)
 
 -- an answer with a cause that didn't come to pass tells no fault
-pub no_fault : (before after : ℕ) (answer : Result Reply Refusal) → IfErr answer (HasCause (before < after)) → IfErr answer IsNoClash → IsNoWantOfMemory answer → after ≡ before → TellsNoFault answer
+pub no_fault : (before after : ℕ) (answer : Result Response Refusal) → IfErr answer (HasCause (before < after)) → IfErr answer IsNoClash → IsNoWantOfMemory answer → after ≡ before → TellsNoFault answer
 no_fault before after (Ok reply) cause clash enough same = tt
 no_fault before after (Err (Failed (Fault faults.Device))) cause clash enough same = omega arith
 no_fault before after (Err (Failed (Fault faults.Clash))) cause clash enough same = clash
@@ -89,24 +89,24 @@ no_fault before after (Err _) cause clash enough same = tt
 
 -- ---- the machine, where no answer tells a fault
 
-reopened : (answer : Result Reply Refusal) (old new : Point) → old.next ≡ None → TellsNoFault answer → Reopens answer old new → (answer ≡ Ok Opened) × (new ≡ open_at old.state)
+reopened : (answer : Result Response Refusal) (old new : Point) → old.next ≡ None → TellsNoFault answer → Reopens answer old new → (answer ≡ Ok Opened) × (new ≡ open_at old.state)
 reopened (Ok Opened) old new none told h =
     (refl, h.2 ∙ ⊎_elim (λ (same : old.state ≡ h.0). ap open_at (sym same)) (λ (next : old.next ≡ Some h.0). cc) h.1)
 reopened (Ok reply) old new none told h = absurd h
 reopened (Err (Failed failure)) old new none told h = absurd told
 reopened (Err refusal) old new none told h = absurd h
 
-went : (request : Request) (answer : Result Reply Refusal) (old new : Point) → TellsNoFault answer → Continues request answer old new → (next : Snapshots) × Gives old.state request answer next × (new ≡ open_at next)
+went : (request : Request) (answer : Result Response Refusal) (old new : Point) → TellsNoFault answer → Continues request answer old new → (next : Snapshots) × Gives old.state request answer next × (new ≡ open_at next)
 went request (Ok reply) old new told h = h
 went request (Err (Failed failure)) old new told h = absurd told
 went request (Err refusal) old new told h = h
 
-answered : (event : Event) (answer : Result Reply Refusal) (state : Snapshots) (new : Point) → TellsNoFault answer → AnswersEvent true event answer (open_at state) new
+answered : (event : Event) (answer : Result Response Refusal) (state : Snapshots) (new : Point) → TellsNoFault answer → AnswersEvent true event answer (open_at state) new
     → (next : Snapshots) × GivesEvent state event answer next × (new ≡ open_at next)
 answered (asked.Ask request) answer state new told h = went request answer (open_at state) new told h
 answered asked.Reopen answer state new told h = let r = reopened answer (open_at state) new refl told h in (state, (r.0, refl), r.1)
 
-runs_on : (events : List Event) (answers : List (Result Reply Refusal)) (state : Snapshots) (point : Point) → AllByRecursion TellsNoFault answers → RunsWithStops events answers (open_at state) point
+runs_on : (events : List Event) (answers : List (Result Response Refusal)) (state : Snapshots) (point : Point) → AllByRecursion TellsNoFault answers → RunsWithStops events answers (open_at state) point
     → (end : Snapshots) × AnswersAll events answers state end × (point ≡ open_at end)
 runs_on [] [] state point told runs = (state, refl, runs)
 runs_on (event ∷ events) (answer ∷ answers) state point told runs =
@@ -117,7 +117,7 @@ runs_on [] (answer ∷ answers) state point told runs = absurd runs
 runs_on (event ∷ events) [] state point told runs = absurd runs
 
 -- the opening and the events after it
-pub runs_as_model : (events : List Event) (answers : List (Result Reply Refusal)) (state : Snapshots) (point : Point) → AllByRecursion TellsNoFault answers
+pub runs_as_model : (events : List Event) (answers : List (Result Response Refusal)) (state : Snapshots) (point : Point) → AllByRecursion TellsNoFault answers
     → RunsWithStops (asked.Reopen ∷ events) answers (closed (open_at state)) point → (end : Snapshots) × AnswersAll (asked.Reopen ∷ events) answers state end × (point ≡ open_at end)
 runs_as_model events [] state point told runs = absurd runs
 runs_as_model events (answer ∷ answers) state point told runs =

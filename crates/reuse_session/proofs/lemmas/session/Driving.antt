@@ -13,8 +13,8 @@ use Rattle.reuse_tree.specs.declared.journal.head.Pending.{Pending}
 use Rattle.reuse_tree.specs.declared.journal.head.PendingWay.{PendingWay}
 use Rattle.reuse_tree.specs.declared.journal.head.PendingWay.TheVariants as pending
 use Rattle.reuse_tree.specs.declared.cause.Cause.{Cause}
-use Rattle.reuse_session.specs.declared.reply.Reply.{Reply}
-use Rattle.reuse_session.specs.declared.reply.Reply.TheVariants.{Opened}
+use Rattle.reuse_session.specs.declared.reply.Response.{Response}
+use Rattle.reuse_session.specs.declared.reply.Response.TheVariants.{Opened}
 use Rattle.reuse_session.specs.declared.reply.Refusal.{Refusal}
 use Rattle.reuse_session.specs.declared.failure.Failure.TheVariants.{Memory, Fault, Interrupted}
 use Rattle.reuse_session.specs.declared.reply.Refusal.TheVariants.{Failed}
@@ -160,19 +160,19 @@ stands_still files old new held stands kept same = record {
   remembers = subst (λ m. Remembers m held.journal) (sym kept.0) stands.remembers;
 }
 
-pub stands_early : {S : Type 0} (files : S → Files) (old new : Session S) (held : State) (answer : Result Reply Refusal) → StandsOn files old held
+pub stands_early : {S : Type 0} (files : S → Files) (old new : Session S) (held : State) (answer : Result Response Refusal) → StandsOn files old held
     → IfErr answer (λ refusal. IsEarly refusal → IsKept old new) → IfErr answer (λ refusal. IsEarly refusal → files (store_of new) ≡ files (store_of old))
     → IfErr answer (λ refusal. IsEarly refusal → StandsOn files new held)
 stands_early files old new held (Ok reply) stands kept same = kept
 stands_early files old new held (Err refusal) stands kept same = λ early. stands_still files old new held stands (kept early) (same early)
 
-pub on_same_state : {S : Type 0} (files : S → Files) (old new : Session S) (state : Snapshots) (answer : Result Reply Refusal) (stands : StandsAt files old state)
+pub on_same_state : {S : Type 0} (files : S → Files) (old new : Session S) (state : Snapshots) (answer : Result Response Refusal) (stands : StandsAt files old state)
     → IfErr answer (λ refusal. IsEarly refusal → StandsOn files new stands.held) → IfErr answer (λ refusal. IsEarly refusal → StandsAt files new state)
 on_same_state files old new state (Ok reply) stands kept = kept
 on_same_state files old new state (Err refusal) stands kept = λ early. record { held = stands.held; stands = kept early; holds = stands.holds }
 
 -- one that wasn't interrupted leaves the session open
-pub goes_on : {S : Type 0} (files : S → Files) (request : Request) (answer : Result Reply Refusal) (state : Snapshots) (session : Session S)
+pub goes_on : {S : Type 0} (files : S → Files) (request : Request) (answer : Result Response Refusal) (state : Snapshots) (session : Session S)
     → (TellsNoFault answer → (next : Snapshots) × Gives state request answer next × StandsAt files session next) → IfErr answer (λ refusal. IsEarly refusal → StandsAt files session state)
     → IfErr answer (IfFailed (MayFail request)) → ((cause : Cause) → answer ≡ Err (Failed (Interrupted cause)) → ⊥)
     → (new : Point) × Continues request answer (open_at state) new × IsAt files (Open session) new
@@ -183,8 +183,8 @@ goes_on files request (Err (Failed (Interrupted cause))) state session follows s
 goes_on files request (Err refusal) state session follows stands fails other = let f = follows tt in (open_at f.0, (f.0, f.1, refl), (refl, f.2))
 
 -- one that was closes it
-pub closes : {S : Type 0} (files : S → Files) (request : Request) (answer : Result Reply Refusal) (state : Snapshots) (store : S) (cause : Cause) → answer ≡ Err (Failed (Interrupted cause))
-    → IfErr answer (IfFailed (MayFail request)) → (given : Result Reply Refusal) × (next : Snapshots) × Gives state request given next × AreLeft (files store) state (Some next)
+pub closes : {S : Type 0} (files : S → Files) (request : Request) (answer : Result Response Refusal) (state : Snapshots) (store : S) (cause : Cause) → answer ≡ Err (Failed (Interrupted cause))
+    → IfErr answer (IfFailed (MayFail request)) → (given : Result Response Refusal) × (next : Snapshots) × Gives state request given next × AreLeft (files store) state (Some next)
     → (new : Point) × Continues request answer (open_at state) new × IsAt files (Closed store) new
 closes files request answer state store cause is fails left =
     let new : Point = record { is_open = false; state = state; next = Some left.1 } in (
@@ -195,7 +195,7 @@ closes files request answer state store cause is fails left =
 
 -- ---- an event
 
-pub answers_reopen : (is_open : Bool) (answer : Result Reply Refusal) (old new : Point) → Reopens answer old new → AnswersEvent is_open asked.Reopen answer old new
+pub answers_reopen : (is_open : Bool) (answer : Result Response Refusal) (old new : Point) → Reopens answer old new → AnswersEvent is_open asked.Reopen answer old new
 answers_reopen true answer old new h = h
 answers_reopen false answer old new h = h
 

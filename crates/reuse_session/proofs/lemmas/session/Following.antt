@@ -7,8 +7,8 @@ use Rattle.reuse_tree.specs.Change.{path_of}
 use Rattle.reuse_tree.specs.declared.way.Way.TheVariants as way
 use Rattle.reuse_session.specs.declared.command.Command.{Command}
 use Rattle.reuse_tree.specs.declared.command_name.CommandName.{CommandName}
-use Rattle.reuse_session.specs.declared.reply.Reply.{Reply}
-use Rattle.reuse_session.specs.declared.reply.Reply.TheVariants.{Changed, NothingChanged, Undone, Redone}
+use Rattle.reuse_session.specs.declared.reply.Response.{Response}
+use Rattle.reuse_session.specs.declared.reply.Response.TheVariants.{Changed, NothingChanged, Undone, Redone}
 use Rattle.reuse_session.specs.declared.reply.Refusal.{Refusal}
 use Rattle.reuse_session.specs.declared.reply.Refusal.TheVariants.{JournalFull, Moved, Failed}
 use Rattle.reuse_session.specs.session.Answer.{TellsNoFault, IsTestRefusal}
@@ -37,7 +37,7 @@ module _ (held : State) (state : Snapshots) (holds : HoldsSnapshots held state) 
   pub on_from : (changes : List Change) (tree : Files) → LeadsAll changes state.tree tree → LeadsBy way.Do changes held.tree tree
   on_from changes tree leads = subst (λ t. LeadsBy way.Do changes t tree) (sym holds.tree) leads
 
-  undo_by_cases : (new : State) (result : Result Reply Refusal) (done : List Recorded) (past : List Kept) → LeadUpTo state.tree done past → Undoes done held result new → state.past ≡ past
+  undo_by_cases : (new : State) (result : Result Response Refusal) (done : List Recorded) (past : List Kept) → LeadUpTo state.tree done past → Undoes done held result new → state.past ≡ past
       → (result ≡ (undone state past).0) × HoldsSnapshots new (undone state past).1
   undo_by_cases new result [] [] h u e = (u.0, subst (λ s. HoldsSnapshots s state) (sym u.1) holds)
   undo_by_cases new (Ok given) (step ∷ steps) (kept ∷ past) h u e =
@@ -56,10 +56,10 @@ module _ (held : State) (state : Snapshots) (holds : HoldsSnapshots held state) 
   undo_by_cases new result (step ∷ steps) [] h u e = absurd h
 
   -- an undo follows the machine
-  pub undo_follows : (new : State) (result : Result Reply Refusal) → Undoes held.journal.done held result new → (result ≡ (undone state state.past).0) × HoldsSnapshots new (undone state state.past).1
+  pub undo_follows : (new : State) (result : Result Response Refusal) → Undoes held.journal.done held result new → (result ≡ (undone state state.past).0) × HoldsSnapshots new (undone state state.past).1
   undo_follows new result u = undo_by_cases new result held.journal.done state.past holds.past u refl
 
-  redo_by_cases : (new : State) (result : Result Reply Refusal) (steps : List Recorded) (future : List Kept) → LeadOn state.tree steps future → Redoes steps held result new
+  redo_by_cases : (new : State) (result : Result Response Refusal) (steps : List Recorded) (future : List Kept) → LeadOn state.tree steps future → Redoes steps held result new
       → (result ≡ (redone state future).0) × HoldsSnapshots new (redone state future).1
   redo_by_cases new result [] [] h u = (u.0, subst (λ s. HoldsSnapshots s state) (sym u.1) holds)
   redo_by_cases new (Ok given) (step ∷ steps) (kept ∷ future) h u =
@@ -78,7 +78,7 @@ module _ (held : State) (state : Snapshots) (holds : HoldsSnapshots held state) 
   redo_by_cases new result (step ∷ steps) [] h u = absurd h
 
   -- a redo follows the machine
-  pub redo_follows : (new : State) (result : Result Reply Refusal) → Redoes held.journal.undone held result new → (result ≡ (redone state state.future).0) × HoldsSnapshots new (redone state state.future).1
+  pub redo_follows : (new : State) (result : Result Response Refusal) → Redoes held.journal.undone held result new → (result ≡ (redone state state.future).0) × HoldsSnapshots new (redone state state.future).1
   redo_follows new result u = redo_by_cases new result held.journal.undone state.future holds.future u
 
   -- ---- a run
@@ -171,7 +171,7 @@ log_follows held state holds =
     ∙ ap (λ rows. rows_before state.tree state.past ++ rows) (behind_rows state.tree held.journal.undone state.future holds.future)
 
 -- a refusal of the test that is neither memory's nor the store's names a path
-pub names_path : (refusal : Refusal) → IsTestRefusal refusal → TellsNoFault {A = Reply} (Err refusal) → (path : List ℕ) × (refusal ≡ Moved path)
+pub names_path : (refusal : Refusal) → IsTestRefusal refusal → TellsNoFault {A = Response} (Err refusal) → (path : List ℕ) × (refusal ≡ Moved path)
 names_path (Moved path) h told = (path, refl)
 names_path (Failed failure) h told = absurd told
 names_path refusal h told = absurd h

@@ -19,8 +19,8 @@ use Rattle.reuse_session.specs.session.Stops.{AreLeft}
 use Rattle.reuse_session.specs.declared.command.Command.{Command}
 use Rattle.reuse_session.specs.declared.command.Command.TheVariants.{Revert}
 use Rattle.reuse_session.specs.declared.path_outcome.PathOutcome.{PathOutcome}
-use Rattle.reuse_session.specs.declared.reply.Reply.{Reply}
-use Rattle.reuse_session.specs.declared.reply.Reply.TheVariants as replies
+use Rattle.reuse_session.specs.declared.reply.Response.{Response}
+use Rattle.reuse_session.specs.declared.reply.Response.TheVariants as replies
 use Rattle.reuse_session.specs.declared.reply.Reverted.{Reverted}
 use Rattle.reuse_session.specs.declared.reply.Shown.{Shown}
 use Rattle.reuse_session.specs.declared.reply.Refusal.{Refusal}
@@ -119,7 +119,7 @@ module _ (held : State) (state : Snapshots) (holds : HoldsSnapshots held state) 
           ran.1,
         )) (reverts_one number skip_moved when held answer left reverts)
 
-    makes_to : (call : Call) (when : ℕ) (answer : Result Reply Refusal) (left : State) → Makes call when held answer left → (next : Snapshots) × MakesTo state call when answer next × HoldsSnapshots left next
+    makes_to : (call : Call) (when : ℕ) (answer : Result Response Refusal) (left : State) → Makes call when held answer left → (next : Snapshots) × MakesTo state call when answer next × HoldsSnapshots left next
     makes_to (calls.Run command) when answer left makes =
         let ran = runs_as_machine held state holds command when answer left standing.good.are_files makes in ((ran_by state command when).1, (ran.0, refl), ran.1)
     makes_to calls.Undo when answer left makes = let did = undo_follows held state holds left answer makes in ((undone state state.past).1, (did.0, refl), did.1)
@@ -129,7 +129,7 @@ module _ (held : State) (state : Snapshots) (holds : HoldsSnapshots held state) 
         (to.0, subst (λ a. RevertsTo state number skip_moved when a to.0) (sym makes.1) to.1, to.2)
 
     -- the same of a request
-    pub gives_to : (request : Request) (answer : Result Reply Refusal) (left : State) → LeadsTo request held answer left → (next : Snapshots) × Gives state request answer next × HoldsSnapshots left next
+    pub gives_to : (request : Request) (answer : Result Response Refusal) (left : State) → LeadsTo request held answer left → (next : Snapshots) × Gives state request answer next × HoldsSnapshots left next
     gives_to (requests.Make call when) answer left leads = makes_to call when answer left leads
     gives_to (requests.Preview call) answer left leads =
         (state, (leads.0, leads.1, previews_to call leads.0 leads.2, refl), subst (λ s. HoldsSnapshots s state) (sym leads.3) holds)
@@ -141,7 +141,7 @@ module _ (held : State) (state : Snapshots) (holds : HoldsSnapshots held state) 
     -- ---- where it stops
 
     after_revert : (number : ℕ) (skip_moved : Bool) (when : ℕ) (second : State) → IsAfterRevert number skip_moved when held second
-        → (given : Result Reply Refusal) × (next : Snapshots) × RevertsTo state number skip_moved when given next × HoldsSnapshots second next
+        → (given : Result Response Refusal) × (next : Snapshots) × RevertsTo state number skip_moved when given next × HoldsSnapshots second next
     after_revert number skip_moved when second after =
         let changes = after.0.changes in
         let command = command_back state number skip_moved changes in
@@ -152,19 +152,19 @@ module _ (held : State) (state : Snapshots) (holds : HoldsSnapshots held state) 
           ran_on held state holds second command when files standing run,
         )
 
-    after_call : (call : Call) (when : ℕ) (second : State) → IsAfterCall call when held second → (given : Result Reply Refusal) × (next : Snapshots) × MakesTo state call when given next × HoldsSnapshots second next
+    after_call : (call : Call) (when : ℕ) (second : State) → IsAfterCall call when held second → (given : Result Response Refusal) × (next : Snapshots) × MakesTo state call when given next × HoldsSnapshots second next
     after_call (calls.Run command) when second after = ((ran_by state command when).0, (ran_by state command when).1, (refl, refl), ran_on held state holds second command when files standing after)
     after_call calls.Undo when second after = ((undone state state.past).0, (undone state state.past).1, (refl, refl), undo_next held state holds second after)
     after_call calls.Redo when second after = ((redone state state.future).0, (redone state state.future).1, (refl, refl), redo_next held state holds second after)
     after_call (calls.Revert number skip_moved) when second after = after_revert number skip_moved when second after
 
-    pub after_as_model : (request : Request) (second : State) → IsAfter request held second → (given : Result Reply Refusal) × (next : Snapshots) × Gives state request given next × HoldsSnapshots second next
+    pub after_as_model : (request : Request) (second : State) → IsAfter request held second → (given : Result Response Refusal) × (next : Snapshots) × Gives state request given next × HoldsSnapshots second next
     after_as_model (requests.Make call when) second after = after_call call when second after
     after_as_model (requests.Preview call) second after = absurd after
     after_as_model requests.Log second after = absurd after
     after_as_model (requests.Show number) second after = absurd after
 
-    pub stopped_near : (request : Request) (left : Files) → IsStopped request held left → (given : Result Reply Refusal) × (next : Snapshots) × Gives state request given next × AreLeft left state (Some next)
+    pub stopped_near : (request : Request) (left : Files) → IsStopped request held left → (given : Result Response Refusal) × (next : Snapshots) × Gives state request given next × AreLeft left state (Some next)
     stopped_near request left stopped =
         let after = after_as_model request stopped.0 stopped.1 in
         (after.0, after.1, after.2, (held, stopped.0, holds, after.3, stopped.2))

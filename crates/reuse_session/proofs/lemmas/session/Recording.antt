@@ -28,8 +28,8 @@ use Rattle.reuse_session.specs.declared.journal.history.ListedEntry.{ListedEntry
 use Rattle.reuse_tree.specs.declared.journal.entry.Entry.{Entry}
 use Rattle.reuse_tree.specs.declared.journal.head.Pending.{Pending}
 use Rattle.reuse_tree.specs.declared.journal.head.PendingWay.TheVariants as ways
-use Rattle.reuse_session.specs.declared.reply.Reply.{Reply}
-use Rattle.reuse_session.specs.declared.reply.Reply.TheVariants.{Changed}
+use Rattle.reuse_session.specs.declared.reply.Response.{Response}
+use Rattle.reuse_session.specs.declared.reply.Response.TheVariants.{Changed}
 use Rattle.reuse_session.specs.declared.reply.Refusal.{Refusal}
 use Rattle.reuse_session.specs.declared.failure.Failure.TheVariants.{Fault, Interrupted}
 use Rattle.reuse_session.specs.declared.reply.Refusal.TheVariants.{Failed}
@@ -272,7 +272,7 @@ module _ {S : Type 0} {store : Ghosts S} {old : Session S} {command : Command} {
 
 -- ---- what a run leaves that reads before
 
-pub after_reading : {S : Type 0} (store : Ghosts S) (old new : Session S) (read : S) → OnlyReads store (store_of old) read → (store.honest (store_of new) → store.honest read) → (command : Command) (when : ℕ) (result : Result Reply Refusal)
+pub after_reading : {S : Type 0} (store : Ghosts S) (old new : Session S) (read : S) → OnlyReads store (store_of old) read → (store.honest (store_of new) → store.honest read) → (command : Command) (when : ℕ) (result : Result Response Refusal)
     → LeavesRun store command when result (record old { store = read }) new → LeavesRun store command when result old new
 after_reading store old new read reads was_honest command when result leaves = record {
   unchanged = λ honest. subst (λ f. IfErr result (λ refusal. IsEarly refusal → IsSameBut (next_path old) f (files_of store new))) (same honest) (leaves.unchanged honest);

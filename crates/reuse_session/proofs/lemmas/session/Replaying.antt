@@ -21,7 +21,7 @@ use Rattle.reuse_session.specs.declared.journal.history.ListedEntry.{ListedEntry
 use Rattle.reuse_tree.specs.declared.journal.entry.Entry.{Entry}
 use Rattle.reuse_tree.specs.declared.journal.head.Pending.{Pending}
 use Rattle.reuse_tree.specs.declared.journal.head.PendingWay.TheVariants as ways
-use Rattle.reuse_session.specs.declared.reply.Reply.{Reply}
+use Rattle.reuse_session.specs.declared.reply.Response.{Response}
 use Rattle.reuse_session.specs.declared.reply.Refusal.{Refusal}
 use Rattle.reuse_session.specs.declared.reply.Refusal.TheVariants.{Moved}
 use Rattle.reuse_session.specs.declared.session.Session.{Session}
@@ -110,7 +110,7 @@ pub record Prepared {S : Type 0} (files : S → Files) (way : Way) (session : Se
   pub stands : StandsOn files session held
   pub is : IsStepOf (undo_folder_of (files (store_of session))) made pending moved held second
   pub goes : IsStep (listed_way way) is.step held second
-  pub replays : (given : Reply) → given ≡ reply_of way (paths_of made) → Replays way (ahead way held.journal) held (Ok given) second
+  pub replays : (given : Response) → given ≡ reply_of way (paths_of made) → Replays way (ahead way held.journal) held (Ok given) second
   pub many : listed_count moved ≡ listed_count (memory_of session)
   pub next : next_count (ahead way held.journal) ≡ length made
 
@@ -211,7 +211,7 @@ module _ {S : Type 0} (store : Ghosts S) (way : Way) (old new : Session S) (read
     moves_left : store.honest (store_of new) → (held : State) → StandsOn store.files old held → store.moves (store_of new) ≤ store.moves (store_of old) + next_count (ahead way held.journal) + 2
     moves_left honest held stands = omega (arith, asks, (ready (was_honest honest) held stands).next, reads.moves)
 
-    pub step_leaves : (reply : Reply) → (store.honest (store_of new) → IsEntry made → HasHeadText (memory_of new) (files_of store new)) → LeavesReplay store way (Ok reply) old new
+    pub step_leaves : (reply : Response) → (store.honest (store_of new) → IsEntry made → HasHeadText (memory_of new) (files_of store new)) → LeavesReplay store way (Ok reply) old new
     step_leaves reply text = record {
       early = tt;
       doubt = λ honest held stands. tt;

@@ -25,8 +25,8 @@ use Rattle.reuse_tree.specs.declared.journal.entry.Entry.{Entry}
 use Rattle.reuse_session.specs.declared.reply.Refusal.{Refusal}
 use Rattle.reuse_session.specs.declared.failure.Failure.TheVariants.{Fault}
 use Rattle.reuse_session.specs.declared.reply.Refusal.TheVariants.{BadJournal, JournalFull, NoSuchStep, Failed}
-use Rattle.reuse_session.specs.declared.reply.Reply.{Reply}
-use Rattle.reuse_session.specs.declared.reply.Reply.TheVariants.{Changed, NothingChanged}
+use Rattle.reuse_session.specs.declared.reply.Response.{Response}
+use Rattle.reuse_session.specs.declared.reply.Response.TheVariants.{Changed, NothingChanged}
 use Rattle.reuse_session.specs.declared.reply.Reverted.{Reverted}
 use Rattle.reuse_session.specs.declared.session.Session.{Session}
 use Rattle.reuse_tree.proofs.DifferingPaths.{changed_ascend}
@@ -44,7 +44,7 @@ told_run (Ok reverted) told = tt
 told_run (Err refusal) told = told
 
 -- an answer of a run isn't that of a step that isn't there
-pub run_has_step : (number : ℕ) (answer : Result Reply Refusal) → IsRunAnswer answer → answer ≡ Err (NoSuchStep number) → ⊥
+pub run_has_step : (number : ℕ) (answer : Result Response Refusal) → IsRunAnswer answer → answer ≡ Err (NoSuchStep number) → ⊥
 run_has_step number answer is e = subst IsRunAnswer e is
 
 -- what is told of a run that changed these paths
@@ -53,14 +53,14 @@ told_changed [] is = absurd is
 told_changed (path ∷ paths) is = refl
 
 -- what is told of another run
-pub told_other : (reply : Reply) → ((changed : List (List ℕ)) → reply ≡ Changed changed → ⊥) → IsRunAnswer (Ok reply) → NothingChanged ≡ reply
+pub told_other : (reply : Response) → ((changed : List (List ℕ)) → reply ≡ Changed changed → ⊥) → IsRunAnswer (Ok reply) → NothingChanged ≡ reply
 told_other NothingChanged other is = refl
 told_other (Changed []) other is = absurd is
 told_other (Changed (path ∷ paths)) other is = absurd (other (path ∷ paths) refl)
 told_other reply other is = absurd is
 
 -- a call whose answer is that of a run
-pub call_as_run : {S : Type 0} (store : Ghosts S) (result : Result Reverted Refusal) (answer : Result Reply Refusal) (old new : Session S) → as_run result ≡ answer → IsCall store answer old new → IsCall store result old new
+pub call_as_run : {S : Type 0} (store : Ghosts S) (result : Result Reverted Refusal) (answer : Result Response Refusal) (old new : Session S) → as_run result ≡ answer → IsCall store answer old new → IsCall store result old new
 call_as_run store result answer old new same call = by_result result (subst (λ r. IsCall store r old new) (sym same) call)
   where
     by_result : (r : Result Reverted Refusal) → IsCall store (as_run r) old new → IsCall store r old new
@@ -98,7 +98,7 @@ reverts_of number skip when held left (Err refusal) is back = back
 
 module _ (held left : State) (number : ℕ) (skip : Bool) (when : ℕ) (changes : List Change) (touched : List (List ℕ)) (back : IsBackOf number held.journal changes touched)
     (paths : List (List ℕ)) (is_paths : paths ≡ paths_of changes)
-    (answer : Result Reply Refusal) (kinds : IsRunAnswer answer) (result : Result Reverted Refusal) (same : as_run result ≡ answer)
+    (answer : Result Response Refusal) (kinds : IsRunAnswer answer) (result : Result Reverted Refusal) (same : as_run result ≡ answer)
     (skipped : IfOk result (λ reverted. ArePaths reverted.changed → reverted.skipped ≡ left_of paths reverted.changed))
     (runs : Runs (Revert changes touched skip) when held answer left)
   where
@@ -151,7 +151,7 @@ absent_follows files session state stands_at number skip when none =
     inl (refl, unkept number state.tree stands_at.held.journal.done state.past stands_at.holds.past (absent_step files session stands_at.held stands_at.stands number none), stands_at)
 
 -- where nothing can be taken back and no fault is told, there is no such step
-pub no_step_back : (number : ℕ) (refusal : Refusal) → (refusal ≡ NoSuchStep number) ⊎ IsReadRefusal refusal → TellsNoFault {A = Reply} (Err refusal) → ((path : List ℕ) → refusal ≡ BadJournal path → ⊥) → refusal ≡ NoSuchStep number
+pub no_step_back : (number : ℕ) (refusal : Refusal) → (refusal ≡ NoSuchStep number) ⊎ IsReadRefusal refusal → TellsNoFault {A = Response} (Err refusal) → ((path : List ℕ) → refusal ≡ BadJournal path → ⊥) → refusal ≡ NoSuchStep number
 no_step_back number refusal (inl e) told good = e
 no_step_back number refusal (inr is) told good = absurd (read_told refusal is told good)
 
@@ -183,7 +183,7 @@ fails_too {A} {B} store old new refusal fails = record {
 }
 
 -- what the run leaves
-pub run_leaves : {S : Type 0} (store : Ghosts S) (number : ℕ) (skip : Bool) (when : ℕ) (result : Result Reverted Refusal) (answer : Result Reply Refusal) (old new : Session S) (entry : Entry) (changes : List Change)
+pub run_leaves : {S : Type 0} (store : Ghosts S) (number : ℕ) (skip : Bool) (when : ℕ) (result : Result Reverted Refusal) (answer : Result Response Refusal) (old new : Session S) (entry : Entry) (changes : List Change)
     (touched : List (List ℕ)) → (store.honest (store_of new) → EntrySays (get (folder_of store old) (entry_path number)) entry) → changes ≡ entry.changes
     → (store.honest (store_of new) → (held : State) → StandsOn store.files old held → IsBackOf number held.journal changes touched) → as_run result ≡ answer
     → LeavesRun store (Revert changes touched skip) when answer old new → LeavesRevert store number skip when result old new

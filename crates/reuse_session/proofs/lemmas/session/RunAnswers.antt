@@ -3,8 +3,8 @@ use Rattle.std.proofs.Common.{◌≡◌, ◌<◌, List, [], ◌∷◌, length, R
 use Rattle.reuse_tree.specs.declared.change.Change.{Change}
 use Rattle.reuse_session.specs.session.Answer.{IsFailure, IsOfPlan, IsRunAnswer}
 use Rattle.reuse_tree.specs.Entry.{paths_of}
-use Rattle.reuse_session.specs.declared.reply.Reply.{Reply}
-use Rattle.reuse_session.specs.declared.reply.Reply.TheVariants.{Changed}
+use Rattle.reuse_session.specs.declared.reply.Response.{Response}
+use Rattle.reuse_session.specs.declared.reply.Response.TheVariants.{Changed}
 use Rattle.reuse_session.specs.declared.reply.Refusal.{Refusal}
 use Rattle.reuse_session.specs.declared.reply.Refusal.TheVariants.{NothingToUndo, NothingToRedo, NoSuchStep, BadJournal}
 
@@ -28,6 +28,6 @@ changed_answer [] some = absurd (omega (arith, some))
 changed_answer (change ∷ changes) some = tt
 
 -- the step
-pub step_answer : (changes : List Change) → 0 < length changes → (result : Result Reply Refusal) → IfOk result (λ reply. reply ≡ Changed (paths_of changes)) → IfErr result IsFailure → IsRunAnswer result
-step_answer changes some (Ok reply) changed fails = subst (λ (r : Reply). IsRunAnswer (Ok r)) (sym changed) (changed_answer changes some)
+pub step_answer : (changes : List Change) → 0 < length changes → (result : Result Response Refusal) → IfOk result (λ reply. reply ≡ Changed (paths_of changes)) → IfErr result IsFailure → IsRunAnswer result
+step_answer changes some (Ok reply) changed fails = subst (λ (r : Response). IsRunAnswer (Ok r)) (sym changed) (changed_answer changes some)
 step_answer changes some (Err refusal) changed fails = failed_answer refusal fails

@@ -14,8 +14,8 @@ use Rattle.reuse_session.specs.plan.Plan.{IsRefusalOf}
 use Rattle.reuse_session.specs.session.Session.{HoldsSnapshots, StandsOn, StandsAt, Follows, IsRun, Runs}
 use Rattle.reuse_session.specs.declared.command.Command.{Command}
 use Rattle.reuse_tree.specs.declared.way.Way.TheVariants as way
-use Rattle.reuse_session.specs.declared.reply.Reply.{Reply}
-use Rattle.reuse_session.specs.declared.reply.Reply.TheVariants.{Changed, NothingChanged}
+use Rattle.reuse_session.specs.declared.reply.Response.{Response}
+use Rattle.reuse_session.specs.declared.reply.Response.TheVariants.{Changed, NothingChanged}
 use Rattle.reuse_session.specs.declared.reply.Refusal.{Refusal}
 use Rattle.reuse_session.specs.declared.reply.Refusal.TheVariants.{JournalFull, Failed}
 use Rattle.reuse_session.specs.declared.session.Session.{Session}
@@ -31,7 +31,7 @@ stays_by_none files = record { each = All-nil _; others = λ path e. refl }
 
 -- a refusal of the plan that tells no fault
 pub runs_refused : (command : Command) (when : ℕ) (held : State) (refusal : Refusal) → is_full (length held.journal.done) held.journal.used ≡ false → IsOfPlan refusal
-    → TellsNoFault {A = Reply} (Err refusal) → IsRefusalOf (outcome_of command held.tree) refusal → Runs command when held (Err refusal) held
+    → TellsNoFault {A = Response} (Err refusal) → IsRefusalOf (outcome_of command held.tree) refusal → Runs command when held (Err refusal) held
 runs_refused command when held JournalFull room planned told due = absurd planned
 runs_refused command when held (Failed failure) room planned told due = absurd told
 runs_refused command when held refusal room planned told due = (room, due, refl)
@@ -61,12 +61,12 @@ module _ (held : State) (state : Snapshots) (holds : HoldsSnapshots held state) 
       run_follows held state holds command when run.step.changes second.tree run.room run.outcome run.entry run.is_step.leads are run.are_files second refl
       (run.is_step.moves.1 ∙ labelled)
 
-  stays_put : (result : Result Reply Refusal) (left : State) → left ≡ held → ran_by state command when ≡ (result, state)
+  stays_put : (result : Result Response Refusal) (left : State) → left ≡ held → ran_by state command when ≡ (result, state)
       → (result ≡ (ran_by state command when).0) × HoldsSnapshots left (ran_by state command when).1
   stays_put result left same is = subst (λ (step : Step). (result ≡ step.0) × HoldsSnapshots left step.1) (sym is) (refl, subst (λ h. HoldsSnapshots h state) (sym same) holds)
 
   -- a run does
-  pub runs_as_machine : (result : Result Reply Refusal) (left : State) → AreFiles held.tree → Runs command when held result left
+  pub runs_as_machine : (result : Result Response Refusal) (left : State) → AreFiles held.tree → Runs command when held result left
       → (result ≡ (ran_by state command when).0) × HoldsSnapshots left (ran_by state command when).1
   runs_as_machine (Ok (Changed paths)) left are runs =
       let run = runs.1 in
@@ -79,7 +79,7 @@ module _ (held : State) (state : Snapshots) (holds : HoldsSnapshots held state) 
   runs_as_machine (Ok reply) left are runs = absurd runs
 
 -- a session that goes on from a standing of the machine's as the command says goes on as the machine
-pub follows_exact : {S : Type 0} (files : S → Files) (new : Session S) {old : Session S} (state : Snapshots) (stands_at : StandsAt files old state) (command : Command) (when : ℕ) (result : Result Reply Refusal)
+pub follows_exact : {S : Type 0} (files : S → Files) (new : Session S) {old : Session S} (state : Snapshots) (stands_at : StandsAt files old state) (command : Command) (when : ℕ) (result : Result Response Refusal)
     → (left : State) × StandsOn files new left × Runs command when stands_at.held result left → Follows files result new (ran_by state command when)
 follows_exact files new state stands_at command when result exact =
     let follows = runs_as_machine stands_at.held state stands_at.holds command when result exact.0 stands_at.stands.standing.good.are_files exact.2 in

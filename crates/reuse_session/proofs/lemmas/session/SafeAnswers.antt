@@ -22,8 +22,8 @@ use Rattle.reuse_session.specs.declared.command.Command.{Command}
 use Rattle.reuse_session.specs.declared.failure.Failure.TheVariants.{Fault, Memory, Interrupted}
 use Rattle.reuse_session.specs.declared.reply.Refusal.{Refusal}
 use Rattle.reuse_session.specs.declared.reply.Refusal.TheVariants.{JournalFull, NoSuchStep, Failed}
-use Rattle.reuse_session.specs.declared.reply.Reply.{Reply}
-use Rattle.reuse_session.specs.declared.reply.Reply.TheVariants as replies
+use Rattle.reuse_session.specs.declared.reply.Response.{Response}
+use Rattle.reuse_session.specs.declared.reply.Response.TheVariants as replies
 use Rattle.reuse_session.specs.declared.reply.Reverted.{Reverted}
 use Rattle.reuse_session.specs.declared.request.Call.{Call}
 use Rattle.reuse_session.specs.declared.request.Call.TheVariants as calls
@@ -37,14 +37,14 @@ use Rattle.reuse_session.proofs.lemmas.journal.StepDoubt.{synced_is_safe}
 
 -- ---- where no step is made, the state stays
 
-runs_stay : (command : Command) (when : ℕ) (held left : State) (answer : Result Reply Refusal) → Runs command when held answer left → IsNoStep answer → left ≡ held
+runs_stay : (command : Command) (when : ℕ) (held left : State) (answer : Result Response Refusal) → Runs command when held answer left → IsNoStep answer → left ≡ held
 runs_stay command when held left (Ok (replies.Changed paths)) runs none = absurd none
 runs_stay command when held left (Ok replies.NothingChanged) runs none = runs.2
 runs_stay command when held left (Ok reply) runs none = absurd runs
 runs_stay command when held left (Err JournalFull) runs none = runs.1
 runs_stay command when held left (Err refusal) runs none = runs.2
 
-replays_stay : (go : Way) (steps : List Recorded) (held left : State) (answer : Result Reply Refusal) → Replays go steps held answer left → IsNoStep (as_step answer) → left ≡ held
+replays_stay : (go : Way) (steps : List Recorded) (held left : State) (answer : Result Response Refusal) → Replays go steps held answer left → IsNoStep (as_step answer) → left ≡ held
 replays_stay go [] held left answer replays none = replays.1
 replays_stay way.Undo (step ∷ steps) held left (Ok reply) replays none = absurd (subst (λ r. IsNoStep (as_step (Ok r))) replays.0 none)
 replays_stay way.Do (step ∷ steps) held left (Ok reply) replays none = absurd (subst (λ r. IsNoStep (as_step (Ok r))) replays.0 none)
@@ -56,12 +56,12 @@ reverts_stay number skip_moved when held left answer reverts none =
     (λ (back : TakesBack number skip_moved when held answer left). runs_stay _ when held left (as_run answer) back.runs none) (reverts_one number skip_moved when held answer left reverts)
 
 -- a run's answer is a step as it is
-runs_as_step : (command : Command) (when : ℕ) (held left : State) (answer : Result Reply Refusal) → Runs command when held answer left → as_step answer ≡ answer
+runs_as_step : (command : Command) (when : ℕ) (held left : State) (answer : Result Response Refusal) → Runs command when held answer left → as_step answer ≡ answer
 runs_as_step command when held left (Ok (replies.Reverted reverted)) runs = absurd runs
 runs_as_step command when held left (Ok reply) runs = refl
 runs_as_step command when held left (Err refusal) runs = refl
 
-makes_stay : (call : Call) (when : ℕ) (held left : State) (answer : Result Reply Refusal) → Makes call when held answer left → IsNoStep (as_step answer) → left ≡ held
+makes_stay : (call : Call) (when : ℕ) (held left : State) (answer : Result Response Refusal) → Makes call when held answer left → IsNoStep (as_step answer) → left ≡ held
 makes_stay (calls.Run command) when held left answer makes none = runs_stay command when held left answer makes (subst IsNoStep (runs_as_step command when held left answer makes) none)
 makes_stay calls.Undo when held left answer makes none = replays_stay way.Undo held.journal.done held left answer makes none
 makes_stay calls.Redo when held left answer makes none = replays_stay way.Do held.journal.undone held left answer makes none
@@ -71,20 +71,20 @@ makes_stay (calls.Revert number skip_moved) when held left answer makes none =
 -- ---- what may be left is safe on the next state
 
 module _ {S : Type 0} (store : Ghosts S) (earlier held left : State) (new : S) where
-  safe_after_step : (IsNext : State → Type 0) (step : Result Reply Refusal) → (IsNoStep step → left ≡ held) → TellsNoFault step → IsStanding (store.files new) left → Survives store IsNext earlier held step new
+  safe_after_step : (IsNext : State → Type 0) (step : Result Response Refusal) → (IsNoStep step → left ≡ held) → TellsNoFault step → IsStanding (store.files new) left → Survives store IsNext earlier held step new
       → (first : State) × AreSafeOn store first left new
   safe_after_step IsNext (Ok replies.NothingChanged) stays told standing survives = (earlier, subst (λ s. AreSafeOn store earlier s new) (sym (stays tt)) survives)
   safe_after_step IsNext (Ok reply) stays told standing survives = (left, synced_is_safe store left left new standing survives)
   safe_after_step IsNext (Err (Failed failure)) stays told standing survives = absurd told
   safe_after_step IsNext (Err refusal) stays told standing survives = (earlier, subst (λ s. AreSafeOn store earlier s new) (sym (stays told)) survives)
 
-  told_as_step : (answer : Result Reply Refusal) → TellsNoFault answer → TellsNoFault (as_step answer)
+  told_as_step : (answer : Result Response Refusal) → TellsNoFault answer → TellsNoFault (as_step answer)
   told_as_step (Ok (replies.Reverted reverted)) told = tt
   told_as_step (Ok reply) told = tt
   told_as_step (Err (Failed failure)) told = absurd told
   told_as_step (Err refusal) told = told
 
-  safe_after : (request : Request) (answer : Result Reply Refusal) → LeadsTo request held answer left → TellsNoFault answer → IsStanding (store.files new) left → SurvivesRequest store request earlier held answer new
+  safe_after : (request : Request) (answer : Result Response Refusal) → LeadsTo request held answer left → TellsNoFault answer → IsStanding (store.files new) left → SurvivesRequest store request earlier held answer new
       → (first : State) × AreSafeOn store first left new
   safe_after (requests.Make call when) answer leads told standing survives =
       safe_after_step (IsAfterCall call when held) (as_step answer) (makes_stay call when held left answer leads) (told_as_step answer told) standing survives
@@ -110,7 +110,7 @@ module _ {S : Type 0} (store : Ghosts S) (earlier held : State) (new : S) where
 
 -- ---- from how a request is answered
 
-module _ {S : Type 0} (store : Ghosts S) (request : Request) (answer : Result Reply Refusal) (old new : Session S) (is : IsAnswered store request answer old new) (honest : store.honest (store_of new)) where
+module _ {S : Type 0} (store : Ghosts S) (request : Request) (answer : Result Response Refusal) (old new : Session S) (is : IsAnswered store request answer old new) (honest : store.honest (store_of new)) where
   -- of a session that stands at a state
   module _ (state : Snapshots) (at : StandsAt store.files old state) where
     pub follows : TellsNoFault answer → (next : Snapshots) × Gives state request answer next × StandsAt store.files new next
@@ -122,11 +122,11 @@ module _ {S : Type 0} (store : Ghosts S) (request : Request) (answer : Result Re
     pub stands : IfErr answer (λ refusal. IsEarly refusal → StandsAt store.files new state)
     stands = by_answer answer (is.stands honest at.held at.stands)
       where
-        by_answer : (answer : Result Reply Refusal) → IfErr answer (λ refusal. IsEarly refusal → StandsOn store.files new at.held) → IfErr answer (λ refusal. IsEarly refusal → StandsAt store.files new state)
+        by_answer : (answer : Result Response Refusal) → IfErr answer (λ refusal. IsEarly refusal → StandsOn store.files new at.held) → IfErr answer (λ refusal. IsEarly refusal → StandsAt store.files new state)
         by_answer (Ok reply) kept = tt
         by_answer (Err refusal) kept = λ early. record { held = at.held; stands = kept early; holds = at.holds }
 
-    pub stops : (cause : Cause) → answer ≡ Err (Failed (Interrupted cause)) → (given : Result Reply Refusal) × (next : Snapshots) × Gives state request given next × AreLeft (files_of store new) state (Some next)
+    pub stops : (cause : Cause) → answer ≡ Err (Failed (Interrupted cause)) → (given : Result Response Refusal) × (next : Snapshots) × Gives state request given next × AreLeft (files_of store new) state (Some next)
     stops cause e = stopped_near at.held state at.holds (files_of store old) at.stands.standing request (files_of store new) (at_stop _ e (is.doubt honest at.held at.stands))
 
   -- of one that stands safely there
@@ -141,7 +141,7 @@ module _ {S : Type 0} (store : Ghosts S) (request : Request) (answer : Result Re
         let safe = safe_after store safely.earlier held left.0 (store_of new) request answer left.2 told left.1.standing (is.survives honest safely.earlier held safely.at.stands safely.safe) in
         (to.0, to.1, record { at = record { held = left.0; stands = left.1; holds = to.2 }; earlier = safe.0; safe = safe.1 })
 
-    by_answer : (given : Result Reply Refusal) → (TellsNoFault given → (next : Snapshots) × Gives state request given next × StandsSafely store new next)
+    by_answer : (given : Result Response Refusal) → (TellsNoFault given → (next : Snapshots) × Gives state request given next × StandsSafely store new next)
         → IfErr given (λ refusal. IsEarly refusal → StandsOn store.files new held) → IfErr given (IfFailed (MayFail request))
         → SurvivesRequest store request safely.earlier held given (store_of new) → GoesSafely store request given state new
     by_answer (Ok reply) on early fails survives = on tt

@@ -16,8 +16,8 @@ use Rattle.reuse_session.specs.session.Stops.{Point, open_at, closed, Reopens, C
 use Rattle.reuse_session.specs.declared.events.Driven.{Driven}
 use Rattle.reuse_session.specs.declared.events.Driven.TheVariants.{Open, Closed}
 use Rattle.reuse_session.specs.declared.request.Request.{Request}
-use Rattle.reuse_session.specs.declared.reply.Reply.{Reply}
-use Rattle.reuse_session.specs.declared.reply.Reply.TheVariants.{Opened}
+use Rattle.reuse_session.specs.declared.reply.Response.{Response}
+use Rattle.reuse_session.specs.declared.reply.Response.TheVariants.{Opened}
 use Rattle.reuse_session.specs.declared.reply.Refusal.{Refusal}
 use Rattle.reuse_session.specs.declared.failure.Failure.TheVariants.{Memory, Fault, Interrupted}
 use Rattle.reuse_session.specs.declared.reply.Refusal.TheVariants.{Failed}
@@ -36,7 +36,7 @@ looks_safely store answer old new state reads_only honest safely = record {
 }
 
 -- one that wasn't interrupted leaves the session open
-pub goes_on_safely : {S : Type 0} (store : Ghosts S) (state : Snapshots) (session : Session S) (request : Request) (answer : Result Reply Refusal) → GoesSafely store request answer state session
+pub goes_on_safely : {S : Type 0} (store : Ghosts S) (state : Snapshots) (session : Session S) (request : Request) (answer : Result Response Refusal) → GoesSafely store request answer state session
     → IfErr answer (IfFailed (MayFail request)) → ((cause : Cause) → answer ≡ Err (Failed (Interrupted cause)) → ⊥)
     → (new : Point) × Continues request answer (open_at state) new × IsSafelyAt store (Open session) new
 goes_on_safely store state session request (Ok reply) safely fails other = (open_at safely.0, (safely.0, safely.1, refl), (refl, safely.2))
@@ -46,7 +46,7 @@ goes_on_safely store state session request (Err (Failed (Interrupted cause))) sa
 goes_on_safely store state session request (Err refusal) safely fails other = (open_at safely.0, (safely.0, safely.1, refl), (refl, safely.2))
 
 -- one that was closes it
-pub closes_safely : {S : Type 0} (store : Ghosts S) (request : Request) (answer : Result Reply Refusal) (state : Snapshots) (session : Session S) (cause : Cause) → answer ≡ Err (Failed (Interrupted cause))
+pub closes_safely : {S : Type 0} (store : Ghosts S) (request : Request) (answer : Result Response Refusal) (state : Snapshots) (session : Session S) (cause : Cause) → answer ≡ Err (Failed (Interrupted cause))
     → IfErr answer (IfFailed (MayFail request)) → GoesSafely store request answer state session → (new : Point) × Continues request answer (open_at state) new × IsSafelyAt store (Closed (store_of session)) new
 closes_safely store request answer state session cause is fails safely =
     let left = subst (λ a. GoesSafely store request a state session) is safely in

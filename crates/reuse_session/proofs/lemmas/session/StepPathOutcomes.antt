@@ -15,7 +15,7 @@ use Rattle.reuse_session.specs.declared.path_outcome.PathOutcome.{PathOutcome}
 use Rattle.reuse_session.specs.declared.path_outcome.PathOutcome.TheVariants as path_outcome
 use Rattle.reuse_session.specs.declared.reply.Refusal.{Refusal}
 use Rattle.reuse_session.specs.declared.reply.Refusal.TheVariants as refusals
-use Rattle.reuse_session.specs.declared.reply.Reply.{Reply}
+use Rattle.reuse_session.specs.declared.reply.Response.{Response}
 use Rattle.reuse_tree.proofs.Walk.{none_stuck}
 use Rattle.reuse_session.proofs.lemmas.journal.OneOpening.{without_once}
 use Rattle.reuse_session.proofs.lemmas.session.Previewing.{all_change}
@@ -39,7 +39,7 @@ later Holds change changes path holds first = record {
 abbrev IsStuckBy : Way → Files → List Change → Refusal → Type 0
 IsStuckBy way tree changes refusal = (path : List ℕ) × (refusal ≡ refusals.Moved path) × IsFirstStuck way tree changes path
 
-same_error : (one other : Refusal) (result : Result Reply Refusal) → result ≡ Err one → result ≡ Err other → one ≡ other
+same_error : (one other : Refusal) (result : Result Response Refusal) → result ≡ Err one → result ≡ Err other → one ≡ other
 same_error one other result e f = cc
 
 told_of : (way : Way) (tree : Files) (change : Change) (told : PathOutcome) → IsPathOutcomeOf way tree change told
@@ -111,7 +111,7 @@ accepted_where_made way tree changes path_outcomes are =
 
 -- ---- whole calls
 
-pub calls_as_previewed : (way : Way) (steps : List Recorded) (old new : State) (path_outcomes : List PathOutcome) (result : Result Reply Refusal) (refusal : Refusal) → PreviewsReplay way steps old.tree (Ok path_outcomes) → Replays way steps old result new
+pub calls_as_previewed : (way : Way) (steps : List Recorded) (old new : State) (path_outcomes : List PathOutcome) (result : Result Response Refusal) (refusal : Refusal) → PreviewsReplay way steps old.tree (Ok path_outcomes) → Replays way steps old result new
     → (result ≡ Err refusal) ↔ (first_refusal path_outcomes ≡ Some refusal)
 calls_as_previewed way [] old new path_outcomes result refusal told goes = absurd (cc)
 calls_as_previewed way (step ∷ steps) old new path_outcomes (Ok reply) refusal told goes = (

@@ -6,7 +6,7 @@ use Rattle.std.specs.Io.KnownBytes.{Appends}
 use Rattle.reuse_session.specs.declared.reply.Shown.{Shown}
 use Rattle.reuse_undo.specs.declared.cli.line.OutputFormat.TheVariants.{Diff}
 use Rattle.reuse_undo.specs.declared.print.shown_name.Names.{Names}
-use Rattle.reuse_session.specs.declared.reply.Reply.{Reply}
+use Rattle.reuse_session.specs.declared.reply.Response.{Response}
 use Rattle.reuse_undo.specs.print.Lines.{change_lines, IsReplyText, IsShownText}
 use Rattle.reuse_undo.specs.print.RowLines.{AreJoined, AppendsSome, IsRowLine}
 use Rattle.reuse_undo.specs.print.Told.{IsDiffBehind, IsTextIn, HasBehind}
@@ -42,10 +42,10 @@ AppendsSome-shown names shown old mid new row rest =
     (row.0 ++ change_lines names shown.changes, ((row.0, row.1.0, refl), Appends-trans old mid new row.0 (change_lines names shown.changes) row.1.1 rest))
 
 -- the lines of an answer, and a diff behind them
-pub AppendsSome-behind : (names : Names) (told : Reply) (diff : List ℕ) (old mid new : Option (List ℕ)) → AppendsSome old mid (IsReplyText names told) → Appends mid new diff
+pub AppendsSome-behind : (names : Names) (told : Response) (diff : List ℕ) (old mid new : Option (List ℕ)) → AppendsSome old mid (IsReplyText names told) → Appends mid new diff
     → AppendsSome old new (HasBehind names told diff)
 AppendsSome-behind names told diff old mid new lines rest = (lines.0 ++ diff, ((lines.0, lines.1.0, refl), Appends-trans old mid new lines.0 diff lines.1.1 rest))
 
-pub AppendsSome-diff : (names : Names) (told : Reply) (diff : List ℕ) (old mid new : Option (List ℕ)) → IsDiffBehind told diff → AppendsSome old mid (IsReplyText names told) → Appends mid new diff
+pub AppendsSome-diff : (names : Names) (told : Response) (diff : List ℕ) (old mid new : Option (List ℕ)) → IsDiffBehind told diff → AppendsSome old mid (IsReplyText names told) → Appends mid new diff
     → AppendsSome old new (IsTextIn Diff names told)
 AppendsSome-diff names told diff old mid new may lines rest = (lines.0 ++ diff, ((lines.0, diff, lines.1.0, may, refl), Appends-trans old mid new lines.0 diff lines.1.1 rest))

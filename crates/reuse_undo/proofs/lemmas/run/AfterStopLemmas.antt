@@ -8,7 +8,7 @@ use Rattle.reuse_session.specs.session.Requests.{Meets}
 use Rattle.reuse_session.specs.session.Session.{HoldsSnapshots}
 use Rattle.reuse_session.specs.journal.Standing.{IsStanding, InDoubt}
 use Rattle.reuse_session.specs.session.Stops.{Point, open_at, closed, AreLeft}
-use Rattle.reuse_session.specs.declared.reply.Reply.{Reply}
+use Rattle.reuse_session.specs.declared.reply.Response.{Response}
 use Rattle.reuse_session.specs.declared.reply.Refusal.{Refusal}
 use Rattle.reuse_session.specs.declared.failure.Failure.TheVariants.{Fault as StoreFailed, Memory, Interrupted}
 use Rattle.reuse_session.specs.declared.reply.Refusal.TheVariants.{Failed}
@@ -25,11 +25,11 @@ use Rattle.reuse_undo.specs.declared.cli.line.Telling.{Telling}
 -- ---- a request to a session that opened at a state
 
 module _ (held : State) (state : Snapshots) (holds : HoldsSnapshots held state) (before after : Files) (standing : IsStanding before held) (request : Request) where
-  went : (answer : Result Reply Refusal) (next : Snapshots) → EndsRequest state request answer (closed (open_at next)) → (left : State) → IsStanding after left → HoldsSnapshots left next
+  went : (answer : Result Response Refusal) (next : Snapshots) → EndsRequest state request answer (closed (open_at next)) → (left : State) → IsStanding after left → HoldsSnapshots left next
       → (end : Point) × EndsRequest state request answer end × AreLeft after end.state end.next
   went answer next ends left standing holds = (closed (open_at next), ends, (left, standing, holds))
 
-  met : (answer : Result Reply Refusal) → Meets request held answer after → (end : Point) × EndsRequest state request answer end × AreLeft after end.state end.next
+  met : (answer : Result Response Refusal) → Meets request held answer after → (end : Point) × EndsRequest state request answer end × AreLeft after end.state end.next
   met (Ok reply) meets =
       let to = gives_to held state holds before standing request (Ok reply) meets.0 meets.1 in
       went (Ok reply) to.0 (open_at to.0, (to.0, to.1, refl), refl) meets.0 meets.2 to.2
@@ -46,7 +46,7 @@ module _ (held : State) (state : Snapshots) (holds : HoldsSnapshots held state) 
 -- ---- a request behind a stop
 
 -- a session that opens on files that are left so stands at one of the states
-reached : (before : Files) (request : Request) (answer : Result Reply Refusal) (after : Files) (state : Snapshots) (next : Option Snapshots) → AreLeft before state next
+reached : (before : Files) (request : Request) (answer : Result Response Refusal) (after : Files) (state : Snapshots) (next : Option Snapshots) → AreLeft before state next
     → ((first second : State) → InDoubt first second before → AnswersOn request first answer after ⊎ AnswersOn request second answer after)
     → (s : Snapshots) × ((state ≡ s) ⊎ (next ≡ Some s)) × ((held : State) × HoldsSnapshots held s × AnswersOn request held answer after)
 reached before request answer after state None left recovers =
@@ -55,7 +55,7 @@ reached before request answer after state (Some next) left recovers =
     ⊎_elim (λ (on : AnswersOn request left.0 answer after). (state, inl refl, (left.0, left.2, on))) (λ (on : AnswersOn request left.1 answer after). (next, inr refl, (left.1, left.3, on)))
     (recovers left.0 left.1 left.4)
 
-pub answers_after_stop : (before : Files) (request : Request) (answer : Result Reply Refusal) (after : Files) (start : Point) → AreLeft before start.state start.next
+pub answers_after_stop : (before : Files) (request : Request) (answer : Result Response Refusal) (after : Files) (start : Point) → AreLeft before start.state start.next
     → RequestLeaves before request answer after → (end : Point) × AnswersAfterStop request answer start end × AreLeft after end.state end.next
 answers_after_stop before request answer after start left carries =
     ⊎_elim (λ (refused : (refusal : Refusal) × (answer ≡ Err refusal) × IsUnopened before refusal after).
@@ -68,7 +68,7 @@ answers_after_stop before request answer after start left carries =
     (m.0, inr (r.0, r.1, m.1), m.2)) carries
 
 -- what is told of an answer that leads to some end is told of that end
-pub told_of_end : {X : Type 0} (telling : Telling) (IsAnswer : X → Result Reply Refusal → Type 0) (Ends : X → Type 0) (old new : List ℕ) (result : Result ℕ Fault)
+pub told_of_end : {X : Type 0} (telling : Telling) (IsAnswer : X → Result Response Refusal → Type 0) (Ends : X → Type 0) (old new : List ℕ) (result : Result ℕ Fault)
     → TellsAnswer telling (λ answer. (end : X) × IsAnswer end answer × Ends end) old new result → (end : X) × TellsAnswer telling (IsAnswer end) old new result × Ends end
 told_of_end telling IsAnswer Ends old new (Ok count) told = (told.1.0, (told.0, told.1.1, told.2, told.3, told.4), told.1.2)
 told_of_end telling IsAnswer Ends old new (Err (faults.Refused refusal)) told = (told.0.0, (told.0.1, told.1), told.0.2)

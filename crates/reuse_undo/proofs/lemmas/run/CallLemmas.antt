@@ -16,7 +16,7 @@ use Rattle.reuse_session.specs.declared.failure.Fault.TheVariants as stores
 use Rattle.reuse_session.specs.declared.failure.Failure.TheVariants.{Fault as StoreFailed, Memory, Interrupted}
 use Rattle.reuse_session.specs.declared.reply.Refusal.{Refusal}
 use Rattle.reuse_session.specs.declared.reply.Refusal.TheVariants.{Failed}
-use Rattle.reuse_session.specs.declared.reply.Reply.{Reply}
+use Rattle.reuse_session.specs.declared.reply.Response.{Response}
 use Rattle.reuse_session.specs.declared.request.Call.TheVariants as calls
 use Rattle.reuse_session.specs.declared.request.Request.{Request}
 use Rattle.reuse_session.specs.declared.request.Request.TheVariants as requests
@@ -43,11 +43,11 @@ unclashed request held files refusal none = none
 -- ---- the call
 
 -- how a request is answered, as what it leaves of the files
-pub meets_by : {S : Type 0} (store : Ghosts S) (request : Request) (answer : Result Reply Refusal) (old new : Session S) → IsAnswered store request answer old new → store.honest (store_of new) → (held : State)
+pub meets_by : {S : Type 0} (store : Ghosts S) (request : Request) (answer : Result Response Refusal) (old new : Session S) → IsAnswered store request answer old new → store.honest (store_of new) → (held : State)
     → StandsOn store.files old held → Meets request held answer (files_of store new)
 meets_by {S} store request answer old new is honest held stands = by_answer answer (is.exact honest held stands) (is.stands honest held stands) (is.doubt honest held stands) is.fails
   where
-    by_answer : (answer : Result Reply Refusal) → (TellsNoFault answer → (left : State) × StandsOn store.files new left × LeadsTo request held answer left)
+    by_answer : (answer : Result Response Refusal) → (TellsNoFault answer → (left : State) × StandsOn store.files new left × LeadsTo request held answer left)
         → IfErr answer (λ refusal. IsEarly refusal → StandsOn store.files new held) → IfErr answer (λ refusal. IsStop refusal → IsStopped request held (files_of store new))
         → IfErr answer (IfFailed (MayFail request)) → Meets request held answer (files_of store new)
     by_answer (Ok reply) exact early doubt fails = let left = exact tt in (left.0, left.2, left.1.standing)
@@ -58,7 +58,7 @@ meets_by {S} store request answer old new is honest held stands = by_answer answ
 
 -- ---- the opening and the call
 
-pub carried : {S : Type 0} (files : S → Files) (before : Files) (request : Request) (session : Session S) (answer : Result Reply Refusal) (after : Files)
+pub carried : {S : Type 0} (files : S → Files) (before : Files) (request : Request) (session : Session S) (answer : Result Response Refusal) (after : Files)
     → (held : State) × StandsOn files session held × OpensOn before held (files (store_of session))
     → ((first second : State) → InDoubt first second before → StandsOn files session first ⊎ StandsOn files session second)
     → ((held : State) → StandsOn files session held → Meets request held answer after)

@@ -8,30 +8,30 @@ use Rattle.reuse_tree.specs.declared.fault.StoreFault.TheVariants as stores
 use Rattle.reuse_tree.specs.declared.store.Store.{Ghosts}
 use Rattle.reuse_session.specs.session.Cause.{refusal_of}
 use Rattle.reuse_session.specs.declared.reply.Refusal.{Refusal}
-use Rattle.reuse_session.specs.declared.reply.Reply.TheVariants as replies
+use Rattle.reuse_session.specs.declared.reply.Response.TheVariants as replies
 use Rattle.reuse_undo.specs.declared.run.fault.Fault.{Fault}
 use Rattle.reuse_undo.specs.declared.run.fault.Fault.TheVariants as faults
 use Rattle.reuse_undo.specs.declared.cli.line.OutputFormat.TheVariants.{Diff}
 use Rattle.reuse_undo.specs.declared.cli.line.Telling.{Telling}
-use Rattle.reuse_session.specs.declared.reply.Reply.{Reply}
+use Rattle.reuse_session.specs.declared.reply.Response.{Response}
 use Rattle.reuse_undo.specs.print.Told.{Finishes, IsAccepted, IsBehind, IsDiffBehind, IsDiffOf, IsDrawnPreview, IsNoDiff, IsNoRecord, IsToldText, IsWanted}
 use Rattle.reuse_undo.specs.print.Outputs.{AddsFront}
 use Rattle.reuse_undo.specs.run.RunLine.{IfNoDiff}
 use Rattle.reuse_undo.specs.print.WriterFaults.{IsOfDiff, IsUndrawn}
 
-wanted : {A S : Type 0} (store : Ghosts S) (old new : S) (telling : Telling) (told : Reply) (diff : Result (Vec ℕ A) Fault) → IsDrawnPreview telling told → IfErr diff (IsOfDiff store old new)
+wanted : {A S : Type 0} (store : Ghosts S) (old new : S) (telling : Telling) (told : Response) (diff : Result (Vec ℕ A) Fault) → IsDrawnPreview telling told → IfErr diff (IsOfDiff store old new)
     → IsDiffOf telling told diff
 wanted store old new telling told (Ok diff) is fault = inr is
 wanted store old new telling told (Err (faults.NoDiff refusal)) is fault = is
 wanted store old new telling told (Err faults.Memory) is fault = refl
 wanted store old new telling told (Err other) is fault = absurd fault
 
-unwanted : {A : Type 0} (telling : Telling) (told : Reply) (diff : Result (Vec ℕ A) Fault) → IsNoDiff diff → IsDiffOf telling told diff
+unwanted : {A : Type 0} (telling : Telling) (told : Response) (diff : Result (Vec ℕ A) Fault) → IsNoDiff diff → IsDiffOf telling told diff
 unwanted telling told (Ok diff) none = inl none
 unwanted telling told (Err other) none = absurd none
 
 -- a diff that is made exactly where it is wanted
-pub diff_for : {A S : Type 0} (store : Ghosts S) (old new : S) (telling : Telling) (answer : Result Reply Refusal) (diff : Result (Vec ℕ A) Fault) (b : Bool) → (b ≡ true → IsWanted telling answer)
+pub diff_for : {A S : Type 0} (store : Ghosts S) (old new : S) (telling : Telling) (answer : Result Response Refusal) (diff : Result (Vec ℕ A) Fault) (b : Bool) → (b ≡ true → IsWanted telling answer)
     → (b ≡ false → IsNoDiff diff) → IfErr diff (IsOfDiff store old new) → IfOk answer (λ told. IsDiffOf telling told diff)
 diff_for store old new telling (Err refusal) diff b is none fault = tt
 diff_for store old new telling (Ok told) diff true is none fault = wanted store old new telling told diff (is refl) fault
@@ -47,20 +47,20 @@ is_none_of (Some value) is = absurd (false≢true (sym is))
 is_none_of None is = refl
 
 -- a diff is wanted of a dry run that is accepted, in the format of one
-pub wanted_where : (telling : Telling) (answer : Result Reply Refusal) → (telling.format ≡ Diff) × IsAccepted answer → IsWanted telling answer
+pub wanted_where : (telling : Telling) (answer : Result Response Refusal) → (telling.format ≡ Diff) × IsAccepted answer → IsWanted telling answer
 wanted_where telling (Ok told) is = (is.0, is.1.0, is.1.1, is.1.2)
 wanted_where telling (Err refusal) is = is.1
 
-pub format_where : (telling : Telling) (answer : Result Reply Refusal) → IsWanted telling answer → telling.format ≡ Diff
+pub format_where : (telling : Telling) (answer : Result Response Refusal) → IsWanted telling answer → telling.format ≡ Diff
 format_where telling (Ok told) is = is.0
 format_where telling (Err refusal) is = absurd is
 
-pub accepted_where : (telling : Telling) (answer : Result Reply Refusal) → IsWanted telling answer → IsAccepted answer
+pub accepted_where : (telling : Telling) (answer : Result Response Refusal) → IsWanted telling answer → IsAccepted answer
 accepted_where telling (Ok told) is = (is.1, is.2, is.3)
 accepted_where telling (Err refusal) is = absurd is
 
 -- no diff stands behind an answer that has none
-none_behind : (told : Reply) (diff : List ℕ) → IsNoRecord told → diff ≡ [] → IsDiffBehind told diff
+none_behind : (told : Response) (diff : List ℕ) → IsNoRecord told → diff ≡ [] → IsDiffBehind told diff
 none_behind (replies.Preview path_outcomes) diff is none = inl none
 none_behind replies.Opened diff is none = none
 none_behind (replies.Changed paths) diff is none = none
@@ -72,11 +72,11 @@ none_behind (replies.Shown shown) diff is none = absurd is
 none_behind (replies.Reverted reverted) diff is none = none
 
 -- some, of a call that was only looked at
-planned_behind : (telling : Telling) (told : Reply) (diff : List ℕ) → IsDrawnPreview telling told → IsDiffBehind told diff
+planned_behind : (telling : Telling) (told : Response) (diff : List ℕ) → IsDrawnPreview telling told → IsDiffBehind told diff
 planned_behind telling told diff is = subst (λ t. IsDiffBehind t diff) (sym is.2) (inr is.3)
 
 -- and behind the lines of an answer that is no step
-pub behind : {A : Type 0} (telling : Telling) (told : Reply) (diff : Result (Vec ℕ A) Fault) → (telling.format ≡ Diff → IsNoRecord told) → IsDiffOf telling told diff → IsBehind telling told diff
+pub behind : {A : Type 0} (telling : Telling) (told : Response) (diff : Result (Vec ℕ A) Fault) → (telling.format ≡ Diff → IsNoRecord told) → IsDiffOf telling told diff → IsBehind telling told diff
 behind telling told (Ok diff) is (inl none) = λ format. none_behind told diff.items (is format) none
 behind telling told (Ok diff) is (inr planned) = λ format. planned_behind telling told diff.items planned
 behind telling told (Err (faults.NoDiff refusal)) is planned = planned
@@ -84,7 +84,7 @@ behind telling told (Err faults.Memory) is same = same
 behind telling told (Err other) is same = same
 
 -- an output that failed took a front part of what is told
-pub cut_short : (telling : Telling) (told : Reply) (old new text : List ℕ) (fault : Fault) → fault ≡ faults.Write → IsToldText telling told text → AddsFront old new text
+pub cut_short : (telling : Telling) (told : Response) (old new text : List ℕ) (fault : Fault) → fault ≡ faults.Write → IsToldText telling told text → AddsFront old new text
     → Finishes telling told old new (Err fault)
 cut_short telling told old new text fault is tells front = subst (λ f. Finishes telling told old new (Err f)) (sym is) (text, tells, front)
 

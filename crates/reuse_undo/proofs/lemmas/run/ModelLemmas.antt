@@ -8,7 +8,7 @@ use Rattle.reuse_session.specs.session.Requests.{Meets}
 use Rattle.reuse_session.specs.session.Session.{HoldsSnapshots}
 use Rattle.reuse_session.specs.journal.Standing.{IsStanding}
 use Rattle.reuse_session.specs.session.Stops.{Point, open_at, closed, Reopens, HoldState, AreLeft}
-use Rattle.reuse_session.specs.declared.reply.Reply.{Reply}
+use Rattle.reuse_session.specs.declared.reply.Response.{Response}
 use Rattle.reuse_session.specs.declared.reply.Refusal.{Refusal}
 use Rattle.reuse_session.specs.declared.failure.Failure.TheVariants.{Fault as StoreFailed, Memory, Interrupted}
 use Rattle.reuse_session.specs.declared.reply.Refusal.TheVariants.{Failed}
@@ -26,7 +26,7 @@ use Rattle.reuse_undo.specs.print.Told.{IsToldText, Finishes}
 
 -- a request is answered as by the model
 module _ (held : State) (state : Snapshots) (holds : HoldsSnapshots held state) (before after : Files) (standing : IsStanding before held) (request : Request) where
-  met : (answer : Result Reply Refusal) → Meets request held answer after → FollowsModel state request answer after
+  met : (answer : Result Response Refusal) → Meets request held answer after → FollowsModel state request answer after
   met (Ok reply) meets = let to = gives_to held state holds before standing request (Ok reply) meets.0 meets.1 in (to.0, to.1, (meets.0, meets.2, to.2))
   met (Err (Failed (StoreFailed fault))) meets = (held, meets.1, holds)
   met (Err (Failed Memory)) meets = (held, meets.1, holds)
@@ -49,7 +49,7 @@ failed state request (Failed Memory) after failure held = held
 failed state request (Failed (Interrupted cause)) after failure held = inl held
 failed state request refusal after failure held = absurd failure
 
-pub carries_step : (state : Snapshots) (before : Files) (request : Request) (answer : Result Reply Refusal) (after : Files) → HoldState before state → RequestLeaves before request answer after
+pub carries_step : (state : Snapshots) (before : Files) (request : Request) (answer : Result Response Refusal) (after : Files) → HoldState before state → RequestLeaves before request answer after
     → FollowsModel state request answer after
 carries_step state before request answer after held carries =
     let first = held.0 in
@@ -61,13 +61,13 @@ carries_step state before request answer after held carries =
     met first state held.2 before after held.1 request answer on.2) carries
 
 -- the same, of an equal answer
-pub carries_as : (before after : Files) (request : Request) (answer same : Result Reply Refusal) → RequestLeaves before request answer after → answer ≡ same → RequestLeaves before request same after
-carries_as before after request answer same carries is = subst (λ (a : Result Reply Refusal). RequestLeaves before request a after) is carries
+pub carries_as : (before after : Files) (request : Request) (answer same : Result Response Refusal) → RequestLeaves before request answer after → answer ≡ same → RequestLeaves before request same after
+carries_as before after request answer same carries is = subst (λ (a : Result Response Refusal). RequestLeaves before request a after) is carries
 
 -- ---- what is told
 
 -- of an answer that is printed
-pub told_of : (telling : Telling) (IsAnswer : Result Reply Refusal → Type 0) (told : Reply) (old new : List ℕ) (result : Result ℕ Fault) → IsAnswer (Ok told)
+pub told_of : (telling : Telling) (IsAnswer : Result Response Refusal → Type 0) (told : Response) (old new : List ℕ) (result : Result ℕ Fault) → IsAnswer (Ok told)
     → Finishes telling told old new result → TellsAnswer telling IsAnswer old new result
 told_of telling IsAnswer told old new (Ok count) is finished = (told, is, finished.1.1, finished.0, finished.1.0)
 told_of telling IsAnswer told old new (Err (faults.WouldRefuse path_outcomes)) is finished = (
@@ -82,7 +82,7 @@ told_of telling IsAnswer told old new (Err (faults.Refused refusal)) is finished
 told_of telling IsAnswer told old new (Err faults.InUse) is finished = absurd finished.1
 
 -- what is printed is no refusal
-pub no_refusal : (telling : Telling) (told : Reply) (old new : List ℕ) (result : Result ℕ Fault) (Claim : Refusal → Type 0) → Finishes telling told old new result → IfRefused result Claim
+pub no_refusal : (telling : Telling) (told : Response) (old new : List ℕ) (result : Result ℕ Fault) (Claim : Refusal → Type 0) → Finishes telling told old new result → IfRefused result Claim
 no_refusal telling told old new (Ok count) Claim finished = tt
 no_refusal telling told old new (Err (faults.WouldRefuse path_outcomes)) Claim finished = tt
 no_refusal telling told old new (Err (faults.NoDiff refusal)) Claim finished = tt

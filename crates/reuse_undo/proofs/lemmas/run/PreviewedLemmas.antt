@@ -20,8 +20,8 @@ use Rattle.reuse_session.specs.declared.path_outcome.PathOutcome.TheVariants as 
 use Rattle.reuse_session.specs.declared.path_outcome.Previewed.{Previewed}
 use Rattle.reuse_session.specs.declared.reply.Refusal.{Refusal}
 use Rattle.reuse_session.specs.declared.reply.Refusal.TheVariants.{Broken}
-use Rattle.reuse_session.specs.declared.reply.Reply.{Reply}
-use Rattle.reuse_session.specs.declared.reply.Reply.TheVariants as replies
+use Rattle.reuse_session.specs.declared.reply.Response.{Response}
+use Rattle.reuse_session.specs.declared.reply.Response.TheVariants as replies
 use Rattle.reuse_session.specs.declared.session.Session.{Session}
 use Rattle.reuse_session.proofs.lemmas.session.Answering.{answered_look, fails_early, preview_fails}
 use Rattle.reuse_session.proofs.lemmas.session.Peeking.{refused, same_refusal, reads_with_cause_err, reads_with_cause_ok}
@@ -41,7 +41,7 @@ alone_reads_with_cause store (Ok previewed) old new reads_with_cause = reads_wit
 alone_reads_with_cause store (Err refusal) old new reads_with_cause = reads_with_cause_err store refusal old new reads_with_cause
 
 -- a look whose path outcomes are told alone
-module _ {S : Type 0} (store : Ghosts S) (answer : Result Previewed Refusal) (told : Result Reply Refusal) (old new : Session S) (is : told ≡ replied replies.Preview (path_outcomes_alone answer))
+module _ {S : Type 0} (store : Ghosts S) (answer : Result Previewed Refusal) (told : Result Response Refusal) (old new : Session S) (is : told ≡ replied replies.Preview (path_outcomes_alone answer))
     (reads_with_cause : ReadsOnlyWithCause store answer old new) (broken : answer ≡ Err Broken ↔ (is_broken old ≡ true)) where
   pub call_answered : (call : Call) → (store.honest (store_of new) → (held : State) → StandsOn store.files old held → TellsNoFault answer → Previews call held (path_outcomes_alone answer))
       → IsAnswered store (requests.Preview call) told old new
@@ -103,7 +103,7 @@ run_previews command held answer after plan left accepted = accepted_some go.Do 
     planned (Ok previewed) plan = λ none. plan_previews (outcome_of command held.tree) held.tree after previewed.changes (plan (none_first previewed.path_outcomes none)) left
 
 -- a step's changes lead to the tree that an undo or a redo leaves
-pub step_previews : (way : Way) (held : State) (answer : Result Previewed Refusal) (reply : Reply) (new : State) (after : Files) → Replays way (ahead way held.journal) held (Ok reply) new
+pub step_previews : (way : Way) (held : State) (answer : Result Previewed Refusal) (reply : Response) (new : State) (after : Files) → Replays way (ahead way held.journal) held (Ok reply) new
     → new.tree ≡ after → IfOk answer (λ previewed. changes_ahead (ahead way held.journal) ≡ Some previewed.changes) → IfOk answer (λ previewed. IsEntry previewed.changes)
     → IsAccepted (replied replies.Preview (path_outcomes_alone answer)) → IsSomeAnd (planned_in way answer) (λ planned. LeadsAsPreviewed planned held.tree after)
 step_previews way held answer reply new after replays is next entry accepted = accepted_some way answer (λ planned. LeadsAsPreviewed planned held.tree after) accepted (leads answer next entry)
@@ -116,13 +116,13 @@ step_previews way held answer reply new after replays is next entry accepted = a
 
 -- ---- both
 
-pub answered_with : {S : Type 0} (store : Ghosts S) (request : Request) (way : Way) (answer : Result Previewed Refusal) (told : Result Reply Refusal) (planned : Option PlannedChanges) (old new : Session S)
+pub answered_with : {S : Type 0} (store : Ghosts S) (request : Request) (way : Way) (answer : Result Previewed Refusal) (told : Result Response Refusal) (planned : Option PlannedChanges) (old new : Session S)
     → told ≡ replied replies.Preview (path_outcomes_alone answer) → planned ≡ planned_in way answer → IsAnswered store request told old new
     → (store.honest (store_of new) → (held : State) → StandsOn store.files old held → (after : Files) → WouldLeave request held after → IsAccepted (replied replies.Preview (path_outcomes_alone answer))
     → IsSomeAnd (planned_in way answer) (λ planned. LeadsAsPreviewed planned held.tree after)) → IsAnsweredWith store request told planned old new
 answered_with store request way answer told planned old new is was answered previews = record {
   answered = answered;
-  accepted = subst (λ (f : Option PlannedChanges). IfSome f (λ g. IsAccepted told)) (sym was) (subst (λ (t : Result Reply Refusal). IfSome (planned_in way answer) (λ g. IsAccepted t)) (sym is) (accepted_in way answer));
+  accepted = subst (λ (f : Option PlannedChanges). IfSome f (λ g. IsAccepted told)) (sym was) (subst (λ (t : Result Response Refusal). IfSome (planned_in way answer) (λ g. IsAccepted t)) (sym is) (accepted_in way answer));
   previews = λ honest held stands after would accepted.
-      subst (λ (f : Option PlannedChanges). IsSomeAnd f (λ g. LeadsAsPreviewed g held.tree after)) (sym was) (previews honest held stands after would (subst (λ (t : Result Reply Refusal). IsAccepted t) is accepted));
+      subst (λ (f : Option PlannedChanges). IsSomeAnd f (λ g. LeadsAsPreviewed g held.tree after)) (sym was) (previews honest held stands after would (subst (λ (t : Result Response Refusal). IsAccepted t) is accepted));
 }

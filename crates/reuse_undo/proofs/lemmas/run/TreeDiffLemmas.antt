@@ -29,9 +29,9 @@ use Rattle.reuse_session.specs.declared.request.Call.TheVariants as calls
 use Rattle.reuse_session.specs.declared.command.Command.{Command}
 use Rattle.reuse_session.specs.declared.command.Command.TheVariants.{Revert}
 use Rattle.reuse_session.specs.declared.reply.Refusal.{Refusal}
-use Rattle.reuse_session.specs.declared.reply.Reply.{Reply}
-use Rattle.reuse_session.specs.declared.reply.Reply.TheVariants as replies
-use Rattle.reuse_session.specs.declared.reply.Reply.TheVariants.{Changed, NothingChanged}
+use Rattle.reuse_session.specs.declared.reply.Response.{Response}
+use Rattle.reuse_session.specs.declared.reply.Response.TheVariants as replies
+use Rattle.reuse_session.specs.declared.reply.Response.TheVariants.{Changed, NothingChanged}
 use Rattle.reuse_session.specs.declared.reply.Reverted.{Reverted}
 use Rattle.reuse_session.specs.declared.session.Session.{Session}
 use Rattle.reuse_session.proofs.lemmas.journal.JournalLemmas.{same_entry}
@@ -88,7 +88,7 @@ drawn_trees before after changes (Err fault) same all = tt
 -- ---- a run
 
 -- a run that is accepted leaves the tree of its outcome
-pub ran_to : (command : Command) (when : ℕ) (held : State) (reply : Reply) (new : State) → Runs command when held (Ok reply) new → outcome_of command held.tree ≡ Ok new.tree
+pub ran_to : (command : Command) (when : ℕ) (held : State) (reply : Response) (new : State) → Runs command when held (Ok reply) new → outcome_of command held.tree ≡ Ok new.tree
 ran_to command when held (Changed paths) new runs = runs.1.outcome
 ran_to command when held NothingChanged new runs = runs.1 ∙ ap (λ (left : State). Ok left.tree) (sym runs.2)
 ran_to command when held reply new runs = absurd runs
@@ -127,7 +127,7 @@ step_paths go.Do changes before after entry leads = changed_by_entry changes bef
 step_paths go.Undo changes before after entry leads = changed_back before after ∙ changed_by_entry changes after before entry (back_leads changes before after leads)
 
 -- an undo or a redo that is accepted has a step to go on with, and its changes lead there
-pub replay_previews : (way : Way) (steps : List Recorded) (held : State) (reply : Reply) (new : State) (changes : List Change) → Replays way steps held (Ok reply) new
+pub replay_previews : (way : Way) (steps : List Recorded) (held : State) (reply : Response) (new : State) (changes : List Change) → Replays way steps held (Ok reply) new
     → changes_ahead steps ≡ Some changes → IsEntry changes → LeadsAsPreviewed (going way changes) held.tree new.tree
 replay_previews way [] held reply new changes replays next entry = absurd (cc)
 replay_previews way (step ∷ steps) held reply new changes replays next entry =
@@ -140,7 +140,7 @@ replay_previews way (step ∷ steps) held reply new changes replays next entry =
 -- ---- a revert
 
 -- a reply, as an answer
-abbrev answered : Reply → Result Reply Refusal
+abbrev answered : Response → Result Response Refusal
 answered reply = Ok reply
 
 -- the steps done have one changes list for each number, so the command is that of the revert that would be made
@@ -159,7 +159,7 @@ reverted_to files session held stands number skip_moved command back when revert
 
 -- the same of the reply
 pub reverts_to : {S : Type 0} (files : S → Files) (session : Session S) (held : State) → StandsOn files session held → (number : ℕ) (skip_moved : Bool) (command : Command)
-    → GivesRevert number skip_moved held (Ok command) → (when : ℕ) (reply : Reply) (new : State) → Makes (calls.Revert number skip_moved) when held (Ok reply) new → outcome_of command held.tree ≡ Ok new.tree
+    → GivesRevert number skip_moved held (Ok command) → (when : ℕ) (reply : Response) (new : State) → Makes (calls.Revert number skip_moved) when held (Ok reply) new → outcome_of command held.tree ≡ Ok new.tree
 reverts_to files session held stands number skip_moved command back when reply new (reverted, is, reverts) = by_reverted reverted is reverts
   where
     by_reverted : (reverted : Result Reverted Refusal) → answered reply ≡ replied replies.Reverted reverted → Reverts number skip_moved when held reverted new → outcome_of command held.tree ≡ Ok new.tree

@@ -6,7 +6,7 @@ ghost use Rattle.reuse_undo.specs.run.Drawn.{planned_in, planned_unless, IsAnswe
 ghost use Rattle.reuse_session.specs.session.Requests.{replied};
 
 use super::printed::is_refused;
-use reuse_session::{Answer, Call, Changes, Previewed, Refusal, Reply, Request, Session};
+use reuse_session::{Answer, Call, Changes, Previewed, Refusal, Request, Response, Session};
 use reuse_tree::{Store, Way};
 use std::alloc::Global;
 
@@ -70,7 +70,7 @@ fn revert_with_changes<S: Store + Drop>(
 
 // What is told of a preview, and what would change where none of the path outcomes is a refusal.
 fn told_with(answer: Result<Previewed, Refusal>, way: Way) -> (Answer, Option<PlannedChanges>)
-    ensures told { result.0 ≡ replied Reply.Preview (path_outcomes_alone answer) }
+    ensures told { result.0 ≡ replied Response.Preview (path_outcomes_alone answer) }
     ensures planned { result.1 ≡ planned_in way answer }
 {
     match answer {
@@ -81,7 +81,7 @@ fn told_with(answer: Result<Previewed, Refusal>, way: Way) -> (Answer, Option<Pl
             },
         ) => {
             let planned = planned_of(is_refused(path_outcomes.as_slice()), changes, way);
-            (Ok(Reply::Preview(path_outcomes)), planned)
+            (Ok(Response::Preview(path_outcomes)), planned)
         }
         Err(refusal) => (Err(refusal), None),
     }

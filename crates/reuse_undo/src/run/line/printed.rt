@@ -14,7 +14,7 @@ use crate::print::objects::{print_path_outcome_objects, print_row_objects, print
 use crate::print::output::{Sink, write_text};
 use crate::print::shown_name::Names;
 use crate::run::fault::{Fault, in_memory};
-use reuse_session::{PathOutcome, PathOutcomes, Reply};
+use reuse_session::{PathOutcome, PathOutcomes, Response};
 use reuse_tree::Change;
 use std::alloc::Global;
 use std::io::{self, Write};
@@ -24,7 +24,7 @@ use std::io::{self, Write};
 pub fn finish<O: Sink>(
     out: &mut O,
     alloc: Global,
-    told: Reply,
+    told: Response,
     telling: Telling,
     diff: Result<Vec<u8>, Fault>,
 ) -> Result<usize, Fault>
@@ -47,7 +47,7 @@ pub fn finish<O: Sink>(
 fn print<O: Sink>(
     out: &mut O,
     alloc: Global,
-    told: &Reply,
+    told: &Response,
     telling: Telling,
     diff: Result<Vec<u8>, Fault>,
 ) -> Result<(), Fault>
@@ -66,7 +66,7 @@ fn print<O: Sink>(
 }
 
 // What is told of an answer. No part of it is written before it is whole.
-fn text_of(alloc: Global, told: &Reply, telling: Telling, diff: &[u8]) -> Result<Vec<u8>, Fault>
+fn text_of(alloc: Global, told: &Response, telling: Telling, diff: &[u8]) -> Result<Vec<u8>, Fault>
     ensures text { (telling.format ≡ OutputFormat.Diff → IsDiffBehind told.now diff.now) → IfOk result (λ text. IsToldText telling told.now text.items) }
     ensures behind { telling.format ≡ OutputFormat.Diff → IfOk result (λ text. HasBehind telling.names told.now diff.now text.items) }
     ensures fault { IfErr result (λ fault. fault ≡ faults.Memory) }
@@ -79,7 +79,7 @@ fn text_of(alloc: Global, told: &Reply, telling: Telling, diff: &[u8]) -> Result
 // The diff of what would change, or that of a step that is shown.
 fn whole_diff(
     alloc: Global,
-    told: &Reply,
+    told: &Response,
     telling: Telling,
     diff: Result<Vec<u8>, Fault>,
 ) -> Result<Vec<u8>, Fault>
@@ -89,7 +89,7 @@ fn whole_diff(
     ensures undrawn { IfNoDiff result (λ refusal. diff ≡ Err (faults.NoDiff refusal)) }
 {
     match (telling.format, told) {
-        (OutputFormat::Diff, Reply::Shown(shown)) => {
+        (OutputFormat::Diff, Response::Shown(shown)) => {
             drop(diff);
             records_of(alloc, shown.changes.as_slice())
         }
@@ -112,7 +112,7 @@ fn records_of(alloc: Global, changes: &[Change]) -> Result<Vec<u8>, Fault>
 fn print_told<W: Write>(
     out: &mut W,
     alloc: Global,
-    told: &Reply,
+    told: &Response,
     telling: Telling,
     diff: &[u8],
 ) -> io::Result<()>
@@ -130,39 +130,44 @@ fn print_told<W: Write>(
 }
 
 // Rows, steps and dry runs as objects, and all else in lines.
-fn print_objects<W: Write>(out: &mut W, alloc: Global, names: Names, told: &Reply) -> io::Result<()>
+fn print_objects<W: Write>(
+    out: &mut W,
+    alloc: Global,
+    names: Names,
+    told: &Response,
+) -> io::Result<()>
     ensures { OnOk result (AppendsSome (W.contents out.old) (W.contents out.new) (IsTextIn OutputFormat.Json names told.now)) }
 {
     match told {
-        Reply::Log(rows) => print_row_objects(out, alloc, rows.as_slice()),
-        Reply::Preview(path_outcomes) => print_path_outcome_objects(
+        Response::Log(rows) => print_row_objects(out, alloc, rows.as_slice()),
+        Response::Preview(path_outcomes) => print_path_outcome_objects(
             out,
             alloc,
             path_outcomes.as_slice(),
         ),
-        Reply::Shown(shown) => print_shown_object(out, alloc, shown),
+        Response::Shown(shown) => print_shown_object(out, alloc, shown),
         reply => print_reply(out, names, reply),
     }
 }
 
 // How many paths an answer tells that changed, or would change, unless it is a preview with a
 // refusal.
-fn accept(told: Reply) -> Result<usize, Fault>
+fn accept(told: Response) -> Result<usize, Fault>
     ensures { Accepts told result }
 {
     match told {
-        Reply::Preview(path_outcomes) => accept_path_outcomes(path_outcomes),
+        Response::Preview(path_outcomes) => accept_path_outcomes(path_outcomes),
         reply => Ok(path_count(&reply)),
     }
 }
 
 fn accept_path_outcomes(path_outcomes: PathOutcomes) -> Result<usize, Fault>
-    ensures { Accepts (Reply.Preview path_outcomes) result }
+    ensures { Accepts (Response.Preview path_outcomes) result }
 {
     if is_refused(path_outcomes.as_slice()) {
         Err(Fault::WouldRefuse(path_outcomes))
     } else {
-        Ok(path_count(&Reply::Preview(path_outcomes)))
+        Ok(path_count(&Response::Preview(path_outcomes)))
     }
 }
 

@@ -11,8 +11,8 @@ use Rattle.reuse_session.specs.session.Requests.{replied, IsAnswered}
 use Rattle.reuse_session.specs.session.RevertCalls.{IsAfterRevert}
 use Rattle.reuse_session.specs.session.Session.{store_of, memory_of, IsRun, IsSameButTwo, StandsOn}
 use Rattle.reuse_session.specs.declared.reply.Refusal.{Refusal}
-use Rattle.reuse_session.specs.declared.reply.Reply.{Reply}
-use Rattle.reuse_session.specs.declared.reply.Reply.TheVariants as replies
+use Rattle.reuse_session.specs.declared.reply.Response.{Response}
+use Rattle.reuse_session.specs.declared.reply.Response.TheVariants as replies
 use Rattle.reuse_session.specs.declared.request.Call.{Call}
 use Rattle.reuse_session.specs.declared.request.Call.TheVariants as calls
 use Rattle.reuse_session.specs.declared.request.Request.TheVariants as requests
@@ -114,7 +114,7 @@ returns-in-Revert g c =
     let old = c.args.self.now in
     let new = c.revert.new.self in
     subst (λ (call : Call). IsAnswered store (requests.Make call when) c.reverted_replied.result old new) (sym c.in-Revert.is)
-    (subst (λ (a : Result Reply Refusal). IsAnswered store (requests.Make (calls.Revert number skip_moved) when) a old new) (sym c.reverted_replied.ensures) (record {
+    (subst (λ (a : Result Response Refusal). IsAnswered store (requests.Make (calls.Revert number skip_moved) when) a old new) (sym c.reverted_replied.ensures) (record {
       broken = broken_replied replies.Reverted result _ revert.broken;
       exact = λ honest held stands told. let e = revert.exact honest held stands (told_replied replies.Reverted result told) in (e.0, e.1, (result, refl, e.2));
       stands = λ honest held stands. revert_stands store number skip_moved when old new result held honest stands revert.leaves revert.call.refused;

@@ -9,7 +9,7 @@ use Rattle.reuse_session.specs.journal.JournalFiles.{entry_in}
 use Rattle.reuse_session.specs.session.Previews.{PreviewsReplay}
 use Rattle.reuse_session.specs.session.Session.{memory_of}
 use Rattle.reuse_session.specs.declared.path_outcome.Previewed.{Previewed}
-use Rattle.reuse_session.specs.declared.reply.Reply.{Reply}
+use Rattle.reuse_session.specs.declared.reply.Response.{Response}
 use Rattle.reuse_session.proofs.lemmas.session.OnlyReading.{is_refused}
 use Rattle.reuse_session.proofs.lemmas.session.Previewing.{any_told, replay_as_previewed}
 use Rattle.reuse_session.proofs.lemmas.journal.StepAnswers.{read_told}
@@ -22,7 +22,7 @@ returns-in_err-entry-clause-exact g c honest held stands told =
     let way = c.args.way in
     let next = next_of way g.S.Store.files c.args.self.now held c.args.listed c.requires.0 (remember_moved way c.requires.0 c.args.listed (memory_of c.args.self.now)) stands c.requires.1 refl in
     let is = is_refused c.from_residual.result c.from_residual.ensures.1 in
-    absurd (read_told c.in_err-entry.field-0.0 c.in_err-entry.ensures.refusal (any_told Previewed Reply c.in_err-entry.field-0.0 (subst TellsNoFault is told))
+    absurd (read_told c.in_err-entry.field-0.0 c.in_err-entry.ensures.refusal (any_told Previewed Response c.in_err-entry.field-0.0 (subst TellsNoFault is told))
     (λ path e. (c.read_entry.ensures.bad honest path (c.in_err-entry.was ∙ ap (λ x. Err x) e)).1 (entry_in next.step) (next_says next c.number.result c.number.ensures)))
 
 -- it is read

@@ -8,7 +8,7 @@ use Rattle.reuse_session.specs.journal.JournalFiles.{IsKeptIn}
 use Rattle.reuse_session.specs.journal.Losses.{AreSafeOn, Survives}
 use Rattle.reuse_tree.specs.Entry.{paths_of}
 use Rattle.reuse_session.specs.session.Session.{store_of, IsRun, Runs, StandsOn}
-use Rattle.reuse_session.specs.declared.reply.Reply.TheVariants.{Changed}
+use Rattle.reuse_session.specs.declared.reply.Response.TheVariants.{Changed}
 use Rattle.reuse_session.proofs.lemmas.session.OnlyReading.{is_refused}
 use Rattle.reuse_session.proofs.lemmas.session.Recording.{EntryPut, EntryListed, Recording, put_early, can_go, unput_leaves, recording, record_leaves, halt_leaves}
 use Rattle.reuse_session.proofs.lemmas.session.RunDoubt.{sure_tree, has_entry, put_is_safe}

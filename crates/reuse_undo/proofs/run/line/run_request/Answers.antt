@@ -8,7 +8,7 @@ use Rattle.reuse_session.specs.session.Requests.{HasCallClash}
 use Rattle.reuse_undo.specs.run.RunLine.{RequestLeaves, FollowsModel}
 use Rattle.reuse_undo.specs.print.Told.{IsDrawnPreview}
 use Rattle.reuse_undo.specs.print.WriterFaults.{IsUndrawn}
-use Rattle.reuse_session.specs.declared.reply.Reply.{Reply}
+use Rattle.reuse_session.specs.declared.reply.Response.{Response}
 use Rattle.reuse_undo.proofs.lemmas.run.AfterStopLemmas.{answers_after_stop, told_of_end}
 use Rattle.reuse_undo.proofs.lemmas.run.DiffLemmas.{undrawn_told}
 use Rattle.reuse_undo.proofs.lemmas.run.DrawnLines.{drawn_in_lines, previews_tell, told_diff}
@@ -40,7 +40,7 @@ returns-in-Ok g c =
           let tells = previews_tell request held tree before after c.in-Ok.told would (carries honest) in
           drawn_in_lines c.args.telling held.tree tree c.in-Ok.told tells.0 old new outcome c.call-store.result.2 tells.1 wants told c.finish.ensures.behind
           (λ planned. told_diff request held tree c.call-store.result.2 would
-          (IfOk-at_ok (λ (answer : Reply). IsDrawnPreview c.args.telling answer → IfOk c.call-store.result.2 (λ text. IsDiffOfCall request held text.items)) c.in-Ok.is
+          (IfOk-at_ok (λ (answer : Response). IsDrawnPreview c.args.telling answer → IfOk c.call-store.result.2 (λ text. IsDiffOfCall request held text.items)) c.in-Ok.is
           (c.call-store.ensures.drawn honest held standing) planned));
       reads_only = c.call-store.ensures.reads_only;
       quiet = no_refusal _ _ _ _ outcome (λ refusal. c.finish.new.out ≡ c.args.out.now) told;

@@ -6,11 +6,11 @@ use Rattle.reuse_undo.specs.print.Told.{Accepts, Finishes, IsToldText, TellsFail
 use Rattle.reuse_undo.specs.declared.run.fault.Fault.{Fault}
 use Rattle.reuse_undo.specs.declared.run.fault.Fault.TheVariants.{WouldRefuse}
 use Rattle.reuse_undo.specs.declared.cli.line.Telling.{Telling}
-use Rattle.reuse_session.specs.declared.reply.Reply.{Reply}
+use Rattle.reuse_session.specs.declared.reply.Response.{Response}
 use Rattle.reuse_undo.proofs.run.line.printed.finish.Goals as goal
 
 -- what is accepted, or would be refused, is told, and no diff is lacking
-told : (telling : Telling) (answer : Reply) (old new : List ℕ) (result : Result ℕ Fault) → Accepts answer result → AddsSome old new (IsToldText telling answer) → Finishes telling answer old new result
+told : (telling : Telling) (answer : Response) (old new : List ℕ) (result : Result ℕ Fault) → Accepts answer result → AddsSome old new (IsToldText telling answer) → Finishes telling answer old new result
 told telling answer old new (Ok count) accepts appends = (appends, accepts)
 told telling answer old new (Err (WouldRefuse path_outcomes)) accepts appends = (appends, accepts)
 told telling answer old new (Err fault) accepts appends = absurd accepts
@@ -20,12 +20,12 @@ either_way : {T E : Type 0} {P : Type 0} (result : Result T E) → P → IfOk re
 either_way (Ok value) holds = holds
 either_way (Err fault) holds = tt
 
-drawn : (answer : Reply) (Claim : Refusal → Type 0) (result : Result ℕ Fault) → Accepts answer result → IfNoDiff result Claim
+drawn : (answer : Response) (Claim : Refusal → Type 0) (result : Result ℕ Fault) → Accepts answer result → IfNoDiff result Claim
 drawn answer Claim (Ok count) accepts = tt
 drawn answer Claim (Err (WouldRefuse path_outcomes)) accepts = tt
 drawn answer Claim (Err fault) accepts = absurd accepts
 
-written : (answer : Reply) (old new : Bool) (result : Result ℕ Fault) → Accepts answer result → new ≡ old → TellsFailure old new result
+written : (answer : Response) (old new : Bool) (result : Result ℕ Fault) → Accepts answer result → new ≡ old → TellsFailure old new result
 written answer old new (Ok count) accepts kept = kept
 written answer old new (Err (WouldRefuse path_outcomes)) accepts kept = kept
 written answer old new (Err fault) accepts kept = absurd accepts
