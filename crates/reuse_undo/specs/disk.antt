@@ -2,6 +2,7 @@
 pub mod Asides
 pub mod FolderFault
 pub mod FolderPlaces
+pub mod FolderReads
 pub mod FolderWrites
 pub mod FileStates
 pub mod Honesty

@@ -1,4 +1,4 @@
--- Places of files that are written aside, and of names in open folders.
+-- Places of files that are written aside or read, and of names in open folders.
 use Rattle.std.specs.Prelude.{◌≡◌, ◌⊎◌, ℕ, List, string_bytes, IsTrue}
 use Rattle.reuse_undo.specs.disk.FileStates.{FileKey, Place, place_in}
 use Rattle.reuse_undo.specs.disk.FileStates.FileKey.{Made}
@@ -6,6 +6,7 @@ use Rattle.reuse_undo.specs.disk.KeptOut.{is_new_name, new_name}
 use Rattle.reuse_undo.specs.declared.disk.place.Identity.{Identity}
 use Rattle.reuse_undo.specs.declared.disk.handle.OpenFolder.{OpenFolder}
 use Rattle.reuse_undo.specs.declared.disk.system.Aside.{Aside}
+use Rattle.reuse_undo.specs.declared.disk.system.OpenedFile.{OpenedFile}
 
 -- this name in the folder
 abbrev pub name_in : OpenFolder → List ℕ → Place
@@ -14,6 +15,10 @@ name_in folder name = place_in folder.identity name
 -- where the file was made
 abbrev pub place_of : Aside → Place
 place_of aside = place_in aside.folder (string_bytes aside.name)
+
+-- where the file was opened
+abbrev pub opened_at : OpenedFile → Place
+opened_at opened = place_in opened.folder (string_bytes opened.name)
 
 -- which file it is
 abbrev pub key_of : Aside → FileKey

@@ -1,14 +1,19 @@
--- A call of the system that changes regular files.
-use Rattle.std.specs.Prelude.{ℕ, ◌+◌, Bool, List, [], ◌∷◌}
+-- A call of the system that changes regular files, or tells of what stands at a name.
+use Rattle.std.specs.Prelude.{ℕ, ◌+◌, Bool, List, [], ◌∷◌, Result}
+use Rattle.reuse_tree.specs.declared.store.Reading.{Reading}
 use Rattle.reuse_undo.specs.disk.FileStates.{Place}
+use Rattle.reuse_undo.specs.declared.disk.fault.FolderFault.{FolderFault}
+use Rattle.reuse_undo.specs.declared.disk.place.Found.{Found}
 
--- a call, and whether it answered that it was done
+-- a call, and whether it answered that it was done; of one that changes nothing, what it answered
 pub data SystemCall : Type 0 where
   MakeCall : (place : Place) (is_done : Bool) → SystemCall
   AppendCall : (number : ℕ) (bytes : List ℕ) (is_done : Bool) → SystemCall
   SyncCall : (number : ℕ) (is_done : Bool) → SystemCall
   RenameCall : (from to : Place) (is_done : Bool) → SystemCall
   RemoveCall : (place : Place) (is_done : Bool) → SystemCall
+  LookCall : (place : Place) (answer : Result Found FolderFault) → SystemCall
+  ReadCall : (place : Place) (said limit : ℕ) (answer : Result Reading FolderFault) → SystemCall
 
 -- how many files were to be made by these calls
 abbrev pub made_of : List SystemCall → ℕ
@@ -18,3 +23,5 @@ made_of (AppendCall number bytes is_done ∷ calls) = made_of calls
 made_of (SyncCall number is_done ∷ calls) = made_of calls
 made_of (RenameCall from to is_done ∷ calls) = made_of calls
 made_of (RemoveCall place is_done ∷ calls) = made_of calls
+made_of (LookCall place answer ∷ calls) = made_of calls
+made_of (ReadCall place said limit answer ∷ calls) = made_of calls

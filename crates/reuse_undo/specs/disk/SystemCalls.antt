@@ -1,12 +1,18 @@
 -- The calls of the system with their answers, and what names lead to after them.
-use Rattle.std.specs.Prelude.{ℕ, ◌+◌, zero, suc, Bool, true, false, if◌then◌else◌, List, [], ◌∷◌, ◌++◌, length, take, Option, None, Some, ◌==◌}
+use Rattle.std.specs.Prelude.{ℕ, ◌+◌, zero, suc, Bool, true, false, if◌then◌else◌, List, [], ◌∷◌, ◌++◌, length, take, Option, None, Some, Result, Ok, Err, ◌==◌}
 use Rattle.std.specs.Str.{bytes_eq}
 use Rattle.reuse_undo.specs.disk.FileStates.{FileKey, StateFile, Place, FileState, file, place_in}
 use Rattle.reuse_undo.specs.disk.FileStates.FileKey.{Found, Made}
 use Rattle.reuse_undo.specs.disk.SystemCall.{SystemCall, made_of}
-use Rattle.reuse_undo.specs.disk.SystemCall.SystemCall.{MakeCall, AppendCall, SyncCall, RenameCall, RemoveCall}
+use Rattle.reuse_undo.specs.disk.SystemCall.SystemCall.{MakeCall, AppendCall, SyncCall, RenameCall, RemoveCall, LookCall, ReadCall}
+use Rattle.reuse_undo.specs.disk.SystemLaws.{IsSeen, IsReadOf}
+use Rattle.reuse_tree.specs.declared.store.Reading.{Reading}
+use Rattle.reuse_tree.specs.declared.store.Reading.TheVariants as reading
+use Rattle.reuse_undo.specs.declared.disk.fault.FolderFault.{FolderFault}
 use Rattle.reuse_undo.specs.declared.disk.system.record.CallKind.{CallKind}
 use Rattle.reuse_undo.specs.declared.disk.system.record.CallKind.TheVariants as kind
+use Rattle.reuse_undo.specs.declared.disk.system.record.ReadKind.{ReadKind}
+use Rattle.reuse_undo.specs.declared.disk.system.record.ReadKind.TheVariants as read
 
 -- what nobody can know of a system at its start: each name that leads to a file, with the number of that file, its bytes, and whether a
 -- loss of power surely leaves it these; and of each call that is to come its fate: how much of an appending that fails is written, whether
@@ -63,11 +69,31 @@ held_by fate made (RenameCall from to true) held = renamed (fate == 1) from to h
 held_by fate made (RenameCall from to false) held = renamed_by fate from to held
 held_by fate made (RemoveCall place true) held = set held place None
 held_by fate made (RemoveCall place false) held = set_by fate held place None
+held_by fate made (LookCall place answer) held = held
+held_by fate made (ReadCall place said limit answer) held = held
 
 -- what names lead to after these calls, the newest first
 abbrev pub held_after : List (Place × (ℕ × (List ℕ × Bool))) → List ℕ → List SystemCall → FileState
 held_after files fates [] = held_at_start files
 held_after files fates (call ∷ calls) = held_by (fate_at fates (length calls)) (made_of calls) call (held_after files fates calls)
+
+-- a call may answer so where names lead to these files and nobody else writes
+abbrev pub MayAnswer : FileState → SystemCall → Type 0
+MayAnswer held (LookCall place answer) = IsSeen (held place) answer
+MayAnswer held (ReadCall place said limit answer) = IsReadOf said limit (held place) answer
+MayAnswer held call = Unit {0}
+
+-- each of these calls was answered so
+abbrev pub IsHonest : List (Place × (ℕ × (List ℕ × Bool))) → List ℕ → List SystemCall → Type 0
+IsHonest files fates [] = Unit {0}
+IsHonest files fates (call ∷ calls) = MayAnswer (held_after files fates calls) call × IsHonest files fates calls
+
+-- what a reading of this kind answered
+abbrev pub reading_of_kind : ReadKind → List ℕ → Result Reading FolderFault
+reading_of_kind read.Absent bytes = Ok reading.Absent
+reading_of_kind read.Found bytes = Ok (reading.Found bytes)
+reading_of_kind read.TooLong bytes = Ok reading.TooLong
+reading_of_kind (read.Failed fault) bytes = Err fault
 
 -- a call by its kind and the names or the bytes that this kind has
 abbrev pub call_of : CallKind → List ℕ → List ℕ → SystemCall
@@ -76,3 +102,5 @@ call_of (kind.Append number is_done) bytes other = AppendCall number bytes is_do
 call_of (kind.Sync number is_done) name other = SyncCall number is_done
 call_of (kind.Rename from to is_done) name other = RenameCall (place_in from name) (place_in to other) is_done
 call_of (kind.Remove folder is_done) name other = RemoveCall (place_in folder name) is_done
+call_of (kind.Look folder answer) name other = LookCall (place_in folder name) answer
+call_of (kind.Read folder said limit answer) name bytes = ReadCall (place_in folder name) said limit (reading_of_kind answer bytes)

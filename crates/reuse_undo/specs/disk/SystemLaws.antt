@@ -1,6 +1,11 @@
--- What each call of the system makes of the files that names lead to.
-use Rattle.std.specs.Prelude.{◌≡◌, ◌≢◌, ◌⊎◌, ℕ, Bool, true, false, List, [], ◌++◌, None}
-use Rattle.reuse_undo.specs.disk.FileStates.{FileKey, Place, FileState, file, IsNot}
+-- What each call of the system makes of the files that names lead to, and what it tells of them.
+use Rattle.std.specs.Prelude.{◌≡◌, ◌≢◌, ◌⊎◌, ℕ, Bool, true, false, List, [], ◌++◌, length, Option, None, Some, Result, Ok, Err}
+use Rattle.reuse_tree.specs.declared.store.Reading.{Reading}
+use Rattle.reuse_undo.specs.disk.FileStates.{FileKey, StateFile, Place, FileState, file, IsNot}
+use Rattle.reuse_undo.specs.disk.Readings.{IsReadingOf}
+use Rattle.reuse_undo.specs.declared.disk.fault.FolderFault.{FolderFault}
+use Rattle.reuse_undo.specs.declared.disk.place.Found.{Found}
+use Rattle.reuse_undo.specs.declared.disk.place.Found.TheVariants as found
 
 -- nothing differs
 abbrev pub IsAlike : FileState → FileState → Type 0
@@ -50,3 +55,14 @@ pub record IsRemoved (place : Place) (old new : FileState) : Type 0 where
 -- a renaming that failed was made or not
 abbrev pub MayBeRenamed : Place → Place → FileState → FileState → Type 0
 MayBeRenamed from to old new = IsAlike old new ⊎ IsRenamed from to old new
+
+-- what a look may tell of a name that leads to this file, or to none
+abbrev pub IsSeen : Option StateFile → Result Found FolderFault → Type 0
+IsSeen one (Ok (found.File status)) = (held : StateFile) × (one ≡ Some held) × (length held.bytes ≡ status.len)
+IsSeen one (Ok found) = one ≡ None
+IsSeen one (Err fault) = Unit {0}
+
+-- what a reading may answer of it: what is read of a reader that has its bytes
+abbrev pub IsReadOf : (said limit : ℕ) → Option StateFile → Result Reading FolderFault → Type 0
+IsReadOf said limit one (Ok reading) = (held : StateFile) × (one ≡ Some held) × IsReadingOf said limit held.bytes reading
+IsReadOf said limit one (Err fault) = Unit {0}

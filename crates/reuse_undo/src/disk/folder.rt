@@ -1,17 +1,16 @@
 //! A folder of the file system: its regular files by their paths.
-ghost use Rattle.std.specs.Prelude.{◌≡◌, All, false, IfOk, IsTrue};
+ghost use Rattle.std.specs.Prelude.{◌≡◌, All, false, IfOk, IsTrue, None};
 ghost use Rattle.std.specs.List.Sorted.{IsSorted};
 ghost use Rattle.std.specs.Ordering.{nat_cmp};
 ghost use Rattle.std.specs.Cmp.Lexicographic.{slice_cmp};
 ghost use Rattle.reuse_undo.specs.disk.KeptOut.{is_kept_out};
-ghost use Rattle.reuse_undo.specs.disk.Within.{IsWithin};
 ghost use Rattle.reuse_undo.specs.disk.SystemCalls.{SystemStart};
 
 mod batch;
+mod reading;
 mod writing;
 
-use crate::disk::fault::{FolderFault, Obstacle};
-use crate::disk::file_reading::read_file;
+use crate::disk::fault::FolderFault;
 use crate::disk::journal_owner::{JournalOwners, journal_owners};
 use crate::disk::keeping::Keeping;
 use crate::disk::kept_out::is_kept_out;
@@ -20,21 +19,14 @@ use crate::disk::new_file::NewFile;
 use crate::disk::place::{FileStatus, Found, Place, folder_and_name};
 use crate::disk::remembered::Remembered;
 use crate::disk::syncs::{Syncs, Unsynced};
-use crate::disk::system::HostSystem;
+use crate::disk::system::{HostSystem, System};
 use crate::disk::trail::Trail;
 pub use batch::Stop;
-use reuse_tree::{Change, PathText, Pruning, Reading};
-use std::alloc::{AllocError, Global};
+use reuse_tree::{Change, PathText, Pruning};
+use std::alloc::Global;
 use std::fs::File;
 use std::rt::{Env, Files};
 use std::time::Duration;
-
-/// How many files that were read are remembered.
-const MOST_SEEN: usize = 1_024;
-
-/// How often a path is looked at for one reading, where another file takes the place of the one
-/// that was seen.
-const MOST_LOOKS: u32 = 2;
 
 /// A regular file that was read, and what the system told of it.
 #[derive(Drop)]
@@ -65,6 +57,8 @@ pub struct RootFolder<R: Files<File = File> + AllocGlobal + Clone + Drop> {
 }
 
 impl<R: Files<File = File> + AllocGlobal + Clone + Drop> RootFolder<R> {
+    ghost use Rattle.reuse_undo.specs.disk.FolderReads.{IsPlaceIn, current_of};
+
     /// The folder at this path, in which what is written is made lasting or not.
     pub fn new(rt: R, root: String, syncs: Syncs, keeping: Keeping) -> RootFolder<R>
         ghost start: { SystemStart }
@@ -128,14 +122,21 @@ impl<R: Files<File = File> + AllocGlobal + Clone + Drop> RootFolder<R> {
     }
 
     /// Nothing, or a fault where the root isn't there any more.
-    fn nothing(&self, alloc: Global) -> Result<Place, FolderFault> {
+    fn nothing(&self, alloc: Global) -> Result<Place, FolderFault>
+        ensures { IfOk result (λ place. place ≡ Place.Nothing) }
+    {
         self.trail.check_root(self.system.rt(), alloc)?;
         Ok(Place::Nothing)
     }
 
     /// What stands at the path. The folder that it lies in is entered, if it is there.
     fn look(&mut self, alloc: Global, path: &PathText) -> Result<Place, FolderFault>
-        ensures { IsTrue (is_kept_out path.now) → result ≡ Ok Place.Other }
+        ensures kept { ⟦<HostSystem<R> as System>⟧.holds self.new.system ≡ ⟦<HostSystem<R> as System>⟧.holds self.old.system }
+        ensures earlier { ⟦<HostSystem<R> as System>⟧.honest self.new.system → ⟦<HostSystem<R> as System>⟧.honest self.old.system }
+        ensures remembered { self.new.remembered ≡ self.old.remembered }
+        ensures seen { ⟦<HostSystem<R> as System>⟧.honest self.new.system
+            → IfOk result (IsPlaceIn (current_of self.new.trail) path.now (⟦<HostSystem<R> as System>⟧.holds self.new.system)) }
+        ensures kept_out { IsTrue (is_kept_out path.now) → result ≡ Ok Place.Other }
     {
         self.look_unless_seen(alloc, path, None)
     }
@@ -147,8 +148,12 @@ impl<R: Files<File = File> + AllocGlobal + Clone + Drop> RootFolder<R> {
         path: &PathText,
         seen: Option<FileStatus>,
     ) -> Result<Place, FolderFault>
-        ensures kept { self.new.system ≡ self.old.system }
+        ensures kept { ⟦<HostSystem<R> as System>⟧.holds self.new.system ≡ ⟦<HostSystem<R> as System>⟧.holds self.old.system }
+        ensures earlier { ⟦<HostSystem<R> as System>⟧.honest self.new.system → ⟦<HostSystem<R> as System>⟧.honest self.old.system }
         ensures syncs { self.new.unsynced.syncs ≡ self.old.unsynced.syncs }
+        ensures remembered { self.new.remembered ≡ self.old.remembered }
+        ensures seen { ⟦<HostSystem<R> as System>⟧.honest self.new.system → seen ≡ None
+            → IfOk result (IsPlaceIn (current_of self.new.trail) path.now (⟦<HostSystem<R> as System>⟧.holds self.new.system)) }
         ensures kept_out { IsTrue (is_kept_out path.now) → result ≡ Ok Place.Other }
     {
         if is_kept_out(path.text()) {
@@ -163,7 +168,7 @@ impl<R: Files<File = File> + AllocGlobal + Clone + Drop> RootFolder<R> {
         if let Some(status) = seen {
             return Ok(Place::File(status));
         }
-        match self.trail.current()?.look(self.system.rt(), alloc, name)? {
+        match self.system.look(self.trail.current()?, name)? {
             Found::Nothing => self.nothing(alloc),
             found => Ok(found.into_place()),
         }
@@ -216,68 +221,6 @@ impl<R: Files<File = File> + AllocGlobal + Clone + Drop> RootFolder<R> {
             Place::Folder => listing.take_folder(alloc, text),
             Place::Nothing | Place::BelowFile | Place::Other => Ok(()),
         }
-    }
-
-    /// The bytes of the regular file at the path, where they are at most `limit`. The file that is
-    /// read is the one that was looked at: where something else has taken its place, a link too, it
-    /// isn't read, and the path is looked at once more. One that is longer isn't opened, so it
-    /// needn't be readable.
-    pub fn read(
-        &mut self,
-        alloc: Global,
-        path: &PathText,
-        limit: usize,
-    ) -> Result<Reading, FolderFault>
-        ensures within { IfOk result (IsWithin limit) }
-        ensures kept_out { IsTrue (is_kept_out path.now) → IfOk result (λ reading. reading ≡ Reading.Absent) }
-    {
-        for _ in 0..MOST_LOOKS {
-            let Place::File(status) = self.look(alloc, path)? else {
-                return Ok(Reading::Absent);
-            };
-            self.keeping.note_read(path.text(), status);
-            if status.len > limit as u64 {
-                self.note_read(alloc, path, status)?;
-                return Ok(Reading::TooLong);
-            }
-            if let Some(bytes) = self.remembered.take(path, &status)
-                && bytes.len() <= limit
-            {
-                self.note_read(alloc, path, status)?;
-                return Ok(Reading::Found(bytes));
-            }
-            let (_, name) = folder_and_name(path.text());
-            let folder = self.trail.current()?;
-            if let Some(file) = folder.open_file(self.system.rt(), alloc, name, status)? {
-                let reading = read_file(file, alloc, status.len, limit)?;
-                // One that is remembered is looked at once more before it is written.
-                let is_remembered = match &reading {
-                    Reading::Found(bytes) => self.remembered.note(alloc, path, &status, bytes),
-                    _ => false,
-                };
-                if !is_remembered {
-                    self.note_read(alloc, path, status)?;
-                }
-                return Ok(reading);
-            }
-        }
-        Err(FolderFault::Device(Obstacle::Changing))
-    }
-
-    fn note_read(
-        &mut self,
-        alloc: Global,
-        path: &PathText,
-        status: FileStatus,
-    ) -> Result<(), AllocError> {
-        if self.reads.len() >= MOST_SEEN {
-            self.reads.clear();
-        }
-        let path = path.try_clone(alloc)?;
-        self.reads
-            .push(ReadFile { path, status })
-            .map_err(AllocError::from)?;
-        Ok(())
     }
 
     /// Whose the journal is.

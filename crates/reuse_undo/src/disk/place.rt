@@ -146,7 +146,9 @@ impl FileStatus {
     }
 
     /// Which file it is, and which bytes it has.
-    pub fn version(&self) -> FileVersion {
+    pub fn version(&self) -> FileVersion
+        ensures { result ≡ self.now.version }
+    {
         self.version
     }
 }
@@ -157,7 +159,7 @@ pub fn kept_bits(metadata: &Metadata) -> u32 {
 }
 
 /// What stands at a path whose folders are all there.
-#[derive(Drop)]
+#[derive(Clone, Copy)]
 pub enum Found {
     /// Nothing.
     Nothing,

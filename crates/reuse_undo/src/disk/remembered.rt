@@ -5,6 +5,8 @@
 //!
 //! A file that was changed right before the call isn't remembered: the stamp of a further change
 //! could be the same, since the system's stamps go by ticks.
+ghost use Rattle.std.specs.Prelude.{◌≡◌, [], None};
+
 use crate::disk::place::{FileStatus, FileVersion};
 use reuse_text::Bytes;
 use reuse_tree::PathText;
@@ -110,7 +112,12 @@ impl Remembered {
 
     /// The bytes of the file, if it is remembered and is still as it was. It isn't remembered any
     /// more, however it is.
-    pub fn take(&mut self, path: &PathText, status: &FileStatus) -> Option<Bytes> {
+    pub fn take(&mut self, path: &PathText, status: &FileStatus) -> Option<Bytes>
+        ensures { self.old.files.items ≡ [] → result ≡ None }
+    {
+        if self.files.is_empty() {
+            return None;
+        }
         let at = self.place_of(path)?;
         self.next = at.saturating_add(1);
         let file = self.files.get_mut(at)?;

@@ -1,16 +1,21 @@
-//! The calls of the system that change regular files, and what they make of these. What a call says
-//! holds as long as nobody else writes in the folders.
-ghost use Rattle.std.specs.Prelude.{◌≡◌, MatchResult};
+//! The calls of the system that change regular files, look at them or read them: what they make of
+//! these, and what they tell of them. What a call says holds as long as nobody else writes in the
+//! folders.
+ghost use Rattle.std.specs.Prelude.{◌≡◌, IfOk, IfSome, MatchResult};
 ghost use Rattle.reuse_undo.specs.disk.FileStates.{FileState};
 
 mod host;
 mod make_file;
+mod open_file;
 mod record;
 
+use crate::disk::fault::FolderFault;
 use crate::disk::handle::OpenFolder;
 use crate::disk::owner::Owner;
-use crate::disk::place::{Identity, kept_bits};
+use crate::disk::place::{FileStatus, Found, Identity, kept_bits};
 pub use host::HostSystem;
+use reuse_tree::Reading;
+use std::alloc::Global;
 use std::fs::{File, Permissions};
 use std::io;
 use std::os::unix::fs::{PermissionsExt, fchown};
@@ -50,13 +55,28 @@ impl Aside {
     }
 }
 
-/// The calls of the system on files.
+/// A regular file that is open for reading.
+#[derive(Drop)]
+pub struct OpenedFile {
+    file: File,
+    /// The folder in which it was opened, and its name there.
+    folder: Identity,
+    name: String,
+}
+
+/// The calls of the system on files. What a look or a reading tells of them holds where the system
+/// is honest after the call; what is said of `holds` holds always.
 pub trait System {
-    ghost use Rattle.reuse_undo.specs.disk.SystemLaws.{IsAlikeBut, IsAlikeButFile, IsMade, IsAppended, IsSynced, IsRenamed, IsRemoved, MayBeRenamed};
-    ghost use Rattle.reuse_undo.specs.disk.Asides.{name_in, place_of, key_of};
+    ghost use Rattle.reuse_undo.specs.disk.SystemLaws.{IsAlikeBut, IsAlikeButFile, IsMade, IsAppended, IsSynced, IsRenamed, IsRemoved, MayBeRenamed, IsSeen, IsReadOf};
+    ghost use Rattle.reuse_undo.specs.disk.Asides.{name_in, place_of, opened_at, key_of};
+    ghost use Rattle.reuse_undo.specs.disk.Within.{IsWithin};
 
     /// The regular file that each name in a folder leads to.
     ghost holds: { Self → FileState };
+
+    /// So far nobody else has written in the folders, and what was told of a file is what it is. A
+    /// call can lose this, and never gain it.
+    ghost honest: { Self → Type 0 };
 
     /// Makes an empty file of this name, and of this mode where one is given. It fails where
     /// anything has the name.
@@ -92,4 +112,34 @@ pub trait System {
         ensures { MatchResult result
             (λ _. IsRemoved (name_in folder.now name.now) (holds self.old) (holds self.new))
             (λ _. IsAlikeBut (name_in folder.now name.now) (holds self.old) (holds self.new)) };
+
+    /// What stands at this name. No link is followed.
+    fn look(&mut self, folder: &OpenFolder, name: &str) -> Result<Found, FolderFault>
+        ensures kept { holds self.new ≡ holds self.old }
+        ensures earlier { honest self.new → honest self.old }
+        ensures seen { honest self.new → IsSeen (holds self.new (name_in folder.now name.now)) result };
+
+    /// Opens the regular file that was seen at this name just before, or gives nothing if something
+    /// else has taken its place.
+    fn open(
+        &self,
+        folder: &OpenFolder,
+        name: &str,
+        seen: FileStatus,
+    ) -> Result<Option<OpenedFile>, FolderFault>
+        ensures { IfOk result (λ opened. IfSome opened (λ file. opened_at file ≡ name_in folder.now name.now)) };
+
+    /// The bytes of a file that was opened just now and is said to have so many, where they are at
+    /// most `limit`.
+    fn read(
+        &mut self,
+        alloc: Global,
+        opened: OpenedFile,
+        said: u64,
+        limit: usize,
+    ) -> Result<Reading, FolderFault>
+        ensures kept { holds self.new ≡ holds self.old }
+        ensures earlier { honest self.new → honest self.old }
+        ensures within { IfOk result (IsWithin limit) }
+        ensures read { honest self.new → IsReadOf said limit (holds self.new (opened_at opened)) result };
 }

@@ -1,7 +1,8 @@
 //! The folders that are open: the root, and those along the path that was worked in last. Calls
 //! come in the order of their paths, so most find their folder open. A folder is opened through the
 //! handle of the one above it.
-ghost use Rattle.std.specs.Prelude.{◌≡◌};
+ghost use Rattle.std.specs.Prelude.{◌≡◌, IfOk, IfSome, Some};
+ghost use Rattle.reuse_undo.specs.disk.FolderPlaces.{IsNoFile};
 
 use crate::disk::empty_folders::path_in;
 use crate::disk::fault::{FolderFault, Obstacle};
@@ -39,6 +40,8 @@ pub struct Trail {
 }
 
 impl Trail {
+    ghost use Rattle.reuse_undo.specs.disk.FolderReads.{current_of};
+
     /// The trail of this process that begins at the root of this path. Nothing is asked of the
     /// system yet.
     pub fn new(alloc: Global, root: String, process: ProcessIds) -> Trail {
@@ -99,7 +102,9 @@ impl Trail {
     }
 
     /// The folder that was entered last.
-    pub fn current(&self) -> Result<&OpenFolder, FolderFault> {
+    pub fn current(&self) -> Result<&OpenFolder, FolderFault>
+        ensures { IfOk result (λ folder. current_of self.now ≡ Some folder.now.identity) }
+    {
         match self.steps.last() {
             Some(step) => Ok(&step.folder),
             None => Err(FolderFault::Device(Obstacle::NoRoot)),
@@ -167,7 +172,9 @@ impl Trail {
         rt: &impl Files<File = File>,
         alloc: Global,
         folder: &str,
-    ) -> Result<Option<Place>, FolderFault> {
+    ) -> Result<Option<Place>, FolderFault>
+        ensures { IfOk result (λ place. IfSome place IsNoFile) }
+    {
         self.go_back(rt, alloc, folder)?;
         for name in self.rest_of(folder).split_terminator('/') {
             match self.current()?.open_below(rt, alloc, name)? {

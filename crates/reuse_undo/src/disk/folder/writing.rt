@@ -55,7 +55,7 @@ impl<R: Files<File = File> + AllocGlobal + Clone + Drop> RootFolder<R> {
         path: &PathText,
         seen: Option<FileStatus>,
     ) -> Result<Option<FileStatus>, FolderFault>
-        ensures kept { self.new.system ≡ self.old.system }
+        ensures kept { ⟦<HostSystem<R> as System>⟧.holds self.new.system ≡ ⟦<HostSystem<R> as System>⟧.holds self.old.system }
         ensures syncs { self.new.unsynced.syncs ≡ self.old.unsynced.syncs }
         ensures kept_out { IsTrue (is_kept_out path.now) → IsErr result }
     {

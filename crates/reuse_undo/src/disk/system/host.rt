@@ -3,10 +3,16 @@
 ghost use Rattle.std.specs.Prelude.{◌≡◌};
 ghost use Rattle.reuse_undo.specs.disk.SystemCall.{made_of};
 
+use crate::disk::fault::FolderFault;
+use crate::disk::file_reading::read_file;
 use crate::disk::handle::OpenFolder;
+use crate::disk::place::{FileStatus, Found};
 use crate::disk::system::make_file::make_file;
+use crate::disk::system::open_file::open_file;
 use crate::disk::system::record::{CallKind, SystemRecord};
-use crate::disk::system::{Aside, System};
+use crate::disk::system::{Aside, OpenedFile, System};
+use reuse_tree::Reading;
+use std::alloc::Global;
 use std::fs::{self, File};
 use std::io::{self, ErrorKind, Write};
 use std::rt::Files;
@@ -69,9 +75,11 @@ fn remove_in<R: Files<File = File> + AllocGlobal>(
 }
 
 impl<R: Files<File = File> + AllocGlobal + Drop> System for HostSystem<R> {
-    ghost use Rattle.reuse_undo.specs.disk.SystemCalls.{held_after};
+    ghost use Rattle.reuse_undo.specs.disk.SystemCalls.{held_after, IsHonest};
 
     ghost holds = { λ system. held_after system.noted.files system.noted.fates system.noted.calls };
+
+    ghost honest = { λ system. IsHonest system.noted.files system.noted.fates system.noted.calls };
 
     fn make(&mut self, folder: &OpenFolder, name: &str, mode: Option<u32>) -> io::Result<Aside> {
         let number = self.made;
@@ -117,6 +125,36 @@ impl<R: Files<File = File> + AllocGlobal + Drop> System for HostSystem<R> {
         let answer = remove_in(&self.rt, folder, name);
         let kind = CallKind::Remove(folder.identity(), answer.is_ok());
         self.noted.note(&kind, name.as_bytes(), b"");
+        answer
+    }
+
+    fn look(&mut self, folder: &OpenFolder, name: &str) -> Result<Found, FolderFault> {
+        let answer = folder.look(&self.rt, self.rt.alloc(), name);
+        let kind = CallKind::Look(folder.identity(), answer);
+        self.noted.note(&kind, name.as_bytes(), b"");
+        answer
+    }
+
+    fn open(
+        &self,
+        folder: &OpenFolder,
+        name: &str,
+        seen: FileStatus,
+    ) -> Result<Option<OpenedFile>, FolderFault> {
+        open_file(&self.rt, folder, name, seen)
+    }
+
+    fn read(
+        &mut self,
+        alloc: Global,
+        opened: OpenedFile,
+        said: u64,
+        limit: usize,
+    ) -> Result<Reading, FolderFault> {
+        let OpenedFile { file, folder, name } = opened;
+        let answer = read_file(file, alloc, said, limit);
+        self.noted
+            .note_read(folder, name.as_str(), said, limit, &answer);
         answer
     }
 }

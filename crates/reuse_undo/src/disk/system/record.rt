@@ -2,10 +2,13 @@
 ghost use Rattle.std.specs.Prelude.{◌≡◌, ℕ, Bool, List, [], ◌∷◌};
 ghost use Rattle.std.specs.Borrow.{ftrue};
 ghost use Rattle.std.specs.Coded.{coded_list, coded_ℕ, coded_bool, coded×};
-ghost use Rattle.reuse_undo.specs.disk.FileStates.{Place};
+ghost use Rattle.reuse_undo.specs.disk.FileStates.{Place, place_in};
 ghost use Rattle.reuse_undo.specs.disk.SystemCall.{SystemCall};
+ghost use Rattle.reuse_undo.specs.disk.SystemCall.SystemCall.{ReadCall};
 
-use crate::disk::place::Identity;
+use crate::disk::fault::FolderFault;
+use crate::disk::place::{Found, Identity};
+use reuse_tree::Reading;
 use std::marker::{Model, PhantomData};
 
 /// Which call was made, on which folders or on which of the files that were made, and whether it
@@ -22,6 +25,19 @@ pub enum CallKind {
     Rename(Identity, Identity, bool),
     /// A name in this folder was to be removed.
     Remove(Identity, bool),
+    /// A name in this folder was looked at, and this was told of it.
+    Look(Identity, Result<Found, FolderFault>),
+    /// A file in this folder was read, which was said to have so many bytes, up to a limit.
+    Read(Identity, u64, usize, ReadKind),
+}
+
+/// What a reading answered, but for the bytes.
+#[derive(Clone, Copy)]
+pub enum ReadKind {
+    Absent,
+    Found,
+    TooLong,
+    Failed(FolderFault),
 }
 
 /// The files at the start, the fates of the calls to come, and the calls since then with their
@@ -55,4 +71,36 @@ impl SystemRecord {
     pub fn note(&mut self, _kind: &CallKind, _first: &[u8], _second: &[u8])
         ensures { self.new ≡ record self.old { calls = call_of _kind.now _first.now _second.now ∷ self.old.calls } }
     {}
+
+    /// Notes that a file of this name was read, and the answer.
+    pub fn note_read(
+        &mut self,
+        folder: Identity,
+        name: &str,
+        said: u64,
+        limit: usize,
+        answer: &Result<Reading, FolderFault>,
+    )
+        ensures { self.new ≡ record self.old { calls = ReadCall (place_in folder name.now) said limit answer.now ∷ self.old.calls } }
+    {
+        let name = name.as_bytes();
+        match answer {
+            Ok(Reading::Absent) => {
+                let kind = CallKind::Read(folder, said, limit, ReadKind::Absent);
+                self.note(&kind, name, b"")
+            }
+            Ok(Reading::Found(bytes)) => {
+                let kind = CallKind::Read(folder, said, limit, ReadKind::Found);
+                self.note(&kind, name, bytes.as_slice())
+            }
+            Ok(Reading::TooLong) => {
+                let kind = CallKind::Read(folder, said, limit, ReadKind::TooLong);
+                self.note(&kind, name, b"")
+            }
+            Err(fault) => {
+                let kind = CallKind::Read(folder, said, limit, ReadKind::Failed(*fault));
+                self.note(&kind, name, b"")
+            }
+        }
+    }
 }

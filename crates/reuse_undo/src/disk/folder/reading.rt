@@ -1,0 +1,170 @@
+//! Reading a file. The file that is read is the one that was looked at: if something else has taken
+//! its place, a link too, it isn't read.
+ghost use Rattle.std.specs.Prelude.{◌≡◌, ◌≤◌, [], IfOk, IfSome, IsTrue, None, length};
+ghost use Rattle.reuse_undo.specs.disk.KeptOut.{is_kept_out};
+ghost use Rattle.reuse_undo.specs.disk.Within.{IsWithin};
+
+use super::{ReadFile, RootFolder};
+use crate::disk::fault::{FolderFault, Obstacle};
+use crate::disk::place::{FileStatus, Place, folder_and_name};
+use crate::disk::system::{HostSystem, System};
+use reuse_text::Bytes;
+use reuse_tree::{PathText, Reading};
+use std::alloc::{AllocError, Global};
+use std::fs::File;
+use std::rt::Files;
+
+/// How many files that were read are remembered.
+const MOST_SEEN: usize = 1_024;
+
+impl<R: Files<File = File> + AllocGlobal + Clone + Drop> RootFolder<R> {
+    ghost use Rattle.reuse_undo.specs.disk.FolderReads.{IsPlaceIn, IsReadIn, current_of};
+
+    /// The bytes of the regular file at the path, where they are at most `limit`. One that is longer
+    /// isn't opened, so it needn't be readable.
+    pub fn read(
+        &mut self,
+        alloc: Global,
+        path: &PathText,
+        limit: usize,
+    ) -> Result<Reading, FolderFault>
+        ensures within { IfOk result (IsWithin limit) }
+        ensures kept_out { IsTrue (is_kept_out path.now) → IfOk result (λ reading. reading ≡ Reading.Absent) }
+        ensures kept { ⟦<HostSystem<R> as System>⟧.holds self.new.system ≡ ⟦<HostSystem<R> as System>⟧.holds self.old.system }
+        ensures earlier { ⟦<HostSystem<R> as System>⟧.honest self.new.system → ⟦<HostSystem<R> as System>⟧.honest self.old.system }
+        // Of a file that is remembered the bytes aren't read again.
+        ensures read { ⟦<HostSystem<R> as System>⟧.honest self.new.system → self.old.remembered.files.items ≡ []
+            → IfOk result (IsReadIn path.now limit (⟦<HostSystem<R> as System>⟧.holds self.new.system)) }
+    {
+        let Place::File(status) = self.look(alloc, path)? else {
+            return Ok(Reading::Absent);
+        };
+        self.keeping.note_read(path.text(), status);
+        if let Some(bytes) = self.take_remembered(path, status, limit) {
+            self.note_read(alloc, path, status)?;
+            return Ok(Reading::Found(bytes));
+        }
+        self.read_seen(alloc, path, limit, status)
+    }
+
+    /// The bytes of the file that was seen at the path, if they are remembered and are at most
+    /// `limit`.
+    fn take_remembered(
+        &mut self,
+        path: &PathText,
+        status: FileStatus,
+        limit: usize,
+    ) -> Option<Bytes>
+        ensures system { self.new.system ≡ self.old.system }
+        ensures trail { self.new.trail ≡ self.old.trail }
+        ensures within { IfSome result (λ bytes. length bytes ≤ limit) }
+        ensures none { self.old.remembered.files.items ≡ [] → result ≡ None }
+    {
+        if status.len > limit as u64 {
+            return None;
+        }
+        let bytes = self.remembered.take(path, &status)?;
+        if bytes.len() <= limit {
+            Some(bytes)
+        } else {
+            None
+        }
+    }
+
+    /// Reads the file that was seen at the path. If another one has taken its place, the path is
+    /// looked at once more.
+    fn read_seen(
+        &mut self,
+        alloc: Global,
+        path: &PathText,
+        limit: usize,
+        status: FileStatus,
+    ) -> Result<Reading, FolderFault>
+        ensures within { IfOk result (IsWithin limit) }
+        ensures kept { ⟦<HostSystem<R> as System>⟧.holds self.new.system ≡ ⟦<HostSystem<R> as System>⟧.holds self.old.system }
+        ensures earlier { ⟦<HostSystem<R> as System>⟧.honest self.new.system → ⟦<HostSystem<R> as System>⟧.honest self.old.system }
+        ensures read { ⟦<HostSystem<R> as System>⟧.honest self.new.system
+            → IsPlaceIn (current_of self.old.trail) path.now (⟦<HostSystem<R> as System>⟧.holds self.old.system) (Place.File status)
+            → IfOk result (IsReadIn path.now limit (⟦<HostSystem<R> as System>⟧.holds self.new.system)) }
+    {
+        if let Some(reading) = self.read_anew(alloc, path, limit, status)? {
+            return Ok(reading);
+        }
+        let Place::File(status) = self.look(alloc, path)? else {
+            return Ok(Reading::Absent);
+        };
+        self.keeping.note_read(path.text(), status);
+        match self.read_anew(alloc, path, limit, status)? {
+            Some(reading) => Ok(reading),
+            None => Err(FolderFault::Device(Obstacle::Changing)),
+        }
+    }
+
+    /// Reads the file that was seen at the path, or gives nothing if another one has taken its
+    /// place.
+    fn read_anew(
+        &mut self,
+        alloc: Global,
+        path: &PathText,
+        limit: usize,
+        status: FileStatus,
+    ) -> Result<Option<Reading>, FolderFault>
+        ensures within { IfOk result (λ read. IfSome read (IsWithin limit)) }
+        ensures kept { ⟦<HostSystem<R> as System>⟧.holds self.new.system ≡ ⟦<HostSystem<R> as System>⟧.holds self.old.system }
+        ensures earlier { ⟦<HostSystem<R> as System>⟧.honest self.new.system → ⟦<HostSystem<R> as System>⟧.honest self.old.system }
+        ensures read { ⟦<HostSystem<R> as System>⟧.honest self.new.system
+            → IsPlaceIn (current_of self.old.trail) path.now (⟦<HostSystem<R> as System>⟧.holds self.old.system) (Place.File status)
+            → IfOk result (λ read. IfSome read (IsReadIn path.now limit (⟦<HostSystem<R> as System>⟧.holds self.new.system))) }
+    {
+        if status.len > limit as u64 {
+            self.note_read(alloc, path, status)?;
+            return Ok(Some(Reading::TooLong));
+        }
+        let (_, name) = folder_and_name(path.text());
+        let folder = self.trail.current()?;
+        let Some(file) = self.system.open(folder, name, status)? else {
+            return Ok(None);
+        };
+        let reading = self.system.read(alloc, file, status.len, limit)?;
+        self.remember(alloc, path, status, &reading)?;
+        Ok(Some(reading))
+    }
+
+    /// This was read of the file at the path. One that is remembered is looked at once more before
+    /// it is written.
+    fn remember(
+        &mut self,
+        alloc: Global,
+        path: &PathText,
+        status: FileStatus,
+        reading: &Reading,
+    ) -> Result<(), AllocError>
+        ensures { self.new.system ≡ self.old.system }
+    {
+        if let Reading::Found(bytes) = reading
+            && self.remembered.note(alloc, path, &status, bytes)
+        {
+            return Ok(());
+        }
+        self.note_read(alloc, path, status)
+    }
+
+    /// The file at the path was read, and had this status.
+    fn note_read(
+        &mut self,
+        alloc: Global,
+        path: &PathText,
+        status: FileStatus,
+    ) -> Result<(), AllocError>
+        ensures { self.new.system ≡ self.old.system }
+    {
+        if self.reads.len() >= MOST_SEEN {
+            self.reads.clear();
+        }
+        let path = path.try_clone(alloc)?;
+        self.reads
+            .push(ReadFile { path, status })
+            .map_err(AllocError::from)?;
+        Ok(())
+    }
+}
