@@ -176,6 +176,38 @@ once() {
   ((quiet > 0 && verbose == quiet)) || fail "with notes $verbose calls name the files, not $quiet"
 }
 
+# Globs that left nothing out, and listed paths that are no covered file beneath a PATH
+choices() {
+  local changed='1 file changed; .*' list=$room/list
+  idle() { printf -- '--exclude %s left no file out' "$1"; }
+  unmet() { printf '%s paths of the list are no covered files beneath a PATH' "$1"; }
+  files src/a.py 'x\n' src/b.log 'x\n' src/old/c.py 'x\n' node_modules/m/i.js 'x\n' LICENSE 'x\n'
+  # A file, and folders that are passed over: by their paths, by their names, and by what is in them
+  notes annotate -l MIT -r --exclude node_modules --exclude 'src/*.log' --exclude '**/old' . \
+    : "$changed"
+  notes annotate -l MIT -r --exclude '**/node_modules' --exclude '**.log' --exclude 'src/old/**' . \
+    : "$changed"
+  notes annotate -l MIT -r --exclude node_module --exclude '**/*.lgo' --exclude '**/b.log' \
+    --exclude src/old/ --exclude a.py src : "$changed" "$(idle node_module)" \
+    "$(idle '\*\*/\*\.lgo')" "$(idle 'a\.py')"
+  # What isn't covered isn't left out, nor what lies beneath no PATH; and a PATH that is a file isn't
+  notes annotate -l MIT -r --exclude LICENSE --exclude node_modules --exclude 'src/a*' src/old src/a.py \
+    : '2 files changed; .*' "$(idle LICENSE)" "$(idle node_modules)" "$(idle 'src/a\*')"
+  notes annotate -n -l MIT -r --exclude node_modules --exclude none --exclude '**.log' . : "$(idle none)"
+  notes annotate -n --json -l MIT -r --exclude none src/old : "$(idle none)"
+  printf '%s\n' src/a.py src/gone.py LICENSE node_modules/m/i.js > "$list"
+  notes annotate -l MIT -r --files-from "$list" src : "$changed" "$(unmet 3)"
+  notes annotate -l MIT -r --files-from "$list" --exclude '**/i.js' --exclude '**.py' . \
+    : '1 path of the list is no covered file beneath a PATH'
+  notes annotate -n -l MIT -r --files-from "$list" . : "$(unmet 2)"
+  printf '%s\n' src/a.py > "$list"
+  notes annotate -l MIT -r --files-from "$list" . : "$changed"
+  "$program" --root "$tree" annotate -l MIT -r src/a.py > /dev/null
+  notes amend --replace-license MIT ISC -r --files-from "$list" --exclude docs . \
+    : "$changed" "$(idle docs)"
+  notes annotate -l MIT -r --exclude none missing :
+}
+
 dep5() {
   files .reuse/dep5 'Format: x\n\nFiles: *\nLicense: MIT\n'
   notes convert-dep5 : 'the fields Files, Copyright and License are asked for .*'
@@ -377,5 +409,5 @@ progress() {
     fail 'progress without a terminal'
 }
 
-for group in words changes refusals once dep5 journal faults above names progress; do $group; done
+for group in words changes refusals once choices dep5 journal faults above names progress; do $group; done
 echo "$notes notes are as stated, with -v and at a terminal, and names show no control byte there"

@@ -31,4 +31,5 @@ pub mod Steps
 pub mod TablePut
 pub mod TextsPut
 pub mod TreeStyles
+pub mod Unused
 pub mod Selected

@@ -159,6 +159,11 @@ impl<R: Files<File = File> + AllocGlobal + Clone + Drop> DiskStore<R> {
         self.folder.is_by_path()
     }
 
+    /// The folders that listings found and passed over.
+    pub fn passed_over(&self) -> &[String] {
+        self.folder.passed_over()
+    }
+
     // Notes that the path was to be made these parts joined, and the answer.
     fn note_put(
         &mut self,

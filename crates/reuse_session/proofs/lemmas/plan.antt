@@ -50,3 +50,4 @@ pub mod TablePut
 pub mod TargetLemmas
 pub mod TargetReasons
 pub mod TextsPut
+pub mod UnusedLemmas

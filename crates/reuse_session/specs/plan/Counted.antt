@@ -1,5 +1,10 @@
--- What a call counts while it plans: how many of the path outcomes of its command are of files that are skipped.
-use Rattle.std.specs.Prelude.{ℕ, Bool, true, false, List, length, filter}
+-- What a call counts while it plans: how many of the path outcomes of its command are of files that are skipped, and what of its choice of
+-- files came to nothing.
+use Rattle.std.specs.Prelude.{◌≡◌, ℕ, Bool, true, false, List, length, filter}
+use Rattle.reuse_tree.specs.Files.{Files}
+use Rattle.reuse_session.specs.session.PathOutcomes.{path_outcomes_of}
+use Rattle.reuse_session.specs.plan.Unused.{AreUnusedBy}
+use Rattle.reuse_session.specs.declared.command.Command.{Command}
 use Rattle.reuse_session.specs.declared.plan.counts.Counts.{Counts}
 use Rattle.reuse_session.specs.declared.path_outcome.PathOutcome.{PathOutcome}
 use Rattle.reuse_session.specs.declared.path_outcome.PathOutcome.TheVariants.{Skipped}
@@ -15,7 +20,12 @@ is_skip path_outcome = false
 abbrev pub skipped_count : List PathOutcome → ℕ
 skipped_count path_outcomes = length (filter is_skip path_outcomes)
 
--- what the last run of a session counted, which is no part of what it stands at
+-- what is counted of a command on a tree
+pub record IsCounted (command : Command) (tree : Files) (counts : Counts) : Type 0 where
+  pub skipped : counts.skipped ≡ skipped_count (path_outcomes_of command tree)
+  pub unused : AreUnusedBy command tree counts.unused
+
+-- what the last run of a session counted, or its preview, which is no part of what it stands at
 abbrev pub counts_of : {S : Type 0} → Session S → Counts
 counts_of session = session.counts
 

@@ -40,6 +40,13 @@ impl PathList {
         }
     }
 
+    // They.
+    pub(crate) fn as_slice(&self) -> &[PathText]
+        ensures { result.now ≡ self.now }
+    {
+        &self.paths
+    }
+
     // Whether the path is one of these.
     pub(crate) fn has(&self, path: &PathText) -> bool
         ensures { result ≡ is_among self.now path.now }
@@ -82,7 +89,7 @@ pub(crate) fn matches_folder(globs: &Globs, folder: &str) -> bool
         .any(|glob| matches_text(glob, folder))
 }
 
-fn leaves_out(glob: &Glob, path: &PathText) -> bool
+pub(crate) fn leaves_out(glob: &Glob, path: &PathText) -> bool
     ensures { result ≡ leaves_out glob.now path.now }
 {
     matches_text(glob, path.text()) || matches_above(glob, path)

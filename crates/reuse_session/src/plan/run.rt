@@ -1,8 +1,8 @@
 //! The changes of a run and what it counts, and what a preview tells: both are made of the plans of
 //! one walk.
-ghost use Rattle.std.specs.Prelude.{◌≡◌, ◌++◌, None, IfOk, IfErr};
+ghost use Rattle.std.specs.Prelude.{◌≡◌, ◌++◌, None, IfOk, IfErr, OnOk};
 ghost use Rattle.std.specs.List.Sorted.{IsPermutation, IsSortedBy};
-ghost use Rattle.reuse_session.specs.plan.Counted.{skipped_count};
+ghost use Rattle.reuse_session.specs.plan.Counted.{IsCounted};
 ghost use Rattle.reuse_session.specs.session.PathOutcomes.{path_outcomes_of, first_refusal};
 ghost use Rattle.reuse_session.specs.plan.Outcome.{outcome_of, edits_of};
 ghost use Rattle.reuse_session.specs.plan.PathPlans.{limit_planned};
@@ -31,13 +31,13 @@ pub(crate) fn plan<S: Store>(
     ensures changes { S.honest store.new → IfOk result (λ changes. IsPlan (outcome_of command.now (tree_of (S.files store.old))) (tree_of (S.files store.old)) changes.items) }
     // The changes hold what the command removes and writes at each path, and no more.
     ensures recorded { S.honest store.new → IfOk result (λ changes. Records (tree_of (S.files store.old)) (edits_of command.now (tree_of (S.files store.old))) changes.items) }
-    ensures skipped { S.honest store.new → IfOk result (λ changes. counts.new.skipped ≡ skipped_count (path_outcomes_of command.now (tree_of (S.files store.old)))) }
+    ensures counts { S.honest store.new → OnOk result (IsCounted command.now (tree_of (S.files store.old)) counts.new) }
     ensures refusal { S.honest store.new → IfErr result (λ refusal. IsRefusalOf (outcome_of command.now (tree_of (S.files store.old))) refusal) }
     ensures fails { RefusedAsRead S.Store store.old store.new result }
     ensures reads { OnlyReads S.Store store.old store.new }
     ensures planned { IfErr result IsOfPlan }
 {
-    let plans = plan_command(alloc, store, command, Policy::Stop)?;
+    let plans = plan_command(alloc, store, command, Policy::Stop, &mut counts.unused)?;
     counts.skipped = skipped_planned(&plans);
     let changes = sorted(changes_planned(alloc, plans)?);
     if is_too_many(&changes) {
@@ -57,11 +57,12 @@ fn sorted(changes: Vec<Change>) -> Vec<Change>
 }
 
 /// What a run of the command would do on the tree that the store has: the outcomes of its paths,
-/// and its changes in byte order of their paths.
+/// and its changes in byte order of their paths. What the walk counted is put into the counts.
 pub(crate) fn plan_preview<S: Store>(
     alloc: Global,
     store: &mut S,
     command: &Command,
+    counts: &mut Counts,
 ) -> Result<Previewed, Refusal>
     ensures path_outcomes { S.honest store.new → IfOk result (λ previewed. previewed.path_outcomes ≡ path_outcomes_of command.now (tree_of (S.files store.old))) }
     // Where none of the path outcomes is a refusal, the changes are those of a run.
@@ -69,11 +70,13 @@ pub(crate) fn plan_preview<S: Store>(
         → IsPlan (outcome_of command.now (tree_of (S.files store.old))) (tree_of (S.files store.old)) previewed.changes) }
     ensures recorded { S.honest store.new → IfOk result (λ previewed. first_refusal previewed.path_outcomes ≡ None
         → Records (tree_of (S.files store.old)) (edits_of command.now (tree_of (S.files store.old))) previewed.changes) }
+    ensures counts { S.honest store.new → OnOk result (IsCounted command.now (tree_of (S.files store.old)) counts.new) }
     ensures fails { RefusedAsRead S.Store store.old store.new result }
     ensures reads { OnlyReads S.Store store.old store.new }
     ensures refusal { IfErr result IsEarlyFailure }
 {
-    let plans = plan_command(alloc, store, command, Policy::Collect)?;
+    let plans = plan_command(alloc, store, command, Policy::Collect, &mut counts.unused)?;
+    counts.skipped = skipped_planned(&plans);
     Ok(with_limit(Planned::of(alloc, plans)?)?)
 }
 

@@ -7,6 +7,7 @@ ghost use Rattle.reuse_session.specs.session.Answer.{IsEarlyFailure};
 ghost use Rattle.reuse_session.specs.session.Reading.{tree_of, OnlyReads, ReadsAlone};
 ghost use Rattle.reuse_session.specs.plan.Shown.{folders_for, ShowsEach, ShowsPlace};
 ghost use Rattle.reuse_session.specs.plan.Choice.{is_chosen, is_listed, is_passed_over};
+ghost use Rattle.reuse_session.specs.plan.Unused.{found_paths, AreUnused, AreUnusedAt};
 ghost use Rattle.reuse_session.specs.plan.Selected.{expanded, selected_paths};
 ghost use Rattle.reuse_session.specs.declared.command.Place.TheVariants as place;
 ghost use Rattle.std.specs.Option.{option_to_list};
@@ -19,6 +20,7 @@ use crate::plan::choice::matches_one;
 use crate::plan::covered::is_covered;
 use crate::plan::tree_paths::{is_folder_alone, tree_paths, with_neighbours};
 use crate::plan::unselected::Unselected;
+use crate::plan::unused::Unused;
 use crate::reply::Refusal;
 use reuse_tree::{Items, PathText, Store, StoreFault, paths_beneath};
 use std::alloc::{AllocError, Global};
@@ -64,24 +66,27 @@ pub(crate) struct Selected {
 
 /// The paths that a command goes through: those among the places, and, where folders are gone
 /// through, the covered files beneath a folder that are asked for in its place. Nothing is listed
-/// where no folders are gone through.
+/// where no folders are gone through. It notes what of the choice came to nothing.
 pub(crate) fn find_selected<S: Store>(
     alloc: Global,
     store: &mut S,
     places: &[Place],
     scope: &Scope,
+    unused: &mut Unused,
 ) -> Result<Selected, Refusal>
     ensures paths { S.honest store.new → IfOk result (λ selected. selected.paths.items ≡ selected_paths scope.now places.now (tree_of (S.files store.old))) }
     ensures shown { S.honest store.new → IfOk result (λ selected. ShowsEach selected.listing (tree_of (S.files store.old)) selected.paths.items) }
+    ensures unused { S.honest store.new → OnOk result (AreUnusedAt scope.now places.now (tree_of (S.files store.old)) unused.new) }
     ensures asks { ReadsAlone S.Store IsEarlyFailure store.old store.new result }
 {
     if !scope.recursive {
+        *unused = Unused::none(alloc);
         return Ok(Selected {
             paths: given_paths(alloc, places)?,
             listing: Listing::Alone,
         });
     }
-    find_beneath(alloc, store, places, scope)
+    find_beneath(alloc, store, places, scope, unused)
 }
 
 // Where folders are gone through.
@@ -90,14 +95,17 @@ fn find_beneath<S: Store>(
     store: &mut S,
     places: &[Place],
     scope: &Scope,
+    unused: &mut Unused,
 ) -> Result<Selected, Refusal>
     ensures paths { S.honest store.new → IfOk result (λ selected. selected.paths.items ≡ set_of (flat_map (expanded scope.now (tree_of (S.files store.old))) places.now)) }
     ensures shown { S.honest store.new → IfOk result (λ selected. ShowsEach selected.listing (tree_of (S.files store.old)) selected.paths.items) }
+    ensures unused { S.honest store.new → OnOk result (AreUnused scope.now (set_of (flat_map (expanded scope.now (tree_of (S.files store.old))) places.now)) (found_paths scope.now places.now (tree_of (S.files store.old))) unused.new) }
     ensures asks { ReadsAlone S.Store IsEarlyFailure store.old store.new result }
 {
     let given = given_paths(alloc, places)?;
     let listed = list_selected(alloc, store, places, &given, scope)?;
     let paths = sorted(expanded(alloc, store, &listed, places, scope)?);
+    *unused = Unused::of(alloc, scope, &paths, &listed)?;
     Ok(Selected {
         paths,
         listing: Listing::Listed(Items::new(listed)),

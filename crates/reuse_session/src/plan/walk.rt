@@ -1,13 +1,14 @@
 //! Plans a command: finds what it would do at each path, and makes no change. One walk serves runs
 //! and previews.
-ghost use Rattle.std.specs.Prelude.{map};
-ghost use Rattle.reuse_session.specs.plan.Asked.{at_by, at_places_by};
+ghost use Rattle.std.specs.Prelude.{map, OnOk};
+ghost use Rattle.reuse_session.specs.plan.Asked.{at_by, at_places_by, scope_of};
 ghost use Rattle.reuse_session.specs.session.Command.{HoldsEntry};
 ghost use Rattle.reuse_session.specs.plan.Outcome.{path_edits_of, amendments_by};
 ghost use Rattle.reuse_session.specs.plan.PathPlans.{AnswersPlan, AnswersPlans, EndsWalk};
 ghost use Rattle.reuse_session.specs.session.Reading.{tree_of, IsOfPlan, ReadsAlone};
 ghost use Rattle.reuse_session.specs.plan.Shown.{ShowsEach, ShowsOne, ShowsPair};
 ghost use Rattle.reuse_session.specs.plan.TreeStyles.{styles_in};
+ghost use Rattle.reuse_session.specs.plan.Unused.{AreUnusedAt, AreUnusedBy, AreUnusedIf};
 ghost use Rattle.reuse_session.specs.plan.Selected.{with_table};
 ghost use Rattle.reuse_session.specs.declared.plan.path_plan.Policy.TheVariants.{Stop};
 
@@ -23,20 +24,23 @@ use crate::plan::revert::plan_revert;
 use crate::plan::select::{Listing, find_selected, gives_root};
 use crate::plan::styles::read_styles;
 use crate::plan::tree_paths::pair_paths;
+use crate::plan::unused::Unused;
 use crate::reply::Refusal;
 use reuse_notice::Amendments;
 use reuse_tree::{PathText, Store};
 use std::alloc::Global;
 
 /// What the command would do, path by path, on the tree that the store has; or the refusal at which
-/// the walk ends.
+/// the walk ends. A command that chooses files notes what of its choice came to nothing.
 pub(crate) fn plan_command<S: Store>(
     alloc: Global,
     store: &mut S,
     command: &Command,
     policy: Policy,
+    unused: &mut Unused,
 ) -> Result<Vec<PathPlan>, Refusal>
     ensures plans { S.honest store.new → AnswersPlans policy (tree_of (S.files store.old)) (path_edits_of command.now (tree_of (S.files store.old))) result }
+    ensures unused { S.honest store.new → OnOk result (AreUnusedBy command.now (tree_of (S.files store.old)) unused.new) }
     ensures entry { HoldsEntry command.now }
     ensures asks { ReadsAlone S.Store (EndsWalk policy) store.old store.new result }
 {
@@ -54,7 +58,7 @@ pub(crate) fn plan_command<S: Store>(
                     scope,
                     styles: &styles,
                 });
-                plan_places(alloc, store, places.as_slice(), &asked, policy)
+                plan_places(alloc, store, places.as_slice(), &asked, policy, unused)
             }
             Err(refusal) => policy.refused_alone(alloc, refusal),
         },
@@ -62,7 +66,14 @@ pub(crate) fn plan_command<S: Store>(
             places,
             amendments,
             scope,
-        } => plan_amendment(alloc, store, places.as_slice(), amendments, scope, policy),
+        } => {
+            let amending = Amending {
+                places: places.as_slice(),
+                amendments,
+                scope,
+            };
+            plan_amendment(alloc, store, &amending, policy, unused)
+        }
         Command::ConvertDep5 => policy.of_changes(alloc, plan_conversion(alloc, store)),
         Command::Download { ids, texts } => {
             plan_download(alloc, store, ids.as_slice(), texts.as_slice(), policy)
@@ -75,28 +86,37 @@ pub(crate) fn plan_command<S: Store>(
     }
 }
 
+// What an amendment amends, and how.
+#[derive(Clone, Copy)]
+struct Amending<'a> {
+    places: &'a [Place],
+    amendments: &'a Amendments,
+    scope: &'a Scope,
+}
+
 // What an amendment would do.
 fn plan_amendment<S: Store>(
     alloc: Global,
     store: &mut S,
-    places: &[Place],
-    amendments: &Amendments,
-    scope: &Scope,
+    amending: &Amending<'_>,
     policy: Policy,
+    unused: &mut Unused,
 ) -> Result<Vec<PathPlan>, Refusal>
     ensures plans { S.honest store.new → AnswersPlans policy (tree_of (S.files store.old))
-        (amendments_by (with_table scope.now places.now (tree_of (S.files store.old))) amendments.now scope.now (tree_of (S.files store.old)) (styles_in (tree_of (S.files store.old)))) result }
+        (amendments_by (with_table amending.now.scope.now amending.now.places.now (tree_of (S.files store.old))) amending.now.amendments.now amending.now.scope.now (tree_of (S.files store.old)) (styles_in (tree_of (S.files store.old)))) result }
+    ensures unused { S.honest store.new → OnOk result
+        (AreUnusedIf (styles_in (tree_of (S.files store.old))) amending.now.scope.now (with_table amending.now.scope.now amending.now.places.now (tree_of (S.files store.old))) (tree_of (S.files store.old)) unused.new) }
     ensures asks { ReadsAlone S.Store (EndsWalk policy) store.old store.new result }
 {
     match read_styles(alloc, store) {
         Ok(styles) => {
             let asked = Asked::Amendment(Amendment {
-                amendments,
-                scope,
+                amendments: amending.amendments,
+                scope: amending.scope,
                 styles: &styles,
             });
-            match with_table(alloc, store, places, scope) {
-                Ok(places) => plan_places(alloc, store, &places, &asked, policy),
+            match with_table(alloc, store, amending.places, amending.scope) {
+                Ok(places) => plan_places(alloc, store, &places, &asked, policy, unused),
                 Err(refusal) => Err(refusal),
             }
         }
@@ -111,14 +131,17 @@ fn plan_places<S: Store>(
     places: &[Place],
     asked: &Asked<'_>,
     policy: Policy,
+    unused: &mut Unused,
 ) -> Result<Vec<PathPlan>, Refusal>
     ensures plans { S.honest store.new → AnswersPlans policy (tree_of (S.files store.old)) (at_places_by asked.now (tree_of (S.files store.old)) places.now) result }
+    ensures unused { S.honest store.new → OnOk result (AreUnusedAt (scope_of asked.now) places.now (tree_of (S.files store.old)) unused.new) }
     ensures asks { ReadsAlone S.Store (EndsWalk policy) store.old store.new result }
 {
     if gives_root(places, asked.scope()) {
+        *unused = Unused::none(alloc);
         return policy.refused_alone(alloc, Refusal::IsFolder(Place::Root));
     }
-    match find_selected(alloc, store, places, asked.scope()) {
+    match find_selected(alloc, store, places, asked.scope(), unused) {
         Ok(selected) => plan_paths(
             alloc,
             store,

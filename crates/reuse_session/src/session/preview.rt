@@ -1,6 +1,7 @@
 //! Previews: what a call would do, alone or with the changes of the same plan. They only read.
-ghost use Rattle.std.specs.Prelude.{◌≡◌, ◌↔◌, ◌++◌, ◌∷◌, [], List, true, false, length, None, Some, IfOk, IfErr};
+ghost use Rattle.std.specs.Prelude.{◌≡◌, ◌↔◌, ◌++◌, ◌∷◌, [], List, true, false, length, None, Some, IfOk, IfErr, OnOk};
 ghost use Rattle.reuse_session.specs.session.Answer.{TellsNoFault, IsReadRefusal};
+ghost use Rattle.reuse_session.specs.plan.Counted.{counts_of, IsCounted};
 ghost use Rattle.reuse_session.specs.session.PathOutcomes.{path_outcomes_of, first_refusal};
 ghost use Rattle.reuse_session.specs.journal.History.{entries_ahead};
 ghost use Rattle.reuse_session.specs.journal.Journal.{State, ahead, changes_ahead, end_of};
@@ -39,6 +40,8 @@ impl<S: Store + Drop> Session<S> {
         ensures exact { S.honest (store_of self.new) → (held : State) → StandsOn S.files self.old held → IfOk result (λ path_outcomes. path_outcomes ≡ path_outcomes_of command.now held.tree) }
         ensures answers { S.honest (store_of self.new) → (held : State) → StandsOn S.files self.old held → TellsNoFault result → result ≡ run_path_outcomes_on held command.now }
         ensures machine { S.honest (store_of self.new) → (state : Snapshots) → StandsAt S.files self.old state → TellsNoFault result → result ≡ run_path_outcomes state command.now }
+        // It counts as a run does.
+        ensures counts { S.honest (store_of self.new) → (held : State) → StandsOn S.files self.old held → OnOk result (IsCounted command.now held.tree (counts_of self.new)) }
         ensures reads_only { ReadsOnly S.Store result self.old self.new }
         ensures refusal { IfErr result IsPreviewRefusal }
     {
@@ -66,6 +69,8 @@ impl<S: Store + Drop> Session<S> {
             → TellsNoFault result → path_outcomes_alone result ≡ run_path_outcomes_on held command.now }
         ensures machine { S.honest (store_of self.new) → (state : Snapshots) → StandsAt S.files self.old state
             → TellsNoFault result → path_outcomes_alone result ≡ run_path_outcomes state command.now }
+        // It counts as a run does.
+        ensures counts { S.honest (store_of self.new) → (held : State) → StandsOn S.files self.old held → OnOk result (IsCounted command.now held.tree (counts_of self.new)) }
         // Where none of the path outcomes is a refusal, the changes are none or a good entry, lead
         // from the tree to that of the command's outcome, and hold what the command removes and
         // writes.
@@ -82,7 +87,7 @@ impl<S: Store + Drop> Session<S> {
         if self.history.is_full() {
             return Err(Refusal::JournalFull);
         }
-        plan_preview(alloc, &mut self.store, command)
+        plan_preview(alloc, &mut self.store, command, &mut self.counts)
     }
 
     /// Tells what an undo would do: for each path of the last step, in byte order, whether it would

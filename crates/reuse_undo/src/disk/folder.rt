@@ -52,6 +52,8 @@ pub struct RootFolder<R: Files<File = File> + AllocGlobal + Clone + Drop> {
     new_file: Option<NewFile>,
     /// The folder that the last listing looked at last.
     listed: String,
+    /// The folders that listings found and passed over.
+    passed_over: Vec<String>,
     unsynced: Unsynced,
     keeping: Keeping,
 }
@@ -68,6 +70,7 @@ impl<R: Files<File = File> + AllocGlobal + Clone + Drop> RootFolder<R> {
         let unsynced = Unsynced::new(rt.alloc(), syncs);
         let reads = Vec::new(rt.alloc());
         let remembered = Remembered::nothing(rt.alloc());
+        let passed_over = Vec::new(rt.alloc());
         RootFolder {
             system: HostSystem::new(rt),
             trail,
@@ -75,6 +78,7 @@ impl<R: Files<File = File> + AllocGlobal + Clone + Drop> RootFolder<R> {
             remembered,
             new_file: None,
             listed,
+            passed_over,
             unsynced,
             keeping,
         }
@@ -108,6 +112,11 @@ impl<R: Files<File = File> + AllocGlobal + Clone + Drop> RootFolder<R> {
     /// fails has failed.
     pub fn listed(&self) -> &str {
         self.listed.as_str()
+    }
+
+    /// The folders that listings found and passed over.
+    pub fn passed_over(&self) -> &[String] {
+        &self.passed_over
     }
 
     /// The folder or the file that was synced last, which is empty for the root: where a sync that
@@ -198,7 +207,9 @@ impl<R: Files<File = File> + AllocGlobal + Clone + Drop> RootFolder<R> {
         }
         self.new_file = None;
         listing.walk(self.system.rt(), alloc, &mut self.trail, &mut self.listed)?;
-        Ok(listing.into_paths())
+        let (paths, mut passed) = listing.into_found();
+        self.passed_over.append(&mut passed)?;
+        Ok(paths)
     }
 
     /// Takes the file or the folder at this place into a listing.

@@ -30,6 +30,8 @@ pub struct Listing<'a, P: Pruning> {
     names: usize,
     folders: Vec<String>,
     files: Vec<PathText>,
+    // The folders that were found and pruned.
+    passed: Vec<String>,
     ghost in_tree: { All (λ path. is_kept_out path ≡ false) files.items },
 }
 
@@ -41,14 +43,21 @@ impl<'a, P: Pruning> Listing<'a, P> {
             names: 0,
             folders: Vec::new(alloc),
             files: Vec::new(alloc),
+            passed: Vec::new(alloc),
         }
     }
 
     /// Takes in a folder that is to be looked at; empty for the root, which is always looked at.
     /// One that is no part of the tree, or is pruned, is passed over.
     pub fn take_folder(&mut self, alloc: Global, folder: &str) -> Result<(), FolderFault> {
-        if !folder.is_empty() && (is_folder_kept_out(folder) || self.passes_over(folder)) {
-            return Ok(());
+        if !folder.is_empty() {
+            if is_folder_kept_out(folder) {
+                return Ok(());
+            }
+            if self.passes_over(folder) {
+                push_text(alloc, &mut self.passed, folder)?;
+                return Ok(());
+            }
         }
         push_text(alloc, &mut self.folders, folder)?;
         Ok(())
@@ -131,14 +140,14 @@ impl<'a, P: Pruning> Listing<'a, P> {
         Err(FolderFault::Device(Obstacle::TooManyNames))
     }
 
-    /// What was found, in byte order.
-    pub fn into_paths(self) -> Vec<PathText>
-        ensures sorted { IsSorted (slice_cmp nat_cmp) result.items }
-        ensures kept_out { All (λ path. is_kept_out path ≡ false) result.items }
+    /// The files that were found, in byte order, and the folders that were pruned.
+    pub fn into_found(self) -> (Vec<PathText>, Vec<String>)
+        ensures sorted { IsSorted (slice_cmp nat_cmp) result.0.items }
+        ensures kept_out { All (λ path. is_kept_out path ≡ false) result.0.items }
     {
         let mut files = self.files;
         files.sort_unstable();
-        files
+        (files, self.passed)
     }
 }
 
@@ -154,5 +163,6 @@ pub fn list_below<R: Files<File = File> + AllocGlobal + Clone + Drop>(
     let mut listing = Listing::new(alloc, &NoPruning);
     listing.take_folder(alloc, folder)?;
     listing.walk(rt, alloc, trail, last)?;
-    Ok(listing.into_paths())
+    let (paths, _) = listing.into_found();
+    Ok(paths)
 }

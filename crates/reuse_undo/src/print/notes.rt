@@ -197,6 +197,25 @@ fn note_unrecognised(rt: &impl Eprint, count: usize, passed_over: bool) {
     };
 }
 
+/// Tells which globs left nothing out, and how many listed paths are no covered file beneath a
+/// PATH.
+fn note_unused(rt: &impl Eprint, diagnostics: &Diagnostics) {
+    for glob in diagnostics.idle_globs.as_slice() {
+        let _ = eprintln!(rt; "reuse-undo: note: --exclude {glob} left no file out");
+    }
+    let _ = match diagnostics.counts.unused.names {
+        0 => Ok(()),
+        1 => {
+            eprintln!(rt; "reuse-undo: note: 1 path of the list is no covered file beneath a PATH")
+        }
+        count => {
+            eprintln!(rt;
+                "reuse-undo: note: {count} paths of the list are no covered files beneath a PATH"
+            )
+        }
+    };
+}
+
 /// Tells what the refusals among path outcomes are about, each advice once.
 fn note_path_outcomes(rt: &impl Eprint, diagnostics: &Diagnostics, path_outcomes: &[PathOutcome]) {
     let mut last = None;
@@ -317,6 +336,9 @@ pub fn note_call(rt: &impl Eprint, diagnostics: &Diagnostics, outcome: &Result<u
         Err(_) => {}
     }
     note_unrecognised(rt, diagnostics.unrecognised, outcome.is_ok());
+    if let Ok(_) | Err(Fault::WouldRefuse(_)) = outcome {
+        note_unused(rt, diagnostics);
+    }
     if diagnostics.is_table_empty && outcome.is_ok() {
         note(
             rt,

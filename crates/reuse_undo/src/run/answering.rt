@@ -57,7 +57,11 @@ pub fn answer<R: Files<File = File> + AllocGlobal + Clock + Env + Print + Eprint
     drop(outcome);
     let (folder, lost) = first_lost(folder, alloc, asking.request);
     match lost {
-        Some(path) => (folder, Err(Denial::CannotKeepOwner(path)), Counts::none()),
+        Some(path) => (
+            folder,
+            Err(Denial::CannotKeepOwner(path)),
+            Counts::none(alloc),
+        ),
         None => {
             let (folder, outcome, counts) = answer_at_once(folder, alloc, asking);
             (folder, Ok(outcome), counts)

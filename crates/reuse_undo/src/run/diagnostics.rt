@@ -6,13 +6,14 @@ use crate::disk::{DiskStore, Failure, Kept};
 use crate::run::above::journal_above;
 use crate::run::damage::{Damage, Headless, damage_of, is_gone, steps_without_head};
 use crate::run::fault::Fault;
+use reuse_dep5::{Glob, glob_matches};
 use reuse_session::{
-    Call, Command, Counts, Head, PathOutcome, Refusal, Request, Scope, Session, Unknown,
+    Call, Command, Counts, Head, PathOutcome, Refusal, Request, Scope, Session, Unknown, Unused,
     decode_head,
 };
 use reuse_text::{Bytes, LONGEST_FILE};
 use reuse_tree::{PathText, Reading, Store};
-use std::alloc::Global;
+use std::alloc::{AllocError, Global};
 use std::fs::{self, File};
 use std::io::ErrorKind;
 use std::rt::Files;
@@ -87,6 +88,8 @@ pub struct Diagnostics {
     pub is_table_empty: bool,
     /// What the call counted.
     pub counts: Counts,
+    /// The globs that left nothing out, as they are written.
+    pub idle_globs: Vec<String>,
     /// How many files have names that aren't recognised, where the call was refused for one or
     /// passed them over.
     pub unrecognised: usize,
@@ -138,7 +141,8 @@ impl Diagnostics {
             damage: None,
             is_gone: false,
             is_table_empty: false,
-            counts: Counts::none(),
+            counts: Counts::none(alloc),
+            idle_globs: Vec::new(alloc),
             unrecognised: 0,
             failure: None,
             missing_root: missing_root(rt, alloc, root),
@@ -158,6 +162,12 @@ impl Diagnostics {
         self.look_at_folder(rt, alloc, &mut folder, outcome);
         if self.task == Task::Conversion {
             self.is_table_empty = is_table_empty(alloc, &mut folder);
+        }
+        if let Some(scope) = scope_of(request) {
+            let passed = folder.passed_over();
+            if let Ok(idle) = idle_globs(alloc, scope, &self.counts.unused, passed) {
+                self.idle_globs = idle;
+            }
         }
         self.unrecognised = self.unrecognised_by(alloc, folder, request, outcome);
     }
@@ -233,6 +243,66 @@ fn missing_root(rt: &impl Files, alloc: Global, root: &str) -> Option<String> {
         String::from_str(alloc, root).ok()
     } else {
         None
+    }
+}
+
+/// The scope of the command that a request runs or previews, where it chooses files.
+fn scope_of(request: &Request) -> Option<&Scope> {
+    match request {
+        Request::Make(Call::Run(command), _) | Request::Preview(Call::Run(command)) => {
+            match command {
+                Command::Annotate { scope, .. } | Command::Amend { scope, .. } => Some(scope),
+                _ => None,
+            }
+        }
+        _ => None,
+    }
+}
+
+/// The globs that left nothing out, as they are written: none of the files that the walk found, and
+/// no folder that it passed over. A word with a leading `**/` stands for two globs, one after the
+/// other, and left nothing out if neither did.
+fn idle_globs(
+    alloc: Global,
+    scope: &Scope,
+    unused: &Unused,
+    passed: &[String],
+) -> Result<Vec<String>, AllocError> {
+    let mut idle = Vec::new(alloc);
+    let mut first = None;
+    let mut is_second = false;
+    for (glob, leaves_all) in scope.excluded.as_slice().iter().zip(unused.globs.iter()) {
+        let is_idle = *leaves_all && !matches_one(glob, passed);
+        if is_second {
+            is_second = false;
+            if let (true, Some(text)) = (is_idle, first.take()) {
+                idle.push(text)?;
+            }
+        } else {
+            let text = written(alloc, glob)?;
+            is_second = text.starts_with("**/");
+            match (is_idle, is_second) {
+                (true, true) => first = Some(text),
+                (true, false) => idle.push(text)?,
+                (false, _) => first = None,
+            }
+        }
+    }
+    Ok(idle)
+}
+
+/// Whether the glob matches one of these folders.
+fn matches_one(glob: &Glob, folders: &[String]) -> bool {
+    folders
+        .iter()
+        .any(|folder| glob_matches(glob, folder.as_str()))
+}
+
+/// The text of a glob.
+fn written(alloc: Global, glob: &Glob) -> Result<String, AllocError> {
+    match str::from_utf8(glob.written(alloc)?.as_slice()) {
+        Ok(text) => String::from_str(alloc, text),
+        Err(_) => Ok(String::new(alloc)),
     }
 }
 

@@ -72,11 +72,16 @@ fn call<S: Store + Drop>(
         Ok(opened) => {
             let mut session = opened;
             let (answer, planned) = ask_for(alloc, &mut session, request, telling.format);
-            let counts = session.counts();
-            let (store, diff) = draw_planned(alloc, session.into_store(), planned);
+            let (store, counts) = session.into_parts();
+            let (store, diff) = draw_planned(alloc, store, planned);
             (store, answer, diff, counts)
         }
-        Err((refusal, store)) => (store, Err(refusal), Ok(Vec::new(alloc)), Counts::none()),
+        Err((refusal, store)) => (
+            store,
+            Err(refusal),
+            Ok(Vec::new(alloc)),
+            Counts::none(alloc),
+        ),
     }
 }
 

@@ -1,5 +1,5 @@
 -- What a call counts while it plans.
-use Rattle.std.proofs.Common.{◌≡◌, ◌∙◌, ℕ, suc, Bool, true, false, cond, List, [], ◌∷◌, ◌++◌, length, filter, map, Result, Ok, Err, IfOk, refl, sym, ap}
+use Rattle.std.proofs.Common.{◌≡◌, ◌∙◌, ℕ, suc, Bool, true, false, cond, List, [], ◌∷◌, ◌++◌, length, filter, map, Result, Ok, Err, OnOk, refl, sym, ap, subst}
 use Rattle.reuse_tree.specs.Files.{Files, tree_of}
 use Rattle.reuse_tree.specs.declared.store.Store.{Ghosts}
 use Rattle.reuse_session.specs.session.Calls.{LeavesRun}
@@ -9,11 +9,13 @@ use Rattle.reuse_session.specs.session.PathOutcomes.{path_outcome_of, path_outco
 use Rattle.reuse_session.specs.journal.Journal.{State}
 use Rattle.reuse_session.specs.plan.Outcome.{edits_of, path_edits_of, is_too_many}
 use Rattle.reuse_session.specs.plan.PathPlans.{ArePlansOf, path_outcome_planned}
+use Rattle.reuse_session.specs.session.Previews.{path_outcomes_alone}
 use Rattle.reuse_session.specs.session.Session.{store_of, StandsOn}
 use Rattle.reuse_session.specs.declared.command.Command.{Command}
 use Rattle.reuse_session.specs.declared.plan.counts.Counts.{Counts}
 use Rattle.reuse_session.specs.declared.path_outcome.PathOutcome.{PathOutcome}
 use Rattle.reuse_session.specs.declared.path_outcome.PathOutcome.TheVariants as path_outcome
+use Rattle.reuse_session.specs.declared.path_outcome.Previewed.{Previewed}
 use Rattle.reuse_session.specs.declared.plan.path_plan.PathPlan.{PathPlan}
 use Rattle.reuse_session.specs.declared.plan.path_plan.PathPlan.TheVariants as plan
 use Rattle.reuse_session.specs.declared.plan.path_plan.Policy.{Policy}
@@ -88,6 +90,15 @@ leaves_counted store old new counted command when result leaves = record {
     still held stands = still_counted store.files old counted held stands
 
 -- what is so of each answer is so of one that is no refusal
-pub if_ok : {A B : Type 0} (result : Result A B) (Claim : Type 0) → Claim → IfOk result (λ value. Claim)
-if_ok (Ok value) Claim is = is
-if_ok (Err refusal) Claim is = tt
+pub on_ok : {A B : Type 0} (result : Result A B) (Claim : Type 0) → Claim → OnOk result Claim
+on_ok (Ok value) Claim is = is
+on_ok (Err refusal) Claim is = tt
+
+-- what is so of an answer with changes is so of it without them
+pub on_path_outcomes : (answer : Result Previewed Refusal) (Claim : Type 0) → OnOk answer Claim → OnOk (path_outcomes_alone answer) Claim
+on_path_outcomes (Ok previewed) Claim is = is
+on_path_outcomes (Err refusal) Claim is = tt
+
+-- what is so of an answer that is no refusal
+pub of_ok : {A B : Type 0} (result : Result A B) (value : A) (Claim : Type 0) → result ≡ Ok value → OnOk result Claim → Claim
+of_ok result value Claim is so = subst (λ r. OnOk r Claim) is so

@@ -65,8 +65,11 @@ returns-clause-recorded g c honest = (
   made c.args.command.now (tree_of (g.S.Store.files c.args.store.now)) c.in_ok-plans.plans.items c.in_ok-changes_planned.field-0.items (c.in_ok-plans.ensures.plans honest) c.in_ok-changes_planned.ensures,
 )
 
-pub returns-clause-skipped : goal.returns-clause-skipped
-returns-clause-skipped g c honest =
+pub returns-clause-counts : goal.returns-clause-counts
+returns-clause-counts g c honest =
     let plans = c.in_ok-plans.plans.items in
-    c.skipped_planned-counts.ensures ∙ ap skipped_planned c.deref.ensures.value
-    ∙ skips_are Stop c.args.command.now (tree_of (g.S.Store.files c.args.store.now)) plans (c.in_ok-plans.ensures.plans honest)
+    record {
+      skipped = c.skipped_planned-counts.ensures ∙ ap skipped_planned c.deref.ensures.value
+          ∙ skips_are Stop c.args.command.now (tree_of (g.S.Store.files c.args.store.now)) plans (c.in_ok-plans.ensures.plans honest);
+      unused = c.in_ok-plans.ensures.unused honest;
+    }

@@ -5,11 +5,13 @@ use Rattle.reuse_tree.specs.Entry.{change_size, entry_size}
 use Rattle.reuse_tree.specs.Files.{tree_of}
 use Rattle.reuse_tree.specs.declared.change.Change.{Change}
 use Rattle.reuse_tree.proofs.TreeLemmas.{tree_are_files}
+use Rattle.reuse_session.specs.plan.Counted.{skipped_planned}
 use Rattle.reuse_session.specs.session.PathOutcomes.{path_outcomes_of, first_refusal}
 use Rattle.reuse_session.specs.plan.Outcome.{edits_of, outcome_of, path_edits_of}
 use Rattle.reuse_session.specs.plan.PathPlans.{limit_planned}
 use Rattle.reuse_session.specs.plan.Plan.{MakesEdits}
 use Rattle.reuse_session.specs.declared.plan.path_plan.Policy.TheVariants.{Collect}
+use Rattle.reuse_session.proofs.lemmas.plan.Counting.{skips_are}
 use Rattle.reuse_session.proofs.lemmas.plan.EditOrder.{sorted_plan}
 use Rattle.reuse_session.proofs.lemmas.plan.Fitting.{command_fits}
 use Rattle.reuse_session.proofs.lemmas.plan.PathPlanning.{path_outcomes_are, limit_is}
@@ -59,3 +61,12 @@ returns-clause-recorded g c honest none =
       c.in_ok-with_limit.ensures.moved,
       subst (MakesEdits tree (edits_of command tree)) (sym planned.ensures.changes) (accepted_made command tree c.in_ok-plans.plans.items (c.in_ok-plans.ensures.plans honest) accepted),
     )
+
+pub returns-clause-counts : goal.returns-clause-counts
+returns-clause-counts g c honest =
+    let plans = c.in_ok-plans.plans.items in
+    record {
+      skipped = c.skipped_planned-counts.ensures ∙ ap skipped_planned c.deref.ensures.value
+          ∙ skips_are Collect c.args.command.now (tree_of (g.S.Store.files c.args.store.now)) plans (c.in_ok-plans.ensures.plans honest);
+      unused = c.in_ok-plans.ensures.unused honest;
+    }

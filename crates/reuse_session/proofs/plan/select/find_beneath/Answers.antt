@@ -1,18 +1,20 @@
-use Rattle.std.proofs.Common.{◌≡◌, ◌∙◌, Ok, Err, sym, ap, subst}
+use Rattle.std.proofs.Common.{◌≡◌, ◌∙◌, Ok, Err, map, sym, ap, ap₂, subst}
 use Rattle.std.specs.Prelude.{flat_map}
 use Rattle.std.specs.List.{All}
 use Rattle.reuse_notice.specs.Sets.{set_of}
+use Rattle.reuse_notice.proofs.SetLemmas.{sorted-set_of}
 use Rattle.reuse_tree.specs.Files.{tree_of}
 use Rattle.reuse_tree.specs.Listing.{ArePaths, listed_paths}
 use Rattle.reuse_tree.proofs.TreeLemmas.{tree_are_files}
 use Rattle.reuse_session.specs.plan.Choice.{is_passed_over}
 use Rattle.reuse_session.specs.plan.Shown.{folders_for, ShowsEach, ShowsPlace}
+use Rattle.reuse_session.specs.plan.Unused.{leaves_none_out, unmet_count}
 use Rattle.reuse_session.specs.plan.Selected.{expanded}
 use Rattle.reuse_session.specs.declared.plan.select.Listing.TheVariants.{Listed}
 use Rattle.std.proofs.lemmas.Result.{err_from_is_err_and}
 use Rattle.reuse_tree.proofs.AskedLemmas.{reads_more}
 use Rattle.reuse_session.specs.session.Answer.{IsEarlyFailure}
-use Rattle.reuse_session.proofs.lemmas.Asking.{told, failed, later, look_faults}
+use Rattle.reuse_session.proofs.lemmas.Asking.{told, short, failed, later, look_faults}
 use Rattle.reuse_session.proofs.lemmas.plan.SelectedLemmas.{listed, listed_ascend, shows_each_place, shows_selected}
 use Rattle.reuse_session.proofs.plan.select.find_beneath.Given.{Over}
 use Rattle.reuse_session.proofs.plan.select.find_beneath.Goals.{In_ok-expanded}
@@ -62,3 +64,22 @@ returns-in_err-expanded-clause-asks g c =
     let p = err_from_is_err_and c.from_residual-in_err-expanded.result c.from_residual-in_err-expanded.ensures.1 in
     later g.S.Store IsEarlyFailure _ _ _ _ c.list_selected.ensures.asks.reads
     (failed g.S.Store IsEarlyFailure _ _ c.in_err-expanded.field-0.0 _ (p.1 ∙ ap (λ r. Err r) p.2) (look_faults c.in_err-expanded.field-0.0) c.in_err-expanded.ensures.fails c.in_err-expanded.ensures.reads)
+
+pub of-requires : goal.of-requires
+of-requires g c = subst ArePaths (sym (c.deref-3.ensures.value ∙ c.sorted-paths.ensures)) (sorted-set_of c.in_ok-expanded.field-0.items)
+
+pub returns-clause-unused : goal.returns-clause-unused
+returns-clause-unused g c honest =
+    let at = (goal.at.returns-clause-unused g c).In_ok-expanded in
+    let scope = c.args.scope.now in
+    let selected = c.deref-3.ensures.value ∙ c.sorted-paths.ensures ∙ ap set_of (found g at honest) in
+    let beneath = c.deref-4.ensures.value ∙ listed_is g at honest in
+    record {
+      names = c.in_ok-unused.ensures.names ∙ ap (λ ps. unmet_count scope ps scope.listed) selected;
+      globs = c.in_ok-unused.ensures.globs ∙ ap₂ (λ ps fs. map (leaves_none_out scope ps fs) scope.excluded) selected beneath;
+    }
+
+pub returns-in_err-unused-clause-asks : goal.returns-in_err-unused-clause-asks
+returns-in_err-unused-clause-asks g c =
+    let p = err_from_is_err_and c.from_residual-in_err-unused.result c.from_residual-in_err-unused.ensures.1 in
+    short g.S.Store IsEarlyFailure _ _ _ (p.1 ∙ ap (λ r. Err r) p.2) tt (reads_more g.S.Store _ _ _ c.list_selected.ensures.asks.reads c.expanded.ensures.reads)

@@ -5,12 +5,15 @@ use Rattle.reuse_session.specs.plan.Asked.{at_by, scope_of}
 use Rattle.reuse_session.specs.session.Command.{has_root}
 use Rattle.reuse_session.specs.plan.PathEdits.{PathEdit, refused_alone}
 use Rattle.reuse_session.specs.plan.PathPlans.{AnswersPlans}
+use Rattle.reuse_session.specs.plan.Unused.{AreUnusedAt}
 use Rattle.reuse_session.specs.plan.Selected.{selected_paths}
 use Rattle.reuse_session.specs.declared.plan.annotation.Asked.{Asked}
 use Rattle.reuse_session.specs.declared.command.Place.{Place}
 use Rattle.reuse_session.specs.declared.command.Place.TheVariants as place
 use Rattle.reuse_session.specs.declared.command.Scope.{Scope}
 use Rattle.reuse_session.specs.declared.reply.Refusal.TheVariants.{IsFolder}
+use Rattle.reuse_session.proofs.lemmas.plan.UnusedLemmas.{not_recursive, unused_none}
+use Rattle.reuse_session.proofs.lemmas.plan.Counting.{of_ok, on_ok}
 use Rattle.reuse_session.proofs.plan.walk.plan_places.Goals as goal
 
 -- what is done, by whether the root is given where folders aren't gone through
@@ -41,3 +44,19 @@ returns-in-Ok-clause-plans g c honest =
     subst (λ b. AnswersPlans policy tree (done_where asked tree places b) c.plan_paths.result) (sym (ap (is_root_given places) (sym c.scope.ensures) ∙ sym c.gives_root.ensures ∙ c.if-gives_root.false))
     (subst (λ t. AnswersPlans policy t (map (at_by asked t) (selected_paths (scope_of asked) places tree)) c.plan_paths.result) same
     (subst (λ ps. AnswersPlans policy (tree_of (g.S.Store.files c.find_selected.new.store)) (map (at_by asked (tree_of (g.S.Store.files c.find_selected.new.store))) ps) c.plan_paths.result) selected (c.plan_paths.ensures.plans honest shown)))
+
+pub returns-then-gives_root-clause-unused : goal.returns-then-gives_root-clause-unused
+returns-then-gives_root-clause-unused g c honest =
+    let asked = c.args.asked.now in
+    let places = c.args.places.now in
+    on_ok c.refused_alone.result _
+    (unused_none (scope_of asked) places (tree_of (g.S.Store.files c.args.store.now)) c.none.result
+    (not_recursive (scope_of asked) places (ap (is_root_given places) (sym c.scope.ensures) ∙ sym c.gives_root.ensures ∙ c.if-gives_root.true)) c.none.ensures.names c.none.ensures.globs)
+
+pub returns-in-Ok-clause-unused : goal.returns-in-Ok-clause-unused
+returns-in-Ok-clause-unused g c honest =
+    let places = c.args.places.now in
+    let tree = tree_of (g.S.Store.files c.args.store.now) in
+    let read = c.plan_paths.ensures.asks.reads.was_honest honest in
+    on_ok c.plan_paths.result _ (subst (λ s. AreUnusedAt s places tree c.find_selected.new.unused) c.scope-2.ensures
+    (of_ok c.find_selected.result c.in-Ok.selected _ c.in-Ok.is (c.find_selected.ensures.unused read)))

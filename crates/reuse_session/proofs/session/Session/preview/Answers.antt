@@ -1,5 +1,7 @@
-use Rattle.std.proofs.Common.{◌≡◌, ◌∙◌}
+use Rattle.std.proofs.Common.{◌≡◌, ◌∙◌, OnOk, sym, subst}
+use Rattle.reuse_session.specs.plan.Counted.{counts_of, IsCounted}
 use Rattle.reuse_session.specs.session.PathOutcomes.{path_outcomes_of}
+use Rattle.reuse_session.proofs.lemmas.plan.Counting.{on_path_outcomes}
 use Rattle.reuse_session.proofs.lemmas.session.Previewing.{alone_err, alone_looks, alone_ok, alone_where, told_alone}
 use Rattle.reuse_session.proofs.session.Session.preview.Goals as goal
 
@@ -27,3 +29,8 @@ returns-clause-reads_only g c =
 
 pub returns-clause-refusal : goal.returns-clause-refusal
 returns-clause-refusal g c = alone_err c.preview_changes.result c.path_outcomes_alone.result c.path_outcomes_alone.ensures _ c.preview_changes.ensures.refusal
+
+pub returns-clause-counts : goal.returns-clause-counts
+returns-clause-counts g c honest held stands =
+    subst (λ answer. OnOk answer (IsCounted c.args.command.now held.tree (counts_of c.preview_changes.new.self))) (sym c.path_outcomes_alone.ensures)
+    (on_path_outcomes c.preview_changes.result _ (c.preview_changes.ensures.counts honest held stands))

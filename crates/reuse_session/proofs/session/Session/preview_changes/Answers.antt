@@ -1,4 +1,5 @@
-use Rattle.std.proofs.Common.{◌≡◌, ◌∙◌, true, false, None, Err, IfOk, refl, sym, subst}
+use Rattle.std.proofs.Common.{◌≡◌, ◌∙◌, true, false, None, Err, IfOk, OnOk, refl, sym, subst}
+use Rattle.reuse_session.specs.plan.Counted.{IsCounted}
 use Rattle.reuse_session.specs.session.PathOutcomes.{path_outcomes_of, first_refusal}
 use Rattle.reuse_session.specs.plan.Outcome.{edits_of, outcome_of}
 use Rattle.reuse_session.specs.plan.Plan.{IsPlan, Records}
@@ -49,3 +50,7 @@ pub returns-clause-recorded : goal.returns-clause-recorded
 returns-clause-recorded g c honest held stands =
     subst (λ t. IfOk c.plan_preview.result (λ (previewed : Previewed). first_refusal previewed.path_outcomes ≡ None → Records t (edits_of c.args.command.now t) previewed.changes)) stands.standing.tree
     (c.plan_preview.ensures.recorded honest)
+
+pub returns-clause-counts : goal.returns-clause-counts
+returns-clause-counts g c honest held stands =
+    subst (λ t. OnOk c.plan_preview.result (IsCounted c.args.command.now t c.plan_preview.new.counts)) stands.standing.tree (c.plan_preview.ensures.counts honest)

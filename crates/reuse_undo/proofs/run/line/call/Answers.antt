@@ -17,25 +17,25 @@ returns-in-Ok-clause-carries g c honest =
     let before = files c.args.store in
     let request = c.args.request.now in
     let answer = c.ask_for-answer.result.0 in
-    let is_honest = subst g.S.Store.honest c.into_store.ensures (c.draw_planned-store.ensures.reads.was_honest honest) in
+    let is_honest = subst g.S.Store.honest c.into_parts-store.ensures.store (c.draw_planned-store.ensures.reads.was_honest honest) in
     let was_honest = c.ask_for-answer.ensures.answered.call.later.was_honest is_honest in
-    subst (λ f. RequestLeaves before request answer f) (sym (c.draw_planned-store.ensures.reads.files honest ∙ ap files c.into_store.ensures))
+    subst (λ f. RequestLeaves before request answer f) (sym (c.draw_planned-store.ensures.reads.files honest ∙ ap files c.into_parts-store.ensures.store))
     (carried files before request c.in-Ok.opened answer (files (store_of c.ask_for-answer.new.session)) (c.in-Ok.ensures.opened was_honest)
     (λ first second doubt. c.in-Ok.ensures.recovers first second doubt was_honest) (meets_by g.S.Store request answer c.in-Ok.opened c.ask_for-answer.new.session c.ask_for-answer.ensures.answered is_honest) (c.ask_for-answer.ensures.answered.clash is_honest)
     (c.in-Ok.ensures.folder was_honest) (c.ask_for-answer.ensures.answered.folder is_honest))
 
 pub returns-in-Ok-clause-reads_only : goal.returns-in-Ok-clause-reads_only
 returns-in-Ok-clause-reads_only g c honest look held standing =
-    let is_honest = subst g.S.Store.honest c.into_store.ensures (c.draw_planned-store.ensures.reads.was_honest honest) in
+    let is_honest = subst g.S.Store.honest c.into_parts-store.ensures.store (c.draw_planned-store.ensures.reads.was_honest honest) in
     let opened = store_of c.in-Ok.opened in
     let asked = store_of c.ask_for-answer.new.session in
     let found = c.in-Ok.ensures.quiet (c.ask_for-answer.ensures.answered.call.later.was_honest is_honest) held standing in
-    reads_more g.S.Store c.args.store asked c.draw_planned-store.result.0 (reads_more g.S.Store c.args.store opened asked found (c.ask_for-answer.ensures.answered.reads_only look)) (subst (λ s. OnlyReads g.S.Store s c.draw_planned-store.result.0) c.into_store.ensures c.draw_planned-store.ensures.reads)
+    reads_more g.S.Store c.args.store asked c.draw_planned-store.result.0 (reads_more g.S.Store c.args.store opened asked found (c.ask_for-answer.ensures.answered.reads_only look)) (subst (λ s. OnlyReads g.S.Store s c.draw_planned-store.result.0) c.into_parts-store.ensures.store c.draw_planned-store.ensures.reads)
 
 pub returns-in-Ok-clause-clash : goal.returns-in-Ok-clause-clash
 returns-in-Ok-clause-clash g c honest held standing =
     let files = g.S.Store.files in
-    let is_honest = subst g.S.Store.honest c.into_store.ensures (c.draw_planned-store.ensures.reads.was_honest honest) in
+    let is_honest = subst g.S.Store.honest c.into_parts-store.ensures.store (c.draw_planned-store.ensures.reads.was_honest honest) in
     let was_honest = c.ask_for-answer.ensures.answered.call.later.was_honest is_honest in
     let found =
     found_again files (files c.args.store) c.in-Ok.opened held standing (c.in-Ok.ensures.opened was_honest) (λ first second doubt. c.in-Ok.ensures.recovers first second doubt was_honest) in
@@ -48,13 +48,13 @@ returns-in-Ok-clause-fault g c =
     let left = failures (store_of c.ask_for-answer.new.session) in
     let first = failures c.args.store in
     let last = failures c.draw_planned-store.result.0 in
-    caused (opened < left) (first < last) (λ rose. omega (arith, rose, c.in-Ok.ensures.later.failures, (subst (λ s. OnlyReads g.S.Store s c.draw_planned-store.result.0) c.into_store.ensures c.draw_planned-store.ensures.reads).failures)) c.ask_for-answer.result.0 c.ask_for-answer.ensures.answered.call.fault
+    caused (opened < left) (first < last) (λ rose. omega (arith, rose, c.in-Ok.ensures.later.failures, (subst (λ s. OnlyReads g.S.Store s c.draw_planned-store.result.0) c.into_parts-store.ensures.store c.draw_planned-store.ensures.reads).failures)) c.ask_for-answer.result.0 c.ask_for-answer.ensures.answered.call.fault
 
 pub returns-in-Ok-clause-failures : goal.returns-in-Ok-clause-failures
-returns-in-Ok-clause-failures g c = omega (arith, c.in-Ok.ensures.later.failures, c.ask_for-answer.ensures.answered.call.later.failures, (subst (λ s. OnlyReads g.S.Store s c.draw_planned-store.result.0) c.into_store.ensures c.draw_planned-store.ensures.reads).failures)
+returns-in-Ok-clause-failures g c = omega (arith, c.in-Ok.ensures.later.failures, c.ask_for-answer.ensures.answered.call.later.failures, (subst (λ s. OnlyReads g.S.Store s c.draw_planned-store.result.0) c.into_parts-store.ensures.store c.draw_planned-store.ensures.reads).failures)
 
 pub returns-in-Ok-clause-was_honest : goal.returns-in-Ok-clause-was_honest
-returns-in-Ok-clause-was_honest g c honest = c.in-Ok.ensures.later.was_honest (c.ask_for-answer.ensures.answered.call.later.was_honest (subst g.S.Store.honest c.into_store.ensures (c.draw_planned-store.ensures.reads.was_honest honest)))
+returns-in-Ok-clause-was_honest g c honest = c.in-Ok.ensures.later.was_honest (c.ask_for-answer.ensures.answered.call.later.was_honest (subst g.S.Store.honest c.into_parts-store.ensures.store (c.draw_planned-store.ensures.reads.was_honest honest)))
 
 pub returns-in-Err-clause-carries : goal.returns-in-Err-clause-carries
 returns-in-Err-clause-carries g c honest =
@@ -83,15 +83,15 @@ pub returns-in-Ok-clause-diff : goal.returns-in-Ok-clause-diff
 returns-in-Ok-clause-diff g c =
     let asked = c.ask_for-answer in
     let drawn = c.draw_planned-store in
-    diff_for g.S.Store c.into_store.result drawn.result.0 c.args.telling asked.result.0 drawn.result.1 (is_some asked.result.1)
+    diff_for g.S.Store c.into_parts-store.result.0 drawn.result.0 c.args.telling asked.result.0 drawn.result.1 (is_some asked.result.1)
     (λ some. wanted_where c.args.telling asked.result.0 (held_of asked.result.1 _ asked.ensures.wanted some)) (λ none. drawn.ensures.none (is_none_of asked.result.1 none)) drawn.ensures.diff
 
 pub returns-in-Ok-clause-undrawn : goal.returns-in-Ok-clause-undrawn
 returns-in-Ok-clause-undrawn g c =
     let drawn = c.draw_planned-store in
     undrawn_by g.S.Store c.args.store drawn.result.0 drawn.result.1
-    (diff_after g.S.Store c.args.store c.into_store.result drawn.result.0 drawn.result.1
-    (subst (λ s. g.S.Store.failures c.args.store ≤ g.S.Store.failures s) (sym c.into_store.ensures) (omega (arith, c.in-Ok.ensures.later.failures, c.ask_for-answer.ensures.answered.call.later.failures)))
+    (diff_after g.S.Store c.args.store c.into_parts-store.result.0 drawn.result.0 drawn.result.1
+    (subst (λ s. g.S.Store.failures c.args.store ≤ g.S.Store.failures s) (sym c.into_parts-store.ensures.store) (omega (arith, c.in-Ok.ensures.later.failures, c.ask_for-answer.ensures.answered.call.later.failures)))
     drawn.ensures.diff)
 
 pub returns-in-Ok-clause-drawn : goal.returns-in-Ok-clause-drawn
@@ -100,11 +100,11 @@ returns-in-Ok-clause-drawn g c honest held standing =
     let asked = c.ask_for-answer in
     let drawn = c.draw_planned-store in
     let request = c.args.request.now in
-    let is_honest = subst g.S.Store.honest c.into_store.ensures (drawn.ensures.reads.was_honest honest) in
+    let is_honest = subst g.S.Store.honest c.into_parts-store.ensures.store (drawn.ensures.reads.was_honest honest) in
     let was_honest = asked.ensures.answered.call.later.was_honest is_honest in
     let found =
     found_again files (files c.args.store) c.in-Ok.opened held standing (c.in-Ok.ensures.opened was_honest) (λ first second doubt. c.in-Ok.ensures.recovers first second doubt was_honest) in
     drawn_where_wanted c.args.telling request held asked.result.0 drawn.result.1 (λ wanted look.
-    let same = ap tree_of (ap files c.into_store.ensures ∙ (asked.ensures.answered.reads_only look).files is_honest) ∙ found.0.standing.tree in
+    let same = ap tree_of (ap files c.into_parts-store.ensures.store ∙ (asked.ensures.answered.reads_only look).files is_honest) ∙ found.0.standing.tree in
     diff_of_call request held drawn.result.1 (λ after would.
     drawn.ensures.drawn honest held.tree after same (asked.ensures.previews (format_where c.args.telling asked.result.0 wanted) is_honest held found.0 after would (accepted_where c.args.telling asked.result.0 wanted))))
