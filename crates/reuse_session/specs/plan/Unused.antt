@@ -19,9 +19,9 @@ use Rattle.reuse_session.specs.declared.command.Scope.{Scope}
 use Rattle.reuse_session.specs.declared.reply.Refusal.{Refusal}
 use Rattle.reuse_session.specs.declared.plan.unused.Unused.{Unused}
 
--- ---- by what was found, and what of it is worked
+-- ---- by what was found, and what of it is selected
 
--- the glob left the file out: it matches a file that is covered and listed, and isn't worked
+-- the glob left the file out: it matches a file that is covered and listed, and isn't selected
 abbrev pub is_left_out_by : Scope → List (List ℕ) → List GlobPiece → List ℕ → Bool
 is_left_out_by scope selected glob path = leaves_out glob path && is_covered path && is_listed scope.listed path && not (is_among selected path)
 
@@ -29,7 +29,7 @@ is_left_out_by scope selected glob path = leaves_out glob path && is_covered pat
 abbrev pub leaves_none_out : Scope → List (List ℕ) → List (List ℕ) → List GlobPiece → Bool
 leaves_none_out scope selected found glob = not (list_any (is_left_out_by scope selected glob) found)
 
--- the path isn't worked, and no glob leaves it out
+-- the path isn't selected, and no glob leaves it out
 abbrev pub is_unmet : Scope → List (List ℕ) → List ℕ → Bool
 is_unmet scope selected path = not (is_among selected path) && not (matches_one scope.excluded path)
 

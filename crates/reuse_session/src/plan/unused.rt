@@ -35,7 +35,7 @@ impl Unused {
         }
     }
 
-    /// Of the scope's, where these paths were found, and those of them are worked.
+    /// Of the scope's, where these paths were found, and those of them are selected.
     pub(crate) fn of(
         alloc: Global,
         scope: &Scope,
