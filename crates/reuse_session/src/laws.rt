@@ -49,8 +49,8 @@ ghost use Rattle.reuse_tree.specs.Listing.{is_among};
 ghost use Rattle.reuse_session.specs.declared.command.Command.TheVariants.{Amend, Annotate, ConvertDep5, Download, Revert};
 ghost use Rattle.reuse_session.specs.declared.command.Place.{Place};
 ghost use Rattle.reuse_session.specs.declared.command.Scope.{Scope};
-ghost use Rattle.reuse_tree.specs.declared.way.Way.{Way};
-ghost use Rattle.reuse_tree.specs.declared.way.Way.TheVariants.{Undo};
+ghost use Rattle.reuse_tree.specs.declared.direction.Direction.{Direction};
+ghost use Rattle.reuse_tree.specs.declared.direction.Direction.TheVariants.{Backward};
 ghost use Rattle.reuse_session.specs.declared.path_outcome.PathOutcome.{PathOutcome};
 ghost use Rattle.reuse_session.specs.declared.path_outcome.PathOutcome.TheVariants.{Changes, Skipped, Unchanged};
 ghost use Rattle.reuse_session.specs.declared.plan.licence.LicenceText.{LicenceText};
@@ -79,7 +79,7 @@ pub fn files_open_in_one_way()
 /// back exactly where their inverses do, one after the other in any order.
 pub fn entries_lead_in_turn()
     ensures forth { (changes : List Change) (before after : Files) → IsEntry changes → LeadsAll changes before after ↔ LeadsInTurn changes before after }
-    ensures back { (changes others : List Change) (before after : Files) → IsEntry changes → IsPermutation changes others → LeadsBy Undo changes before after ↔ LeadsInTurn (map inverse_of others) before after }
+    ensures back { (changes others : List Change) (before after : Files) → IsEntry changes → IsPermutation changes others → LeadsBy Backward changes before after ↔ LeadsInTurn (map inverse_of others) before after }
 {}
 
 /// A download that isn't refused puts the text of each id at `LICENSES/ID.txt`, where no file was,
@@ -176,10 +176,10 @@ pub fn changed_paths_are_where_trees_differ()
 /// those from before the run. So, where no two files that are compared have one SHA-256, exactly
 /// where each is byte for byte as it was left, and no path that is made clashes.
 pub fn seals_tell_of_whole_files()
-    ensures told { (command : Command) (when : ℕ) (first second : State) (run : IsRun command when first second) (way : Way) (now : Files) → All (CanBeMade way now) run.step.changes
-        → All (IsAsLeft way (tree_for way first second) now) run.step.changes }
-    ensures exact { (command : Command) (when : ℕ) (first second : State) (run : IsRun command when first second) (way : Way) (now : Files) → All (IsToldApart (tree_for way first second) now) run.step.changes
-        → All (CanBeMade way now) run.step.changes ↔ All (IsUntouched way (tree_for way first second) now) run.step.changes }
+    ensures told { (command : Command) (when : ℕ) (first second : State) (run : IsRun command when first second) (direction : Direction) (now : Files) → All (CanBeMade direction now) run.step.changes
+        → All (IsAsLeft direction (tree_for direction first second) now) run.step.changes }
+    ensures exact { (command : Command) (when : ℕ) (first second : State) (run : IsRun command when first second) (direction : Direction) (now : Files) → All (IsToldApart (tree_for direction first second) now) run.step.changes
+        → All (CanBeMade direction now) run.step.changes ↔ All (IsUntouched direction (tree_for direction first second) now) run.step.changes }
 {}
 
 /// Where folders are gone through, a path is worked exactly where it is given and no folder, or is
@@ -261,11 +261,11 @@ pub fn annotations_follow_path_outcomes()
 /// outcomes, the call that then answers for the same tree is refused exactly by the first refusal
 /// among them, and goes through where there is none.
 pub fn steps_follow_path_outcomes()
-    ensures refused { (way : Way) (tree : Files) (changes : List Change) (path_outcomes : List PathOutcome) (refusal : Refusal) → ArePathOutcomesOf way tree changes path_outcomes
-        → (first_refusal path_outcomes ≡ Some refusal) ↔ ((path : List ℕ) × (refusal ≡ Moved path) × IsFirstStuck way tree changes path) }
-    ensures accepted { (way : Way) (tree : Files) (changes : List Change) (path_outcomes : List PathOutcome) → ArePathOutcomesOf way tree changes path_outcomes → (first_refusal path_outcomes ≡ None) ↔ All (CanBeMade way tree) changes }
-    ensures preview_of { (way : Way) (steps : List Recorded) (old new : State) (path_outcomes : List PathOutcome) (result : Result Response Refusal) (refusal : Refusal) → PreviewsReplay way steps old.tree (Ok path_outcomes)
-        → Replays way steps old result new → (result ≡ Err refusal) ↔ (first_refusal path_outcomes ≡ Some refusal) }
+    ensures refused { (direction : Direction) (tree : Files) (changes : List Change) (path_outcomes : List PathOutcome) (refusal : Refusal) → ArePathOutcomesOf direction tree changes path_outcomes
+        → (first_refusal path_outcomes ≡ Some refusal) ↔ ((path : List ℕ) × (refusal ≡ Moved path) × IsFirstStuck direction tree changes path) }
+    ensures accepted { (direction : Direction) (tree : Files) (changes : List Change) (path_outcomes : List PathOutcome) → ArePathOutcomesOf direction tree changes path_outcomes → (first_refusal path_outcomes ≡ None) ↔ All (CanBeMade direction tree) changes }
+    ensures preview_of { (direction : Direction) (steps : List Recorded) (old new : State) (path_outcomes : List PathOutcome) (result : Result Response Refusal) (refusal : Refusal) → PreviewsReplay direction steps old.tree (Ok path_outcomes)
+        → Replays direction steps old result new → (result ≡ Err refusal) ↔ (first_refusal path_outcomes ≡ Some refusal) }
 {}
 
 /// To a request that names no step by its number the model gives one answer, and is in one state

@@ -14,7 +14,7 @@ use Rattle.reuse_tree.proofs.AskedLemmas.{later_none, later_more, reads_more}
 use Rattle.reuse_tree.specs.declared.change.Change.{Change}
 use Rattle.reuse_tree.specs.Entry.{makes, IsEntry, IsFirstWithout, IsSmall, LeadsBy, LeadsByOneChange}
 use Rattle.reuse_tree.specs.Tree.{is_of_tree, undo_folder_of}
-use Rattle.reuse_tree.specs.declared.way.Way.{Way}
+use Rattle.reuse_tree.specs.declared.direction.Direction.{Direction}
 use Rattle.reuse_tree.proofs.OfTree.{folder_stays, step_of_tree}
 use Rattle.reuse_tree.proofs.Testing.{parted}
 use Rattle.reuse_tree.proofs.Walk.{leads_more}
@@ -26,19 +26,19 @@ left_here xs i lt x is = drop_more xs i x lt ∙ ap (λ y. y ∷ drop (i + 1) xs
 -- a walk over the changes of an entry, so many of them by now, asks for one put or removal for each, counts no bytes and leaves the
 -- folder of the journal
 pub record StaysBeside {S : Type 0} (store : Ghosts S) (old now : S) (changes : List Change) (count : ℕ) : Type 0 where
-  pub moves : store.moves now ≤ store.moves old + count
+  pub mutations : store.mutations now ≤ store.mutations old + count
   pub written : IsEntry changes → store.written now ≡ store.written old
   pub later : IsLater store old now
   pub folder : store.honest now → IsEntry changes → undo_folder_of (store.files now) ≡ undo_folder_of (store.files old)
 
 pub stays_none : {S : Type 0} (store : Ghosts S) (old : S) (changes : List Change) → StaysBeside store old old changes 0
-stays_none store old changes = record { moves = omega arith; written = λ good. refl; later = later_none store old; folder = λ honest good. refl }
+stays_none store old changes = record { mutations = omega arith; written = λ good. refl; later = later_none store old; folder = λ honest good. refl }
 
-pub stays_on : {S : Type 0} {store : Ghosts S} {old now next : S} {changes : List Change} {count : ℕ} → StaysBeside store old now changes count → IsLater store now next → store.moves next ≤ store.moves now + 1
+pub stays_on : {S : Type 0} {store : Ghosts S} {old now next : S} {changes : List Change} {count : ℕ} → StaysBeside store old now changes count → IsLater store now next → store.mutations next ≤ store.mutations now + 1
     → (IsEntry changes → store.written next ≡ store.written now)
     → (store.honest next → IsEntry changes → undo_folder_of (store.files next) ≡ undo_folder_of (store.files now)) → StaysBeside store old next changes (count + 1)
-stays_on {S} {store} {old} {now} {next} beside later moves written folder = record {
-  moves = omega (arith, moves, beside.moves);
+stays_on {S} {store} {old} {now} {next} beside later mutations written folder = record {
+  mutations = omega (arith, mutations, beside.mutations);
   written = λ good. written good ∙ beside.written good;
   later = later_more store old now next beside.later later;
   folder = λ honest good. folder honest good ∙ beside.folder (later.was_honest honest) good;
@@ -93,12 +93,12 @@ walked changes n last = ap (λ k. take k changes) last ∙ take-length changes
 
 -- ---- a walk that stops at the change, before it is made or after it
 
-pub folder_at_stop : (way : Way) (change : Change) (now after : Files) → is_of_tree (path_of change) ≡ true → (after ≡ now) ⊎ LeadsByOneChange way change now after → undo_folder_of after ≡ undo_folder_of now
-folder_at_stop way change now after of_tree (inl same) = ap undo_folder_of same
-folder_at_stop way change now after of_tree (inr step) = folder_stays way change now after of_tree step
+pub folder_at_stop : (direction : Direction) (change : Change) (now after : Files) → is_of_tree (path_of change) ≡ true → (after ≡ now) ⊎ LeadsByOneChange direction change now after → undo_folder_of after ≡ undo_folder_of now
+folder_at_stop direction change now after of_tree (inl same) = ap undo_folder_of same
+folder_at_stop direction change now after of_tree (inr step) = folder_stays direction change now after of_tree step
 
-pub leads_at_stop : (way : Way) (changes : List Change) (good : IsEntry changes) (i : ℕ) (lt : i < length changes) (change : Change) (is : change ≡ get_or changes i change) (start now after : Files)
-    → LeadsBy way (take i changes) start (tree_of now) → (after ≡ now) ⊎ LeadsByOneChange way change now after → (count : ℕ) × LeadsBy way (take count changes) start (tree_of after)
-leads_at_stop way changes good i lt change is start now after made (inl same) = (i, subst (λ files. LeadsBy way (take i changes) start (tree_of files)) (sym same) made)
-leads_at_stop way changes good i lt change is start now after made (inr step) =
-    (i + 1, leads_more way changes good i lt change is start (tree_of now) made (tree_of after) (step_of_tree way change now after (of_entry changes i lt change is good).of_tree step))
+pub leads_at_stop : (direction : Direction) (changes : List Change) (good : IsEntry changes) (i : ℕ) (lt : i < length changes) (change : Change) (is : change ≡ get_or changes i change) (start now after : Files)
+    → LeadsBy direction (take i changes) start (tree_of now) → (after ≡ now) ⊎ LeadsByOneChange direction change now after → (count : ℕ) × LeadsBy direction (take count changes) start (tree_of after)
+leads_at_stop direction changes good i lt change is start now after made (inl same) = (i, subst (λ files. LeadsBy direction (take i changes) start (tree_of files)) (sym same) made)
+leads_at_stop direction changes good i lt change is start now after made (inr step) =
+    (i + 1, leads_more direction changes good i lt change is start (tree_of now) made (tree_of after) (step_of_tree direction change now after (of_entry changes i lt change is good).of_tree step))

@@ -10,7 +10,7 @@ use Rattle.reuse_tree.specs.Batch.{IsFrontOf, IsReadIn}
 use Rattle.reuse_tree.specs.Change.{path_of}
 use Rattle.reuse_tree.specs.Store.{reading_of}
 use Rattle.reuse_tree.specs.declared.change.Change.{Change}
-use Rattle.reuse_tree.specs.declared.perform.ReadChange.{ReadChange}
+use Rattle.reuse_tree.specs.declared.apply_changes.ReadChange.{ReadChange}
 use Rattle.reuse_tree.specs.declared.store.Store.{Ghosts}
 use Rattle.reuse_tree.proofs.AskedLemmas.{reads_none, reads_more}
 

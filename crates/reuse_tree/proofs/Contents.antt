@@ -132,8 +132,8 @@ pub nothing_read : (path : List ℕ) (limit : ℕ) → Absent ≡ reading_of (ge
 nothing_read path limit = reading_absent [] path limit refl
 
 pub nothing_removed : (path : List ℕ) → none ≡ remove none path
-nothing_removed path = one_removed [] [] path (λ q. same_either_way (is_at (slice_cmp nat_cmp path) q) None)
+nothing_removed path = one_removed [] [] path (λ q. same_either_direction (is_at (slice_cmp nat_cmp path) q) None)
   where
-    same_either_way : (b : Bool) (file : Option (List ℕ)) → file ≡ cond b file file
-    same_either_way true file = refl
-    same_either_way false file = refl
+    same_either_direction : (b : Bool) (file : Option (List ℕ)) → file ≡ cond b file file
+    same_either_direction true file = refl
+    same_either_direction false file = refl

@@ -151,7 +151,7 @@ not_under_later : (p q : List ℕ) → before p q ≡ Less → lies_under p q �
 not_under_later p q h = false_from_ne_true (lies_under p q) (λ e.
     let under = under_from_test p q e in
     let back : before q p ≡ Less = ap (before q) under.1 ∙ before_longer q 47 under.0 in
-    let turned : before p q ≡ Greater = nat_list_cmp_total.antisymm p q ∙ ap ordering_reverse back in
+    let applied : before p q ≡ Greater = nat_list_cmp_total.antisymm p q ∙ ap ordering_reverse back in
     absurd (cc))
 
 not_under_itself : (p : List ℕ) → lies_under p p ≡ false

@@ -12,11 +12,11 @@ use Rattle.serde_json.specs.View.{items_of}
 use Rattle.serde_json.specs.Written.{outline, items_outline, has_float, items_have_float}
 use Rattle.serde_json.proofs.Numbers.{number_of-decimal}
 use Rattle.reuse_tree.specs.Json.{count}
-use Rattle.reuse_tree.specs.Head.{numbers_text, way_name, pending_text, head_text, pending_value, head_value, IsSoundHead, IsGoodHead, listed}
+use Rattle.reuse_tree.specs.Head.{numbers_text, direction_name, pending_text, head_text, pending_value, head_value, IsSoundHead, IsGoodHead, listed}
 use Rattle.reuse_tree.specs.declared.journal.head.Head.{Head}
 use Rattle.reuse_tree.specs.declared.journal.head.Pending.{Pending}
-use Rattle.reuse_tree.specs.declared.journal.head.PendingWay.{PendingWay}
-use Rattle.reuse_tree.specs.declared.journal.head.PendingWay.TheVariants.{Do, Undo, Redo}
+use Rattle.reuse_tree.specs.declared.journal.head.PendingDirection.{PendingDirection}
+use Rattle.reuse_tree.specs.declared.journal.head.PendingDirection.TheVariants.{Do, Undo, Redo}
 use Rattle.reuse_tree.proofs.JsonPrinting.{IsReadable, read-compact_text}
 use Rattle.reuse_tree.proofs.JoinedTexts.{◌⊹◌, length-join-le, IsUtf8-join, sum_by-constant, AllByRecursion-weaker}
 use Rattle.reuse_tree.proofs.HeadTexts.{head_compact, head_shape, regroup}
@@ -80,15 +80,15 @@ numbers_utf8 : (ns : List ℕ) → AllByRecursion (λ n. n < 2 ^ 32) ns → IsUt
 numbers_utf8 ns h =
     IsUtf8-append (codes "[") (join_with_byte 44 (map decimal ns)) (IsUtf8-are_ascii _ refl) (IsUtf8-join decimal ns (AllByRecursion-weaker (λ n. n < 2 ^ 32) (λ n. IsUtf8 (decimal n)) number_utf8 ns h)) ⊹ IsUtf8-are_ascii (codes "]") refl
 
-way_utf8 : (w : PendingWay) → IsUtf8 (way_name w)
-way_utf8 Do = IsUtf8-are_ascii _ refl
-way_utf8 Undo = IsUtf8-are_ascii _ refl
-way_utf8 Redo = IsUtf8-are_ascii _ refl
+direction_utf8 : (w : PendingDirection) → IsUtf8 (direction_name w)
+direction_utf8 Do = IsUtf8-are_ascii _ refl
+direction_utf8 Undo = IsUtf8-are_ascii _ refl
+direction_utf8 Redo = IsUtf8-are_ascii _ refl
 
 pending_utf8 : (o : Option Pending) → FitsSmall o → IsUtf8 (pending_text o)
 pending_utf8 None h = IsUtf8-are_ascii _ refl
 pending_utf8 (Some p) h =
-    IsUtf8-append (codes "{\"entry\":") (decimal p.entry) (IsUtf8-are_ascii _ refl) (number_utf8 p.entry h) ⊹ IsUtf8-are_ascii (codes ",\"way\":\"") refl ⊹ way_utf8 p.way ⊹ IsUtf8-are_ascii (codes "\"}") refl
+    IsUtf8-append (codes "{\"entry\":") (decimal p.entry) (IsUtf8-are_ascii _ refl) (number_utf8 p.entry h) ⊹ IsUtf8-are_ascii (codes ",\"way\":\"") refl ⊹ direction_utf8 p.direction ⊹ IsUtf8-are_ascii (codes "\"}") refl
 
 head_utf8 : (h : Head) → IsSmallHead h → IsUtf8 (head_text h)
 head_utf8 h small =
@@ -107,16 +107,16 @@ numbers_length ns h =
     let each = AllByRecursion-weaker (λ n. n < 1000000) (λ n. length (decimal n) + 1 ≤ 7) (λ n below. short_numbers n 1000000 (omega arith) below) ns h in
     omega (arith, length-append (codes "[" ++ join_with_byte 44 (map decimal ns)) (codes "]"), length-join-le decimal (λ _. 7) ns each, sum_by-constant 7 ns)
 
-way_length : (w : PendingWay) → length (way_name w) ≤ 4
-way_length Do = omega arith
-way_length Undo = omega arith
-way_length Redo = omega arith
+direction_length : (w : PendingDirection) → length (direction_name w) ≤ 4
+direction_length Do = omega arith
+direction_length Undo = omega arith
+direction_length Redo = omega arith
 
 pending_length : (o : Option Pending) → FitsSix o → length (pending_text o) ≤ 31
 pending_length None h = omega arith
 pending_length (Some p) h =
     let six = length-decimal-le 6 p.entry (omega arith) (omega arith) (omega arith) in
-    omega (arith, way_length p.way, length-append (codes "{\"entry\":" ++ decimal p.entry ++ codes ",\"way\":\"" ++ way_name p.way) (codes "\"}"), length-append (codes "{\"entry\":" ++ decimal p.entry ++ codes ",\"way\":\"") (way_name p.way), length-append (codes "{\"entry\":" ++ decimal p.entry) (codes ",\"way\":\""), length-append (codes "{\"entry\":") (decimal p.entry))
+    omega (arith, direction_length p.direction, length-append (codes "{\"entry\":" ++ decimal p.entry ++ codes ",\"way\":\"" ++ direction_name p.direction) (codes "\"}"), length-append (codes "{\"entry\":" ++ decimal p.entry ++ codes ",\"way\":\"") (direction_name p.direction), length-append (codes "{\"entry\":" ++ decimal p.entry) (codes ",\"way\":\""), length-append (codes "{\"entry\":") (decimal p.entry))
 
 shape_length : (done next pending undone : List ℕ) → length (head_shape done next pending undone) ≤ 49 + (length done + length next + length pending + length undone)
 unfolding head_shape

@@ -9,32 +9,32 @@ use Rattle.reuse_tree.specs.Format.{format_number}
 use Rattle.serde_json.specs.Data.{Data, null, string, object, member}
 use Rattle.serde_json.specs.Find.{as_object, as_str}
 use Rattle.reuse_tree.specs.Json.{count, counts}
-use Rattle.reuse_tree.specs.Head.{way_name, pending_value, head_value, FitsWay, PendingFits, IsSoundHead, IsGoodHead}
+use Rattle.reuse_tree.specs.Head.{direction_name, pending_value, head_value, FitsDirection, PendingFits, IsSoundHead, IsGoodHead}
 use Rattle.reuse_tree.specs.JsonReading.{field_in, if_none_left, small_in, smalls_in, format_in}
-use Rattle.reuse_tree.specs.HeadReading.{way_from, way_in, some_pending_in, pending_in, head_in}
+use Rattle.reuse_tree.specs.HeadReading.{direction_from, direction_in, some_pending_in, pending_in, head_in}
 use Rattle.reuse_tree.specs.declared.journal.head.Head.{Head}
 use Rattle.reuse_tree.specs.declared.journal.head.Pending.{Pending}
-use Rattle.reuse_tree.specs.declared.journal.head.PendingWay.{PendingWay}
-use Rattle.reuse_tree.specs.declared.journal.head.PendingWay.TheVariants.{Do, Undo, Redo}
+use Rattle.reuse_tree.specs.declared.journal.head.PendingDirection.{PendingDirection}
+use Rattle.reuse_tree.specs.declared.journal.head.PendingDirection.TheVariants.{Do, Undo, Redo}
 use Rattle.reuse_tree.proofs.JoinedTexts.{AllByRecursion-weaker}
 use Rattle.reuse_tree.proofs.JsonParts.{either, named, bind_some, field_is, none_left_found, object_found, string_found, small_found, small_again, smalls_found, smalls_again, format_found, format_again, same_json}
 
-way_found : (name : List ℕ) (w : PendingWay) → way_from name ≡ Some w → name ≡ way_name w
-way_found name w e = elim (either (bytes_eq name (codes "do")) Do w _ e) [
-  | inl first ↦ named way_name name Do w first
+direction_found : (name : List ℕ) (w : PendingDirection) → direction_from name ≡ Some w → name ≡ direction_name w
+direction_found name w e = elim (either (bytes_eq name (codes "do")) Do w _ e) [
+  | inl first ↦ named direction_name name Do w first
   | inr other ↦ elim (either (bytes_eq name (codes "undo")) Undo w _ other) [
-    | inl second ↦ named way_name name Undo w second
-    | inr last ↦ named way_name name Redo w (cond_some (bytes_eq name (codes "redo")) Redo w last)
+    | inl second ↦ named direction_name name Undo w second
+    | inr last ↦ named direction_name name Redo w (cond_some (bytes_eq name (codes "redo")) Redo w last)
   ]
 ]
 
-way_again : (w : PendingWay) → way_from (way_name w) ≡ Some w
-way_again Do = refl
-way_again Undo = refl
-way_again Redo = refl
+direction_again : (w : PendingDirection) → direction_from (direction_name w) ≡ Some w
+direction_again Do = refl
+direction_again Undo = refl
+direction_again Redo = refl
 
-way_there : (d : Data) (w : PendingWay) → way_in d ≡ Some w → d ≡ string (way_name w)
-way_there d w e = let name = bind_some _ (as_str d) w e in string_found d name.0 name.1 ∙ ap string (way_found name.0 w name.2)
+direction_there : (d : Data) (w : PendingDirection) → direction_in d ≡ Some w → d ≡ string (direction_name w)
+direction_there d w e = let name = bind_some _ (as_str d) w e in string_found d name.0 name.1 ∙ ap string (direction_found name.0 w name.2)
 
 small_there : (d : Data) (n : ℕ) → small_in d ≡ Some n → d ≡ count n
 small_there d n e = (small_found d n e).0
@@ -44,15 +44,15 @@ unfolding some_pending_in
 some_pending_found d p e =
     let fields = bind_some _ (as_object d) p e in
     let entry = bind_some _ (field_in small_in (codes "entry") fields.0) p fields.2 in
-    let way = bind_some _ (field_in way_in (codes "way") entry.0.1) p entry.2 in
-    let end = bind_some _ (if_none_left way.0.1) p way.2 in
-    let second = field_is way_in (λ w. string (way_name w)) way_there (codes "way") entry.0.1 way.0 way.1 ∙ ap (member (codes "way") (string (way_name way.0.0))) (none_left_found way.0.1 end.0 end.1) in
+    let direction = bind_some _ (field_in direction_in (codes "way") entry.0.1) p entry.2 in
+    let end = bind_some _ (if_none_left direction.0.1) p direction.2 in
+    let second = field_is direction_in (λ w. string (direction_name w)) direction_there (codes "way") entry.0.1 direction.0 direction.1 ∙ ap (member (codes "way") (string (direction_name direction.0.0))) (none_left_found direction.0.1 end.0 end.1) in
     let first = field_is small_in count small_there (codes "entry") fields.0 entry.0 entry.1 ∙ ap (member (codes "entry") (count entry.0.0)) second in
     object_found d fields.0 fields.1 ∙ ap object first ∙ ap (λ (q : Pending). pending_value (Some q)) (same_Some _ p end.2)
 
 some_pending_again : (p : Pending) → p.entry < 2 ^ 32 → some_pending_in (pending_value (Some p)) ≡ Some p
 unfolding some_pending_in
-some_pending_again p h = rw (small_again p.entry h, way_again p.way) refl
+some_pending_again p h = rw (small_again p.entry h, direction_again p.direction) refl
 
 mapped_found : {A B : Type 0} (f : A → B) (o : Option A) (y : B) → option_map f o ≡ Some y → (x : A) × (o ≡ Some x) × (f x ≡ y)
 mapped_found f None y e = absurd (none-some y e)
@@ -124,14 +124,14 @@ last_is ns n next h e =
     let within = slice_get_within ns _ n e in
     subst (λ m. m < next) (get_or_from_slice_get ns _ n 0 e) (All-get_or (λ m. (1 ≤ m) × (m < next)) ns _ 0 within h).1
 
-pending_six : (entry next : ℕ) (w : PendingWay) (done undone : List ℕ) → next ≤ 1000000 → All (λ m. (1 ≤ m) × (m < next)) done → All (λ m. (1 ≤ m) × (m < next)) undone → FitsWay entry w next done undone → entry < 1000000
+pending_six : (entry next : ℕ) (w : PendingDirection) (done undone : List ℕ) → next ≤ 1000000 → All (λ m. (1 ≤ m) × (m < next)) done → All (λ m. (1 ≤ m) × (m < next)) undone → FitsDirection entry w next done undone → entry < 1000000
 pending_six entry next Do done undone h a b fits = omega arith
 pending_six entry next Undo done undone h a b fits = let below = last_is done entry next a fits in omega arith
 pending_six entry next Redo done undone h a b fits = let below = last_is undone entry next b fits in omega arith
 
 fits_six : (o : Option Pending) (next : ℕ) (done undone : List ℕ) → next ≤ 1000000 → All (λ m. (1 ≤ m) × (m < next)) done → All (λ m. (1 ≤ m) × (m < next)) undone → PendingFits o next done undone → FitsSix o
 fits_six None next done undone h a b fits = tt
-fits_six (Some p) next done undone h a b fits = pending_six p.entry next p.way done undone h a b fits
+fits_six (Some p) next done undone h a b fits = pending_six p.entry next p.direction done undone h a b fits
 
 small_from_six : (o : Option Pending) → FitsSix o → FitsSmall o
 small_from_six None h = tt

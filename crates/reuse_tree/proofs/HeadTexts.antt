@@ -4,21 +4,21 @@ use Rattle.std.specs.Fmt.{digits}
 use Rattle.json.specs.Print.{escape_byte, quoted}
 use Rattle.serde_json.specs.Written.{compact_text}
 use Rattle.reuse_tree.specs.Json.{count, counts}
-use Rattle.reuse_tree.specs.Head.{numbers_text, way_name, pending_text, head_text, pending_value, head_value}
+use Rattle.reuse_tree.specs.Head.{numbers_text, direction_name, pending_text, head_text, pending_value, head_value}
 use Rattle.reuse_tree.specs.declared.journal.head.Head.{Head}
 use Rattle.reuse_tree.specs.declared.journal.head.Pending.{Pending}
-use Rattle.reuse_tree.specs.declared.journal.head.PendingWay.{PendingWay}
-use Rattle.reuse_tree.specs.declared.journal.head.PendingWay.TheVariants.{Do, Undo, Redo}
+use Rattle.reuse_tree.specs.declared.journal.head.PendingDirection.{PendingDirection}
+use Rattle.reuse_tree.specs.declared.journal.head.PendingDirection.TheVariants.{Do, Undo, Redo}
 use Rattle.reuse_tree.proofs.JsonPrinting.{items_text-map}
 
 pub counts_text : (ns : List ℕ) → compact_text (counts ns) ≡ numbers_text ns
 counts_text ns = ap (λ l. 91 ∷ l) (items_text-map count decimal (λ n. refl) ns)
 
-way_text : (w : PendingWay) → quoted (way_name w) ≡ codes "\"" ++ way_name w ++ codes "\""
+direction_text : (w : PendingDirection) → quoted (direction_name w) ≡ codes "\"" ++ direction_name w ++ codes "\""
 unfolding escape_byte
-way_text Do = refl
-way_text Undo = refl
-way_text Redo = refl
+direction_text Do = refl
+direction_text Undo = refl
+direction_text Redo = refl
 
 unfoldable pending_shape : (entry name : List ℕ) → List ℕ
 pending_shape entry name = codes "{\"entry\":" ++ (entry ++ (codes ",\"way\":" ++ (name ++ codes "}")))
@@ -27,8 +27,8 @@ pending_compact : (o : Option Pending) → compact_text (pending_value o) ≡ pe
 unfolding escape_byte pending_shape
 pending_compact None = refl
 pending_compact (Some p) =
-    let whole : compact_text (pending_value (Some p)) ≡ pending_shape (decimal p.entry) (quoted (way_name p.way)) = refl in
-    whole ∙ ap (pending_shape (decimal p.entry)) (way_text p.way) ∙ simp append_assoc
+    let whole : compact_text (pending_value (Some p)) ≡ pending_shape (decimal p.entry) (quoted (direction_name p.direction)) = refl in
+    whole ∙ ap (pending_shape (decimal p.entry)) (direction_text p.direction) ∙ simp append_assoc
 
 -- the parts of a head's text, one after another
 unfoldable pub head_shape : (done next pending undone : List ℕ) → List ℕ

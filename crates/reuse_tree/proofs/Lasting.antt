@@ -5,7 +5,7 @@ use Rattle.std.proofs.lemmas.Bool.{cases_lt}
 use Rattle.std.proofs.lemmas.List.{get_or_default, get_or-take, length-take}
 use Rattle.reuse_tree.specs.Asked.{IsPut, IsRemoval, MaySet}
 use Rattle.reuse_tree.specs.Change.{path_of}
-use Rattle.reuse_tree.specs.Entry.{touches, IsEntry, LeadsBy, SomeMade, TurnsBy}
+use Rattle.reuse_tree.specs.Entry.{touches, IsEntry, LeadsBy, SomeMade, AppliesBy}
 use Rattle.reuse_tree.specs.Files.{Files, tree_of}
 use Rattle.reuse_tree.specs.Path.{lies_under, journal_folder}
 use Rattle.reuse_tree.specs.Lasting.{IsCertain, IsMidway, WithOrWithout}
@@ -15,7 +15,7 @@ use Rattle.reuse_tree.specs.declared.change.Change.{Change}
 use Rattle.reuse_tree.specs.declared.fault.StoreFault.{StoreFault}
 use Rattle.reuse_tree.specs.declared.fault.StoreFault.TheVariants.{Device, Clash, Memory}
 use Rattle.reuse_tree.specs.declared.store.Store.{Ghosts}
-use Rattle.reuse_tree.specs.declared.way.Way.{Way}
+use Rattle.reuse_tree.specs.declared.direction.Direction.{Direction}
 use Rattle.reuse_tree.proofs.FileMaps.{same_files, same_or_other, get-put_same, get-put_other, get-removed_same, get-removed_other}
 use Rattle.reuse_tree.proofs.MadeLemmas.{made_none}
 use Rattle.reuse_tree.proofs.OfTree.{tree_at, get-folder, outside}
@@ -89,8 +89,8 @@ apart_places changes good k i d e k_lt i_lt other = ⊎_elim
     λ same. of_no_change (take k changes) (path_of (get_or changes k d)) (not_touched changes good k d k_lt) i e (omega (arith, length-take k changes)) (ap path_of (get_or-take k changes i e lt) ∙ sym same))
     (cases_lt k i)
 
-pub midway_none : (way : Way) (changes : List Change) (files left : Files) → left ≡ files → IsMidway way changes (tree_of files) (undo_folder_of files) left
-midway_none way changes files left is = subst (IsMidway way changes (tree_of files) (undo_folder_of files)) (sym is) (record { tree = made_none way changes (tree_of files); folder = refl })
+pub midway_none : (direction : Direction) (changes : List Change) (files left : Files) → left ≡ files → IsMidway direction changes (tree_of files) (undo_folder_of files) left
+midway_none direction changes files left is = subst (IsMidway direction changes (tree_of files) (undo_folder_of files)) (sym is) (record { tree = made_none direction changes (tree_of files); folder = refl })
 
 -- a path of the tree that is set leaves the files of the journal, and in the tree it is set too
 pub folder_beside_set : (path : List ℕ) (file : Option (List ℕ)) (kept left : Files) → is_of_tree path ≡ true → Sets path file kept left → undo_folder_of left ≡ undo_folder_of kept
@@ -108,21 +108,21 @@ tree_of_set path file kept left of_tree sets = record {
 }
 
 -- one more of the changes is made, or it isn't any more
-pub midway_set : (way : Way) (changes : List Change) (good : IsEntry changes) (i : ℕ) (lt : i < length changes) (change : Change) (is : change ≡ get_or changes i change) (start folder kept left : Files) (file : Option (List ℕ))
-    → IsMidway way changes start folder kept → (file ≡ get start (path_of change)) ⊎ TurnsBy way change (get start (path_of change)) file → Sets (path_of change) file kept left → IsMidway way changes start folder left
-midway_set way changes good i lt change is start folder kept left file midway made sets =
+pub midway_set : (direction : Direction) (changes : List Change) (good : IsEntry changes) (i : ℕ) (lt : i < length changes) (change : Change) (is : change ≡ get_or changes i change) (start folder kept left : Files) (file : Option (List ℕ))
+    → IsMidway direction changes start folder kept → (file ≡ get start (path_of change)) ⊎ AppliesBy direction change (get start (path_of change)) file → Sets (path_of change) file kept left → IsMidway direction changes start folder left
+midway_set direction changes good i lt change is start folder kept left file midway made sets =
     let of_tree : is_of_tree (path_of change) ≡ true = subst (λ c. is_of_tree (path_of c) ≡ true) (sym is) (good.of_tree i change lt) in
     let in_tree = tree_of_set (path_of change) file kept left of_tree sets in
-    let Made = λ (c : Change). (get (tree_of left) (path_of c) ≡ get start (path_of c)) ⊎ TurnsBy way c (get start (path_of c)) (get (tree_of left) (path_of c)) in record {
+    let Made = λ (c : Change). (get (tree_of left) (path_of c) ≡ get start (path_of c)) ⊎ AppliesBy direction c (get start (path_of c)) (get (tree_of left) (path_of c)) in record {
       tree = record {
         each = λ k d k_lt. ⊎_elim
             (λ (same : k ≡ i).
-            let here : Made change = subst (λ f. (f ≡ get start (path_of change)) ⊎ TurnsBy way change (get start (path_of change)) f) (sym in_tree.here) made in
+            let here : Made change = subst (λ f. (f ≡ get start (path_of change)) ⊎ AppliesBy direction change (get start (path_of change)) f) (sym in_tree.here) made in
             subst Made (is ∙ get_or_default changes i change d lt ∙ ap (λ n. get_or changes n d) (sym same)) here)
             (λ (other : k ≢ i).
             let c = get_or changes k d in
             let apart : path_of c ≢ path_of change = λ e. apart_places changes good k i d change k_lt lt other (e ∙ ap path_of is) in
-            subst (λ f. (f ≡ get start (path_of c)) ⊎ TurnsBy way c (get start (path_of c)) f) (sym (in_tree.elsewhere (path_of c) apart)) (midway.tree.each k d k_lt))
+            subst (λ f. (f ≡ get start (path_of c)) ⊎ AppliesBy direction c (get start (path_of c)) f) (sym (in_tree.elsewhere (path_of c) apart)) (midway.tree.each k d k_lt))
             (same_or_other_number k i);
         others = λ path none. in_tree.elsewhere path (λ e. of_no_change changes path none i change lt (sym (e ∙ ap path_of is))) ∙ midway.tree.others path none;
       };
@@ -151,8 +151,8 @@ certain_all changes files kept left certain same = same_files left files (λ pat
     at_path path false e = at_test path e (touches changes path) refl
 
 -- all changes are made, and nothing but some of them might be
-pub certain_made : (way : Way) (changes : List Change) (start now kept left : Files) → LeadsBy way changes (tree_of start) (tree_of now) → IsMidway way changes (tree_of start) (undo_folder_of start) kept → IsCertain changes now kept left → left ≡ now
-certain_made way changes start now kept left leads midway certain =
+pub certain_made : (direction : Direction) (changes : List Change) (start now kept left : Files) → LeadsBy direction changes (tree_of start) (tree_of now) → IsMidway direction changes (tree_of start) (undo_folder_of start) kept → IsCertain changes now kept left → left ≡ now
+certain_made direction changes start now kept left leads midway certain =
     certain_all changes now kept left certain (λ path none. midway.tree.others path none ∙ sym (leads.others path none))
 
 -- where the tree is certain, a barrier over the journal makes all certain

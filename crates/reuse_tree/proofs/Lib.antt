@@ -3,7 +3,7 @@ pub mod GoodFiles
 pub mod ChangeStates
 pub mod Contents
 pub mod Cuts
-pub mod Turning
+pub mod Applying
 pub mod Sealed
 pub mod AskedLemmas
 pub mod Appending
@@ -41,9 +41,9 @@ pub mod ReadingLemmas
 pub mod Testing
 pub mod TreeLemmas
 pub mod Walk
-pub mod TurnLemmas
+pub mod ApplyLemmas
 pub mod MadeLemmas
-pub mod NotedMoves
+pub mod NotedMutations
 pub mod Lasting
 pub mod WrittenInTurn
 pub mod WriteLeaves

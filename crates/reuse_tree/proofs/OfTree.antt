@@ -10,9 +10,9 @@ use Rattle.reuse_tree.specs.Files.{Files, Clashes, tree_of}
 use Rattle.reuse_tree.specs.Change.{path_of}
 use Rattle.reuse_tree.specs.declared.change.Change.{Change}
 use Rattle.reuse_tree.proofs.FileMaps.{same_files, same_or_other}
-use Rattle.reuse_tree.specs.declared.way.Way.{Way}
+use Rattle.reuse_tree.specs.declared.direction.Direction.{Direction}
 use Rattle.reuse_tree.specs.Tree.{is_of_tree, undo_folder_of}
-use Rattle.reuse_tree.specs.Entry.{TurnsBy, LeadsByOneChange}
+use Rattle.reuse_tree.specs.Entry.{AppliesBy, LeadsByOneChange}
 use Rattle.reuse_tree.proofs.TreeLemmas.{tree_file, some_in_store}
 use Rattle.reuse_tree.proofs.ListingLemmas.{under_from_test, test_from_under}
 
@@ -111,14 +111,14 @@ pub clash_in_files : (files : Files) (path : List ℕ) → Clashes (tree_of file
 clash_in_files files path clash = record { other = clash.other; is_file = some_in_store files clash.other clash.is_file; nested = clash.nested }
 
 -- a step at a path of the tree is one of the tree, and leaves the journal's folder
-pub step_of_tree : (way : Way) (change : Change) (m n : Files) → is_of_tree (path_of change) ≡ true → LeadsByOneChange way change m n → LeadsByOneChange way change (tree_of m) (tree_of n)
-step_of_tree way change m n e step = record {
-  here = subst (λ f. TurnsBy way change f (get (tree_of n) (path_of change))) (sym (tree_at m (path_of change) e)) (subst (λ f. TurnsBy way change (get m (path_of change)) f) (sym (tree_at n (path_of change) e)) step.here);
+pub step_of_tree : (direction : Direction) (change : Change) (m n : Files) → is_of_tree (path_of change) ≡ true → LeadsByOneChange direction change m n → LeadsByOneChange direction change (tree_of m) (tree_of n)
+step_of_tree direction change m n e step = record {
+  here = subst (λ f. AppliesBy direction change f (get (tree_of n) (path_of change))) (sym (tree_at m (path_of change) e)) (subst (λ f. AppliesBy direction change (get m (path_of change)) f) (sym (tree_at n (path_of change) e)) step.here);
   elsewhere = λ path other. tree_file n path ∙ ap (λ f. cond (not (lies_under path journal_folder)) f None) (step.elsewhere path other) ∙ sym (tree_file m path);
 }
 
-pub folder_stays : (way : Way) (change : Change) (m n : Files) → is_of_tree (path_of change) ≡ true → LeadsByOneChange way change m n → undo_folder_of n ≡ undo_folder_of m
-folder_stays way change m n e step = same_files _ _ (λ path.
+pub folder_stays : (direction : Direction) (change : Change) (m n : Files) → is_of_tree (path_of change) ≡ true → LeadsByOneChange direction change m n → undo_folder_of n ≡ undo_folder_of m
+folder_stays direction change m n e step = same_files _ _ (λ path.
     get-folder n path ∙ ⊎_elim
     (λ (here : path ≡ path_of change). let none : lies_under path journal_folder ≡ false = ap (λ p. lies_under p journal_folder) here ∙ outside (path_of change) e in ap (λ b. cond b (get n path) None) none ∙ sym (ap (λ b. cond b (get m path) None) none))
     (λ (other : path ≢ path_of change). ap (λ f. cond (lies_under path journal_folder) f None) (step.elsewhere path other))

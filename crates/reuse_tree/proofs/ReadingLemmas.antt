@@ -7,7 +7,7 @@ use Rattle.std.specs.FinMap.{get}
 use Rattle.reuse_tree.specs.Files.{Files}
 use Rattle.reuse_tree.specs.Store.{reading_of}
 use Rattle.reuse_tree.specs.declared.change.Change.{Change}
-use Rattle.reuse_tree.specs.declared.way.Way.{Way}
+use Rattle.reuse_tree.specs.declared.direction.Direction.{Direction}
 use Rattle.reuse_tree.specs.Entry.{IsReady, IsSmall}
 use Rattle.reuse_text.specs.declared.TheConstants.{LONGEST_FILE}
 
@@ -55,5 +55,5 @@ pub read_first : {files read : Files} {file : Option (List ℕ)} (path : List �
 read_first path Holds same held at = subst Holds same (at (ap (λ files. get files path) same ∙ held))
 
 -- a file that a change can be gone through from isn't too long
-pub too_long : (way : Way) (change : Change) (bytes : List ℕ) → IsSmall change → LONGEST_FILE < length bytes → IsReady way change (Some bytes) → ⊥
-too_long way change bytes small long ready = grind (arith, common_steps)
+pub too_long : (direction : Direction) (change : Change) (bytes : List ℕ) → IsSmall change → LONGEST_FILE < length bytes → IsReady direction change (Some bytes) → ⊥
+too_long direction change bytes small long ready = grind (arith, common_steps)

@@ -7,16 +7,16 @@ use Rattle.reuse_tree.specs.declared.change.Change.{Change}
 use Rattle.reuse_tree.specs.declared.change.Change.TheVariants.{Make, Drop, Splice}
 use Rattle.reuse_tree.specs.declared.digest.Seal.{Seal}
 use Rattle.reuse_tree.specs.Digest.{IsDigestOf, IsSealOf}
-use Rattle.reuse_tree.specs.Change.{digest_before, digest_after, inverse_of, is_sealed, HoldsPart, TurnsByRange, Turns, IsBefore, IsAfter}
+use Rattle.reuse_tree.specs.Change.{digest_before, digest_after, inverse_of, is_sealed, HoldsPart, AppliesByRange, Applies, IsBefore, IsAfter}
 use Rattle.reuse_tree.proofs.Cuts.{cuts}
-use Rattle.reuse_tree.proofs.Turning.{turns_once_by_range, turns_back, inverse_before, inverse_after, is_sealed-inverse}
+use Rattle.reuse_tree.proofs.Applying.{applies_once_by_range, applies_back, inverse_before, inverse_after, is_sealed-inverse}
 
 -- a change that leads from the file by range and length leads from it where the digests are those of the files
-pub sealed_before : (change : Change) (before after : Option (List ℕ)) (P : Type 0) → TurnsByRange change before after
+pub sealed_before : (change : Change) (before after : Option (List ℕ)) (P : Type 0) → AppliesByRange change before after
     → P ↔ (IsDigestOf (digest_before change) before × IsDigestOf (digest_after change) after) → P ↔ IsBefore change before
 sealed_before change before after P range h = (
   λ p. let d = h.0 p in (after, record { range = range; from = d.0; to = d.1 }),
-  λ b. h.1 (b.1.from, subst (IsDigestOf (digest_after change)) (turns_once_by_range change before b.0 after b.1.range range) b.1.to),
+  λ b. h.1 (b.1.from, subst (IsDigestOf (digest_after change)) (applies_once_by_range change before b.0 after b.1.range range) b.1.to),
 )
 
 -- a seal is that of its two digests
@@ -30,7 +30,7 @@ seal_digests (Some seal) before after = (
 
 module _ (path : List ℕ) (at : ℕ) (old new : List ℕ) (rest : ℕ) (seal : Option Seal) (file : List ℕ) where
   -- what a splice makes of a file that holds its part
-  pub splices : HoldsPart (Some file) old at rest → TurnsByRange (Splice path at old new rest seal) (Some file) (Some (spliced file at (length old) new))
+  pub splices : HoldsPart (Some file) old at rest → AppliesByRange (Splice path at old new rest seal) (Some file) (Some (spliced file at (length old) new))
   splices h =
       let c = cuts file h.0 old h.1 at rest h.2 in
       let front = ap (λ f. Some (f ++ new ++ _)) c.before in
@@ -48,13 +48,13 @@ pub sealed_after : (change : Change) (file : Option (List ℕ)) (P : Type 0) →
 sealed_after change file P back = let ends = inverse_before change file in (λ p. ends.0 (back.0 p), λ a. back.1 (ends.1 a))
 
 -- a file after a sealed change has the digest of the file that the change led to
-pub same_after : (change : Change) (before after file : Option (List ℕ)) → Turns change before after → IsTrue (is_sealed change) → IsAfter change file → option_map sha256 file ≡ option_map sha256 after
+pub same_after : (change : Change) (before after file : Option (List ℕ)) → Applies change before after → IsTrue (is_sealed change) → IsAfter change file → option_map sha256 file ≡ option_map sha256 after
 same_after (Make path new digest) before after file h sealed a = ap (option_map sha256) (a.1.range.1 ∙ sym h.range.1)
 same_after (Drop path old digest) before after file h sealed a = ap (option_map sha256) (a.1.range.1 ∙ sym h.range.1)
 same_after (Splice path at old new rest None) before after file h sealed a = absurd (cc)
 same_after (Splice path at old new rest (Some seal)) before after file h sealed a = a.1.to ∙ sym h.to
 
 -- and one before it the digest of the file that it led from
-pub same_before : (change : Change) (before after file : Option (List ℕ)) → Turns change before after → IsTrue (is_sealed change) → IsBefore change file → option_map sha256 file ≡ option_map sha256 before
+pub same_before : (change : Change) (before after file : Option (List ℕ)) → Applies change before after → IsTrue (is_sealed change) → IsBefore change file → option_map sha256 file ≡ option_map sha256 before
 same_before change before after file h sealed b =
-    same_after (inverse_of change) after before file (turns_back change before after h) (subst IsTrue (sym (is_sealed-inverse change)) sealed) ((inverse_after change file).1 b)
+    same_after (inverse_of change) after before file (applies_back change before after h) (subst IsTrue (sym (is_sealed-inverse change)) sealed) ((inverse_after change file).1 b)

@@ -12,7 +12,7 @@ use Rattle.reuse_tree.specs.Files.{Files, Clashes, tree_of}
 use Rattle.reuse_tree.specs.declared.change.Change.{Change}
 use Rattle.reuse_tree.specs.Change.{path_of}
 use Rattle.reuse_tree.proofs.FileMaps.{tied, ties}
-use Rattle.reuse_tree.specs.declared.way.Way.{Way}
+use Rattle.reuse_tree.specs.declared.direction.Direction.{Direction}
 use Rattle.reuse_tree.specs.Tree.{is_of_tree}
 use Rattle.reuse_tree.specs.Entry.{IsReady, CanBeMade, makes}
 use Rattle.reuse_tree.proofs.OfTree.{tree_at, clash_in_tree, clash_in_files}
@@ -33,21 +33,21 @@ clashes_keys files path = (
       list_any_at (λ other. lies_under other path || lies_under path other) (keys files) found.0 found.1 found.2 (ap (λ other. lies_under other path || lies_under path other) (sym same) ∙ clash.nested),
 )
 
-module _ (files : Files) (way : Way) (change : Change) (of_tree : is_of_tree (path_of change) ≡ true) where
-  pub not_ready : (r : Bool) → r ≡ false → (IsTrue r ↔ IsReady way change (get files (path_of change))) → IsTrue false ↔ CanBeMade way (tree_of files) change
-  not_ready r e h = (λ no. absurd (false≢true no), λ can. absurd (false≢true (sym e ∙ h.1 (subst (λ f. IsReady way change f) (tree_at files (path_of change) of_tree) can.ready))))
+module _ (files : Files) (direction : Direction) (change : Change) (of_tree : is_of_tree (path_of change) ≡ true) where
+  pub not_ready : (r : Bool) → r ≡ false → (IsTrue r ↔ IsReady direction change (get files (path_of change))) → IsTrue false ↔ CanBeMade direction (tree_of files) change
+  not_ready r e h = (λ no. absurd (false≢true no), λ can. absurd (false≢true (sym e ∙ h.1 (subst (λ f. IsReady direction change f) (tree_at files (path_of change) of_tree) can.ready))))
 
-  in_tree : (r : Bool) → r ≡ true → (IsTrue r ↔ IsReady way change (get files (path_of change))) → IsReady way change (get (tree_of files) (path_of change))
-  in_tree r e h = subst (λ f. IsReady way change f) (sym (tree_at files (path_of change) of_tree)) (h.0 e)
+  in_tree : (r : Bool) → r ≡ true → (IsTrue r ↔ IsReady direction change (get files (path_of change))) → IsReady direction change (get (tree_of files) (path_of change))
+  in_tree r e h = subst (λ f. IsReady direction change f) (sym (tree_at files (path_of change) of_tree)) (h.0 e)
 
-  pub makes_none : (r : Bool) → r ≡ true → (IsTrue r ↔ IsReady way change (get files (path_of change))) → makes way change ≡ false → IsTrue true ↔ CanBeMade way (tree_of files) change
+  pub makes_none : (r : Bool) → r ≡ true → (IsTrue r ↔ IsReady direction change (get files (path_of change))) → makes direction change ≡ false → IsTrue true ↔ CanBeMade direction (tree_of files) change
   makes_none r e h none = (λ _. record { ready = in_tree r e h; free = λ made clash. false≢true (sym none ∙ made) }, λ _. refl)
 
-  pub makes_one : makes way change ≡ true → (r : Bool) → r ≡ true → (IsTrue r ↔ IsReady way change (get files (path_of change))) → (paths : List (List ℕ)) → paths ≡ keys files
-      → (c : Bool) → c ≡ list_any (λ other. lies_under other (path_of change) || lies_under (path_of change) other) paths → IsTrue (not c) ↔ CanBeMade way (tree_of files) change
+  pub makes_one : makes direction change ≡ true → (r : Bool) → r ≡ true → (IsTrue r ↔ IsReady direction change (get files (path_of change))) → (paths : List (List ℕ)) → paths ≡ keys files
+      → (c : Bool) → c ≡ list_any (λ other. lies_under other (path_of change) || lies_under (path_of change) other) paths → IsTrue (not c) ↔ CanBeMade direction (tree_of files) change
   makes_one made r e h paths all c is = at_test c (is ∙ ap (λ ps. list_any (λ other. lies_under other (path_of change) || lies_under (path_of change) other) ps) all)
     where
-      at_test : (c : Bool) → c ≡ list_any (λ other. lies_under other (path_of change) || lies_under (path_of change) other) (keys files) → IsTrue (not c) ↔ CanBeMade way (tree_of files) change
+      at_test : (c : Bool) → c ≡ list_any (λ other. lies_under other (path_of change) || lies_under (path_of change) other) (keys files) → IsTrue (not c) ↔ CanBeMade direction (tree_of files) change
       at_test true is = (λ no. absurd (false≢true no), λ can. absurd (can.free made (clash_in_tree files (path_of change) of_tree ((clashes_keys files (path_of change)).0 (sym is)))))
       at_test false is = (λ _. record { ready = in_tree r e h; free = λ made clash. false≢true (is ∙ (clashes_keys files (path_of change)).1 (clash_in_files files (path_of change) clash)) }, λ _. refl)
 

@@ -19,11 +19,11 @@ use Rattle.reuse_tree.specs.declared.change.Change.{Change}
 use Rattle.reuse_tree.specs.declared.change.Change.TheVariants.{Make, Drop, Splice}
 use Rattle.reuse_tree.specs.Change.{path_of, inverse_of}
 use Rattle.reuse_tree.proofs.FileMaps.{same_files}
-use Rattle.reuse_tree.proofs.Turning.{turns_once, turns_back}
+use Rattle.reuse_tree.proofs.Applying.{applies_once, applies_back}
 use Rattle.reuse_tree.specs.Tree.{is_of_tree}
-use Rattle.reuse_tree.specs.declared.way.Way.{Way}
-use Rattle.reuse_tree.specs.declared.way.Way.TheVariants.{Do, Undo}
-use Rattle.reuse_tree.specs.Entry.{touches, paths_of, IsEntry, TurnsBy, LeadsByOneChange, LeadsBy, IsReady, CanBeMade, IsFirstWithout, IsFirstStuck, makes}
+use Rattle.reuse_tree.specs.declared.direction.Direction.{Direction}
+use Rattle.reuse_tree.specs.declared.direction.Direction.TheVariants.{Forward, Backward}
+use Rattle.reuse_tree.specs.Entry.{touches, paths_of, IsEntry, AppliesBy, LeadsByOneChange, LeadsBy, IsReady, CanBeMade, IsFirstWithout, IsFirstStuck, makes}
 use Rattle.reuse_tree.proofs.Differ.{touching}
 
 -- an order that answers Less tells two paths apart
@@ -97,31 +97,31 @@ none_outside changes path good out = at_test (touches changes path) refl
         absurd (false≢true (sym out ∙ ap is_of_tree found.3 ∙ good.of_tree found.0 found.1 found.2))
 
 -- no change is made at first
-pub leads_none : (way : Way) (changes : List Change) (tree : Files) → LeadsBy way (take 0 changes) tree tree
-leads_none way changes tree = record { each = λ k c h. absurd (omega (arith, h, length-take 0 changes)); others = λ path e. refl }
+pub leads_none : (direction : Direction) (changes : List Change) (tree : Files) → LeadsBy direction (take 0 changes) tree tree
+leads_none direction changes tree = record { each = λ k c h. absurd (omega (arith, h, length-take 0 changes)); others = λ path e. refl }
 
-module _ (way : Way) (changes : List Change) (good : IsEntry changes) (i : ℕ) (lt : i < length changes) (change : Change) (is : change ≡ get_or changes i change) (before now : Files) (made : LeadsBy way (take i changes) before now) where
+module _ (direction : Direction) (changes : List Change) (good : IsEntry changes) (i : ℕ) (lt : i < length changes) (change : Change) (is : change ≡ get_or changes i change) (before now : Files) (made : LeadsBy direction (take i changes) before now) where
   -- before the change is made, its path holds what it held
   pub still : get now (path_of change) ≡ get before (path_of change)
   still = made.others (path_of change) (ap (λ c. touches (take i changes) (path_of c)) is ∙ not_touched changes good i change lt)
 
   -- one more change is made
-  pub leads_more : (after : Files) → LeadsByOneChange way change now after → LeadsBy way (take (i + 1) changes) before after
+  pub leads_more : (after : Files) → LeadsByOneChange direction change now after → LeadsBy direction (take (i + 1) changes) before after
   leads_more after step =
       let none : touches (take i changes) (path_of change) ≡ false = ap (λ c. touches (take i changes) (path_of c)) is ∙ not_touched changes good i change lt in
-      let kept : All (λ c. TurnsBy way c (get before (path_of c)) (get after (path_of c))) (take i changes) =
-      λ k d h. subst (λ f. TurnsBy way (get_or (take i changes) k d) (get before (path_of (get_or (take i changes) k d))) f)
+      let kept : All (λ c. AppliesBy direction c (get before (path_of c)) (get after (path_of c))) (take i changes) =
+      λ k d h. subst (λ f. AppliesBy direction (get_or (take i changes) k d) (get before (path_of (get_or (take i changes) k d))) f)
       (sym (step.elsewhere (path_of (get_or (take i changes) k d)) (of_no_change (take i changes) (path_of change) none k d h))) (made.each k d h) in
-      let here : TurnsBy way change (get before (path_of change)) (get after (path_of change)) = subst (λ f. TurnsBy way change f (get after (path_of change))) still step.here in record {
-        each = All-more (λ c. TurnsBy way c (get before (path_of c)) (get after (path_of c))) changes i change lt kept (subst (λ c. TurnsBy way c (get before (path_of c)) (get after (path_of c))) is here);
+      let here : AppliesBy direction change (get before (path_of change)) (get after (path_of change)) = subst (λ f. AppliesBy direction change f (get after (path_of change))) still step.here in record {
+        each = All-more (λ c. AppliesBy direction c (get before (path_of c)) (get after (path_of c))) changes i change lt kept (subst (λ c. AppliesBy direction c (get before (path_of c)) (get after (path_of c))) is here);
         others = λ path e. let both = untouched_more changes i lt change is path e in step.elsewhere path both.1 ∙ made.others path both.0;
       }
 
   -- where each change can be made from the start, this one can be made now
-  pub ready_now : CanBeMade way before change → IsReady way change (get now (path_of change))
-  ready_now can = subst (λ f. IsReady way change f) (sym still) can.ready
+  pub ready_now : CanBeMade direction before change → IsReady direction change (get now (path_of change))
+  ready_now can = subst (λ f. IsReady direction change f) (sym still) can.ready
 
-  pub free_now : CanBeMade way before change → makes way change ≡ true → Clashes now (path_of change) → ⊥
+  pub free_now : CanBeMade direction before change → makes direction change ≡ true → Clashes now (path_of change) → ⊥
   free_now can made_here clash = at_test (touches (take i changes) clash.other) refl
     where
       at_test : (b : Bool) → touches (take i changes) clash.other ≡ b → ⊥
@@ -132,41 +132,41 @@ module _ (way : Way) (changes : List Change) (good : IsEntry changes) (i : ℕ) 
 -- ---- trees between which changes lead
 
 -- a change leads from a file to one file, either way
-pub turns_once_by : (way : Way) (change : Change) (before after other : Option (List ℕ)) → TurnsBy way change before after → TurnsBy way change before other → after ≡ other
-turns_once_by Do change before after other h k = turns_once change before after other h k
-turns_once_by Undo change before after other h k = turns_once (inverse_of change) before after other (turns_back change after before h) (turns_back change other before k)
+pub applies_once_by : (direction : Direction) (change : Change) (before after other : Option (List ℕ)) → AppliesBy direction change before after → AppliesBy direction change before other → after ≡ other
+applies_once_by Forward change before after other h k = applies_once change before after other h k
+applies_once_by Backward change before after other h k = applies_once (inverse_of change) before after other (applies_back change after before h) (applies_back change other before k)
 
 -- the changes lead from a tree to one tree
-pub leads_once : (way : Way) (changes : List Change) (before after other : Files) → LeadsBy way changes before after → LeadsBy way changes before other → after ≡ other
-leads_once way changes before after other h k = same_files after other (λ path. at_test path (touches changes path) refl)
+pub leads_once : (direction : Direction) (changes : List Change) (before after other : Files) → LeadsBy direction changes before after → LeadsBy direction changes before other → after ≡ other
+leads_once direction changes before after other h k = same_files after other (λ path. at_test path (touches changes path) refl)
   where
     at_test : (path : List ℕ) (b : Bool) → touches changes path ≡ b → get after path ≡ get other path
     at_test path false e = h.others path e ∙ sym (k.others path e)
     at_test path true e =
         let found = touching changes path e in
-        subst (λ p. get after p ≡ get other p) (sym found.3) (turns_once_by way (get_or changes found.0 found.1) _ _ _ (h.each found.0 found.1 found.2) (k.each found.0 found.1 found.2))
+        subst (λ p. get after p ≡ get other p) (sym found.3) (applies_once_by direction (get_or changes found.0 found.1) _ _ _ (h.each found.0 found.1 found.2) (k.each found.0 found.1 found.2))
 
 -- what the changes did they take back
-pub leads_back : (changes : List Change) (before after : Files) → LeadsBy Do changes before after → LeadsBy Undo changes after before
+pub leads_back : (changes : List Change) (before after : Files) → LeadsBy Forward changes before after → LeadsBy Backward changes after before
 leads_back changes before after h = record { each = h.each; others = λ path e. sym (h.others path e) }
 
 -- what a change makes is a file
-pub made_is_file : (way : Way) (change : Change) (old new : Option (List ℕ)) → makes way change ≡ true → TurnsBy way change old new → IsSome new
-made_is_file Do (Make path new digest) f g e h = ap is_some h.range.1
-made_is_file Do (Drop path old digest) f g e h = absurd (false≢true e)
-made_is_file Do (Splice path at old new rest seal) f g e h = absurd (false≢true e)
-made_is_file Undo (Make path new digest) f g e h = absurd (false≢true e)
-made_is_file Undo (Drop path old digest) f g e h = ap is_some h.range.0
-made_is_file Undo (Splice path at old new rest seal) f g e h = absurd (false≢true e)
+pub made_is_file : (direction : Direction) (change : Change) (old new : Option (List ℕ)) → makes direction change ≡ true → AppliesBy direction change old new → IsSome new
+made_is_file Forward (Make path new digest) f g e h = ap is_some h.range.1
+made_is_file Forward (Drop path old digest) f g e h = absurd (false≢true e)
+made_is_file Forward (Splice path at old new rest seal) f g e h = absurd (false≢true e)
+made_is_file Backward (Make path new digest) f g e h = absurd (false≢true e)
+made_is_file Backward (Drop path old digest) f g e h = ap is_some h.range.0
+made_is_file Backward (Splice path at old new rest seal) f g e h = absurd (false≢true e)
 
 -- where changes lead from a tree to a tree, each can be made
-pub can_lead : (way : Way) (changes : List Change) (before after : Files) → IsEntry changes → AreFiles after → LeadsBy way changes before after → All (CanBeMade way before) changes
-can_lead way changes before after good are leads i d lt =
+pub can_lead : (direction : Direction) (changes : List Change) (before after : Files) → IsEntry changes → AreFiles after → LeadsBy direction changes before after → All (CanBeMade direction before) changes
+can_lead direction changes before after good are leads i d lt =
     let change = get_or changes i d in
     record {
       ready = (get after (path_of change), leads.each i d lt);
       free = λ made clash.
-          let is_file = made_is_file way change (get before (path_of change)) (get after (path_of change)) made (leads.each i d lt) in
+          let is_file = made_is_file direction change (get before (path_of change)) (get after (path_of change)) made (leads.each i d lt) in
           at_test change is_file (touched changes good i d lt) clash (touches changes clash.other) refl;
     }
   where
@@ -184,5 +184,5 @@ none_without Holds changes path all first =
     length-cons = omega arith
 
 -- then none is stuck
-pub none_stuck : (way : Way) (tree : Files) (changes : List Change) (path : List ℕ) → All (CanBeMade way tree) changes → IsFirstStuck way tree changes path → ⊥
-none_stuck way tree changes path all first = none_without (CanBeMade way tree) changes path all first
+pub none_stuck : (direction : Direction) (tree : Files) (changes : List Change) (path : List ℕ) → All (CanBeMade direction tree) changes → IsFirstStuck direction tree changes path → ⊥
+none_stuck direction tree changes path all first = none_without (CanBeMade direction tree) changes path all first

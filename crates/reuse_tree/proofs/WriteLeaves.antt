@@ -7,18 +7,18 @@ use Rattle.reuse_tree.specs.Asked.{IsLater, IsPut, IsRemoval, IsWrite, MaySet}
 use Rattle.reuse_tree.specs.Files.{Clashes}
 use Rattle.reuse_tree.specs.Parts.{joined}
 use Rattle.reuse_tree.specs.Tree.{is_of_tree, Sets}
-use Rattle.reuse_tree.specs.Turn.{held_in}
+use Rattle.reuse_tree.specs.Apply.{held_in}
 use Rattle.reuse_tree.specs.declared.fault.StoreFault.{StoreFault}
 use Rattle.reuse_tree.specs.declared.fault.StoreFault.TheVariants.{Device, Clash}
 use Rattle.reuse_tree.specs.declared.parts.Parts.{Parts}
 use Rattle.reuse_tree.specs.declared.store.Store.{Ghosts}
 use Rattle.reuse_tree.proofs.Lasting.{may_set_by_put, may_set_by_removal}
-use Rattle.reuse_tree.proofs.TurnLemmas.{counts_none, put_sets, removal_sets, put_doubt, removal_doubt}
+use Rattle.reuse_tree.proofs.ApplyLemmas.{counts_none, put_sets, removal_sets, put_doubt, removal_doubt}
 
 -- the path holds this then; where the write fails, this or what it held
 pub record WriteLeaves {S : Type 0} (store : Ghosts S) (path : List ℕ) (held : Option (List ℕ)) (old new : S) (answer : Result (Unit {0}) StoreFault) : Type 0 where
   pub later : IsLater store old new
-  pub moves : store.moves new ≡ store.moves old + 1
+  pub mutations : store.mutations new ≡ store.mutations old + 1
   pub written : is_of_tree path ≡ true → store.written new ≡ store.written old
   pub ok : store.honest new → OnOk answer (Sets path held (store.files old) (store.files new))
   pub err : store.honest new → OnErr answer ((store.files new ≡ store.files old) ⊎ Sets path held (store.files old) (store.files new))
@@ -30,7 +30,7 @@ module _ {S : Type 0} (store : Ghosts S) (path : List ℕ) (old new : S) where
   put_leaves : (answer : Result (Unit {0}) StoreFault) (bytes : List ℕ) → IsPut store path bytes old new answer → IsLater store old new → WriteLeaves store path (Some bytes) old new answer
   put_leaves answer bytes put later = record {
     later = later;
-    moves = put.moves;
+    mutations = put.mutations;
     written = λ of_tree. counts_none path bytes _ _ of_tree put.written;
     ok = ok answer (λ honest. put.ok honest);
     err = err answer (λ honest. put.err honest);
@@ -58,7 +58,7 @@ module _ {S : Type 0} (store : Ghosts S) (path : List ℕ) (old new : S) where
   removal_leaves : (answer : Result (Unit {0}) StoreFault) → IsRemoval store path old new answer → IsLater store old new → WriteLeaves store path None old new answer
   removal_leaves answer removal later = record {
     later = later;
-    moves = removal.moves;
+    mutations = removal.mutations;
     written = λ of_tree. removal.written;
     ok = ok answer (λ honest. removal.ok honest);
     err = err answer (λ honest. removal.err honest);

@@ -3,14 +3,14 @@ use Rattle.std.specs.Prelude.{◌≡◌, ℕ, List, length, take, map, Option}
 use Rattle.std.specs.FinMap.{get}
 use Rattle.reuse_text.specs.declared.TheConstants.{LONGEST_FILE}
 use Rattle.reuse_tree.specs.Change.{path_of}
-use Rattle.reuse_tree.specs.Entry.{IsReady, TurnsBy}
+use Rattle.reuse_tree.specs.Entry.{IsReady, AppliesBy}
 use Rattle.reuse_tree.specs.Files.{Files}
 use Rattle.reuse_tree.specs.Store.{reading_of}
-use Rattle.reuse_tree.specs.Turn.{held_in}
+use Rattle.reuse_tree.specs.Apply.{held_in}
 use Rattle.reuse_tree.specs.declared.change.Change.{Change}
 use Rattle.reuse_tree.specs.declared.file_write.FileWrite.{FileWrite}
-use Rattle.reuse_tree.specs.declared.perform.ReadChange.{ReadChange}
-use Rattle.reuse_tree.specs.declared.way.Way.{Way}
+use Rattle.reuse_tree.specs.declared.apply_changes.ReadChange.{ReadChange}
+use Rattle.reuse_tree.specs.declared.direction.Direction.{Direction}
 
 -- these are the first of the changes
 abbrev pub IsFrontOf : List Change → List ReadChange → Type 0
@@ -21,10 +21,10 @@ abbrev pub IsReadIn : Files → ReadChange → Type 0
 IsReadIn files read = read.reading ≡ reading_of (get files (path_of read.change.now)) LONGEST_FILE
 
 -- a file was read of which the change can be made this way
-abbrev pub IsReadReady : Way → ReadChange → Type 0
-IsReadReady way read = (file : Option (List ℕ)) × (read.reading ≡ reading_of file LONGEST_FILE) × IsReady way read.change.now file
+abbrev pub IsReadReady : Direction → ReadChange → Type 0
+IsReadReady direction read = (file : Option (List ℕ)) × (read.reading ≡ reading_of file LONGEST_FILE) × IsReady direction read.change.now file
 
 -- the write makes the change this way of each file that may have been read, where it can be made
-pub record MakesRead (way : Way) (read : ReadChange) (write : FileWrite) : Type 0 where
+pub record MakesRead (direction : Direction) (read : ReadChange) (write : FileWrite) : Type 0 where
   pub path : write.path.now ≡ path_of read.change.now
-  pub turns : (file : Option (List ℕ)) → read.reading ≡ reading_of file LONGEST_FILE → IsReady way read.change.now file → TurnsBy way read.change.now file (held_in write.file)
+  pub applies : (file : Option (List ℕ)) → read.reading ≡ reading_of file LONGEST_FILE → IsReady direction read.change.now file → AppliesBy direction read.change.now file (held_in write.file)

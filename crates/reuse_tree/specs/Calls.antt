@@ -59,10 +59,10 @@ written_of (RemoveCall path answer took ∷ calls) = written_of calls
 written_of (SyncCall changes answer ∷ calls) = written_of calls
 
 -- how many puts and removals there were
-abbrev pub moves_of : List Call → ℕ
-moves_of [] = 0
-moves_of (ListCall folders pruned answer ∷ calls) = moves_of calls
-moves_of (ReadCall path limit answer ∷ calls) = moves_of calls
-moves_of (PutCall path bytes answer took ∷ calls) = moves_of calls + 1
-moves_of (RemoveCall path answer took ∷ calls) = moves_of calls + 1
-moves_of (SyncCall changes answer ∷ calls) = moves_of calls
+abbrev pub mutations_of : List Call → ℕ
+mutations_of [] = 0
+mutations_of (ListCall folders pruned answer ∷ calls) = mutations_of calls
+mutations_of (ReadCall path limit answer ∷ calls) = mutations_of calls
+mutations_of (PutCall path bytes answer took ∷ calls) = mutations_of calls + 1
+mutations_of (RemoveCall path answer took ∷ calls) = mutations_of calls + 1
+mutations_of (SyncCall changes answer ∷ calls) = mutations_of calls

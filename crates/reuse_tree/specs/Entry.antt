@@ -8,14 +8,14 @@ use Rattle.std.specs.Str.{bytes_eq}
 use Rattle.std.specs.FinMap.{get}
 use Rattle.reuse_tree.specs.Path.{lies_under}
 use Rattle.reuse_tree.specs.Files.{Files, Clashes}
-use Rattle.reuse_tree.specs.Change.{path_of, is_sealed, IsProper, Turns}
+use Rattle.reuse_tree.specs.Change.{path_of, is_sealed, IsProper, Applies}
 use Rattle.reuse_tree.specs.Digest.{IsDigestOf}
 use Rattle.reuse_tree.specs.declared.change.Change.{Change}
 use Rattle.reuse_tree.specs.declared.change.Change.TheVariants.{Make, Drop, Splice}
 use Rattle.reuse_text.specs.declared.TheConstants.{LONGEST_FILE}
 use Rattle.reuse_tree.specs.Tree.{is_of_tree}
-use Rattle.reuse_tree.specs.declared.way.Way.{Way}
-use Rattle.reuse_tree.specs.declared.way.Way.TheVariants.{Do, Undo}
+use Rattle.reuse_tree.specs.declared.direction.Direction.{Direction}
+use Rattle.reuse_tree.specs.declared.direction.Direction.TheVariants.{Forward, Backward}
 
 -- the paths of the changes
 abbrev pub paths_of : List Change → List (List ℕ)
@@ -79,54 +79,54 @@ pub record IsEntry (changes : List Change) : Type 0 where
   pub own : All HasOwnDigest changes
 
 -- gone through this way, the change leads from the one file to the other
-abbrev pub TurnsBy : Way → Change → Option (List ℕ) → Option (List ℕ) → Type 0
-TurnsBy Do change old new = Turns change old new
-TurnsBy Undo change old new = Turns change new old
+abbrev pub AppliesBy : Direction → Change → Option (List ℕ) → Option (List ℕ) → Type 0
+AppliesBy Forward change old new = Applies change old new
+AppliesBy Backward change old new = Applies change new old
 
 -- gone through this way, the change leads from these files to those, which differ at its path alone
-pub record LeadsByOneChange (way : Way) (change : Change) (before after : Files) : Type 0 where
-  pub here : TurnsBy way change (get before (path_of change)) (get after (path_of change))
+pub record LeadsByOneChange (direction : Direction) (change : Change) (before after : Files) : Type 0 where
+  pub here : AppliesBy direction change (get before (path_of change)) (get after (path_of change))
   pub elsewhere : (path : List ℕ) → path ≢ path_of change → get after path ≡ get before path
 
 -- gone through this way, the changes lead from one tree to the other: each at its path, and no other path differs
-pub record LeadsBy (way : Way) (changes : List Change) (before after : Files) : Type 0 where
-  pub each : All (λ change. TurnsBy way change (get before (path_of change)) (get after (path_of change))) changes
+pub record LeadsBy (direction : Direction) (changes : List Change) (before after : Files) : Type 0 where
+  pub each : All (λ change. AppliesBy direction change (get before (path_of change)) (get after (path_of change))) changes
   pub others : (path : List ℕ) → touches changes path ≡ false → get after path ≡ get before path
 
 -- some of the changes are made on the first tree, gone through this way, and no other path differs
-pub record SomeMade (way : Way) (changes : List Change) (before now : Files) : Type 0 where
-  pub each : All (λ change. (get now (path_of change) ≡ get before (path_of change)) ⊎ TurnsBy way change (get before (path_of change)) (get now (path_of change))) changes
+pub record SomeMade (direction : Direction) (changes : List Change) (before now : Files) : Type 0 where
+  pub each : All (λ change. (get now (path_of change) ≡ get before (path_of change)) ⊎ AppliesBy direction change (get before (path_of change)) (get now (path_of change))) changes
   pub others : (path : List ℕ) → touches changes path ≡ false → get now path ≡ get before path
 
 -- the changes lead from one tree to the other
 abbrev pub LeadsAll : List Change → Files → Files → Type 0
-LeadsAll changes before after = LeadsBy Do changes before after
+LeadsAll changes before after = LeadsBy Forward changes before after
 
 -- gone through this way, the change can be made of this file
-abbrev pub IsReady : Way → Change → Option (List ℕ) → Type 0
-IsReady way change file = (new : Option (List ℕ)) × TurnsBy way change file new
+abbrev pub IsReady : Direction → Change → Option (List ℕ) → Type 0
+IsReady direction change file = (new : Option (List ℕ)) × AppliesBy direction change file new
 
 -- each of the changes can be made of its file on the first tree, gone through this way, and some of them are made
-pub record ArePartlyMade (way : Way) (changes : List Change) (before now : Files) : Type 0 where
-  pub made : SomeMade way changes before now
-  pub ready : All (λ change. IsReady way change (get before (path_of change))) changes
+pub record ArePartlyMade (direction : Direction) (changes : List Change) (before now : Files) : Type 0 where
+  pub made : SomeMade direction changes before now
+  pub ready : All (λ change. IsReady direction change (get before (path_of change))) changes
 
 -- gone through this way, the change makes a file
-abbrev pub makes : Way → Change → Bool
-makes Do (Make path new after) = true
-makes Undo (Drop path old before) = true
-makes way change = false
+abbrev pub makes : Direction → Change → Bool
+makes Forward (Make path new after) = true
+makes Backward (Drop path old before) = true
+makes direction change = false
 
 -- gone through this way, the change can be made on the tree: its file is as it needs it, and nothing clashes with one
 -- that it makes
-pub record CanBeMade (way : Way) (tree : Files) (change : Change) : Type 0 where
-  pub ready : IsReady way change (get tree (path_of change))
-  pub free : makes way change ≡ true → ¬ (Clashes tree (path_of change))
+pub record CanBeMade (direction : Direction) (tree : Files) (change : Change) : Type 0 where
+  pub ready : IsReady direction change (get tree (path_of change))
+  pub free : makes direction change ≡ true → ¬ (Clashes tree (path_of change))
 
 -- the changes are those of an entry, and each can be made this way on the tree
-pub record CanGo (way : Way) (tree : Files) (changes : List Change) : Type 0 where
+pub record CanGo (direction : Direction) (tree : Files) (changes : List Change) : Type 0 where
   pub entry : IsEntry changes
-  pub each : All (CanBeMade way tree) changes
+  pub each : All (CanBeMade direction tree) changes
 
 -- the path is that of the first change of which this doesn't hold
 pub record IsFirstWithout (Holds : Change → Type 0) (changes : List Change) (path : List ℕ) : Type 0 where
@@ -139,14 +139,14 @@ pub record IsFirstWithout (Holds : Change → Type 0) (changes : List Change) (p
   pub stuck : ¬ (Holds change)
 
 -- the path is that of the first change that can't be made
-abbrev pub IsFirstStuck : Way → Files → List Change → List ℕ → Type 0
-IsFirstStuck way tree changes path = IsFirstWithout (CanBeMade way tree) changes path
+abbrev pub IsFirstStuck : Direction → Files → List Change → List ℕ → Type 0
+IsFirstStuck direction tree changes path = IsFirstWithout (CanBeMade direction tree) changes path
 
 -- the other way
-abbrev pub opposite : Way → Way
-opposite Do = Undo
-opposite Undo = Do
+abbrev pub opposite : Direction → Direction
+opposite Forward = Backward
+opposite Backward = Forward
 
 -- a change that may have been made this way: it isn't, or it can be taken back
-abbrev pub CanBeSetBack : Way → Files → Change → Type 0
-CanBeSetBack way tree change = IsReady way change (get tree (path_of change)) ⊎ CanBeMade (opposite way) tree change
+abbrev pub CanBeRolledBack : Direction → Files → Change → Type 0
+CanBeRolledBack direction tree change = IsReady direction change (get tree (path_of change)) ⊎ CanBeMade (opposite direction) tree change

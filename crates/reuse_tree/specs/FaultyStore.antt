@@ -1,6 +1,6 @@
 -- How a store with faults goes on: which calls it passes on, which fail in it, and what these leave of the store inside.
 use Rattle.std.specs.Prelude.{◌≡◌, ◌≢◌, ℕ, zero, suc, ◌+◌, Bool, true, false, Option, None, Some, Result, Err}
-use Rattle.reuse_tree.specs.Calls.{failures_of, written_of, moves_of}
+use Rattle.reuse_tree.specs.Calls.{failures_of, written_of, mutations_of}
 use Rattle.reuse_tree.specs.declared.fault.StoreFault.{StoreFault}
 use Rattle.reuse_tree.specs.declared.fault.StoreFault.TheVariants.{Device}
 use Rattle.reuse_tree.specs.declared.store.Store.{Ghosts}
@@ -13,7 +13,7 @@ with_faults inside = record {
   may_be = λ store. inside.may_be store.inner;
   failures = λ store. inside.failures store.inner + failures_of store.failed.calls;
   written = λ store. inside.written store.inner + written_of store.failed.calls;
-  moves = λ store. inside.moves store.inner + moves_of store.failed.calls;
+  mutations = λ store. inside.mutations store.inner + mutations_of store.failed.calls;
   honest = λ store. inside.honest store.inner;
 }
 

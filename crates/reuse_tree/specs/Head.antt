@@ -7,10 +7,10 @@ use Rattle.reuse_tree.specs.Json.{IsJson, count, counts, object_of}
 use Rattle.reuse_tree.specs.Format.{format_number}
 use Rattle.reuse_tree.specs.declared.journal.head.Head.{Head}
 use Rattle.reuse_tree.specs.declared.journal.head.Pending.{Pending}
-use Rattle.reuse_tree.specs.declared.journal.head.PendingWay.{PendingWay}
-use Rattle.reuse_tree.specs.declared.journal.head.PendingWay.TheVariants.{Do, Undo, Redo}
-use Rattle.reuse_tree.specs.declared.way.Way.{Way}
-use Rattle.reuse_tree.specs.declared.way.Way.TheVariants as way
+use Rattle.reuse_tree.specs.declared.journal.head.PendingDirection.{PendingDirection}
+use Rattle.reuse_tree.specs.declared.journal.head.PendingDirection.TheVariants.{Do, Undo, Redo}
+use Rattle.reuse_tree.specs.declared.direction.Direction.{Direction}
+use Rattle.reuse_tree.specs.declared.direction.Direction.TheVariants as direction
 
 -- ---- the text that is written
 
@@ -19,26 +19,26 @@ abbrev pub numbers_text : List ℕ → List ℕ
 numbers_text ns = codes "[" ++ join_with_byte 44 (map decimal ns) ++ codes "]"
 
 -- which way the changes of an entry are gone through: a redo makes them again
-abbrev pub way_of : PendingWay → Way
-way_of Do = way.Do
-way_of Undo = way.Undo
-way_of Redo = way.Do
+abbrev pub direction_of : PendingDirection → Direction
+direction_of Do = direction.Forward
+direction_of Undo = direction.Backward
+direction_of Redo = direction.Forward
 
 -- the pending way of an entry that is listed
-abbrev pub listed_way : Way → PendingWay
-listed_way way.Do = Redo
-listed_way way.Undo = Undo
+abbrev pub listed_direction : Direction → PendingDirection
+listed_direction direction.Forward = Redo
+listed_direction direction.Backward = Undo
 
 -- the word for a way
-abbrev pub way_name : PendingWay → List ℕ
-way_name Do = codes "do"
-way_name Undo = codes "undo"
-way_name Redo = codes "redo"
+abbrev pub direction_name : PendingDirection → List ℕ
+direction_name Do = codes "do"
+direction_name Undo = codes "undo"
+direction_name Redo = codes "redo"
 
 -- what is under way, or null
 abbrev pub pending_text : Option Pending → List ℕ
 pending_text None = codes "null"
-pending_text (Some p) = codes "{\"entry\":" ++ decimal p.entry ++ codes ",\"way\":\"" ++ way_name p.way ++ codes "\"}"
+pending_text (Some p) = codes "{\"entry\":" ++ decimal p.entry ++ codes ",\"way\":\"" ++ direction_name p.direction ++ codes "\"}"
 
 -- a head, with the members in the order of their keys, without space
 abbrev pub head_text : Head → List ℕ
@@ -49,7 +49,7 @@ head_text h = codes "{\"done\":" ++ numbers_text h.done ++ codes ",\"format\":2,
 -- what is under way: null, or an object with just these keys and values
 abbrev pub pending_value : Option Pending → Data
 pending_value None = null
-pending_value (Some p) = object_of ((codes "entry", count p.entry) ∷ (codes "way", string (way_name p.way)) ∷ [])
+pending_value (Some p) = object_of ((codes "entry", count p.entry) ∷ (codes "way", string (direction_name p.direction)) ∷ [])
 
 -- a head in the first format or the second: an object with just these keys and values
 abbrev pub head_value : Bool → Head → Data
@@ -75,15 +75,15 @@ abbrev pub last_of : List ℕ → Option ℕ
 last_of ns = slice_get ns (length ns - 1)
 
 -- The entry that is under way fits the lists: a new one has the next number, one that is being undone is the last of done, one that is being redone is the last of undone.
-abbrev pub FitsWay : ℕ → PendingWay → ℕ → List ℕ → List ℕ → Type 0
-FitsWay entry Do next done undone = (entry ≡ next) × (entry ≤ 999999)
-FitsWay entry Undo next done undone = last_of done ≡ Some entry
-FitsWay entry Redo next done undone = last_of undone ≡ Some entry
+abbrev pub FitsDirection : ℕ → PendingDirection → ℕ → List ℕ → List ℕ → Type 0
+FitsDirection entry Do next done undone = (entry ≡ next) × (entry ≤ 999999)
+FitsDirection entry Undo next done undone = last_of done ≡ Some entry
+FitsDirection entry Redo next done undone = last_of undone ≡ Some entry
 
 -- so does what is under way, if anything is
 abbrev pub PendingFits : Option Pending → ℕ → List ℕ → List ℕ → Type 0
 PendingFits None next done undone = ⊤
-PendingFits (Some p) next done undone = FitsWay p.entry p.way next done undone
+PendingFits (Some p) next done undone = FitsDirection p.entry p.direction next done undone
 
 -- a head that may be written, whatever its text
 pub record IsSoundHead (h : Head) : Type 0 where

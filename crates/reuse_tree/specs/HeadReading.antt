@@ -6,28 +6,28 @@ use Rattle.serde_json.specs.Find.{as_object, as_null, as_str}
 use Rattle.reuse_tree.specs.JsonReading.{◌>>=◌, field_in, if_none_left, format_in, small_in, smalls_in}
 use Rattle.reuse_tree.specs.declared.journal.head.Head.{Head}
 use Rattle.reuse_tree.specs.declared.journal.head.Pending.{Pending}
-use Rattle.reuse_tree.specs.declared.journal.head.PendingWay.{PendingWay}
-use Rattle.reuse_tree.specs.declared.journal.head.PendingWay.TheVariants.{Do, Undo, Redo}
+use Rattle.reuse_tree.specs.declared.journal.head.PendingDirection.{PendingDirection}
+use Rattle.reuse_tree.specs.declared.journal.head.PendingDirection.TheVariants.{Do, Undo, Redo}
 
-abbrev pub way_from : List ℕ → Option PendingWay
-way_from name =
+abbrev pub direction_from : List ℕ → Option PendingDirection
+direction_from name =
     if bytes_eq name (codes "do") then Some Do
     else if bytes_eq name (codes "undo") then Some Undo
     else if bytes_eq name (codes "redo") then Some Redo
     else None
 
-abbrev pub way_in : Data → Option PendingWay
-way_in d = do
+abbrev pub direction_in : Data → Option PendingDirection
+direction_in d = do
   name ← as_str d
-  way_from name
+  direction_from name
 
 unfoldable pub some_pending_in : Data → Option Pending
 some_pending_in d = do
   fields ← as_object d
   entry ← field_in small_in (codes "entry") fields
-  way ← field_in way_in (codes "way") entry.1
-  _ ← if_none_left way.1
-  Some (record { entry = entry.0; way = way.0 })
+  direction ← field_in direction_in (codes "way") entry.1
+  _ ← if_none_left direction.1
+  Some (record { entry = entry.0; direction = direction.0 })
 
 abbrev pub pending_in : Data → Option (Option Pending)
 pending_in d = if is_some (as_null d) then Some None else option_map Some (some_pending_in d)

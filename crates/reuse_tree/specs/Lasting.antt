@@ -5,7 +5,7 @@ use Rattle.reuse_tree.specs.Entry.{touches, SomeMade}
 use Rattle.reuse_tree.specs.Files.{Files, tree_of}
 use Rattle.reuse_tree.specs.Tree.{undo_folder_of, Sets}
 use Rattle.reuse_tree.specs.declared.change.Change.{Change}
-use Rattle.reuse_tree.specs.declared.way.Way.{Way}
+use Rattle.reuse_tree.specs.declared.direction.Direction.{Direction}
 
 -- the files of the journal and those at the paths of the changes are left as they are; every other path holds what it does, or what it
 -- might hold before
@@ -19,6 +19,6 @@ abbrev pub WithOrWithout : (Files → Type 0) → List ℕ → (Option (List ℕ
 WithOrWithout MightBe path IsOne left = MightBe left ⊎ ((kept : Files) × MightBe kept × (file : Option (List ℕ)) × IsOne file × Sets path file kept left)
 
 -- some of the changes are made on a tree, gone through this way, beside these files of the journal
-pub record IsMidway (way : Way) (changes : List Change) (start journal left : Files) : Type 0 where
-  pub tree : SomeMade way changes start (tree_of left)
+pub record IsMidway (direction : Direction) (changes : List Change) (start journal left : Files) : Type 0 where
+  pub tree : SomeMade direction changes start (tree_of left)
   pub folder : undo_folder_of left ≡ journal

@@ -25,5 +25,5 @@ pub mod Decoded
 pub mod Tree
 pub mod Listing
 pub mod Clash
-pub mod Turn
+pub mod Apply
 pub mod Batch

@@ -32,7 +32,7 @@ impl From<AllocError> for Cause {
 }
 
 impl From<StoreFault> for Cause {
-    ghost use Rattle.reuse_tree.specs.Turn.{cause_of};
+    ghost use Rattle.reuse_tree.specs.Apply.{cause_of};
 
     ghost from_gives = { λ fault cause. cause ≡ cause_of fault };
 

@@ -48,7 +48,7 @@ pub enum Change {
 }
 
 impl Change {
-    ghost use Rattle.reuse_tree.specs.Change.{path_of, inverse_of, is_sealed, sealed_make, sealed_drop, sealed_splice, IsProper, IsAfter, IsBeforeByRange, IsAfterByRange, Records, Turns};
+    ghost use Rattle.reuse_tree.specs.Change.{path_of, inverse_of, is_sealed, sealed_make, sealed_drop, sealed_splice, IsProper, IsAfter, IsBeforeByRange, IsAfterByRange, Records, Applies};
 
     /// A file made of these bytes, sealed.
     pub fn sealed_make(path: PathText, new: Bytes) -> Change
@@ -77,7 +77,7 @@ impl Change {
     /// The bytes `old` of this file, which stand at `at`, give way to `new`, sealed.
     pub fn sealed_splice(path: PathText, file: &[u8], at: usize, old: Bytes, new: Bytes) -> Change
         ensures change { result ≡ sealed_splice path file.now at old new }
-        ensures turns { (rest : ℕ) → HoldsPart (Some file.now) old at rest → Turns result (Some file.now) (Some (spliced file.now at (length old) new)) }
+        ensures applies { (rest : ℕ) → HoldsPart (Some file.now) old at rest → Applies result (Some file.now) (Some (spliced file.now at (length old) new)) }
     {
         let seal = Seal::of(file, at, old.len(), new.as_slice());
         let rest = file.len().saturating_sub(at).saturating_sub(old.len());
@@ -285,7 +285,7 @@ impl Change {
     /// What the path holds after the change.
     pub fn apply(&self, alloc: Global, file: Option<&[u8]>) -> Result<Option<Bytes>, AllocError>
         requires { IsBefore self.now (option_copied file) }
-        ensures { IfOk result (λ after. Turns self.now (option_copied file.entry) after) }
+        ensures { IfOk result (λ after. Applies self.now (option_copied file.entry) after) }
     {
         match self {
             Change::Make { new, .. } => Ok(Some(new.try_clone(alloc)?)),

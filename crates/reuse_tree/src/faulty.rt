@@ -28,14 +28,14 @@ pub type OnceStore<S> = FaultyStore<S, false>;
 
 impl<S: Store + Drop, const STAYS: bool> FaultyStore<S, STAYS> {
     ghost use Rattle.std.specs.Prelude.{false};
-    ghost use Rattle.reuse_tree.specs.Calls.{failures_of, written_of, moves_of};
+    ghost use Rattle.reuse_tree.specs.Calls.{failures_of, written_of, mutations_of};
 
     /// Passes `left` calls on, and then fails.
     pub fn new(inner: S, left: u64, takes_effect: bool) -> FaultyStore<S, STAYS>
         ensures files { ⟦<FaultyStore<S, STAYS> as Store>⟧.files result ≡ S.files inner }
         ensures failures { ⟦<FaultyStore<S, STAYS> as Store>⟧.failures result ≡ S.failures inner }
         ensures written { ⟦<FaultyStore<S, STAYS> as Store>⟧.written result ≡ S.written inner }
-        ensures moves { ⟦<FaultyStore<S, STAYS> as Store>⟧.moves result ≡ S.moves inner }
+        ensures mutations { ⟦<FaultyStore<S, STAYS> as Store>⟧.mutations result ≡ S.mutations inner }
         ensures honest { ⟦<FaultyStore<S, STAYS> as Store>⟧.honest result ↔ S.honest inner }
         ensures burns { (result.inner ≡ inner) × (result.left ≡ Some left) × (result.takes_effect ≡ takes_effect) }
     {
@@ -52,7 +52,7 @@ impl<S: Store + Drop, const STAYS: bool> FaultyStore<S, STAYS> {
         ensures files { S.files result ≡ ⟦<FaultyStore<S, STAYS> as Store>⟧.files self }
         ensures failures { S.failures result ≤ ⟦<FaultyStore<S, STAYS> as Store>⟧.failures self }
         ensures written { S.written result ≤ ⟦<FaultyStore<S, STAYS> as Store>⟧.written self }
-        ensures moves { S.moves result ≤ ⟦<FaultyStore<S, STAYS> as Store>⟧.moves self }
+        ensures mutations { S.mutations result ≤ ⟦<FaultyStore<S, STAYS> as Store>⟧.mutations self }
         ensures honest { S.honest result ↔ ⟦<FaultyStore<S, STAYS> as Store>⟧.honest self }
         ensures inner { result ≡ self.inner }
     {
@@ -65,7 +65,7 @@ impl<S: Store + Drop, const STAYS: bool> FaultyStore<S, STAYS> {
         ensures answer { result ≡ Err StoreFault.Device }
         ensures kept { (self.new.inner ≡ self.old.inner) × (self.new.left ≡ self.old.left) × (self.new.takes_effect ≡ false) }
         ensures failures { failures_of self.new.failed.calls ≡ failures_of self.old.failed.calls + 1 }
-        ensures counts { (written_of self.new.failed.calls ≡ written_of self.old.failed.calls) × (moves_of self.new.failed.calls ≡ moves_of self.old.failed.calls) }
+        ensures counts { (written_of self.new.failed.calls ≡ written_of self.old.failed.calls) × (mutations_of self.new.failed.calls ≡ mutations_of self.old.failed.calls) }
     {
         self.takes_effect = false;
         self.failed.note_list(&[], &Err(StoreFault::Device));
@@ -109,7 +109,7 @@ impl<S: Store + Drop, const STAYS: bool> Store for FaultyStore<S, STAYS> {
 
     ghost written = { (with_faults S.Store).written };
 
-    ghost moves = { (with_faults S.Store).moves };
+    ghost mutations = { (with_faults S.Store).mutations };
 
     ghost honest = { (with_faults S.Store).honest };
 

@@ -26,6 +26,6 @@ pub use entry_reading::decode_entry;
 pub use entry_size::is_too_many;
 pub use entry_writing::encode_entry;
 pub use fault::DecodeFault;
-pub use head::{Head, Pending, PendingWay};
+pub use head::{Head, Pending, PendingDirection};
 pub use head_text::{decode_head, encode_head};
 pub use numbers::EntryNumbers;

@@ -1,12 +1,15 @@
 //! Paths, changes of one file, the store that holds a tree of files, and the texts of the journal.
 #![tactic(auto)]
 
+pub mod apply_change;
+pub mod apply_changes;
 mod at_path;
 mod cause;
 mod change;
 mod clash;
 mod command_name;
 mod digest;
+mod direction;
 mod fault;
 mod faulty;
 mod file_map;
@@ -19,13 +22,10 @@ mod memory;
 mod moment;
 mod parts;
 mod path;
-pub mod perform;
 mod pruning;
 mod record;
 mod store;
-pub mod turn;
 mod watched;
-mod way;
 
 pub use at_path::{is_clash_at, is_folder_at};
 pub use cause::Cause;
@@ -33,12 +33,13 @@ pub use change::{Change, ChangeState};
 pub use clash::is_clash;
 pub use command_name::CommandName;
 pub use digest::{Digest, Seal};
+pub use direction::Direction;
 pub use fault::StoreFault;
 pub use faulty::{FaultyStore, FuseStore, OnceStore};
 pub use file_write::FileWrite;
 pub use items::Items;
 pub use journal::{
-    Changes, DecodeFault, Entry, EntryChanges, EntryNumbers, Head, Pending, PendingWay,
+    Changes, DecodeFault, Entry, EntryChanges, EntryNumbers, Head, Pending, PendingDirection,
     decode_entry, decode_head, encode_entry, encode_head, is_too_many,
 };
 pub use listing::{is_among, is_folder, is_pruned, is_wanted, paths_beneath};
@@ -50,4 +51,3 @@ pub use pruning::{NoPruning, Pruning};
 pub use record::CallRecord;
 pub use store::{Reading, Store};
 pub use watched::{Asked, WatchedStore, Watcher};
-pub use way::Way;

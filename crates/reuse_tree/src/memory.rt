@@ -25,7 +25,7 @@ impl MemoryStore {
         ensures files { ⟦<MemoryStore as Store>⟧.files result ≡ map.empty }
         ensures failures { ⟦<MemoryStore as Store>⟧.failures result ≡ 0 }
         ensures written { ⟦<MemoryStore as Store>⟧.written result ≡ 0 }
-        ensures moves { ⟦<MemoryStore as Store>⟧.moves result ≡ 0 }
+        ensures mutations { ⟦<MemoryStore as Store>⟧.mutations result ≡ 0 }
         ensures honest { ⟦<MemoryStore as Store>⟧.honest result }
     {
         MemoryStore {
@@ -65,7 +65,7 @@ impl MemoryStore {
 
 impl Store for MemoryStore {
     ghost use Rattle.reuse_tree.specs.FileMap.{files_in, files_in_are_files};
-    ghost use Rattle.reuse_tree.specs.Calls.{written_of, moves_of};
+    ghost use Rattle.reuse_tree.specs.Calls.{written_of, mutations_of};
 
     ghost files = { λ store. files_in store.files };
 
@@ -75,7 +75,7 @@ impl Store for MemoryStore {
 
     ghost written = { λ store. written_of store.calls.calls };
 
-    ghost moves = { λ store. moves_of store.calls.calls };
+    ghost mutations = { λ store. mutations_of store.calls.calls };
 
     ghost honest = { λ _. ⊤ };
 

@@ -64,7 +64,7 @@ pub trait Store {
     ghost written: { Self → ℕ };
 
     /// How many puts and removals were asked for, whatever was answered.
-    ghost moves: { Self → ℕ };
+    ghost mutations: { Self → ℕ };
 
     /// So far nobody else has written the files, and what was read is what was written. A call can
     /// lose this, and never gain it; one that is answered as these files ask keeps it. A put or a
@@ -83,36 +83,36 @@ pub trait Store {
             → MatchResult result (λ paths. paths.items ≡ listed_paths (files self.old) folders.now (P.prunes pruning.now) → honest self.new) (λ fault. fault ≢ StoreFault.Clash → honest self.new) }
         ensures paths { honest self.new → IfOk result (λ paths. paths.items ≡ listed_paths (files self.old) folders.now (P.prunes pruning.now)) }
         ensures fails { FailsAsRead failures honest self.old self.new result }
-        ensures reads { OnlyReads files may_be failures written moves honest self.old self.new };
+        ensures reads { OnlyReads files may_be failures written mutations honest self.old self.new };
 
     /// What the path holds, if it is no longer than the limit in bytes.
     fn read(&mut self, alloc: Global, path: &PathText, limit: usize) -> Result<Reading, StoreFault>
         ensures kept { honest self.old → MatchResult result (λ reading. reading ≡ reading_of (map.get (files self.old) path.now) limit → honest self.new) (λ fault. fault ≢ StoreFault.Clash → honest self.new) }
         ensures reading { honest self.new → IfOk result (λ reading. reading ≡ reading_of (map.get (files self.old) path.now) limit) }
         ensures fails { FailsAsRead failures honest self.old self.new result }
-        ensures reads { OnlyReads files may_be failures written moves honest self.old self.new };
+        ensures reads { OnlyReads files may_be failures written mutations honest self.old self.new };
 
     /// Makes the path's file these parts joined, and folders as needed.
     fn put_parts(&mut self, alloc: Global, path: &PathText, parts: Parts) -> Result<(), StoreFault>
-        ensures puts { IsPut files may_be failures written moves honest path.now (joined parts.entry) self.old self.new result }
-        ensures later { IsLater failures written moves honest self.old self.new };
+        ensures puts { IsPut files may_be failures written mutations honest path.now (joined parts.entry) self.old self.new result }
+        ensures later { IsLater failures written mutations honest self.old self.new };
 
     /// Makes the path's file these bytes, and folders as needed.
     fn put(&mut self, alloc: Global, path: &PathText, bytes: &[u8]) -> Result<(), StoreFault>
-        ensures puts { IsPut files may_be failures written moves honest path.now bytes.now self.old self.new result }
-        ensures later { IsLater failures written moves honest self.old self.new }
+        ensures puts { IsPut files may_be failures written mutations honest path.now bytes.now self.old self.new result }
+        ensures later { IsLater failures written mutations honest self.old self.new }
     {
         self.put_parts(alloc, path, Parts::whole(bytes))
     }
 
     /// Removes the path's file, if there is one.
     fn remove(&mut self, alloc: Global, path: &PathText) -> Result<(), StoreFault>
-        ensures removes { IsRemoval files may_be failures written moves honest path.now self.old self.new result }
-        ensures later { IsLater failures written moves honest self.old self.new };
+        ensures removes { IsRemoval files may_be failures written mutations honest path.now self.old self.new result }
+        ensures later { IsLater failures written mutations honest self.old self.new };
 
     /// Makes the path hold what it is given, by one put or removal.
     fn write(&mut self, alloc: Global, write: &FileWrite) -> Result<(), StoreFault>
-        ensures { IsWrite files may_be failures written moves honest write.now.path.now write.now.file self.old self.new result }
+        ensures { IsWrite files may_be failures written mutations honest write.now.path.now write.now.file self.old self.new result }
     {
         match write.file {
             Some(parts) => self.put_parts(alloc, write.path, parts),
@@ -123,7 +123,7 @@ pub trait Store {
     /// Makes each path hold what it is given, one after the other, up to the first that fails. A
     /// store may prepare them together.
     fn write_all(&mut self, alloc: Global, writes: &[FileWrite]) -> Result<(), StoreFault>
-        ensures { AreWrites files may_be failures written moves honest writes.now self.old self.new result }
+        ensures { AreWrites files may_be failures written mutations honest writes.now self.old self.new result }
     {
         for write in writes {
             self.write(alloc, write)?;
@@ -136,7 +136,7 @@ pub trait Store {
     fn sync(&mut self, alloc: Global, changes: &[Change]) -> Result<(), StoreFault>
         ensures barrier { IsBarrier files may_be honest changes.now self.old self.new result }
         ensures fails { FailsAsRead failures honest self.old self.new result }
-        ensures reads { OnlyReads files may_be failures written moves honest self.old self.new };
+        ensures reads { OnlyReads files may_be failures written mutations honest self.old self.new };
 
     /// What is there now may be left.
     ghost files_may_be: { (store : Self) → may_be store (files store) };

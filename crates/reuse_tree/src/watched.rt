@@ -77,7 +77,7 @@ impl<S: Store + Drop, W: Watcher> Store for WatchedStore<'_, S, W> {
 
     ghost written = { λ store. S.written store.inner };
 
-    ghost moves = { λ store. S.moves store.inner };
+    ghost mutations = { λ store. S.mutations store.inner };
 
     ghost honest = { λ store. S.honest store.inner };
 

@@ -9,7 +9,7 @@ ghost use Rattle.std.specs.Result.{result_map_both};
 ghost use Rattle.reuse_tree.specs.Calls.Call.{ListCall};
 ghost use Rattle.reuse_tree.specs.Asked.{IsLater, IsPut, IsRemoval, IsWrite, AreWrites};
 ghost use Rattle.reuse_tree.specs.Parts.{joined};
-ghost use Rattle.reuse_tree.specs.Calls.{Start, failures_of, written_of, moves_of};
+ghost use Rattle.reuse_tree.specs.Calls.{Start, failures_of, written_of, mutations_of};
 ghost use Rattle.reuse_tree.specs.Files.{AreFiles};
 ghost use Rattle.reuse_undo.specs.disk.FolderFault.{fault_of_store};
 ghost use Rattle.reuse_undo.specs.disk.Honesty.{files_of, files_may_be_left, IsHonest, MayBeLeft};
@@ -86,7 +86,7 @@ impl<R: Files<File = File> + AllocGlobal + Clone + Drop> DiskStore<R> {
         ensures honest { AreFiles start.files → ⟦<DiskStore<R> as Store>⟧.honest result }
         ensures failures { ⟦<DiskStore<R> as Store>⟧.failures result ≡ 0 }
         ensures written { ⟦<DiskStore<R> as Store>⟧.written result ≡ 0 }
-        ensures moves { ⟦<DiskStore<R> as Store>⟧.moves result ≡ 0 }
+        ensures mutations { ⟦<DiskStore<R> as Store>⟧.mutations result ≡ 0 }
     {
         let (root, lock) = lock.into_parts();
         let keeping = Keeping::new(Process::current(&rt, rt.alloc()), owner_change);
@@ -287,7 +287,7 @@ impl<R: Files<File = File> + AllocGlobal + Clone + Drop> Store for DiskStore<R> 
 
     ghost written = { λ store. written_of store.calls.calls };
 
-    ghost moves = { λ store. moves_of store.calls.calls };
+    ghost mutations = { λ store. mutations_of store.calls.calls };
 
     ghost honest = { λ store. IsHonest store.calls.start store.calls.calls };
 

@@ -3,7 +3,7 @@ pub mod BackAgain
 pub mod Barriers
 pub mod ClearedHeads
 pub mod FilesInDoubt
-pub mod HeadMoves
+pub mod HeadMutations
 pub mod HeadPuts
 pub mod InTurn
 pub mod JournalLemmas

@@ -1,8 +1,8 @@
 -- What a session remembers of the journal.
 use Rattle.std.specs.Prelude.{ℕ, ◌+◌, ◌==◌, not, take_while, List, [], ◌∷◌, ◌++◌, map, reverse, Bool, true, false, Option}
 use Rattle.reuse_session.specs.session.Machine.{row_of}
-use Rattle.reuse_tree.specs.declared.way.Way.{Way}
-use Rattle.reuse_tree.specs.declared.way.Way.TheVariants.{Do, Undo}
+use Rattle.reuse_tree.specs.declared.direction.Direction.{Direction}
+use Rattle.reuse_tree.specs.declared.direction.Direction.TheVariants.{Forward, Backward}
 use Rattle.reuse_session.specs.declared.journal.history.ListedEntry.{ListedEntry}
 use Rattle.reuse_tree.specs.declared.journal.head.Head.{Head}
 use Rattle.reuse_tree.specs.declared.journal.head.Pending.{Pending}
@@ -40,11 +40,11 @@ abbrev pub remember_run : Memory → ListedEntry → Memory
 remember_run memory entry = record { done = memory.done ++ entry ∷ []; undone = []; used = memory.used + 1 }
 
 -- the entries that a way goes on with, the next last: back over those done, and on over those undone
-abbrev pub entries_ahead : Way → Memory → List ListedEntry
-entries_ahead Undo memory = memory.done
-entries_ahead Do memory = memory.undone
+abbrev pub entries_ahead : Direction → Memory → List ListedEntry
+entries_ahead Backward memory = memory.done
+entries_ahead Forward memory = memory.undone
 
 -- what is remembered after the last of them, given those before it
-abbrev pub remember_moved : Way → List ListedEntry → ListedEntry → Memory → Memory
-remember_moved Undo front entry memory = record { done = front; undone = memory.undone ++ entry ∷ []; used = memory.used }
-remember_moved Do front entry memory = record { done = memory.done ++ entry ∷ []; undone = front; used = memory.used }
+abbrev pub remember_moved : Direction → List ListedEntry → ListedEntry → Memory → Memory
+remember_moved Backward front entry memory = record { done = front; undone = memory.undone ++ entry ∷ []; used = memory.used }
+remember_moved Forward front entry memory = record { done = memory.done ++ entry ∷ []; undone = front; used = memory.used }

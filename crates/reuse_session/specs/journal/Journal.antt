@@ -5,8 +5,8 @@ use Rattle.reuse_tree.specs.Files.{Files}
 use Rattle.reuse_tree.specs.declared.change.Change.{Change}
 use Rattle.reuse_tree.specs.Entry.{paths_of, LeadsBy, CanBeMade, IsFirstStuck}
 use Rattle.reuse_session.specs.session.Machine.{Label, row_of}
-use Rattle.reuse_tree.specs.declared.way.Way.{Way}
-use Rattle.reuse_tree.specs.declared.way.Way.TheVariants as way
+use Rattle.reuse_tree.specs.declared.direction.Direction.{Direction}
+use Rattle.reuse_tree.specs.declared.direction.Direction.TheVariants as direction
 use Rattle.reuse_session.specs.declared.reply.Row.{Row}
 use Rattle.reuse_session.specs.declared.reply.Response.{Response}
 use Rattle.reuse_session.specs.declared.reply.Response.TheVariants as reply
@@ -31,16 +31,16 @@ pub record State : Type 0 where
 
 -- Each change of the step can be made this way, and they are made. Or the first that can't be names the refusal, and
 -- nothing changes.
-abbrev pub GoesOneStep : Way → Recorded → (List (List ℕ) → Response) → Journal → State → Result Response Refusal → State → Type 0
-GoesOneStep way step reply moved old (Ok given) new =
-    (given ≡ reply (paths_of step.changes)) × All (CanBeMade way old.tree) step.changes × LeadsBy way step.changes old.tree new.tree × (new.journal ≡ moved)
-GoesOneStep way step reply moved old (Err refusal) new =
-    ((path : List ℕ) × (refusal ≡ Moved path) × IsFirstStuck way old.tree step.changes path) × (new ≡ old)
+abbrev pub GoesOneStep : Direction → Recorded → (List (List ℕ) → Response) → Journal → State → Result Response Refusal → State → Type 0
+GoesOneStep direction step reply moved old (Ok given) new =
+    (given ≡ reply (paths_of step.changes)) × All (CanBeMade direction old.tree) step.changes × LeadsBy direction step.changes old.tree new.tree × (new.journal ≡ moved)
+GoesOneStep direction step reply moved old (Err refusal) new =
+    ((path : List ℕ) × (refusal ≡ Moved path) × IsFirstStuck direction old.tree step.changes path) × (new ≡ old)
 
 -- the steps that a way goes on with, the next first: back over those done, and on over those undone
-abbrev pub ahead : Way → Journal → List Recorded
-ahead way.Undo journal = journal.done
-ahead way.Do journal = journal.undone
+abbrev pub ahead : Direction → Journal → List Recorded
+ahead direction.Backward journal = journal.done
+ahead direction.Forward journal = journal.undone
 
 -- how many changes the first of them has
 abbrev pub next_count : List Recorded → ℕ
@@ -53,31 +53,31 @@ changes_ahead [] = None
 changes_ahead (step ∷ steps) = Some step.changes
 
 -- the journal after the first of them, which is the first behind then
-abbrev pub moved_on : Way → Recorded → List Recorded → Journal → Journal
-moved_on way.Undo step steps old = record { done = steps; undone = step ∷ old.undone; used = old.used }
-moved_on way.Do step steps old = record { done = step ∷ old.done; undone = steps; used = old.used }
+abbrev pub moved_on : Direction → Recorded → List Recorded → Journal → Journal
+moved_on direction.Backward step steps old = record { done = steps; undone = step ∷ old.undone; used = old.used }
+moved_on direction.Forward step steps old = record { done = step ∷ old.done; undone = steps; used = old.used }
 
 -- the answer with a step's paths, and that where there is no step
-abbrev pub reply_of : Way → List (List ℕ) → Response
-reply_of way.Undo = reply.Undone
-reply_of way.Do = reply.Redone
+abbrev pub reply_of : Direction → List (List ℕ) → Response
+reply_of direction.Backward = reply.Undone
+reply_of direction.Forward = reply.Redone
 
-abbrev pub end_of : Way → Refusal
-end_of way.Undo = NothingToUndo
-end_of way.Do = NothingToRedo
+abbrev pub end_of : Direction → Refusal
+end_of direction.Backward = NothingToUndo
+end_of direction.Forward = NothingToRedo
 
 -- what a call answers and leaves that goes one step this way
-abbrev pub Replays : Way → List Recorded → State → Result Response Refusal → State → Type 0
-Replays way [] old result new = (result ≡ Err (end_of way)) × (new ≡ old)
-Replays way (step ∷ steps) old result new = GoesOneStep way step (reply_of way) (moved_on way step steps old.journal) old result new
+abbrev pub Replays : Direction → List Recorded → State → Result Response Refusal → State → Type 0
+Replays direction [] old result new = (result ≡ Err (end_of direction)) × (new ≡ old)
+Replays direction (step ∷ steps) old result new = GoesOneStep direction step (reply_of direction) (moved_on direction step steps old.journal) old result new
 
 -- what undo answers and leaves: the last step done is taken back, and is the next to be redone
 abbrev pub Undoes : List Recorded → State → Result Response Refusal → State → Type 0
-Undoes = Replays way.Undo
+Undoes = Replays direction.Backward
 
 -- what redo answers and leaves: the next step undone is made again, and is the last done
 abbrev pub Redoes : List Recorded → State → Result Response Refusal → State → Type 0
-Redoes = Replays way.Do
+Redoes = Replays direction.Forward
 
 -- the rows of a log: the steps done, the oldest first, then those undone, the next to be redone first
 abbrev pub rows_in : Journal → List Row

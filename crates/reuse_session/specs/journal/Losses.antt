@@ -3,13 +3,13 @@ use Rattle.std.specs.Prelude.{◌≡◌, ◌⊎◌, List, ℕ, Some, Result, Ok,
 use Rattle.reuse_tree.specs.Asked.{Leaves, IsSynced}
 use Rattle.reuse_tree.specs.Entry.{LeadsBy, SomeMade}
 use Rattle.reuse_tree.specs.Files.{Files, tree_of}
-use Rattle.reuse_tree.specs.Head.{way_of}
+use Rattle.reuse_tree.specs.Head.{direction_of}
 use Rattle.reuse_tree.specs.Lasting.{IsMidway}
 use Rattle.reuse_tree.specs.Tree.{undo_folder_of, Sets}
 use Rattle.reuse_tree.specs.declared.change.Change.{Change}
-use Rattle.reuse_tree.specs.declared.journal.head.PendingWay.{PendingWay}
+use Rattle.reuse_tree.specs.declared.journal.head.PendingDirection.{PendingDirection}
 use Rattle.reuse_tree.specs.declared.store.Store.{Ghosts}
-use Rattle.reuse_tree.specs.declared.way.Way.{Way}
+use Rattle.reuse_tree.specs.declared.direction.Direction.{Direction}
 use Rattle.reuse_session.specs.session.Answer.{IsStop}
 use Rattle.reuse_session.specs.journal.Carried.{SetsHead, IsStopped}
 use Rattle.reuse_session.specs.journal.Journal.{Recorded, State}
@@ -31,8 +31,8 @@ pub record IsSafeOn (earlier held : State) (left : Files) : Type 0 where
   pub tree : tree_of left ≡ held.tree
   pub opens :
       IsStanding left held
-      ⊎ ((next : State) × (way : PendingWay) × (step : Recorded) × IsStep way step held next × IsUnderWay way step held left)
-      ⊎ ((way : PendingWay) × (step : Recorded) × IsStep way step earlier held × IsUnderWay way step earlier left)
+      ⊎ ((next : State) × (direction : PendingDirection) × (step : Recorded) × IsStep direction step held next × IsUnderWay direction step held left)
+      ⊎ ((direction : PendingDirection) × (step : Recorded) × IsStep direction step earlier held × IsUnderWay direction step earlier left)
 
 -- all that a loss of power may leave is safe on the standing
 abbrev pub AreSafeOn : {S : Type 0} → Ghosts S → State → State → S → Type 0
@@ -44,7 +44,7 @@ abbrev pub AreInDoubt : {S : Type 0} → Ghosts S → (earlier held next : State
 AreInDoubt store earlier held next new =
     (IsStanding (store.files new) held × AreSafeOn store earlier held new)
     ⊎ (IsStanding (store.files new) next × AreSafeOn store held next new)
-    ⊎ ((way : PendingWay) × (step : Recorded) × IsStep way step held next × IsUnderWay way step held (store.files new)
+    ⊎ ((direction : PendingDirection) × (step : Recorded) × IsStep direction step held next × IsUnderWay direction step held (store.files new)
     × Leaves store new (λ left. IsSafeOn earlier held left ⊎ InDoubt held next left))
 
 -- What a loss of power may leave after a call of a session that stood on the standing: behind a step what is there; where a step was
@@ -57,8 +57,8 @@ Survives store IsNext earlier held (Err (Failed (Interrupted cause))) new = (nex
 Survives store IsNext earlier held (Err refusal) new = AreSafeOn store earlier held new
 
 -- the next standing is that after a step this way
-abbrev pub IsNextBy : PendingWay → State → State → Type 0
-IsNextBy way held next = (step : Recorded) × IsStep way step held next
+abbrev pub IsNextBy : PendingDirection → State → State → Type 0
+IsNextBy direction held next = (step : Recorded) × IsStep direction step held next
 
 -- so it is after a call, from whatever standing all that might be left before was safe on
 abbrev pub SurvivesCall : {S : Type 0} → Ghosts S → (IsNext : State → State → Type 0) → Result Response Refusal → Session S → Session S → Type 0
@@ -85,30 +85,30 @@ HaveTree store new tree = Leaves store new (λ left. tree_of left ≡ tree)
 -- A step is pending in the files, and recovering them leads to the committed state, in which a path that can't be set
 -- back is as it is found. Each tree that a loss of power may leave is that of the state with some of the step's changes
 -- made, whatever its journal tells.
-pub record AwaitsRecovery {S : Type 0} (store : Ghosts S) (way : PendingWay) (step : Recorded) (held : State) (new : S)
+pub record AwaitsRecovery {S : Type 0} (store : Ghosts S) (direction : PendingDirection) (step : Recorded) (held : State) (new : S)
     : Type 0 where
-  pub files : RecoversTo way step held (store.files new)
-  pub trees : Leaves store new (λ left. SomeMade (way_of way) step.changes held.tree (tree_of left))
+  pub files : RecoversTo direction step held (store.files new)
+  pub trees : Leaves store new (λ left. SomeMade (direction_of direction) step.changes held.tree (tree_of left))
 
 -- they await it still; or they are that state, and all that may be left has its tree
-abbrev pub AwaitsOrIs : {S : Type 0} → Ghosts S → PendingWay → Recorded → State → S → Type 0
-AwaitsOrIs store way step held new =
-    AwaitsRecovery store way step held new
+abbrev pub AwaitsOrIs : {S : Type 0} → Ghosts S → PendingDirection → Recorded → State → S → Type 0
+AwaitsOrIs store direction step held new =
+    AwaitsRecovery store direction step held new
     ⊎ (IsStanding (store.files new) held × HaveTree store new held.tree)
 
 -- what is left is the committed state, or recovering leads to it
-abbrev pub IsOrRecoversTo : PendingWay → Recorded → State → Files → Type 0
-IsOrRecoversTo way step held left = IsStanding left held ⊎ RecoversTo way step held left
+abbrev pub IsOrRecoversTo : PendingDirection → Recorded → State → Files → Type 0
+IsOrRecoversTo direction step held left = IsStanding left held ⊎ RecoversTo direction step held left
 
 -- Files that await it were recovered. They are the committed state, and nothing else may be left. Or that failed: they
 -- await it still, or are the state; and if it stopped, each that may be left is the state, or recovering leads to it.
-abbrev pub SurvivesRecovery : {S : Type 0} → Ghosts S → PendingWay → Recorded → State → Result Recovered Refusal → S
+abbrev pub SurvivesRecovery : {S : Type 0} → Ghosts S → PendingDirection → Recorded → State → Result Recovered Refusal → S
     → Type 0
-SurvivesRecovery store way step held result new =
+SurvivesRecovery store direction step held result new =
     MatchResult result
     (λ recovered. IsStanding (store.files new) held × IsSynced store new)
-    (λ refusal. AwaitsOrIs store way step held new
-    × (IsStop refusal → Leaves store new (IsOrRecoversTo way step held)))
+    (λ refusal. AwaitsOrIs store direction step held new
+    × (IsStop refusal → Leaves store new (IsOrRecoversTo direction step held)))
 
 -- ---- for private clauses
 
@@ -120,15 +120,15 @@ MayHaveHead store head done new =
 
 -- where carrying a step out stops, from files of which nothing but the journal was in doubt: at the pending head, among the changes, or
 -- at the last head
-abbrev pub StopsWithDoubt : {S : Type 0} → Ghosts S → Way → List Change → (pending settled : List ℕ) → S → S → Type 0
-StopsWithDoubt store way changes pending settled old new =
+abbrev pub StopsWithDoubt : {S : Type 0} → Ghosts S → Direction → List Change → (pending settled : List ℕ) → S → S → Type 0
+StopsWithDoubt store direction changes pending settled old new =
     (((store.files new ≡ store.files old) ⊎ Sets head_path (Some pending) (store.files old) (store.files new))
     × Leaves store new (λ left. store.may_be old left ⊎ ((kept : Files) × store.may_be old kept × Sets head_path (Some pending) kept left)))
-    ⊎ (IsStopped way changes pending (store.files old) (store.files new) × Leaves store new (IsStopped way changes pending (store.files old)))
-    ⊎ ((done : Files) × LeadsBy way changes (tree_of (store.files old)) (tree_of done) × SetsHead pending (store.files old) done × MayHaveHead store settled done new)
+    ⊎ (IsStopped direction changes pending (store.files old) (store.files new) × Leaves store new (IsStopped direction changes pending (store.files old)))
+    ⊎ ((done : Files) × LeadsBy direction changes (tree_of (store.files old)) (tree_of done) × SetsHead pending (store.files old) done × MayHaveHead store settled done new)
 
 -- where rolling these files back to a tree stops: among the changes, or at the last head
-abbrev pub StopsBackWithDoubt : {S : Type 0} → Ghosts S → Way → List Change → List ℕ → (start before : Files) → S → Type 0
-StopsBackWithDoubt store way changes settled start before new =
-    (IsMidway way changes start (undo_folder_of before) (store.files new) × Leaves store new (IsMidway way changes start (undo_folder_of before)))
+abbrev pub StopsBackWithDoubt : {S : Type 0} → Ghosts S → Direction → List Change → List ℕ → (start before : Files) → S → Type 0
+StopsBackWithDoubt store direction changes settled start before new =
+    (IsMidway direction changes start (undo_folder_of before) (store.files new) × Leaves store new (IsMidway direction changes start (undo_folder_of before)))
     ⊎ ((done : Files) × (tree_of done ≡ start) × (undo_folder_of done ≡ undo_folder_of before) × MayHaveHead store settled done new)

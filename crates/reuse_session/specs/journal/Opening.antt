@@ -5,8 +5,8 @@ use Rattle.std.specs.FinMap.{get}
 use Rattle.reuse_tree.specs.Path.{journal_folder}
 use Rattle.reuse_tree.specs.Files.{Files, tree_of}
 use Rattle.reuse_tree.specs.declared.store.Store.{Ghosts}
-use Rattle.reuse_tree.specs.Entry.{CanBeSetBack, IsFirstWithout}
-use Rattle.reuse_tree.specs.Head.{listed, way_of}
+use Rattle.reuse_tree.specs.Entry.{CanBeRolledBack, IsFirstWithout}
+use Rattle.reuse_tree.specs.Head.{listed, direction_of}
 use Rattle.reuse_session.specs.journal.History.{Memory}
 use Rattle.reuse_session.specs.journal.Journal.{Recorded, Journal, State}
 use Rattle.reuse_session.specs.journal.JournalFiles.{head_path, entry_path, number_of, HeadSays, EntrySays, IsKeptIn, KeepsJournal}
@@ -15,7 +15,7 @@ use Rattle.reuse_session.specs.journal.Standing.{IsStanding, IsUnderWay}
 use Rattle.reuse_tree.specs.Tree.{undo_folder_of}
 use Rattle.reuse_tree.specs.declared.journal.head.Head.{Head}
 use Rattle.reuse_tree.specs.declared.journal.head.Pending.{Pending}
-use Rattle.reuse_tree.specs.declared.journal.head.PendingWay.{PendingWay}
+use Rattle.reuse_tree.specs.declared.journal.head.PendingDirection.{PendingDirection}
 use Rattle.reuse_tree.specs.declared.journal.entry.Entry.{Entry}
 use Rattle.reuse_session.specs.declared.journal.history.ListedEntry.{ListedEntry}
 use Rattle.reuse_session.specs.declared.reply.Refusal.{Refusal}
@@ -68,15 +68,15 @@ IsFirstBad files path =
 pub record IsStuckAt (files : Files) (path : List ℕ) : Type 0 where
   pub above : NoFileAbove files
   pub journal : Journal
-  pub way : PendingWay
+  pub direction : PendingDirection
   pub step : Recorded
-  pub keeps : KeepsJournal (undo_folder_of files) journal (Some (record { entry = number_of step; way = way }))
+  pub keeps : KeepsJournal (undo_folder_of files) journal (Some (record { entry = number_of step; direction = direction }))
   pub kept : IsKeptIn (undo_folder_of files) step
-  pub stuck : IsFirstWithout (CanBeSetBack (way_of way) (tree_of files)) step.changes path
+  pub stuck : IsFirstWithout (CanBeRolledBack (direction_of direction) (tree_of files)) step.changes path
 
 -- the files are this standing, or a step is under way from it
 abbrev pub CanOpenOn : Files → State → Type 0
-CanOpenOn files held = IsStanding files held ⊎ ((way : PendingWay) × (step : Recorded) × IsUnderWay way step held files)
+CanOpenOn files held = IsStanding files held ⊎ ((direction : PendingDirection) × (step : Recorded) × IsUnderWay direction step held files)
 
 -- What opening these files answers, where it tells neither an I/O error nor an allocation failure: a bad journal exactly at the
 -- first path at fault, else a path that moved exactly where the pending step is stuck, else a session.
@@ -98,13 +98,13 @@ opening_store (Err refused) = refused.1
 abbrev pub OpensOn : Files → State → Files → Type 0
 OpensOn before held after =
     (IsStanding before held × (after ≡ before))
-    ⊎ ((way : PendingWay) × (step : Recorded) × IsUnderWay way step held before × IsStanding after held)
+    ⊎ ((direction : PendingDirection) × (step : Recorded) × IsUnderWay direction step held before × IsStanding after held)
 
 -- A step was under way from a standing. It is still, or its files are rolled back.
 abbrev pub StopsOpening : Files → Files → Type 0
 StopsOpening before after =
-    (held : State) × (way : PendingWay) × (step : Recorded)
-    × IsUnderWay way step held before × (IsStanding after held ⊎ IsUnderWay way step held after)
+    (held : State) × (direction : PendingDirection) × (step : Recorded)
+    × IsUnderWay direction step held before × (IsStanding after held ⊎ IsUnderWay direction step held after)
 
 -- the head tells a step as pending, which is that of this entry
 pub record IsPendingIn (folder : Files) (entry : Entry) : Type 0 where
@@ -115,12 +115,12 @@ pub record IsPendingIn (folder : Files) (entry : Entry) : Type 0 where
   pub is : EntrySays (get folder (entry_path pending.entry)) entry
 
 -- no put and no removal is asked for; or at most one for each change of such an entry, and one for the head
-abbrev pub MovesFor : {S : Type 0} → Ghosts S → (Entry → Type 0) → S → S → Type 0
-MovesFor store IsIt old new = (store.moves new ≡ store.moves old) ⊎ ((entry : Entry) × IsIt entry × (store.moves new ≤ store.moves old + length entry.changes + 1))
+abbrev pub MutationsFor : {S : Type 0} → Ghosts S → (Entry → Type 0) → S → S → Type 0
+MutationsFor store IsIt old new = (store.mutations new ≡ store.mutations old) ⊎ ((entry : Entry) × IsIt entry × (store.mutations new ≤ store.mutations old + length entry.changes + 1))
 
 -- what opening asks for
-abbrev pub MovesToOpen : {S : Type 0} → Ghosts S → S → S → Type 0
-MovesToOpen store old new = MovesFor store (IsPendingIn (undo_folder_of (store.files old))) old new
+abbrev pub MutationsToOpen : {S : Type 0} → Ghosts S → S → S → Type 0
+MutationsToOpen store old new = MutationsFor store (IsPendingIn (undo_folder_of (store.files old))) old new
 
 -- ---- for private clauses
 
@@ -159,5 +159,5 @@ pub record IsRead (files : Files) (pending : Option Pending) (memory : Memory) (
 abbrev pub IsSettled : Pending → Journal → Files → Files → Type 0
 IsSettled pending journal before after =
     (step : Recorded) × (number_of step ≡ pending.entry)
-    × IsUnderWay pending.way step (record { tree = tree_of after; journal = journal }) before
+    × IsUnderWay pending.direction step (record { tree = tree_of after; journal = journal }) before
     × IsStanding after (record { tree = tree_of after; journal = journal })

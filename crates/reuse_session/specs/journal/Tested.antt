@@ -1,12 +1,12 @@
 -- What is tested of each change of an entry, before one of them is made.
 use Rattle.reuse_tree.specs.Files.{Files}
 use Rattle.reuse_tree.specs.declared.change.Change.{Change}
-use Rattle.reuse_tree.specs.Entry.{CanBeMade, CanBeSetBack}
-use Rattle.reuse_tree.specs.declared.way.Way.{Way}
+use Rattle.reuse_tree.specs.Entry.{CanBeMade, CanBeRolledBack}
+use Rattle.reuse_tree.specs.declared.direction.Direction.{Direction}
 use Rattle.reuse_session.specs.declared.journal.prepare.Aim.{Aim}
-use Rattle.reuse_session.specs.declared.journal.prepare.Aim.TheVariants.{Go, SetBack}
+use Rattle.reuse_session.specs.declared.journal.prepare.Aim.TheVariants.{Go, RollingBack}
 
 -- on the tree, the change is as the aim needs it
-abbrev pub Passes : Aim → Way → Files → Change → Type 0
-Passes Go way tree = CanBeMade way tree
-Passes SetBack way tree = CanBeSetBack way tree
+abbrev pub Passes : Aim → Direction → Files → Change → Type 0
+Passes Go direction tree = CanBeMade direction tree
+Passes RollingBack direction tree = CanBeRolledBack direction tree

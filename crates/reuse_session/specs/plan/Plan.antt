@@ -6,7 +6,7 @@ use Rattle.std.specs.Cmp.Lexicographic.{slice_cmp}
 use Rattle.std.specs.List.Sorted.{IsPermutation}
 use Rattle.std.specs.declared.vec.Vec.{Vec}
 use Rattle.reuse_tree.specs.Files.{Files, AreFiles}
-use Rattle.reuse_tree.specs.Change.{path_of, is_sealed, IsProper, Turns}
+use Rattle.reuse_tree.specs.Change.{path_of, is_sealed, IsProper, Applies}
 use Rattle.reuse_tree.specs.declared.change.Change.{Change}
 use Rattle.reuse_session.specs.plan.Outcome.{Edit}
 use Rattle.reuse_tree.specs.Entry.{removed_by, written_by, IsEntry, IsSmall, LeadsAll}
@@ -42,7 +42,7 @@ pub record CarriesOutEdit (tree : Files) (change : Change) (edit : Edit) : Type 
   pub written : written_by change ≡ edit.written
   pub proper : IsProper change
   pub small : IsSmall change
-  pub turns : Turns change (get tree edit.path) edit.file
+  pub applies : Applies change (get tree edit.path) edit.file
   pub sealed : is_sealed change ≡ true
 
 -- a change where there is an edit

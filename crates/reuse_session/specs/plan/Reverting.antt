@@ -16,7 +16,7 @@ use Rattle.reuse_session.specs.plan.Edit.{Edit, made, dropped}
 use Rattle.reuse_session.specs.plan.PathEdits.{PathEdit}
 use Rattle.reuse_tree.specs.Entry.{makes}
 use Rattle.reuse_tree.specs.Listing.{is_among}
-use Rattle.reuse_tree.specs.declared.way.Way.TheVariants.{Undo}
+use Rattle.reuse_tree.specs.declared.direction.Direction.TheVariants.{Backward}
 use Rattle.reuse_session.specs.declared.reply.Refusal.{Refusal}
 use Rattle.reuse_session.specs.declared.reply.Refusal.TheVariants.{Moved}
 
@@ -59,7 +59,7 @@ taken_back (Splice path at old new rest seal) (Some file) =
 
 -- the same on a tree: no file is made again where that clashes
 abbrev pub taken_back_on : Files → Change → Option Edit
-taken_back_on tree change = if makes Undo change && is_clash tree (path_of change) then None else taken_back change (get tree (path_of change))
+taken_back_on tree change = if makes Backward change && is_clash tree (path_of change) then None else taken_back change (get tree (path_of change))
 
 -- the same where later steps touched these paths: what they hold is those steps', and nothing takes a change of them back
 abbrev pub taken_back_unless : List (List ℕ) → Files → Change → Option Edit

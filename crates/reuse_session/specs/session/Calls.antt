@@ -5,14 +5,14 @@ use Rattle.reuse_tree.specs.Files.{Files, Clashes, tree_of}
 use Rattle.reuse_tree.specs.declared.store.Store.{Ghosts}
 use Rattle.reuse_session.specs.session.Answer.{IsEarly, IsStop, HasCause, HasClash}
 use Rattle.reuse_tree.specs.EntryText.{entry_text}
-use Rattle.reuse_tree.specs.Head.{listed_way}
+use Rattle.reuse_tree.specs.Head.{listed_direction}
 use Rattle.reuse_session.specs.journal.Journal.{State, ahead, next_count}
 use Rattle.reuse_session.specs.journal.JournalFiles.{head_path, entry_path, IsFree}
 use Rattle.reuse_session.specs.plan.Outcome.{edits_of, edit_count, recorded_size}
 use Rattle.reuse_session.specs.session.Session.{store_of, is_broken, memory_of, listed_count, head_room, IsKept, IsSameBut, IsSameButTwo, HasHeadText, HasEntryText, IsRecordOf, StandsOn, StopsAfter, StopsAfterRun}
 use Rattle.reuse_tree.specs.Tree.{undo_folder_of}
 use Rattle.reuse_session.specs.declared.command.Command.{Command}
-use Rattle.reuse_tree.specs.declared.way.Way.{Way}
+use Rattle.reuse_tree.specs.declared.direction.Direction.{Direction}
 use Rattle.reuse_tree.specs.declared.journal.entry.Entry.{Entry}
 use Rattle.reuse_session.specs.declared.reply.Response.{Response}
 use Rattle.reuse_session.specs.declared.reply.Response.TheVariants.{Changed}
@@ -41,12 +41,12 @@ pub record IsCall {A S : Type 0} (store : Ghosts S) (result : Result A Refusal) 
   pub later : IsLater store (store_of old) (store_of new)
 
 -- What an undo or a redo leaves. It puts nothing in the journal but heads.
-pub record LeavesReplay {S : Type 0} (store : Ghosts S) (way : Way) (result : Result Response Refusal) (old new : Session S) : Type 0 where
+pub record LeavesReplay {S : Type 0} (store : Ghosts S) (direction : Direction) (result : Result Response Refusal) (old new : Session S) : Type 0 where
   -- a refusal before the step is pending has only read
   pub early : IfErr result (λ refusal. IsEarly refusal → OnlyReads store (store_of old) (store_of new))
   -- where it stops later something was put, and the files are in doubt between the standing before the call and that after it
   pub doubt : store.honest (store_of new) → (held : State) → StandsOn store.files old held
-      → IfErr result (λ refusal. IsStop refusal → StopsAfter (listed_way way) held (files_of store new))
+      → IfErr result (λ refusal. IsStop refusal → StopsAfter (listed_direction direction) held (files_of store new))
   pub late : IfErr result (λ refusal. IsStop refusal → store.written (store_of old) < store.written (store_of new))
   -- of the journal's files none but the head holds something else, which is its very text after a step
   pub folder : store.honest (store_of new) → IsSameBut head_path (folder_of store old) (folder_of store new)
@@ -55,8 +55,8 @@ pub record LeavesReplay {S : Type 0} (store : Ghosts S) (way : Way) (result : Re
   pub written : store.honest (store_of new) → (held : State) → StandsOn store.files old held
       → store.written (store_of new) ≤ store.written (store_of old) + 2 * head_room (listed_count (memory_of old))
   -- and at most one put or removal is asked for beside them for each change of the step
-  pub moves : store.honest (store_of new) → (held : State) → StandsOn store.files old held
-      → store.moves (store_of new) ≤ store.moves (store_of old) + next_count (ahead way held.journal) + 2
+  pub mutations : store.honest (store_of new) → (held : State) → StandsOn store.files old held
+      → store.mutations (store_of new) ≤ store.mutations (store_of old) + next_count (ahead direction held.journal) + 2
   -- a clash is told only where the head's path clashes, and as a stop, since nothing is put before the head; and nothing stops since
   -- a file has moved; where no path of a file of the journal is a folder, none becomes one
   pub clash : store.honest (store_of new) → IfErr result (HasClash ⊥ (Clashes (files_of store old) head_path))
@@ -90,8 +90,8 @@ pub record LeavesRun {S : Type 0} (store : Ghosts S) (command : Command) (when :
       + head_room (listed_count (memory_of old)) + head_room (length (memory_of old).done + 1)
   -- and at most one put or removal is asked for beside these three for each file that the command changes; before the step is pending
   -- at most the entry's
-  pub moves : store.honest (store_of new) → store.moves (store_of new) ≤ store.moves (store_of old) + edit_count (edits_of command (tree_of (files_of store old))) + 3
-  pub begins : IfErr result (λ refusal. IsEarly refusal → store.moves (store_of new) ≤ store.moves (store_of old) + 1)
+  pub mutations : store.honest (store_of new) → store.mutations (store_of new) ≤ store.mutations (store_of old) + edit_count (edits_of command (tree_of (files_of store old))) + 3
+  pub begins : IfErr result (λ refusal. IsEarly refusal → store.mutations (store_of new) ≤ store.mutations (store_of old) + 1)
   -- a clash is told only where the path that is put clashes: the next entry's before the step is pending, and the head's from then
   -- on; and nothing stops since a file has moved; where no path of a file of the journal is a folder, none becomes one
   pub clash : store.honest (store_of new) → IfErr result (HasClash (Clashes (files_of store old) (next_path old)) (Clashes (files_of store old) head_path))

@@ -145,11 +145,11 @@ pub record LeavesForgetting {S : Type 0} (store : Ghosts S) (numbers : List ℕ)
       ⊎ (HasHeadText (memory_besides numbers (memory_of old)) (files_of store new) × AreGoneFromTheTop numbers (files_of store old) (files_of store new)))
   pub doubt : store.honest (store_of new) → (held : State) → StandsOn store.files old held
       → IfErr result (λ refusal. IsStop refusal → IsStanding (files_of store new) held ⊎ IsStanding (files_of store new) (state_besides numbers held))
-  pub late : IfErr result (λ refusal. IsStop refusal → store.moves (store_of old) < store.moves (store_of new))
+  pub late : IfErr result (λ refusal. IsStop refusal → store.mutations (store_of old) < store.mutations (store_of new))
   -- it takes at most a head of the entries that are left, and asks for one put, and for at most one removal for each number
   pub written : store.honest (store_of new) → (held : State) → StandsOn store.files old held
       → store.written (store_of new) ≤ store.written (store_of old) + head_room (listed_count (memory_besides numbers (memory_of old)))
-  pub moves : store.moves (store_of new) ≤ store.moves (store_of old) + 1 + length numbers
+  pub mutations : store.mutations (store_of new) ≤ store.mutations (store_of old) + 1 + length numbers
   -- a clash is told only where the head's path clashes; where no path of a file of the journal is a folder, none becomes one
   pub clash : store.honest (store_of new) → IfErr result (HasClash ⊥ (Clashes (files_of store old) head_path))
   pub free : store.honest (store_of new) → IsFree (folder_of store old) → IsFree (folder_of store new)

@@ -4,8 +4,8 @@ use Rattle.reuse_tree.specs.Files.{Files}
 use Rattle.reuse_session.specs.session.Command.{name_of}
 use Rattle.reuse_session.specs.session.PathOutcomes.{path_outcomes_of}
 use Rattle.reuse_tree.specs.Tree.{changed_paths}
-use Rattle.reuse_tree.specs.declared.way.Way.{Way}
-use Rattle.reuse_tree.specs.declared.way.Way.TheVariants as go
+use Rattle.reuse_tree.specs.declared.direction.Direction.{Direction}
+use Rattle.reuse_tree.specs.declared.direction.Direction.TheVariants as go
 use Rattle.reuse_session.specs.plan.Outcome.{outcome_of}
 use Rattle.reuse_session.specs.declared.command.Command.{Command}
 use Rattle.reuse_tree.specs.declared.command_name.CommandName.{CommandName}
@@ -121,6 +121,6 @@ redo_path_outcomes tree [] = Err NothingToRedo
 redo_path_outcomes tree (kept ∷ future) = Ok (map Changes (changed_paths tree kept.tree))
 
 -- what going one step this way would do
-abbrev pub step_path_outcomes : Way → Snapshots → Result (List PathOutcome) Refusal
-step_path_outcomes go.Undo s = undo_path_outcomes s.tree s.past
-step_path_outcomes go.Do s = redo_path_outcomes s.tree s.future
+abbrev pub step_path_outcomes : Direction → Snapshots → Result (List PathOutcome) Refusal
+step_path_outcomes go.Backward s = undo_path_outcomes s.tree s.past
+step_path_outcomes go.Forward s = redo_path_outcomes s.tree s.future

@@ -8,7 +8,7 @@ use Rattle.reuse_session.specs.plan.Edit.{Edit}
 use Rattle.reuse_session.specs.plan.Outcome.{path_edits_of, edits_of, is_too_many}
 use Rattle.reuse_session.specs.plan.PathEdits.{PathEdit}
 use Rattle.reuse_session.specs.declared.command.Command.{Command}
-use Rattle.reuse_tree.specs.declared.way.Way.{Way}
+use Rattle.reuse_tree.specs.declared.direction.Direction.{Direction}
 use Rattle.reuse_session.specs.declared.path_outcome.PathOutcome.{PathOutcome}
 use Rattle.reuse_session.specs.declared.path_outcome.PathOutcome.TheVariants.{Changes, Unchanged, Skipped, Refused}
 use Rattle.reuse_session.specs.declared.reply.Refusal.{Refusal}
@@ -45,14 +45,14 @@ first_refusal (path_outcome ∷ path_outcomes) = first_refusal path_outcomes
 -- ---- an undo or a redo
 
 -- gone through this way, the change can be made on the tree and its path changes, or it can't and is refused
-abbrev pub IsPathOutcomeOf : Way → Files → Change → PathOutcome → Type 0
-IsPathOutcomeOf way tree change (Changes path) = (path ≡ path_of change) × CanBeMade way tree change
-IsPathOutcomeOf way tree change (Refused (Moved path)) = (path ≡ path_of change) × ¬ (CanBeMade way tree change)
-IsPathOutcomeOf way tree change path_outcome = ⊥
+abbrev pub IsPathOutcomeOf : Direction → Files → Change → PathOutcome → Type 0
+IsPathOutcomeOf direction tree change (Changes path) = (path ≡ path_of change) × CanBeMade direction tree change
+IsPathOutcomeOf direction tree change (Refused (Moved path)) = (path ≡ path_of change) × ¬ (CanBeMade direction tree change)
+IsPathOutcomeOf direction tree change path_outcome = ⊥
 
 -- one path outcome for each change, in their order
-abbrev pub ArePathOutcomesOf : Way → Files → List Change → List PathOutcome → Type 0
-ArePathOutcomesOf way tree [] [] = Unit {0}
-ArePathOutcomesOf way tree (change ∷ changes) (path_outcome ∷ path_outcomes) = IsPathOutcomeOf way tree change path_outcome × ArePathOutcomesOf way tree changes path_outcomes
-ArePathOutcomesOf way tree [] (path_outcome ∷ path_outcomes) = ⊥
-ArePathOutcomesOf way tree (change ∷ changes) [] = ⊥
+abbrev pub ArePathOutcomesOf : Direction → Files → List Change → List PathOutcome → Type 0
+ArePathOutcomesOf direction tree [] [] = Unit {0}
+ArePathOutcomesOf direction tree (change ∷ changes) (path_outcome ∷ path_outcomes) = IsPathOutcomeOf direction tree change path_outcome × ArePathOutcomesOf direction tree changes path_outcomes
+ArePathOutcomesOf direction tree [] (path_outcome ∷ path_outcomes) = ⊥
+ArePathOutcomesOf direction tree (change ∷ changes) [] = ⊥

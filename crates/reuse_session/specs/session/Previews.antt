@@ -9,7 +9,7 @@ use Rattle.reuse_session.specs.journal.Journal.{Recorded, State, end_of}
 use Rattle.reuse_session.specs.session.Machine.{is_full}
 use Rattle.reuse_session.specs.session.Session.{store_of, IsKept}
 use Rattle.reuse_session.specs.declared.command.Command.{Command}
-use Rattle.reuse_tree.specs.declared.way.Way.{Way}
+use Rattle.reuse_tree.specs.declared.direction.Direction.{Direction}
 use Rattle.reuse_session.specs.declared.path_outcome.PathOutcome.{PathOutcome}
 use Rattle.reuse_session.specs.declared.path_outcome.Previewed.{Previewed}
 use Rattle.reuse_session.specs.declared.reply.Refusal.{Refusal}
@@ -17,10 +17,10 @@ use Rattle.reuse_session.specs.declared.reply.Refusal.TheVariants.{Broken, Journ
 use Rattle.reuse_session.specs.declared.session.Session.{Session}
 
 -- a preview of an undo or a redo: the path outcomes of the next step's changes, or that there is no step
-abbrev pub PreviewsReplay : Way → List Recorded → Files → Result (List PathOutcome) Refusal → Type 0
-PreviewsReplay way [] tree answer = answer ≡ Err (end_of way)
-PreviewsReplay way (step ∷ steps) tree (Ok path_outcomes) = ArePathOutcomesOf way tree step.changes path_outcomes
-PreviewsReplay way (step ∷ steps) tree (Err refusal) = ⊥
+abbrev pub PreviewsReplay : Direction → List Recorded → Files → Result (List PathOutcome) Refusal → Type 0
+PreviewsReplay direction [] tree answer = answer ≡ Err (end_of direction)
+PreviewsReplay direction (step ∷ steps) tree (Ok path_outcomes) = ArePathOutcomesOf direction tree step.changes path_outcomes
+PreviewsReplay direction (step ∷ steps) tree (Err refusal) = ⊥
 
 -- the path outcomes of what is previewed with its changes, as an answer
 abbrev pub path_outcomes_alone : Result Previewed Refusal → Result (List PathOutcome) Refusal

@@ -4,9 +4,9 @@ use Rattle.std.specs.List.{Contains}
 use Rattle.reuse_tree.specs.Asked.{OnlyReads}
 use Rattle.reuse_tree.specs.Files.{Files, Clashes}
 use Rattle.reuse_tree.specs.Tree.{undo_folder_of}
-use Rattle.reuse_tree.specs.declared.journal.head.PendingWay.TheVariants as ways
+use Rattle.reuse_tree.specs.declared.journal.head.PendingDirection.TheVariants as directions
 use Rattle.reuse_tree.specs.declared.store.Store.{Ghosts}
-use Rattle.reuse_tree.specs.declared.way.Way.TheVariants as go
+use Rattle.reuse_tree.specs.declared.direction.Direction.TheVariants as go
 use Rattle.reuse_session.specs.session.Answer.{IsEarly, IsStop, HasCause, HasClash, IsNoClash, RefusedAsRead, TellsNoFault}
 use Rattle.reuse_session.specs.session.Calls.{files_of, folder_of, IsCall}
 use Rattle.reuse_session.specs.journal.Journal.{Recorded, State, Undoes, Redoes, rows_in}
@@ -68,8 +68,8 @@ PreviewsRevert number skip_moved old answer =
 -- what a preview of a call answers
 abbrev pub Previews : Call → State → Result (List PathOutcome) Refusal → Type 0
 Previews (calls.Run command) old answer = answer ≡ run_path_outcomes_on old command
-Previews calls.Undo old answer = PreviewsReplay go.Undo old.journal.done old.tree answer
-Previews calls.Redo old answer = PreviewsReplay go.Do old.journal.undone old.tree answer
+Previews calls.Undo old answer = PreviewsReplay go.Backward old.journal.done old.tree answer
+Previews calls.Redo old answer = PreviewsReplay go.Forward old.journal.undone old.tree answer
 Previews (calls.Revert number skip_moved) old answer = PreviewsRevert number skip_moved old answer
 
 -- what a call answers, and which state it leaves
@@ -92,8 +92,8 @@ LeadsTo (requests.Show number) old answer new = (shown : Result Shown Refusal) �
 -- the state is that after a call
 abbrev pub IsAfterCall : Call → ℕ → State → State → Type 0
 IsAfterCall (calls.Run command) when old new = IsRun command when old new
-IsAfterCall calls.Undo when old new = IsNextBy ways.Undo old new
-IsAfterCall calls.Redo when old new = IsNextBy ways.Redo old new
+IsAfterCall calls.Undo when old new = IsNextBy directions.Undo old new
+IsAfterCall calls.Redo when old new = IsNextBy directions.Redo old new
 IsAfterCall (calls.Revert number skip_moved) when old new = IsAfterRevert number skip_moved when old new
 
 -- the state is that after a request that makes a step

@@ -20,8 +20,8 @@ use Rattle.reuse_session.specs.declared.command.Command.{Command}
 use Rattle.reuse_session.specs.declared.journal.history.ListedEntry.{ListedEntry}
 use Rattle.reuse_tree.specs.declared.journal.entry.Entry.{Entry}
 use Rattle.reuse_tree.specs.declared.journal.head.Pending.{Pending}
-use Rattle.reuse_tree.specs.declared.journal.head.PendingWay.{PendingWay}
-use Rattle.reuse_tree.specs.declared.journal.head.PendingWay.TheVariants as ways
+use Rattle.reuse_tree.specs.declared.journal.head.PendingDirection.{PendingDirection}
+use Rattle.reuse_tree.specs.declared.journal.head.PendingDirection.TheVariants as directions
 use Rattle.reuse_session.specs.declared.session.Session.{Session}
 use Rattle.reuse_session.specs.declared.reply.Response.{Response}
 use Rattle.reuse_session.specs.declared.reply.Response.TheVariants.{Changed, NothingChanged}
@@ -121,7 +121,7 @@ pub record IsRun (command : Command) (when : ℕ) (first second : State) : Type 
   pub entry : IsEntry step.changes
   pub recorded : Records first.tree (edits_of command first.tree) step.changes
   pub are_files : AreFiles second.tree
-  pub is_step : IsStep ways.Do step first second
+  pub is_step : IsStep directions.Do step first second
 
 -- what a run answers and leaves: a command that gives another tree is one step, and its paths are answered; one that gives the same
 -- tree leaves all, and so does a refusal, which is that of a full journal or the command's own
@@ -140,8 +140,8 @@ IsRecordOf command when tree entry = (entry.command ≡ name_of command) × (ent
 abbrev pub StopsAfterRun : Command → ℕ → State → Files → Type 0
 StopsAfterRun command when first files = (second : State) × IsRun command when first second × InDoubt first second files
 
-abbrev pub StopsAfter : PendingWay → State → Files → Type 0
-StopsAfter way first files = (second : State) × (step : Recorded) × IsStep way step first second × InDoubt first second files
+abbrev pub StopsAfter : PendingDirection → State → Files → Type 0
+StopsAfter direction first files = (second : State) × (step : Recorded) × IsStep direction step first second × InDoubt first second files
 
 -- the bytes that a head of so many entries takes at most
 abbrev pub head_room : ℕ → ℕ
@@ -168,6 +168,6 @@ pub record IsStepOf (folder : Files) (made : List Change) (pending : Pending) (m
   pub entry : IsEntry made
   pub kept : IsKeptIn folder step
   pub low : number_of step ≤ 999_999
-  pub is_step : IsStep pending.way step first second
+  pub is_step : IsStep pending.direction step first second
   pub remembers : Remembers moved second.journal
-  pub room : pending.way ≡ ways.Do → is_full (length first.journal.done) first.journal.used ≡ false
+  pub room : pending.direction ≡ directions.Do → is_full (length first.journal.done) first.journal.used ≡ false

@@ -203,7 +203,7 @@ pub fn put_entry<S: Store>(
     ensures clash { S.honest store.new → result ≡ Err (Refusal.Failed (failures.Fault faults.Clash)) → Clashes (S.files store.old) (entry_path number) }
     ensures device { result ≡ Err (Refusal.Failed (failures.Fault faults.Device)) → S.failures store.old < S.failures store.new }
     ensures written { IsEntry entry.now.changes → S.written store.new ≤ S.written store.old + entry_size entry.now.changes }
-    ensures moves { S.moves store.new ≤ S.moves store.old + 1 }
+    ensures mutations { S.mutations store.new ≤ S.mutations store.old + 1 }
     ensures later { IsLater S.Store store.old store.new }
 {
     let path = entry_path(alloc, number)?;
@@ -232,7 +232,7 @@ pub fn put_head<S: Store>(
     ensures device { IsErrOf result Cause.Device → S.failures store.old < S.failures store.new }
     ensures written { S.written store.new ≤ S.written store.old + length text.now }
     ensures counted { S.written store.old + length text.now ≤ S.written store.new }
-    ensures moves { S.moves store.new ≡ S.moves store.old + 1 }
+    ensures mutations { S.mutations store.new ≡ S.mutations store.old + 1 }
     ensures later { IsLater S.Store store.old store.new }
 {
     store.put(alloc, &head.path, text)?;

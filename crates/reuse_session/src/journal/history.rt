@@ -9,7 +9,7 @@ ghost use Rattle.reuse_session.specs.session.Showing.{lists, entry_of, row_in};
 ghost use Rattle.reuse_session.specs.declared.journal.history.ListedEntry.{ListedEntry};
 
 use crate::reply::{Row, Rows};
-use reuse_tree::{CommandName, EntryNumbers, Head, Moment, Pending, Way, encode_head};
+use reuse_tree::{CommandName, Direction, EntryNumbers, Head, Moment, Pending, encode_head};
 use std::alloc::{AllocError, Global};
 use std::marker::Model;
 
@@ -78,13 +78,13 @@ impl History {
     }
 
     /// The entry that this way goes on with: an undo takes it back, or a redo makes it again.
-    pub fn next(&self, way: Way) -> Option<ListedEntry>
-        ensures none { result ≡ None → entries_ahead way self.now ≡ [] }
-        ensures some { (entry : ListedEntry) → result ≡ Some entry → (front : List ListedEntry) × (entries_ahead way self.now ≡ front ++ entry ∷ []) }
+    pub fn next(&self, direction: Direction) -> Option<ListedEntry>
+        ensures none { result ≡ None → entries_ahead direction self.now ≡ [] }
+        ensures some { (entry : ListedEntry) → result ≡ Some entry → (front : List ListedEntry) × (entries_ahead direction self.now ≡ front ++ entry ∷ []) }
     {
-        match way {
-            Way::Do => self.undone.last().copied(),
-            Way::Undo => self.done.last().copied(),
+        match direction {
+            Direction::Forward => self.undone.last().copied(),
+            Direction::Backward => self.done.last().copied(),
         }
     }
 
@@ -101,17 +101,22 @@ impl History {
     }
 
     /// What is remembered after the entry that this way goes on with.
-    pub fn after(&self, alloc: Global, entry: ListedEntry, way: Way) -> Result<History, AllocError>
-        ensures { (front : List ListedEntry) → entries_ahead way self.now ≡ front ++ entry ∷ []
-            → IfOk result (λ history. history ≡ remember_moved way front entry self.now) }
+    pub fn after(
+        &self,
+        alloc: Global,
+        entry: ListedEntry,
+        direction: Direction,
+    ) -> Result<History, AllocError>
+        ensures { (front : List ListedEntry) → entries_ahead direction self.now ≡ front ++ entry ∷ []
+            → IfOk result (λ history. history ≡ remember_moved direction front entry self.now) }
     {
-        match way {
-            Way::Do => Ok(History {
+        match direction {
+            Direction::Forward => Ok(History {
                 done: with_entry(alloc, self.done.as_slice(), entry)?,
                 undone: without_last(alloc, self.undone.as_slice())?,
                 used: self.used,
             }),
-            Way::Undo => Ok(History {
+            Direction::Backward => Ok(History {
                 done: without_last(alloc, self.done.as_slice())?,
                 undone: with_entry(alloc, self.undone.as_slice(), entry)?,
                 used: self.used,

@@ -9,7 +9,7 @@ ghost use Rattle.reuse_tree.specs.Head.{listed, IsSoundHead};
 ghost use Rattle.reuse_tree.specs.declared.journal.head.Head.{Head};
 ghost use Rattle.reuse_session.specs.journal.Journal.{Recorded, Journal, State};
 ghost use Rattle.reuse_session.specs.journal.JournalFiles.{head_path, entry_path, number_of, HeadSays, EntrySays};
-ghost use Rattle.reuse_session.specs.journal.Opening.{least, listed_entry, named, IsReadable, IsListedIn, IsFoundAt, IsLeastFound, NoFileAbove, IsFirstUnreadable, IsFirstBad, IsRead, IsSettled, IsStuckAt, MovesToOpen, MovesFor, OpensOn, StopsOpening};
+ghost use Rattle.reuse_session.specs.journal.Opening.{least, listed_entry, named, IsReadable, IsListedIn, IsFoundAt, IsLeastFound, NoFileAbove, IsFirstUnreadable, IsFirstBad, IsRead, IsSettled, IsStuckAt, MutationsToOpen, MutationsFor, OpensOn, StopsOpening};
 ghost use Rattle.reuse_session.specs.session.Session.{head_room, listed_count, HasHeadText, IsSameBut, Remembers};
 ghost use Rattle.reuse_session.specs.journal.Standing.{IsStanding, IsUnderWay, InDoubt};
 ghost use Rattle.reuse_session.specs.journal.Losses.{AreSafeOn, AreInDoubt};
@@ -50,11 +50,11 @@ pub fn open_journal<S: Store>(alloc: Global, store: &mut S) -> Result<History, R
     // At most one head is put.
     ensures written { S.honest store.new → (head : Head) → HeadSays (map.get (undo_folder_of (S.files store.old)) head_path) head
         → S.written store.new ≤ S.written store.old + head_room (length (listed head)) }
-    ensures moves { S.honest store.new → MovesToOpen S.Store store.old store.new }
+    ensures mutations { S.honest store.new → MutationsToOpen S.Store store.old store.new }
     // Nothing is moved before a refusal, nor where nothing is pending; and of the journal's folder
     // nothing but the head changes.
     ensures early { IfErr result (λ refusal. IsEarly refusal → OnlyReads S.Store store.old store.new) }
-    ensures late { (cause : Cause) → result ≡ Err (Refusal.Failed (failures.Interrupted cause)) → cause ≢ causes.Moved → S.moves store.old < S.moves store.new }
+    ensures late { (cause : Cause) → result ≡ Err (Refusal.Failed (failures.Interrupted cause)) → cause ≢ causes.Moved → S.mutations store.old < S.mutations store.new }
     ensures quiet { S.honest store.new → (held : State) → IsStanding (S.files store.old) held → OnlyReads S.Store store.old store.new }
     ensures folder { S.honest store.new → IsSameBut head_path (undo_folder_of (S.files store.old)) (undo_folder_of (S.files store.new)) }
     ensures refusal { IfErr result IsOpenRefusal }
@@ -102,16 +102,16 @@ fn recover_pending<S: Store>(
     ensures moved { S.honest store.new → (journal : Journal) → IsRead (S.files store.old) (Some pending) history.now journal
         → (path : List ℕ) → result ≡ Err (Refusal.Moved path) → IsStuckAt (S.files store.old) path }
     ensures recovers { S.honest store.new → (journal : Journal) → IsRead (S.files store.old) (Some pending) history.now journal
-        → (step : Recorded) → (first : State) → number_of step ≡ pending.entry → IsUnderWay pending.way step first (S.files store.old)
+        → (step : Recorded) → (first : State) → number_of step ≡ pending.entry → IsUnderWay pending.direction step first (S.files store.old)
         → MatchResult result (λ done. IsStanding (S.files store.new) first)
-        (λ refusal. IsFailure refusal × (IsStanding (S.files store.new) first ⊎ IsUnderWay pending.way step first (S.files store.new))) }
+        (λ refusal. IsFailure refusal × (IsStanding (S.files store.new) first ⊎ IsUnderWay pending.direction step first (S.files store.new))) }
     ensures survives { S.honest store.new → (journal : Journal) → IsRead (S.files store.old) (Some pending) history.now journal
         → (earlier held next : State) → AreInDoubt S.Store earlier held next store.old
         → MatchResult result (λ done. IsStanding (S.files store.new) held × AreSafeOn S.Store earlier held store.new) (λ refusal. AreInDoubt S.Store earlier held next store.new) }
     ensures interrupted { S.honest store.new → (journal : Journal) → IsRead (S.files store.old) (Some pending) history.now journal
         → (cause : Cause) → result ≡ Err (Refusal.Failed (failures.Interrupted cause)) → StopsOpening (S.files store.old) (S.files store.new) }
     ensures early { IfErr result (λ refusal. IsEarly refusal → OnlyReads S.Store store.old store.new) }
-    ensures late { (cause : Cause) → result ≡ Err (Refusal.Failed (failures.Interrupted cause)) → cause ≢ causes.Moved → S.moves store.old < S.moves store.new }
+    ensures late { (cause : Cause) → result ≡ Err (Refusal.Failed (failures.Interrupted cause)) → cause ≢ causes.Moved → S.mutations store.old < S.mutations store.new }
     ensures folder { S.honest store.new → (journal : Journal) → IsRead (S.files store.old) (Some pending) history.now journal
         → IsSameBut head_path (undo_folder_of (S.files store.old)) (undo_folder_of (S.files store.new)) }
     ensures texts { S.honest store.new → (journal : Journal) → IsRead (S.files store.old) (Some pending) history.now journal
@@ -120,7 +120,7 @@ fn recover_pending<S: Store>(
         → (path : List ℕ) → result ≢ Err (Refusal.BadJournal path) }
     ensures written { S.honest store.new → (journal : Journal) → IsRead (S.files store.old) (Some pending) history.now journal
         → S.written store.new ≤ S.written store.old + head_room (listed_count history.now) }
-    ensures moves { S.honest store.new → MovesFor S.Store (EntrySays (map.get (undo_folder_of (S.files store.old)) (entry_path pending.entry))) store.old store.new }
+    ensures mutations { S.honest store.new → MutationsFor S.Store (EntrySays (map.get (undo_folder_of (S.files store.old)) (entry_path pending.entry))) store.old store.new }
     ensures refusal { IfErr result IsOpenRefusal }
     ensures clash { S.honest store.new → (journal : Journal) → IsRead (S.files store.old) (Some pending) history.now journal → IfErr result IsNoClash }
     ensures fault { IfErr result (HasCause (S.failures store.old < S.failures store.new)) }
@@ -134,7 +134,7 @@ fn recover_pending<S: Store>(
         path: &path,
         text: settled.as_slice(),
     };
-    roll_back(alloc, store, changes, pending.way.way(), &head)
+    roll_back(alloc, store, changes, pending.direction.direction(), &head)
 }
 
 // Neither `.reuse` nor `.reuse/undo` is a file.

@@ -10,9 +10,9 @@ ghost use Rattle.reuse_session.specs.journal.Tested.{Passes};
 ghost use Rattle.reuse_tree.specs.Asked.{OnlyReads, FailsAsRead};
 
 use crate::reply::{Paths, Refusal};
-use reuse_tree::perform::can_be_made;
-use reuse_tree::turn::can_turn;
-use reuse_tree::{Change, Store, StoreFault, Way};
+use reuse_tree::apply_change::can_apply;
+use reuse_tree::apply_changes::can_be_made;
+use reuse_tree::{Change, Direction, Store, StoreFault};
 use std::alloc::{AllocError, Global};
 
 /// The paths of the changes.
@@ -32,7 +32,7 @@ pub enum Aim {
     /// It can be made.
     Go,
     /// It isn't made, or can be taken back.
-    SetBack,
+    RollingBack,
 }
 
 /// Tests each change; refused as `Moved` at the first that isn't as the aim needs it.
@@ -40,18 +40,18 @@ pub fn test_each<S: Store>(
     alloc: Global,
     store: &mut S,
     changes: &[Change],
-    way: Way,
+    direction: Direction,
     aim: Aim,
 ) -> Result<(), Refusal>
-    ensures ready { S.honest store.new → IsEntry changes.now → OnOk result (All (Passes aim way (tree_of (S.files store.old))) changes.now) }
+    ensures ready { S.honest store.new → IsEntry changes.now → OnOk result (All (Passes aim direction (tree_of (S.files store.old))) changes.now) }
     ensures moved { S.honest store.new → IsEntry changes.now → (path : List ℕ) → result ≡ Err (Refusal.Moved path)
-        → IsFirstWithout (Passes aim way (tree_of (S.files store.old))) changes.now path }
+        → IsFirstWithout (Passes aim direction (tree_of (S.files store.old))) changes.now path }
     ensures refusal { IfErr result IsTestRefusal }
     ensures fails { RefusedAsRead S.Store store.old store.new result }
     ensures reads { OnlyReads S.Store store.old store.new }
 {
     for change in changes {
-        if !passes(alloc, store, change, way, aim)? {
+        if !passes(alloc, store, change, direction, aim)? {
             return Err(Refusal::Moved(change.path().try_clone(alloc)?));
         }
     }
@@ -63,21 +63,21 @@ fn passes<S: Store>(
     alloc: Global,
     store: &mut S,
     change: &Change,
-    way: Way,
+    direction: Direction,
     aim: Aim,
 ) -> Result<bool, StoreFault>
     ensures ok { S.honest store.new → IsProper change.now → IsSmall change.now → is_of_tree (path_of change.now) ≡ true
-        → IfOk result (λ yes. IsTrue yes ↔ Passes aim way (tree_of (S.files store.old)) change.now) }
+        → IfOk result (λ yes. IsTrue yes ↔ Passes aim direction (tree_of (S.files store.old)) change.now) }
     ensures fails { FailsAsRead S.Store store.old store.new result }
     ensures reads { OnlyReads S.Store store.old store.new }
 {
     match aim {
-        Aim::Go => can_be_made(alloc, store, change, way),
-        Aim::SetBack => {
-            if can_turn(alloc, store, change, way)? {
+        Aim::Go => can_be_made(alloc, store, change, direction),
+        Aim::RollingBack => {
+            if can_apply(alloc, store, change, direction)? {
                 return Ok(true);
             }
-            can_be_made(alloc, store, change, way.opposite())
+            can_be_made(alloc, store, change, direction.opposite())
         }
     }
 }
@@ -87,16 +87,16 @@ pub fn prepare<S: Store>(
     alloc: Global,
     store: &mut S,
     changes: &[Change],
-    way: Way,
+    direction: Direction,
 ) -> Result<Paths, Refusal>
     ensures paths { IfOk result (λ paths. paths ≡ paths_of changes.now) }
-    ensures ready { S.honest store.new → IsEntry changes.now → OnOk result (All (CanBeMade way (tree_of (S.files store.old))) changes.now) }
+    ensures ready { S.honest store.new → IsEntry changes.now → OnOk result (All (CanBeMade direction (tree_of (S.files store.old))) changes.now) }
     ensures moved { S.honest store.new → IsEntry changes.now → (path : List ℕ) → result ≡ Err (Refusal.Moved path)
-        → IsFirstStuck way (tree_of (S.files store.old)) changes.now path }
+        → IsFirstStuck direction (tree_of (S.files store.old)) changes.now path }
     ensures refusal { IfErr result IsTestRefusal }
     ensures fails { RefusedAsRead S.Store store.old store.new result }
     ensures reads { OnlyReads S.Store store.old store.new }
 {
-    test_each(alloc, store, changes, way, Aim::Go)?;
+    test_each(alloc, store, changes, direction, Aim::Go)?;
     Ok(paths_of(alloc, changes)?)
 }

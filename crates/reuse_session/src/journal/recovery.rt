@@ -8,13 +8,13 @@ ghost use Rattle.std.specs.FinMap as map;
 ghost use Rattle.reuse_tree.specs.Asked.{OnlyReads, IsLater, IsSynced, Leaves};
 ghost use Rattle.reuse_tree.specs.Change.{path_of, IsProper};
 ghost use Rattle.std.specs.List.{All};
-ghost use Rattle.reuse_tree.specs.Entry.{makes, opposite, IsEntry, IsSmall, SomeMade, ArePartlyMade, CanBeSetBack};
+ghost use Rattle.reuse_tree.specs.Entry.{makes, opposite, IsEntry, IsSmall, SomeMade, ArePartlyMade, CanBeRolledBack};
 ghost use Rattle.reuse_tree.specs.Files.{Files, Clashes, tree_of};
 ghost use Rattle.reuse_tree.specs.Listing.{ArePaths, is_among};
 ghost use Rattle.reuse_tree.specs.Tree.{is_of_tree, undo_folder_of, Sets};
 ghost use Rattle.reuse_tree.specs.declared.cause.Cause.{Cause};
 ghost use Rattle.reuse_tree.specs.declared.cause.Cause.TheVariants as causes;
-ghost use Rattle.reuse_tree.specs.declared.journal.head.PendingWay.{PendingWay};
+ghost use Rattle.reuse_tree.specs.declared.journal.head.PendingDirection.{PendingDirection};
 ghost use Rattle.reuse_session.specs.session.Answer.{HasCause, IsEarly, IsFailure, IsRollBackRefusal, IsNoClash, IsOpenRefusal, IsTestRefusal, RefusedAsRead, TellsNoFault, IsEarlyFailure};
 ghost use Rattle.reuse_session.specs.journal.Carried.{IsRolledBack, StopsBack};
 ghost use Rattle.reuse_session.specs.journal.Journal.{Journal, Recorded, State};
@@ -33,9 +33,9 @@ use crate::journal::history::History;
 use crate::journal::opening::read_journal;
 use crate::journal::roll_back::{roll_back, told};
 use crate::reply::{Paths, Recovered, Refusal};
-use reuse_tree::perform::can_be_made;
-use reuse_tree::turn::can_turn;
-use reuse_tree::{Change, PathText, Pending, Store, Way, is_among};
+use reuse_tree::apply_change::can_apply;
+use reuse_tree::apply_changes::can_be_made;
+use reuse_tree::{Change, Direction, PathText, Pending, Store, is_among};
 use std::alloc::Global;
 
 /// Rolls the step back that is pending in a journal, and clears it there: each path at the state
@@ -68,7 +68,7 @@ pub fn recover<S: Store>(
     // file changed while it ran). Where no step is pending it only reads; and of the journal's
     // folder nothing but the head changes.
     ensures early { IfErr result.1 (λ refusal. IsEarly refusal → OnlyReads S.Store store result.0) }
-    ensures late { (cause : Cause) → result.1 ≡ Err (Refusal.Failed (failures.Interrupted cause)) → cause ≢ causes.Moved → S.moves store < S.moves result.0 }
+    ensures late { (cause : Cause) → result.1 ≡ Err (Refusal.Failed (failures.Interrupted cause)) → cause ≢ causes.Moved → S.mutations store < S.mutations result.0 }
     ensures quiet { S.honest result.0 → (journal : Journal) → HasNonePending journal (S.files store) → OnlyReads S.Store store result.0 }
     ensures folder { S.honest result.0 → IsSameBut head_path (undo_folder_of (S.files store)) (undo_folder_of (S.files result.0)) }
 
@@ -84,8 +84,8 @@ pub fn recover<S: Store>(
         → SurvivesInDoubt S.Store earlier held next result.1 result.0 }
     // The same of a step of which some paths can't be rolled back. Once it is recovered, a loss of
     // power leaves what is there. If that stops, recovering what is left leads to the same files.
-    ensures lasting { S.honest result.0 → (way : PendingWay) → (step : Recorded) → (held : State)
-        → AwaitsRecovery S.Store way step held store → SurvivesRecovery S.Store way step held result.1 result.0 }
+    ensures lasting { S.honest result.0 → (direction : PendingDirection) → (step : Recorded) → (held : State)
+        → AwaitsRecovery S.Store direction step held store → SurvivesRecovery S.Store direction step held result.1 result.0 }
     ensures refusal { IfErr result.1 IsOpenRefusal }
     ensures clash { S.honest result.0 → IfErr result.1 IsNoClash }
     ensures fault { IfErr result.1 (HasCause (S.failures store < S.failures result.0)) }
@@ -107,13 +107,13 @@ fn recover_journal<S: Store>(
     ensures moved { S.honest store.new → (path : List ℕ) → result ≡ Err (Refusal.Moved path) → (skip_moved ≡ false) × IsStuckAt (S.files store.old) path }
     ensures interrupted { S.honest store.new → (cause : Cause) → result ≡ Err (Refusal.Failed (failures.Interrupted cause)) → StopsRecovering (S.files store.old) (S.files store.new) }
     ensures early { IfErr result (λ refusal. IsEarly refusal → OnlyReads S.Store store.old store.new) }
-    ensures late { (cause : Cause) → result ≡ Err (Refusal.Failed (failures.Interrupted cause)) → cause ≢ causes.Moved → S.moves store.old < S.moves store.new }
+    ensures late { (cause : Cause) → result ≡ Err (Refusal.Failed (failures.Interrupted cause)) → cause ≢ causes.Moved → S.mutations store.old < S.mutations store.new }
     ensures quiet { S.honest store.new → (journal : Journal) → HasNonePending journal (S.files store.old) → OnlyReads S.Store store.old store.new }
     ensures folder { S.honest store.new → IsSameBut head_path (undo_folder_of (S.files store.old)) (undo_folder_of (S.files store.new)) }
     ensures survives { S.honest store.new → (earlier held next : State) → AreInDoubt S.Store earlier held next store.old
         → SurvivesInDoubt S.Store earlier held next result store.new }
-    ensures lasting { S.honest store.new → (way : PendingWay) → (step : Recorded) → (held : State)
-        → AwaitsRecovery S.Store way step held store.old → SurvivesRecovery S.Store way step held result store.new }
+    ensures lasting { S.honest store.new → (direction : PendingDirection) → (step : Recorded) → (held : State)
+        → AwaitsRecovery S.Store direction step held store.old → SurvivesRecovery S.Store direction step held result store.new }
     ensures refusal { IfErr result IsOpenRefusal }
     ensures clash { S.honest store.new → IfErr result IsNoClash }
     ensures fault { IfErr result (HasCause (S.failures store.old < S.failures store.new)) }
@@ -147,21 +147,21 @@ fn recover_step<S: Store>(
     ensures interrupted { S.honest store.new → (journal : Journal) → IsRead (S.files store.old) (Some pending) history.now journal
         → (cause : Cause) → result ≡ Err (Refusal.Failed (failures.Interrupted cause)) → StopsRecovering (S.files store.old) (S.files store.new) }
     ensures early { IfErr result (λ refusal. IsEarly refusal → OnlyReads S.Store store.old store.new) }
-    ensures late { (cause : Cause) → result ≡ Err (Refusal.Failed (failures.Interrupted cause)) → cause ≢ causes.Moved → S.moves store.old < S.moves store.new }
+    ensures late { (cause : Cause) → result ≡ Err (Refusal.Failed (failures.Interrupted cause)) → cause ≢ causes.Moved → S.mutations store.old < S.mutations store.new }
     ensures folder { S.honest store.new → (journal : Journal) → IsRead (S.files store.old) (Some pending) history.now journal
         → IsSameBut head_path (undo_folder_of (S.files store.old)) (undo_folder_of (S.files store.new)) }
     ensures lasting { S.honest store.new
         → (journal : Journal) → IsRead (S.files store.old) (Some pending) history.now journal
-        → (way : PendingWay) → (step : Recorded) → (held : State) → AwaitsRecovery S.Store way step held store.old
-        → SurvivesRecovery S.Store way step held result store.new }
+        → (direction : PendingDirection) → (step : Recorded) → (held : State) → AwaitsRecovery S.Store direction step held store.old
+        → SurvivesRecovery S.Store direction step held result store.new }
     ensures refusal { IfErr result IsOpenRefusal }
     ensures clash { S.honest store.new → (journal : Journal) → IsRead (S.files store.old) (Some pending) history.now journal → IfErr result IsNoClash }
     ensures fault { IfErr result (HasCause (S.failures store.old < S.failures store.new)) }
     ensures later { IsLater S.Store store.old store.new }
 {
     let entry = read_entry(alloc, store, pending.entry)?;
-    let way = pending.way.way();
-    let found = find_each(alloc, store, entry.changes.as_slice(), way)?;
+    let direction = pending.direction.direction();
+    let found = find_each(alloc, store, entry.changes.as_slice(), direction)?;
     refuse_first(alloc, found.skipped.as_slice(), skip_moved)?;
     let settled = history.head_text(alloc, None)?;
     let path = HeadPath::new(alloc)?;
@@ -170,7 +170,7 @@ fn recover_step<S: Store>(
         path: &path,
         text: settled.as_slice(),
     };
-    roll_back_part(alloc, store, part.as_slice(), way, &head)?;
+    roll_back_part(alloc, store, part.as_slice(), direction, &head)?;
     Ok(Recovered {
         number: Some(pending.entry),
         changed: Paths::new(found.changed),
@@ -183,37 +183,37 @@ fn roll_back_part<S: Store>(
     alloc: Global,
     store: &mut S,
     changes: &[Change],
-    way: Way,
+    direction: Direction,
     head: &NewHead<'_>,
 ) -> Result<(), Refusal>
-    ensures done { S.honest store.new → ArePart changes.now → OnOk result (IsRolledBack way changes.now head.now.text.now (S.files store.old) (S.files store.new)) }
+    ensures done { S.honest store.new → ArePart changes.now → OnOk result (IsRolledBack direction changes.now head.now.text.now (S.files store.old) (S.files store.new)) }
     ensures back { S.honest store.new → ArePart changes.now → (cause : Cause) → result ≡ Err (Refusal.Failed (failures.Interrupted cause))
-        → StopsBack way changes.now head.now.text.now (S.files store.old) (S.files store.new) }
+        → StopsBack direction changes.now head.now.text.now (S.files store.old) (S.files store.new) }
     // What a loss of power may leave, if each tree that might be left before is the start with some
     // of the changes made.
     ensures lasting { S.honest store.new → ArePart changes.now
-        → (start : Files) → ArePartlyMade way changes.now start (tree_of (S.files store.old))
-        → Leaves S.Store store.old (λ kept. SomeMade way changes.now start (tree_of kept))
+        → (start : Files) → ArePartlyMade direction changes.now start (tree_of (S.files store.old))
+        → Leaves S.Store store.old (λ kept. SomeMade direction changes.now start (tree_of kept))
         → OnOk result (IsSynced S.Store store.new) }
     ensures left { S.honest store.new → ArePart changes.now
-        → (start : Files) → ArePartlyMade way changes.now start (tree_of (S.files store.old))
-        → Leaves S.Store store.old (λ kept. SomeMade way changes.now start (tree_of kept))
+        → (start : Files) → ArePartlyMade direction changes.now start (tree_of (S.files store.old))
+        → Leaves S.Store store.old (λ kept. SomeMade direction changes.now start (tree_of kept))
         → (cause : Cause) → result ≡ Err (Refusal.Failed (failures.Interrupted cause))
-        → StopsBackWithDoubt S.Store way changes.now head.now.text.now start (S.files store.old) store.new }
-    ensures never_moved { S.honest store.new → ArePart changes.now → All (CanBeSetBack way (tree_of (S.files store.old))) changes.now
+        → StopsBackWithDoubt S.Store direction changes.now head.now.text.now start (S.files store.old) store.new }
+    ensures never_moved { S.honest store.new → ArePart changes.now → All (CanBeRolledBack direction (tree_of (S.files store.old))) changes.now
         → (path : List ℕ) → result ≢ Err (Refusal.Moved path) }
     ensures refusal { IfErr result IsRollBackRefusal }
     ensures clash { S.honest store.new → ArePart changes.now → ¬ (Clashes (S.files store.old) head_path) → IfErr result IsNoClash }
     ensures folder { S.honest store.new → ArePart changes.now → IsSameBut head_path (undo_folder_of (S.files store.old)) (undo_folder_of (S.files store.new)) }
     ensures early { IfErr result (λ refusal. IsEarly refusal → OnlyReads S.Store store.old store.new) }
-    ensures late { (cause : Cause) → result ≡ Err (Refusal.Failed (failures.Interrupted cause)) → cause ≢ causes.Moved → S.moves store.old < S.moves store.new }
+    ensures late { (cause : Cause) → result ≡ Err (Refusal.Failed (failures.Interrupted cause)) → cause ≢ causes.Moved → S.mutations store.old < S.mutations store.new }
     ensures fault { IfErr result (HasCause (S.failures store.old < S.failures store.new)) }
     ensures later { IsLater S.Store store.old store.new }
 {
     if changes.is_empty() {
         clear_head(alloc, store, head)
     } else {
-        roll_back(alloc, store, changes, way, head)
+        roll_back(alloc, store, changes, direction, head)
     }
 }
 
@@ -231,7 +231,7 @@ fn clear_head<S: Store>(alloc: Global, store: &mut S, head: &NewHead<'_>) -> Res
     ensures never_moved { (path : List ℕ) → result ≢ Err (Refusal.Moved path) }
     ensures clash { S.honest store.new → ¬ (Clashes (S.files store.old) head_path) → IfErr result IsNoClash }
     ensures early { IfErr result (λ refusal. IsEarly refusal → OnlyReads S.Store store.old store.new) }
-    ensures late { (cause : Cause) → result ≡ Err (Refusal.Failed (failures.Interrupted cause)) → cause ≢ causes.Moved → S.moves store.old < S.moves store.new }
+    ensures late { (cause : Cause) → result ≡ Err (Refusal.Failed (failures.Interrupted cause)) → cause ≢ causes.Moved → S.mutations store.old < S.mutations store.new }
     ensures fault { IfErr result (HasCause (S.failures store.old < S.failures store.new)) }
     ensures later { IsLater S.Store store.old store.new }
 {
@@ -255,9 +255,9 @@ fn find_each<S: Store>(
     alloc: Global,
     store: &mut S,
     changes: &[Change],
-    way: Way,
+    direction: Direction,
 ) -> Result<Found, Refusal>
-    ensures found { S.honest store.new → IsEntry changes.now → IfOk result (λ found. AreFound way (tree_of (S.files store.old)) changes.now found.changed.items found.skipped.items) }
+    ensures found { S.honest store.new → IsEntry changes.now → IfOk result (λ found. AreFound direction (tree_of (S.files store.old)) changes.now found.changed.items found.skipped.items) }
     ensures refusal { IfErr result IsEarlyFailure }
     ensures fails { RefusedAsRead S.Store store.old store.new result }
     ensures reads { OnlyReads S.Store store.old store.new }
@@ -267,7 +267,7 @@ fn find_each<S: Store>(
         skipped: Vec::new(alloc),
     };
     for change in changes {
-        find_next(alloc, store, &mut found, change, way)?;
+        find_next(alloc, store, &mut found, change, direction)?;
     }
     Ok(found)
 }
@@ -278,19 +278,19 @@ fn find_next<S: Store>(
     store: &mut S,
     found: &mut Found,
     change: &Change,
-    way: Way,
+    direction: Direction,
 ) -> Result<(), Refusal>
     ensures adds { S.honest store.new → IsProper change.now → IsSmall change.now → is_of_tree (path_of change.now) ≡ true
-        → OnOk result (FindsNext way (tree_of (S.files store.old)) change.now found.old.changed.items found.new.changed.items found.old.skipped.items found.new.skipped.items) }
+        → OnOk result (FindsNext direction (tree_of (S.files store.old)) change.now found.old.changed.items found.new.changed.items found.old.skipped.items found.new.skipped.items) }
     ensures refusal { IfErr result IsEarlyFailure }
     ensures fails { RefusedAsRead S.Store store.old store.new result }
     ensures reads { OnlyReads S.Store store.old store.new }
 {
-    if can_turn(alloc, store, change, way)? {
+    if can_apply(alloc, store, change, direction)? {
         return Ok(());
     }
     let path = change.path().try_clone(alloc)?;
-    if can_be_made(alloc, store, change, way.opposite())? {
+    if can_be_made(alloc, store, change, direction.opposite())? {
         Ok(found.changed.push(path)?)
     } else {
         Ok(found.skipped.push(path)?)

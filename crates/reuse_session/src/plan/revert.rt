@@ -8,7 +8,7 @@ ghost use Rattle.reuse_tree.specs.Entry.{makes, IsEntry, IsSmall};
 ghost use Rattle.reuse_tree.specs.EntryText.{HavePaths};
 ghost use Rattle.reuse_tree.specs.Tree.{is_of_tree};
 ghost use Rattle.reuse_tree.specs.declared.change.Change.TheVariants.{Make, Splice};
-ghost use Rattle.reuse_tree.specs.declared.way.Way.TheVariants.{Undo};
+ghost use Rattle.reuse_tree.specs.declared.direction.Direction.TheVariants.{Backward};
 ghost use Rattle.reuse_session.specs.session.Answer.{IsTestRefusal, IsEarlyFailure};
 ghost use Rattle.reuse_session.specs.plan.PathPlans.{AnswersPlan, AnswersPlans, EndsWalk};
 ghost use Rattle.reuse_session.specs.plan.Plan.{MakesEdit};
@@ -21,9 +21,10 @@ use crate::plan::choice::PathList;
 use crate::plan::path_plan::{PathPlan, Policy};
 use crate::reply::Refusal;
 use reuse_text::{Bytes, LONGEST_FILE};
-use reuse_tree::turn::makes;
+use reuse_tree::apply_change::makes;
 use reuse_tree::{
-    Change, Digest, EntryChanges, PathText, Reading, Seal, Store, StoreFault, Way, is_clash_at,
+    Change, Digest, Direction, EntryChanges, PathText, Reading, Seal, Store, StoreFault,
+    is_clash_at,
 };
 use std::alloc::{AllocError, Global};
 
@@ -139,11 +140,11 @@ fn makes_at_clash<S: Store>(
     change: &Change,
 ) -> Result<bool, StoreFault>
     ensures clash { S.honest store.new → is_of_tree (path_of change.now) ≡ true
-        → IfOk result (λ clash. clash ≡ (makes Undo change.now && is_clash (tree_of (S.files store.old)) (path_of change.now))) }
+        → IfOk result (λ clash. clash ≡ (makes Backward change.now && is_clash (tree_of (S.files store.old)) (path_of change.now))) }
     ensures fails { FailsAsRead S.Store store.old store.new result }
     ensures reads { OnlyReads S.Store store.old store.new }
 {
-    if !makes(change, Way::Undo) {
+    if !makes(change, Direction::Backward) {
         return Ok(false);
     }
     is_clash_at(alloc, store, change.path())

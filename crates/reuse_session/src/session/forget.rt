@@ -231,8 +231,8 @@ fn put_and_remove<S: Store>(
     ensures moved { result ≢ Err Cause.Moved }
     ensures device { IsErrOf result Cause.Device → S.failures store.old < S.failures store.new }
     ensures written { S.written store.new ≤ S.written store.old + length text.now }
-    ensures asked { S.moves store.old < S.moves store.new }
-    ensures moves { S.moves store.new ≤ S.moves store.old + 1 + length paths.now }
+    ensures asked { S.mutations store.old < S.mutations store.new }
+    ensures mutations { S.mutations store.new ≤ S.mutations store.old + 1 + length paths.now }
     ensures later { IsLater S.Store store.old store.new }
 {
     put_head(alloc, store, head, text)?;
@@ -249,7 +249,7 @@ fn remove_each<S: Store>(alloc: Global, store: &mut S, paths: &[PathText]) -> Re
     ensures moved { result ≢ Err Cause.Moved }
     ensures device { IsErrOf result Cause.Device → S.failures store.old < S.failures store.new }
     ensures written { S.written store.new ≡ S.written store.old }
-    ensures moves { S.moves store.new ≤ S.moves store.old + length paths.now }
+    ensures mutations { S.mutations store.new ≤ S.mutations store.old + length paths.now }
     ensures later { IsLater S.Store store.old store.new }
 {
     for path in paths {

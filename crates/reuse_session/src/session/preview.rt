@@ -11,7 +11,7 @@ ghost use Rattle.reuse_session.specs.plan.Plan.{IsPlan, Records};
 ghost use Rattle.reuse_session.specs.session.Previews.{run_path_outcomes_on, path_outcomes_alone, PreviewsReplay, ReadsOnly, IsPreviewRefusal};
 ghost use Rattle.reuse_session.specs.session.Session.{store_of, is_broken, memory_of, StandsOn, StandsAt};
 ghost use Rattle.reuse_tree.specs.Entry.{IsEntry};
-ghost use Rattle.reuse_tree.specs.declared.way.Way.TheVariants as go;
+ghost use Rattle.reuse_tree.specs.declared.direction.Direction.TheVariants as go;
 ghost use Rattle.reuse_session.specs.declared.journal.history.ListedEntry.{ListedEntry};
 
 use crate::command::Command;
@@ -23,7 +23,7 @@ use crate::reply::Refusal;
 use crate::session::Session;
 use crate::session::replay::end_of;
 use crate::session::replay_path_outcomes::replay_path_outcomes;
-use reuse_tree::{Store, Way};
+use reuse_tree::{Direction, Store};
 use std::alloc::Global;
 
 impl<S: Store + Drop> Session<S> {
@@ -99,12 +99,12 @@ impl<S: Store + Drop> Session<S> {
         ensures broken { (result ≡ Err Refusal.Broken) ↔ (is_broken self.old ≡ true) }
         ensures nothing { (result ≡ Err Refusal.NothingToUndo) ↔ ((is_broken self.old ≡ false) × ((memory_of self.old).done ≡ [])) }
         ensures exact { S.honest (store_of self.new) → (held : State) → StandsOn S.files self.old held
-            → TellsNoFault result → PreviewsReplay go.Undo held.journal.done held.tree result }
+            → TellsNoFault result → PreviewsReplay go.Backward held.journal.done held.tree result }
         ensures machine { S.honest (store_of self.new) → (state : Snapshots) → StandsAt S.files self.old state → TellsNoFault result → result ≡ undo_path_outcomes state.tree state.past }
         ensures reads_only { ReadsOnly S.Store result self.old self.new }
         ensures refusal { IfErr result IsPreviewRefusal }
     {
-        path_outcomes_alone(self.preview_step(alloc, Way::Undo))
+        path_outcomes_alone(self.preview_step(alloc, Direction::Backward))
     }
 
     /// Tells what a redo would do: for each path of the next step, in byte order, whether it would
@@ -116,12 +116,12 @@ impl<S: Store + Drop> Session<S> {
         ensures broken { (result ≡ Err Refusal.Broken) ↔ (is_broken self.old ≡ true) }
         ensures nothing { (result ≡ Err Refusal.NothingToRedo) ↔ ((is_broken self.old ≡ false) × ((memory_of self.old).undone ≡ [])) }
         ensures exact { S.honest (store_of self.new) → (held : State) → StandsOn S.files self.old held
-            → TellsNoFault result → PreviewsReplay go.Do held.journal.undone held.tree result }
+            → TellsNoFault result → PreviewsReplay go.Forward held.journal.undone held.tree result }
         ensures machine { S.honest (store_of self.new) → (state : Snapshots) → StandsAt S.files self.old state → TellsNoFault result → result ≡ redo_path_outcomes state.tree state.future }
         ensures reads_only { ReadsOnly S.Store result self.old self.new }
         ensures refusal { IfErr result IsPreviewRefusal }
     {
-        path_outcomes_alone(self.preview_step(alloc, Way::Do))
+        path_outcomes_alone(self.preview_step(alloc, Direction::Forward))
     }
 
     /// Tells what going one step this way would do, as `preview_undo` and `preview_redo` do, and
@@ -129,16 +129,20 @@ impl<S: Store + Drop> Session<S> {
     ///
     /// It is refused as `Broken`, as `NothingToUndo` or `NothingToRedo`, as `BadJournal` where the
     /// entry can't be read, or for an I/O error or an allocation failure.
-    pub fn preview_step(&mut self, alloc: Global, way: Way) -> Result<Previewed, Refusal>
+    pub fn preview_step(
+        &mut self,
+        alloc: Global,
+        direction: Direction,
+    ) -> Result<Previewed, Refusal>
         ensures broken { (result ≡ Err Refusal.Broken) ↔ (is_broken self.old ≡ true) }
-        ensures nothing { (result ≡ Err (end_of way)) ↔ ((is_broken self.old ≡ false) × (entries_ahead way (memory_of self.old) ≡ [])) }
+        ensures nothing { (result ≡ Err (end_of direction)) ↔ ((is_broken self.old ≡ false) × (entries_ahead direction (memory_of self.old) ≡ [])) }
         ensures exact { S.honest (store_of self.new) → (held : State) → StandsOn S.files self.old held
-            → TellsNoFault result → PreviewsReplay way (ahead way held.journal) held.tree (path_outcomes_alone result) }
+            → TellsNoFault result → PreviewsReplay direction (ahead direction held.journal) held.tree (path_outcomes_alone result) }
         ensures machine { S.honest (store_of self.new) → (state : Snapshots) → StandsAt S.files self.old state
-            → TellsNoFault result → path_outcomes_alone result ≡ step_path_outcomes way state }
+            → TellsNoFault result → path_outcomes_alone result ≡ step_path_outcomes direction state }
         // The changes are those of the step, and a good entry.
         ensures changes { S.honest (store_of self.new) → (held : State) → StandsOn S.files self.old held
-            → IfOk result (λ previewed. changes_ahead (ahead way held.journal) ≡ Some previewed.changes) }
+            → IfOk result (λ previewed. changes_ahead (ahead direction held.journal) ≡ Some previewed.changes) }
         ensures good { IfOk result (λ previewed. IsEntry previewed.changes) }
         ensures reads_only { ReadsOnly S.Store result self.old self.new }
         ensures refusal { IfErr result IsPreviewRefusal }
@@ -146,10 +150,10 @@ impl<S: Store + Drop> Session<S> {
         if self.broken {
             return Err(Refusal::Broken);
         }
-        let Some(listed) = self.history.next(way) else {
-            return Err(end_of(way));
+        let Some(listed) = self.history.next(direction) else {
+            return Err(end_of(direction));
         };
-        self.preview_listed(alloc, listed, way)
+        self.preview_listed(alloc, listed, direction)
     }
 
     // What going through the next entry this way would do.
@@ -157,13 +161,13 @@ impl<S: Store + Drop> Session<S> {
         &mut self,
         alloc: Global,
         listed: ListedEntry,
-        way: Way,
+        direction: Direction,
     ) -> Result<Previewed, Refusal>
-        requires { (front : List ListedEntry) × (entries_ahead way (memory_of self.now) ≡ front ++ listed ∷ []) }
+        requires { (front : List ListedEntry) × (entries_ahead direction (memory_of self.now) ≡ front ++ listed ∷ []) }
         ensures exact { S.honest (store_of self.new) → (held : State) → StandsOn S.files self.old held
-            → TellsNoFault result → PreviewsReplay way (ahead way held.journal) held.tree (path_outcomes_alone result) }
+            → TellsNoFault result → PreviewsReplay direction (ahead direction held.journal) held.tree (path_outcomes_alone result) }
         ensures changes { S.honest (store_of self.new) → (held : State) → StandsOn S.files self.old held
-            → IfOk result (λ previewed. changes_ahead (ahead way held.journal) ≡ Some previewed.changes) }
+            → IfOk result (λ previewed. changes_ahead (ahead direction held.journal) ≡ Some previewed.changes) }
         ensures good { IfOk result (λ previewed. IsEntry previewed.changes) }
         ensures reads_only { ReadsOnly S.Store result self.old self.new }
         ensures refusal { IfErr result IsReadRefusal }
@@ -173,7 +177,7 @@ impl<S: Store + Drop> Session<S> {
             alloc,
             &mut self.store,
             entry.changes.as_slice(),
-            way,
+            direction,
         )?;
         Ok(Previewed {
             path_outcomes,

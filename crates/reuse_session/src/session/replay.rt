@@ -1,7 +1,7 @@
 //! A session goes one step back, or on again.
 ghost use Rattle.std.specs.Prelude.{◌≡◌, ◌↔◌, ◌⊎◌, ◌++◌, ◌∷◌, [], List, true, false, IfErr};
-ghost use Rattle.reuse_tree.specs.Head.{listed_way};
-ghost use Rattle.reuse_tree.specs.declared.way.Way.TheVariants as go;
+ghost use Rattle.reuse_tree.specs.Head.{listed_direction};
+ghost use Rattle.reuse_tree.specs.declared.direction.Direction.TheVariants as go;
 ghost use Rattle.reuse_session.specs.session.Answer.{TellsNoFault, IsOpenRefusal};
 ghost use Rattle.reuse_session.specs.session.Calls.{IsCall, LeavesReplay};
 ghost use Rattle.reuse_session.specs.journal.History.{entries_ahead};
@@ -16,7 +16,7 @@ use crate::journal::history::ListedEntry;
 use crate::journal::prepare::prepare;
 use crate::reply::{Paths, Refusal, Response};
 use crate::session::Session;
-use reuse_tree::{Pending, PendingWay, Store, Way};
+use reuse_tree::{Direction, Pending, PendingDirection, Store};
 use std::alloc::Global;
 
 impl<S: Store + Drop> Session<S> {
@@ -39,12 +39,12 @@ impl<S: Store + Drop> Session<S> {
             → TellsNoFault result → Follows S.files result self.new (undone state state.past) }
 
         // What is left after a loss of power, at any moment of the call.
-        ensures survives { SurvivesCall S.Store (IsNextBy (listed_way go.Undo)) result self.old self.new }
+        ensures survives { SurvivesCall S.Store (IsNextBy (listed_direction go.Backward)) result self.old self.new }
         // What any call leaves, and what an undo leaves of the files, whatever it answers.
         ensures call { IsCall S.Store result self.old self.new }
-        ensures leaves { LeavesReplay S.Store go.Undo result self.old self.new }
+        ensures leaves { LeavesReplay S.Store go.Backward result self.old self.new }
     {
-        self.replay(alloc, Way::Undo)
+        self.replay(alloc, Direction::Backward)
     }
 
     /// Makes the step again that was taken back last. It answers the step's paths.
@@ -66,32 +66,32 @@ impl<S: Store + Drop> Session<S> {
             → TellsNoFault result → Follows S.files result self.new (redone state state.future) }
 
         // What is left after a loss of power, at any moment of the call.
-        ensures survives { SurvivesCall S.Store (IsNextBy (listed_way go.Do)) result self.old self.new }
+        ensures survives { SurvivesCall S.Store (IsNextBy (listed_direction go.Forward)) result self.old self.new }
         // What any call leaves, and what a redo leaves of the files, whatever it answers.
         ensures call { IsCall S.Store result self.old self.new }
-        ensures leaves { LeavesReplay S.Store go.Do result self.old self.new }
+        ensures leaves { LeavesReplay S.Store go.Forward result self.old self.new }
     {
-        self.replay(alloc, Way::Do)
+        self.replay(alloc, Direction::Forward)
     }
 
     // Goes one step this way: takes the last one done back, or makes the next undone one again.
-    fn replay(&mut self, alloc: Global, way: Way) -> Result<Response, Refusal>
+    fn replay(&mut self, alloc: Global, direction: Direction) -> Result<Response, Refusal>
         ensures broken { (result ≡ Err Refusal.Broken) ↔ (is_broken self.old ≡ true) }
-        ensures nothing { (result ≡ Err (end_of way)) ↔ ((is_broken self.old ≡ false) × (entries_ahead way (memory_of self.old) ≡ [])) }
-        ensures stays { (result ≡ Err Refusal.Broken) ⊎ (result ≡ Err (end_of way)) → self.new ≡ self.old }
+        ensures nothing { (result ≡ Err (end_of direction)) ↔ ((is_broken self.old ≡ false) × (entries_ahead direction (memory_of self.old) ≡ [])) }
+        ensures stays { (result ≡ Err Refusal.Broken) ⊎ (result ≡ Err (end_of direction)) → self.new ≡ self.old }
         ensures exact { S.honest (store_of self.new) → (held : State) → StandsOn S.files self.old held
-            → TellsNoFault result → (left : State) × StandsOn S.files self.new left × Replays way (ahead way held.journal) held result left }
-        ensures survives { SurvivesCall S.Store (IsNextBy (listed_way way)) result self.old self.new }
+            → TellsNoFault result → (left : State) × StandsOn S.files self.new left × Replays direction (ahead direction held.journal) held result left }
+        ensures survives { SurvivesCall S.Store (IsNextBy (listed_direction direction)) result self.old self.new }
         ensures call { IsCall S.Store result self.old self.new }
-        ensures leaves { LeavesReplay S.Store way result self.old self.new }
+        ensures leaves { LeavesReplay S.Store direction result self.old self.new }
     {
         if self.broken {
             return Err(Refusal::Broken);
         }
-        let Some(listed) = self.history.next(way) else {
-            return Err(end_of(way));
+        let Some(listed) = self.history.next(direction) else {
+            return Err(end_of(direction));
         };
-        self.step_listed(alloc, listed, way)
+        self.step_listed(alloc, listed, direction)
     }
 
     // Tests that the changes of the next entry this way can be made, and makes them.
@@ -99,46 +99,46 @@ impl<S: Store + Drop> Session<S> {
         &mut self,
         alloc: Global,
         listed: ListedEntry,
-        way: Way,
+        direction: Direction,
     ) -> Result<Response, Refusal>
-        requires { (front : List ListedEntry) × (entries_ahead way (memory_of self.now) ≡ front ++ listed ∷ []) }
+        requires { (front : List ListedEntry) × (entries_ahead direction (memory_of self.now) ≡ front ++ listed ∷ []) }
         ensures exact { S.honest (store_of self.new) → (held : State) → StandsOn S.files self.old held
-            → TellsNoFault result → (left : State) × StandsOn S.files self.new left × Replays way (ahead way held.journal) held result left }
-        ensures survives { SurvivesCall S.Store (IsNextBy (listed_way way)) result self.old self.new }
+            → TellsNoFault result → (left : State) × StandsOn S.files self.new left × Replays direction (ahead direction held.journal) held result left }
+        ensures survives { SurvivesCall S.Store (IsNextBy (listed_direction direction)) result self.old self.new }
         ensures call { IsCall S.Store result self.old self.new }
-        ensures leaves { LeavesReplay S.Store way result self.old self.new }
+        ensures leaves { LeavesReplay S.Store direction result self.old self.new }
         ensures kinds { IfErr result IsOpenRefusal }
     {
-        let moved = self.history.after(alloc, listed, way)?;
+        let moved = self.history.after(alloc, listed, direction)?;
         let number = listed.number();
         let entry = read_entry(alloc, &mut self.store, number)?;
         let changes = entry.changes.as_slice();
-        let paths = prepare(alloc, &mut self.store, changes, way)?;
+        let paths = prepare(alloc, &mut self.store, changes, direction)?;
         let pending = Pending {
             entry: number,
-            way: PendingWay::of_listed(way),
+            direction: PendingDirection::of_listed(direction),
         };
         self.step(alloc, changes, pending, moved)?;
-        Ok(reply_of(way, paths))
+        Ok(reply_of(direction, paths))
     }
 }
 
 // The refusal where no step is this way.
-pub(crate) fn end_of(way: Way) -> Refusal
-    ensures { result ≡ end_of way }
+pub(crate) fn end_of(direction: Direction) -> Refusal
+    ensures { result ≡ end_of direction }
 {
-    match way {
-        Way::Do => Refusal::NothingToRedo,
-        Way::Undo => Refusal::NothingToUndo,
+    match direction {
+        Direction::Forward => Refusal::NothingToRedo,
+        Direction::Backward => Refusal::NothingToUndo,
     }
 }
 
 // The answer after a step this way.
-fn reply_of(way: Way, paths: Paths) -> Response
-    ensures { result ≡ reply_of way paths }
+fn reply_of(direction: Direction, paths: Paths) -> Response
+    ensures { result ≡ reply_of direction paths }
 {
-    match way {
-        Way::Do => Response::Redone(paths),
-        Way::Undo => Response::Undone(paths),
+    match direction {
+        Direction::Forward => Response::Redone(paths),
+        Direction::Backward => Response::Undone(paths),
     }
 }

@@ -9,8 +9,8 @@ ghost use Rattle.reuse_session.specs.session.Reading.{tree_of, OnlyReads, ReadsA
 
 use crate::path_outcome::{PathOutcome, PathOutcomes};
 use crate::reply::Refusal;
-use reuse_tree::perform::can_be_made;
-use reuse_tree::{Change, Store, Way};
+use reuse_tree::apply_changes::can_be_made;
+use reuse_tree::{Change, Direction, Store};
 use std::alloc::Global;
 
 /// The path outcomes of the changes of an entry, gone through this way: each path changes, or is
@@ -19,16 +19,16 @@ pub(crate) fn replay_path_outcomes<S: Store>(
     alloc: Global,
     store: &mut S,
     changes: &[Change],
-    way: Way,
+    direction: Direction,
 ) -> Result<PathOutcomes, Refusal>
-    ensures path_outcomes { S.honest store.new → IsEntry changes.now → IfOk result (ArePathOutcomesOf way (tree_of (S.files store.old)) changes.now) }
+    ensures path_outcomes { S.honest store.new → IsEntry changes.now → IfOk result (ArePathOutcomesOf direction (tree_of (S.files store.old)) changes.now) }
     ensures fails { RefusedAsRead S.Store store.old store.new result }
     ensures reads { OnlyReads S.Store store.old store.new }
     ensures refusal { IfErr result IsEarlyFailure }
 {
     let mut path_outcomes = Vec::new(alloc);
     for change in changes {
-        path_outcomes.push(change_path_outcome(alloc, store, change, way)?)?;
+        path_outcomes.push(change_path_outcome(alloc, store, change, direction)?)?;
     }
     Ok(PathOutcomes::new(path_outcomes))
 }
@@ -38,14 +38,14 @@ fn change_path_outcome<S: Store>(
     alloc: Global,
     store: &mut S,
     change: &Change,
-    way: Way,
+    direction: Direction,
 ) -> Result<PathOutcome, Refusal>
     ensures path_outcome { S.honest store.new → IsProper change.now → IsSmall change.now → is_of_tree (path_of change.now) ≡ true
-        → IfOk result (IsPathOutcomeOf way (tree_of (S.files store.old)) change.now) }
+        → IfOk result (IsPathOutcomeOf direction (tree_of (S.files store.old)) change.now) }
     ensures asks { ReadsAlone S.Store IsEarlyFailure store.old store.new result }
 {
     let path = change.path().try_clone(alloc)?;
-    if can_be_made(alloc, store, change, way)? {
+    if can_be_made(alloc, store, change, direction)? {
         Ok(PathOutcome::Changes(path))
     } else {
         Ok(PathOutcome::Refused(Refusal::Moved(path)))

@@ -1,12 +1,12 @@
 //! The head of the journal.
 ghost use Rattle.std.specs.Prelude.{◌≡◌};
 
+use crate::direction::Direction;
 use crate::journal::numbers::EntryNumbers;
-use crate::way::Way;
 
 /// Which way an entry is being applied.
 #[derive(Clone, Copy, Debug, PartialEq, Eq)]
-pub enum PendingWay {
+pub enum PendingDirection {
     /// A new entry, for the first time.
     Do,
     /// An entry that was done, backwards.
@@ -21,7 +21,7 @@ pub struct Pending {
     /// Its number.
     pub entry: u32,
     /// Which way it goes.
-    pub way: PendingWay,
+    pub direction: PendingDirection,
 }
 
 /// The head of the journal.
@@ -37,37 +37,37 @@ pub struct Head {
     pub pending: Option<Pending>,
 }
 
-impl PendingWay {
-    ghost use Rattle.reuse_tree.specs.Head.{listed_way, way_of, way_name};
+impl PendingDirection {
+    ghost use Rattle.reuse_tree.specs.Head.{listed_direction, direction_of, direction_name};
 
     /// The way of an entry that is listed.
-    pub fn of_listed(way: Way) -> PendingWay
-        ensures { result ≡ listed_way way }
+    pub fn of_listed(direction: Direction) -> PendingDirection
+        ensures { result ≡ listed_direction direction }
     {
-        match way {
-            Way::Do => PendingWay::Redo,
-            Way::Undo => PendingWay::Undo,
+        match direction {
+            Direction::Forward => PendingDirection::Redo,
+            Direction::Backward => PendingDirection::Undo,
         }
     }
 
     /// Which way the changes of the entry are gone through.
-    pub fn way(self) -> Way
-        ensures { result ≡ way_of self }
+    pub fn direction(self) -> Direction
+        ensures { result ≡ direction_of self }
     {
         match self {
-            PendingWay::Do | PendingWay::Redo => Way::Do,
-            PendingWay::Undo => Way::Undo,
+            PendingDirection::Do | PendingDirection::Redo => Direction::Forward,
+            PendingDirection::Undo => Direction::Backward,
         }
     }
 
     /// The word that stands for the way in a head.
     pub(crate) fn name(self) -> &'static str
-        ensures { result.now ≡ way_name self }
+        ensures { result.now ≡ direction_name self }
     {
         match self {
-            PendingWay::Do => "do",
-            PendingWay::Undo => "undo",
-            PendingWay::Redo => "redo",
+            PendingDirection::Do => "do",
+            PendingDirection::Undo => "undo",
+            PendingDirection::Redo => "redo",
         }
     }
 }

@@ -3,7 +3,7 @@ ghost use Rattle.std.specs.Prelude.{◌≡◌, ◌≢◌, ◌≤◌, ◌+◌, �
 ghost use Rattle.serde_json.specs.View.{view};
 ghost use Rattle.reuse_tree.specs.Decoded.{Gives, IsAnswer};
 ghost use Rattle.reuse_tree.specs.Head.{head_text, listed, head_value, pending_value as value_of_pending, IsGoodHead, IsJsonHead, IsSoundHead, PendingFits};
-ghost use Rattle.reuse_tree.specs.HeadReading.{head_in, pending_in, some_pending_in, way_from};
+ghost use Rattle.reuse_tree.specs.HeadReading.{head_in, pending_in, some_pending_in, direction_from};
 ghost use Rattle.reuse_tree.specs.Json.{counts};
 ghost use Rattle.reuse_tree.specs.declared.journal.head.Head.{Head};
 
@@ -11,7 +11,7 @@ use crate::journal::fault::DecodeFault;
 use crate::journal::fields::{
     field, fields, finish, next_format, next_numbers, next_small, text_of,
 };
-use crate::journal::head::{Head, Pending, PendingWay};
+use crate::journal::head::{Head, Pending, PendingDirection};
 use crate::journal::room::Room;
 use crate::journal::trimmed::parse_trimmed;
 use reuse_text::LONGEST_FILE;
@@ -61,7 +61,9 @@ fn pending_value(alloc: Global, pending: Option<Pending>) -> Result<Value, Alloc
 {
     match pending {
         None => Ok(Value::Null),
-        Some(pending) => { json!(in alloc; {"entry": pending.entry, "way": pending.way.name()}) }
+        Some(pending) => {
+            json!(in alloc; {"entry": pending.entry, "way": pending.direction.name()})
+        }
     }
 }
 
@@ -124,20 +126,20 @@ fn some_pending_of(value: &Value) -> Result<Pending, DecodeFault>
 {
     let mut members = fields(value)?;
     let entry = next_small(&mut members, "entry")?;
-    let way = way_of(text_of(field(&mut members, "way")?)?)?;
+    let direction = direction_of(text_of(field(&mut members, "way")?)?)?;
     finish(members)?;
-    Ok(Pending { entry, way })
+    Ok(Pending { entry, direction })
 }
 
-fn way_of(name: &str) -> Result<PendingWay, DecodeFault>
-    ensures { Gives result (way_from name.now) }
+fn direction_of(name: &str) -> Result<PendingDirection, DecodeFault>
+    ensures { Gives result (direction_from name.now) }
 {
     if name == "do" {
-        Ok(PendingWay::Do)
+        Ok(PendingDirection::Do)
     } else if name == "undo" {
-        Ok(PendingWay::Undo)
+        Ok(PendingDirection::Undo)
     } else if name == "redo" {
-        Ok(PendingWay::Redo)
+        Ok(PendingDirection::Redo)
     } else {
         Err(DecodeFault::NotGood)
     }
@@ -182,9 +184,9 @@ fn pending_fits(pending: Option<Pending>, next: u32, done: &[u32], undone: &[u32
     let Some(pending) = pending else {
         return true;
     };
-    match pending.way {
-        PendingWay::Do => pending.entry == next && pending.entry < LARGEST_NEXT,
-        PendingWay::Undo => done.last().copied() == Some(pending.entry),
-        PendingWay::Redo => undone.last().copied() == Some(pending.entry),
+    match pending.direction {
+        PendingDirection::Do => pending.entry == next && pending.entry < LARGEST_NEXT,
+        PendingDirection::Undo => done.last().copied() == Some(pending.entry),
+        PendingDirection::Redo => undone.last().copied() == Some(pending.entry),
     }
 }

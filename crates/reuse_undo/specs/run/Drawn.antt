@@ -9,8 +9,8 @@ use Rattle.reuse_tree.specs.Files.{Files}
 use Rattle.reuse_tree.specs.Tree.{changed_paths}
 use Rattle.reuse_tree.specs.declared.change.Change.{Change}
 use Rattle.reuse_tree.specs.declared.store.Store.{Ghosts}
-use Rattle.reuse_tree.specs.declared.way.Way.{Way}
-use Rattle.reuse_tree.specs.declared.way.Way.TheVariants as go
+use Rattle.reuse_tree.specs.declared.direction.Direction.{Direction}
+use Rattle.reuse_tree.specs.declared.direction.Direction.TheVariants as go
 use Rattle.reuse_session.specs.journal.Journal.{State}
 use Rattle.reuse_session.specs.session.Session.{store_of, StandsOn}
 use Rattle.reuse_session.specs.declared.path_outcome.PathOutcome.{PathOutcome}
@@ -38,13 +38,13 @@ abbrev pub AreDiffs : Files → Files → List Change → List ℕ → Type 0
 AreDiffs before after changes text = AreJoined (λ change. IsPathDiff before after (path_of change)) changes text
 
 -- gone through this way, changes of small files lead from the one tree to the other
-pub record AreSmallSteps (way : Way) (changes : List Change) (before after : Files) : Type 0 where
+pub record AreSmallSteps (direction : Direction) (changes : List Change) (before after : Files) : Type 0 where
   pub small : All IsSmall changes
-  pub leads : LeadsBy way changes before after
+  pub leads : LeadsBy direction changes before after
 
 -- what is previewed leads from the one tree to the other
 abbrev pub WouldLead : PlannedChanges → Files → Files → Type 0
-WouldLead planned before after = AreSmallSteps planned.way planned.changes before after
+WouldLead planned before after = AreSmallSteps planned.direction planned.changes before after
 
 -- ---- the two trees
 
@@ -78,14 +78,14 @@ abbrev pub IsDiffOfCall : Request → State → List ℕ → Type 0
 IsDiffOfCall request held text = (after : Files) → WouldLeave request held after → IsTreeDiff held.tree after text
 
 -- what would change, gone through this way, unless that is refused
-abbrev pub planned_unless : Bool → List Change → Way → Option PlannedChanges
-planned_unless true changes way = None
-planned_unless false changes way = Some (record { changes = changes; way = way })
+abbrev pub planned_unless : Bool → List Change → Direction → Option PlannedChanges
+planned_unless true changes direction = None
+planned_unless false changes direction = Some (record { changes = changes; direction = direction })
 
 -- the same of what is previewed, where none of the path outcomes is a refusal
-abbrev pub planned_in : Way → Result Previewed Refusal → Option PlannedChanges
-planned_in way (Ok previewed) = planned_unless (is_refused previewed.path_outcomes) previewed.changes way
-planned_in way (Err refusal) = None
+abbrev pub planned_in : Direction → Result Previewed Refusal → Option PlannedChanges
+planned_in direction (Ok previewed) = planned_unless (is_refused previewed.path_outcomes) previewed.changes direction
+planned_in direction (Err refusal) = None
 
 -- where a dry run was answered without a refusal, what would change is there, and leads to whatever tree the call would leave
 abbrev pub LeadsAsPreviewedAccepted : {S : Type 0} → Ghosts S → Request → Result Response Refusal → Option PlannedChanges → Session S → Session S → Type 0
@@ -100,9 +100,9 @@ pub record IsAnsweredWith {S : Type 0} (store : Ghosts S) (request : Request) (a
   pub previews : LeadsAsPreviewedAccepted store request answer planned old new
 
 -- the change that is made where a change is gone through this way
-abbrev pub gone : Way → Change → Change
-gone go.Do change = change
-gone go.Undo change = inverse_of change
+abbrev pub gone : Direction → Change → Change
+gone go.Forward change = change
+gone go.Backward change = inverse_of change
 
 -- the range lies within the file, and neither that nor the new bytes are too long
 pub record IsRangeWithin (file : List ℕ) (at : ℕ) (old new : List ℕ) : Type 0 where

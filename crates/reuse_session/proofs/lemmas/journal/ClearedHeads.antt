@@ -9,7 +9,7 @@ use Rattle.reuse_tree.specs.Tree.{undo_folder_of, Sets}
 use Rattle.reuse_tree.specs.declared.cause.Cause.{Cause}
 use Rattle.reuse_tree.specs.declared.change.Change.{Change}
 use Rattle.reuse_tree.specs.declared.store.Store.{Ghosts}
-use Rattle.reuse_tree.specs.declared.way.Way.{Way}
+use Rattle.reuse_tree.specs.declared.direction.Direction.{Direction}
 use Rattle.reuse_tree.proofs.FileMaps.{same_files}
 use Rattle.reuse_tree.proofs.Lasting.{certain_tree}
 use Rattle.reuse_tree.proofs.MadeLemmas.{back_none, made_none}
@@ -23,16 +23,16 @@ use Rattle.reuse_session.specs.declared.failure.Failure.TheVariants.{Interrupted
 use Rattle.reuse_session.specs.declared.reply.Refusal.TheVariants.{Failed}
 use Rattle.reuse_session.proofs.lemmas.journal.HeadPuts.{head_sets, head_keeps_tree}
 
-module _ (way : Way) (text : List ℕ) (old new : Files) where
-  pub cleared : (changes : List Change) → changes ≡ [] → Sets head_path (Some text) old new → IsRolledBack way changes text old new
+module _ (direction : Direction) (text : List ℕ) (old new : Files) where
+  pub cleared : (changes : List Change) → changes ≡ [] → Sets head_path (Some text) old new → IsRolledBack direction changes text old new
   cleared changes none sets =
-      subst (λ cs. IsRolledBack way cs text old new) (sym none) (record {
-        partly = subst (λ tree. ArePartlyMade way [] tree (tree_of old)) (sym (head_keeps_tree old new (Some text) sets)) (back_none way [] (tree_of old));
+      subst (λ cs. IsRolledBack direction cs text old new) (sym none) (record {
+        partly = subst (λ tree. ArePartlyMade direction [] tree (tree_of old)) (sym (head_keeps_tree old new (Some text) sets)) (back_none direction [] (tree_of old));
         sets = head_sets old new (Some text) sets;
       })
 
-  pub cleared_or_not : (changes : List Change) → changes ≡ [] → (new ≡ old) ⊎ Sets head_path (Some text) old new → StopsBack way changes text old new
-  cleared_or_not changes none (inl same) = inl (subst (λ files. SomeMade (opposite way) changes (tree_of old) (tree_of files)) (sym same) (made_none (opposite way) changes (tree_of old)), ap undo_folder_of same)
+  pub cleared_or_not : (changes : List Change) → changes ≡ [] → (new ≡ old) ⊎ Sets head_path (Some text) old new → StopsBack direction changes text old new
+  cleared_or_not changes none (inl same) = inl (subst (λ files. SomeMade (opposite direction) changes (tree_of old) (tree_of files)) (sym same) (made_none (opposite direction) changes (tree_of old)), ap undo_folder_of same)
   cleared_or_not changes none (inr sets) = inr (cleared changes none sets)
 
 -- a barrier over the journal makes files of a certain tree certain
@@ -46,18 +46,18 @@ barrier_certain store old mid have same ok left is =
     certain_tree (store.files mid) certain.0 left (have certain.0 certain.1 ∙ ap tree_of (sym same)) certain.2 ∙ same
 
 -- where no change is rolled back the tree is that from the start, and so is each that may be left
-module _ {S : Type 0} (store : Ghosts S) (way : Way) (text : List ℕ) (changes : List Change) (none : changes ≡ [])
-    (start : Files) (old new : S) (partly : ArePartlyMade way changes start (tree_of (store.files old))) where
-  made_nothing : (tree : Files) → SomeMade way changes start tree → tree ≡ start
+module _ {S : Type 0} (store : Ghosts S) (direction : Direction) (text : List ℕ) (changes : List Change) (none : changes ≡ [])
+    (start : Files) (old new : S) (partly : ArePartlyMade direction changes start (tree_of (store.files old))) where
+  made_nothing : (tree : Files) → SomeMade direction changes start tree → tree ≡ start
   made_nothing tree some = same_files tree start (λ path. some.others path (ap (λ cs. touches cs path) none))
 
-  pub starts_certain : Leaves store old (λ kept. SomeMade way changes start (tree_of kept))
+  pub starts_certain : Leaves store old (λ kept. SomeMade direction changes start (tree_of kept))
       → HaveTree store old (tree_of (store.files old))
   starts_certain sure left is = made_nothing (tree_of left) (sure left is) ∙ sym
       (made_nothing (tree_of (store.files old)) partly.made)
 
   pub cleared_with_doubt : MayHaveHead store text (store.files old) new
-      → StopsBackWithDoubt store way changes text start (store.files old) new
+      → StopsBackWithDoubt store direction changes text start (store.files old) new
   cleared_with_doubt head = inr (store.files old, made_nothing (tree_of (store.files old)) partly.made, refl, head)
 
 -- the rest of the journal's folder stays

@@ -13,7 +13,7 @@ use Rattle.reuse_session.specs.session.Session.{Remembers}
 use Rattle.reuse_session.specs.journal.Standing.{IsStanding, IsStep, IsUnderWay, InDoubt}
 use Rattle.reuse_tree.specs.Tree.{undo_folder_of}
 use Rattle.reuse_tree.specs.declared.journal.head.Pending.{Pending}
-use Rattle.reuse_tree.specs.declared.journal.head.PendingWay.{PendingWay}
+use Rattle.reuse_tree.specs.declared.journal.head.PendingDirection.{PendingDirection}
 use Rattle.reuse_session.specs.declared.reply.Refusal.{Refusal}
 use Rattle.reuse_session.proofs.lemmas.journal.JournalLemmas.{entry_good}
 use Rattle.reuse_session.proofs.lemmas.journal.OpeningLemmas.{same_journal, none_bad}
@@ -30,11 +30,11 @@ standing_bad files held standing path bad =
     (no_folder_file files held.tree journal_folder refl (ap (λ t. get t journal_folder) standing.tree) standing.good.no_undo)
     standing.journal (All-nil (IsReadable (undo_folder_of files))) path bad
 
-pub under_way_bad : (files : Files) (way : PendingWay) (step : Recorded) (first : State) → IsUnderWay way step first files → (path : List ℕ) → IsFirstBad files path → ⊥
-under_way_bad files way step first under path bad =
+pub under_way_bad : (files : Files) (direction : PendingDirection) (step : Recorded) (first : State) → IsUnderWay direction step first files → (path : List ℕ) → IsFirstBad files path → ⊥
+under_way_bad files direction step first under path bad =
     let folder = undo_folder_of files in
     let good = entry_good (get folder (entry_path (number_of step))) (entry_in step) under.kept in
-    none_bad files first.journal (Some (record { entry = number_of step; way = way }))
+    none_bad files first.journal (Some (record { entry = number_of step; direction = direction }))
     (no_folder_file files first.tree (codes ".reuse") refl (under.partly.made.others (codes ".reuse") (none_outside step.changes (codes ".reuse") good refl)) under.good.no_reuse)
     (no_folder_file files first.tree journal_folder refl (under.partly.made.others journal_folder (none_outside step.changes journal_folder good refl)) under.good.no_undo)
     under.journal
@@ -54,7 +54,7 @@ read_standing first second files memory journal read (inl standing) =
 read_standing first second files memory journal read (inr (inl standing)) =
     inr (standing, subst (Remembers memory) (same_journal (undo_folder_of files) journal second.journal None None read.keeps standing.journal).0 read.remembers)
 read_standing first second files memory journal read (inr (inr step)) =
-    let e = (same_journal (undo_folder_of files) journal first.journal None (Some (record { entry = number_of step.1; way = step.0 })) read.keeps step.3.journal).1 in
+    let e = (same_journal (undo_folder_of files) journal first.journal None (Some (record { entry = number_of step.1; direction = step.0 })) read.keeps step.3.journal).1 in
     absurd (cc)
 
 -- where something is pending, they are no standing
@@ -67,8 +67,8 @@ none_pending files held standing pending memory journal read =
 pub record IsPending (first second : State) (files : Files) (pending : Pending) (memory : Memory) : Type 0 where
   pub step : Recorded
   pub number : number_of step ≡ pending.entry
-  pub leads : IsStep pending.way step first second
-  pub under : IsUnderWay pending.way step first files
+  pub leads : IsStep pending.direction step first second
+  pub under : IsUnderWay pending.direction step first files
   pub remembers : Remembers memory first.journal
 
 pub read_pending : (first second : State) (files : Files) (pending : Pending) (memory : Memory) (journal : Journal) → IsRead files (Some pending) memory journal → InDoubt first second files
@@ -80,15 +80,15 @@ read_pending first second files pending memory journal read (inr (inl standing))
     let e = (same_journal (undo_folder_of files) journal second.journal (Some pending) None read.keeps standing.journal).1 in
     absurd (cc)
 read_pending first second files pending memory journal read (inr (inr step)) =
-    let told : Pending = record { entry = number_of step.1; way = step.0 } in
+    let told : Pending = record { entry = number_of step.1; direction = step.0 } in
     let both = same_journal (undo_folder_of files) journal first.journal (Some pending) (Some told) read.keeps step.3.journal in
     let same : pending ≡ told = let e = both.1 in cc in
-    let way : step.0 ≡ pending.way = ap (λ p. p.way) (sym same) in
+    let direction : step.0 ≡ pending.direction = ap (λ p. p.direction) (sym same) in
     record {
       step = step.1;
       number = ap (λ p. p.entry) (sym same);
-      leads = subst (λ w. IsStep w step.1 first second) way step.2;
-      under = subst (λ w. IsUnderWay w step.1 first files) way step.3;
+      leads = subst (λ w. IsStep w step.1 first second) direction step.2;
+      under = subst (λ w. IsUnderWay w step.1 first files) direction step.3;
       remembers = subst (Remembers memory) both.0 read.remembers;
     }
 
@@ -118,13 +118,13 @@ module _ (before after : Files) (memory : Memory) (journal : Journal) (read : Is
 pub settled_opens : (before after : Files) (pending : Pending) (memory : Memory) (journal : Journal) → IsRead before (Some pending) memory journal → IsSettled pending journal before after
     → (held : State) × Remembers memory held.journal × OpensOn before held after
 settled_opens before after pending memory journal read settled =
-    (record { tree = tree_of after; journal = journal }, read.remembers, inr (pending.way, settled.0, settled.2, settled.3))
+    (record { tree = tree_of after; journal = journal }, read.remembers, inr (pending.direction, settled.0, settled.2, settled.3))
 
 -- a step that is on the way back leaves the files in doubt
 pub still_in_doubt : (first second : State) (before after : Files) (pending : Pending) (memory : Memory) (step : IsPending first second before pending memory)
-    → IsStanding after first ⊎ IsUnderWay pending.way step.step first after → InDoubt first second after
+    → IsStanding after first ⊎ IsUnderWay pending.direction step.step first after → InDoubt first second after
 still_in_doubt first second before after pending memory step (inl standing) = inl standing
-still_in_doubt first second before after pending memory step (inr under) = inr (inr (pending.way, step.step, step.leads, under))
+still_in_doubt first second before after pending memory step (inr under) = inr (inr (pending.direction, step.step, step.leads, under))
 
 pub left_in_doubt : {A : Type 0} (result : Result A Refusal) (given refusal : Refusal) (P : A → Type 0) (first second : State) (after : Files)
     → result ≡ Err given → given ≡ refusal → IsFailure refusal → InDoubt first second after → MatchResult result P (λ refusal. IsFailure refusal × InDoubt first second after)

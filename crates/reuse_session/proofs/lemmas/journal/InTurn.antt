@@ -13,13 +13,13 @@ use Rattle.std.proofs.lemmas.List.Sorted.{All-permutation, IsPermutation-sym, li
 use Rattle.std.proofs.lemmas.Map.Keys.{IsDistinct-IsPermutation, sorted_head, sorted_tail}
 use Rattle.std.proofs.lemmas.Slice.Eq.{bytes_eq-Decides}
 use Rattle.reuse_tree.specs.Files.{Files}
-use Rattle.reuse_tree.specs.Change.{path_of, inverse_of, Turns, Leads}
+use Rattle.reuse_tree.specs.Change.{path_of, inverse_of, Applies, Leads}
 use Rattle.reuse_tree.specs.declared.change.Change.{Change}
 use Rattle.reuse_tree.proofs.FileMaps.{same_files, same_or_other}
-use Rattle.reuse_tree.proofs.Turning.{turns_back, inverse_twice, path_of-inverse}
-use Rattle.reuse_tree.specs.declared.way.Way.{Way}
-use Rattle.reuse_tree.specs.declared.way.Way.TheVariants.{Undo}
-use Rattle.reuse_tree.specs.Entry.{touches, paths_of, IsEntry, TurnsBy, LeadsBy, LeadsAll}
+use Rattle.reuse_tree.proofs.Applying.{applies_back, inverse_twice, path_of-inverse}
+use Rattle.reuse_tree.specs.declared.direction.Direction.{Direction}
+use Rattle.reuse_tree.specs.declared.direction.Direction.TheVariants.{Backward}
+use Rattle.reuse_tree.specs.Entry.{touches, paths_of, IsEntry, AppliesBy, LeadsBy, LeadsAll}
 use Rattle.reuse_session.specs.journal.InTurn.{LeadsInTurn}
 use Rattle.reuse_session.specs.plan.Outcome.{with_file}
 use Rattle.reuse_session.proofs.lemmas.plan.Planning.{with_same, with_other}
@@ -27,8 +27,8 @@ use Rattle.reuse_tree.proofs.Walk.{of_no_change}
 
 -- ---- one change before others of other paths
 
-abbrev TurnsBetween : Files → Files → Change → Type 0
-TurnsBetween before after change = Turns change (get before (path_of change)) (get after (path_of change))
+abbrev AppliesBetween : Files → Files → Change → Type 0
+AppliesBetween before after change = Applies change (get before (path_of change)) (get after (path_of change))
 
 module _ (change : Change) (changes : List Change) (apart : touches changes (path_of change) ≡ false) (before after : Files) where
   other_path : (k : ℕ) (d : Change) → k < length changes → path_of (get_or changes k d) ≢ path_of change
@@ -47,7 +47,7 @@ module _ (change : Change) (changes : List Change) (apart : touches changes (pat
 
   first_leads : LeadsAll (change ∷ changes) before after → Leads change before first_made
   first_leads leads = record {
-    here = subst (Turns change (get before (path_of change))) (sym (with_same before (path_of change) (get after (path_of change)))) (leads.each 0 change (omega arith));
+    here = subst (Applies change (get before (path_of change))) (sym (with_same before (path_of change) (get after (path_of change)))) (leads.each 0 change (omega arith));
     elsewhere = λ path other. with_other before (path_of change) (get after (path_of change)) path other;
   }
 
@@ -55,7 +55,7 @@ module _ (change : Change) (changes : List Change) (apart : touches changes (pat
   rest_lead leads = record {
     each = λ k d lt.
         let next = get_or changes k d in
-        subst (λ f. Turns next f (get after (path_of next))) (sym (with_other before (path_of change) (get after (path_of change)) (path_of next) (other_path k d lt))) (leads.each (suc k) d (omega arith));
+        subst (λ f. Applies next f (get after (path_of next))) (sym (with_other before (path_of change) (get after (path_of change)) (path_of next) (other_path k d lt))) (leads.each (suc k) d (omega arith));
     others = λ path none. at_path path none (same_or_other path (path_of change));
   }
     where
@@ -65,9 +65,9 @@ module _ (change : Change) (changes : List Change) (apart : touches changes (pat
 
   both_lead : (between : Files) → Leads change before between → LeadsAll changes between after → LeadsAll (change ∷ changes) before after
   both_lead between first rest = record {
-    each = All-cons (TurnsBetween before after) change changes
-        (subst (Turns change (get before (path_of change))) (sym (rest.others (path_of change) apart)) first.here)
-        (λ k d lt. let next = get_or changes k d in subst (λ f. Turns next f (get after (path_of next))) (first.elsewhere (path_of next) (other_path k d lt)) (rest.each k d lt));
+    each = All-cons (AppliesBetween before after) change changes
+        (subst (Applies change (get before (path_of change))) (sym (rest.others (path_of change) apart)) first.here)
+        (λ k d lt. let next = get_or changes k d in subst (λ f. Applies next f (get after (path_of next))) (first.elsewhere (path_of next) (other_path k d lt)) (rest.each k d lt));
     others = λ path none.
         let parts = or_parts (bytes_eq path (path_of change)) (touches changes path) none in
         rest.others path parts.1 ∙ first.elsewhere path (λ same. false≢true (sym parts.0 ∙ (bytes_eq-Decides path (path_of change)).1 same));
@@ -122,21 +122,21 @@ ascending_distinct (change ∷ changes) ascending = distinct_cons change changes
     (above_other (path_of change) changes (sorted_head (slice_cmp nat_cmp) (path_of change) (paths_of changes) ascending))
     (ascending_distinct changes (sorted_tail (slice_cmp nat_cmp) (path_of change) (paths_of changes) ascending))
 
-to_turns : (changes : List Change) (before after : Files) → AreOfDistinctPaths changes → LeadsAll changes before after → LeadsInTurn changes before after
-to_turns [] before after distinct leads = same_files after before (λ path. leads.others path refl)
-to_turns (change ∷ changes) before after distinct leads = (
+to_applies : (changes : List Change) (before after : Files) → AreOfDistinctPaths changes → LeadsAll changes before after → LeadsInTurn changes before after
+to_applies [] before after distinct leads = same_files after before (λ path. leads.others path refl)
+to_applies (change ∷ changes) before after distinct leads = (
   first_made change changes (distinct_head change changes distinct) before after,
   first_leads change changes (distinct_head change changes distinct) before after leads,
-  to_turns changes (first_made change changes (distinct_head change changes distinct) before after) after (distinct_tail change changes distinct) (rest_lead change changes (distinct_head change changes distinct) before after leads),
+  to_applies changes (first_made change changes (distinct_head change changes distinct) before after) after (distinct_tail change changes distinct) (rest_lead change changes (distinct_head change changes distinct) before after leads),
 )
 
-from_turns : (changes : List Change) (before after : Files) → AreOfDistinctPaths changes → LeadsInTurn changes before after → LeadsAll changes before after
-from_turns [] before after distinct same = record { each = All-nil (TurnsBetween before after); others = λ path none. ap (λ tree. get tree path) same }
-from_turns (change ∷ changes) before after distinct turns =
-    both_lead change changes (distinct_head change changes distinct) before after turns.0 turns.1 (from_turns changes turns.0 after (distinct_tail change changes distinct) turns.2)
+from_applies : (changes : List Change) (before after : Files) → AreOfDistinctPaths changes → LeadsInTurn changes before after → LeadsAll changes before after
+from_applies [] before after distinct same = record { each = All-nil (AppliesBetween before after); others = λ path none. ap (λ tree. get tree path) same }
+from_applies (change ∷ changes) before after distinct applies =
+    both_lead change changes (distinct_head change changes distinct) before after applies.0 applies.1 (from_applies changes applies.0 after (distinct_tail change changes distinct) applies.2)
 
 pub leads_in_turn : (changes : List Change) (before after : Files) → AreOfDistinctPaths changes → LeadsAll changes before after ↔ LeadsInTurn changes before after
-leads_in_turn changes before after distinct = (to_turns changes before after distinct, from_turns changes before after distinct)
+leads_in_turn changes before after distinct = (to_applies changes before after distinct, from_applies changes before after distinct)
 
 -- ---- the way back
 
@@ -155,49 +155,49 @@ inverse_distinct (change ∷ changes) distinct = distinct_cons (inverse_of chang
 
 -- the other way, a change leads where its inverse does
 module _ (before after : Files) where
-  abbrev TurnsBack : Change → Type 0
-  TurnsBack change = Turns change (get after (path_of change)) (get before (path_of change))
+  abbrev AppliesBack : Change → Type 0
+  AppliesBack change = Applies change (get after (path_of change)) (get before (path_of change))
 
-  inverse_turns : (change : Change) → TurnsBack change → TurnsBetween before after (inverse_of change)
-  inverse_turns change turns = subst (λ path. Turns (inverse_of change) (get before path) (get after path)) (sym (path_of-inverse change)) (turns_back change _ _ turns)
+  inverse_applies : (change : Change) → AppliesBack change → AppliesBetween before after (inverse_of change)
+  inverse_applies change applies = subst (λ path. Applies (inverse_of change) (get before path) (get after path)) (sym (path_of-inverse change)) (applies_back change _ _ applies)
 
-  change_turns : (change : Change) → TurnsBetween before after (inverse_of change) → TurnsBack change
-  change_turns change turns = subst (λ c. Turns c (get after (path_of change)) (get before (path_of change))) (inverse_twice change)
-      (turns_back (inverse_of change) _ _ (subst (λ path. Turns (inverse_of change) (get before path) (get after path)) (path_of-inverse change) turns))
+  change_applies : (change : Change) → AppliesBetween before after (inverse_of change) → AppliesBack change
+  change_applies change applies = subst (λ c. Applies c (get after (path_of change)) (get before (path_of change))) (inverse_twice change)
+      (applies_back (inverse_of change) _ _ (subst (λ path. Applies (inverse_of change) (get before path) (get after path)) (path_of-inverse change) applies))
 
-  inverses_turn : (changes : List Change) → All TurnsBack changes → All (TurnsBetween before after) (map inverse_of changes)
-  inverses_turn [] all = All-nil (TurnsBetween before after)
-  inverses_turn (change ∷ changes) all =
-      All-cons (TurnsBetween before after) (inverse_of change) (map inverse_of changes) (inverse_turns change (all 0 change (omega arith))) (inverses_turn changes (λ k d lt. all (suc k) d (omega arith)))
+  inverses_apply : (changes : List Change) → All AppliesBack changes → All (AppliesBetween before after) (map inverse_of changes)
+  inverses_apply [] all = All-nil (AppliesBetween before after)
+  inverses_apply (change ∷ changes) all =
+      All-cons (AppliesBetween before after) (inverse_of change) (map inverse_of changes) (inverse_applies change (all 0 change (omega arith))) (inverses_apply changes (λ k d lt. all (suc k) d (omega arith)))
 
-  changes_turn : (changes : List Change) → All (TurnsBetween before after) (map inverse_of changes) → All TurnsBack changes
-  changes_turn [] all = All-nil TurnsBack
-  changes_turn (change ∷ changes) all =
-      All-cons TurnsBack change changes (change_turns change (all 0 change (omega arith))) (changes_turn changes (λ k d lt. all (suc k) d (omega arith)))
+  changes_apply : (changes : List Change) → All (AppliesBetween before after) (map inverse_of changes) → All AppliesBack changes
+  changes_apply [] all = All-nil AppliesBack
+  changes_apply (change ∷ changes) all =
+      All-cons AppliesBack change changes (change_applies change (all 0 change (omega arith))) (changes_apply changes (λ k d lt. all (suc k) d (omega arith)))
 
-  pub leads_by_inverses : (changes : List Change) → LeadsBy Undo changes before after ↔ LeadsAll (map inverse_of changes) before after
+  pub leads_by_inverses : (changes : List Change) → LeadsBy Backward changes before after ↔ LeadsAll (map inverse_of changes) before after
   leads_by_inverses changes = (
-    λ leads. record { each = inverses_turn changes leads.each; others = λ path none. leads.others path (sym (inverse_touches changes path) ∙ none) },
-    λ leads. record { each = changes_turn changes leads.each; others = λ path none. leads.others path (inverse_touches changes path ∙ none) },
+    λ leads. record { each = inverses_apply changes leads.each; others = λ path none. leads.others path (sym (inverse_touches changes path) ∙ none) },
+    λ leads. record { each = changes_apply changes leads.each; others = λ path none. leads.others path (inverse_touches changes path ∙ none) },
   )
 
 -- ---- entries
 
 -- in whichever order changes are listed, they lead from one tree to the other
-reordered : (way : Way) (changes others : List Change) (before after : Files) → IsPermutation changes others → LeadsBy way changes before after → LeadsBy way others before after
-reordered way changes others before after moved leads = record {
-  each = All-permutation (λ c. TurnsBy way c (get before (path_of c)) (get after (path_of c))) changes others moved leads.each;
+reordered : (direction : Direction) (changes others : List Change) (before after : Files) → IsPermutation changes others → LeadsBy direction changes before after → LeadsBy direction others before after
+reordered direction changes others before after moved leads = record {
+  each = All-permutation (λ c. AppliesBy direction c (get before (path_of c)) (get after (path_of c))) changes others moved leads.each;
   others = λ path none. leads.others path (list_any-IsPermutation (λ c. bytes_eq path (path_of c)) changes others moved ∙ none);
 }
 
 pub entry_in_turn : (changes : List Change) (before after : Files) → IsEntry changes → LeadsAll changes before after ↔ LeadsInTurn changes before after
 entry_in_turn changes before after good = leads_in_turn changes before after (ascending_distinct changes good.ascending)
 
-pub entry_back_in_turn : (changes others : List Change) (before after : Files) → IsEntry changes → IsPermutation changes others → LeadsBy Undo changes before after ↔ LeadsInTurn (map inverse_of others) before after
+pub entry_back_in_turn : (changes others : List Change) (before after : Files) → IsEntry changes → IsPermutation changes others → LeadsBy Backward changes before after ↔ LeadsInTurn (map inverse_of others) before after
 entry_back_in_turn changes others before after good moved =
     let distinct = IsDistinct-IsPermutation same_path (λ x y. nat_list_eq_equiv.symm (path_of x) (path_of y)) changes others moved (ascending_distinct changes good.ascending) in
     let back = leads_by_inverses before after others in
-    let turns = leads_in_turn (map inverse_of others) before after (inverse_distinct others distinct) in (
-      λ leads. turns.0 (back.0 (reordered Undo changes others before after moved leads)),
-      λ leads. reordered Undo others changes before after (IsPermutation-sym changes others moved) (back.1 (turns.1 leads)),
+    let applies = leads_in_turn (map inverse_of others) before after (inverse_distinct others distinct) in (
+      λ leads. applies.0 (back.0 (reordered Backward changes others before after moved leads)),
+      λ leads. reordered Backward others changes before after (IsPermutation-sym changes others moved) (back.1 (applies.1 leads)),
     )

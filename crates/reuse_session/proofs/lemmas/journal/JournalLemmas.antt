@@ -13,17 +13,17 @@ use Rattle.reuse_tree.specs.Head.{IsGoodHead, IsSoundHead}
 use Rattle.reuse_session.specs.journal.Journal.{Recorded, Journal}
 use Rattle.reuse_session.specs.journal.JournalFiles.{digit, six_digits, head_path, entry_path, IsJournalPath, IsFree, HeadSays, EntrySays, entry_in, number_of, IsKeptIn, empty_head, head_of, KeepsJournal}
 use Rattle.reuse_session.specs.session.Session.{IsSameBut}
-use Rattle.reuse_session.specs.journal.Standing.{IsTree, Moves}
+use Rattle.reuse_session.specs.journal.Standing.{IsTree, Mutations}
 use Rattle.reuse_tree.specs.Tree.{undo_folder_of, Sets}
 use Rattle.reuse_tree.specs.declared.journal.entry.Entry.{Entry}
 use Rattle.reuse_tree.specs.declared.journal.head.Pending.{Pending}
-use Rattle.reuse_tree.specs.declared.journal.head.PendingWay.{PendingWay}
-use Rattle.reuse_tree.specs.declared.journal.head.PendingWay.TheVariants.{Do, Undo, Redo}
+use Rattle.reuse_tree.specs.declared.journal.head.PendingDirection.{PendingDirection}
+use Rattle.reuse_tree.specs.declared.journal.head.PendingDirection.TheVariants.{Do, Undo, Redo}
 use Rattle.reuse_tree.specs.declared.journal.head.Head.{Head}
 use Rattle.reuse_tree.proofs.TreeLemmas.{tree_file}
 use Rattle.reuse_tree.proofs.ListingLemmas.{under_from_test, test_from_under}
 use Rattle.reuse_tree.proofs.EntryParts.{one_entry}
-use Rattle.reuse_session.proofs.lemmas.journal.HeadMoves.{each_listed}
+use Rattle.reuse_session.proofs.lemmas.journal.HeadMutations.{each_listed}
 use Rattle.reuse_tree.proofs.OfTree.{fronts, slash_inside, above_journal, get-folder}
 
 -- ---- their paths
@@ -252,9 +252,9 @@ keeps_with_head folder after journal p text kept sets good = record {
 }
 
 -- the entries of the journal after a step are those before it, and the step's
-pub kept_moved : (folder : Files) (old new : Journal) (p : Option Pending) (way : PendingWay) (step : Recorded) → KeepsJournal folder old p → IsKeptIn folder step → Moves way step old new
+pub kept_moved : (folder : Files) (old new : Journal) (p : Option Pending) (direction : PendingDirection) (step : Recorded) → KeepsJournal folder old p → IsKeptIn folder step → Mutations direction step old new
     → All (IsKeptIn folder) new.done × All (IsKeptIn folder) new.undone
-kept_moved folder old new p way step keeps kept moves = lists way moves
+kept_moved folder old new p direction step keeps kept mutations = lists direction mutations
   where
     of_journal : (journal : Journal) → new ≡ journal → All (IsKeptIn folder) journal.done → All (IsKeptIn folder) journal.undone
         → All (IsKeptIn folder) new.done × All (IsKeptIn folder) new.undone
@@ -264,17 +264,17 @@ kept_moved folder old new p way step keeps kept moves = lists way moves
     tail_of : (steps more : List Recorded) → steps ≡ step ∷ more → All (IsKeptIn folder) steps → All (IsKeptIn folder) more
     tail_of steps more is all = All-tail (IsKeptIn folder) step more (subst (All (IsKeptIn folder)) is all)
 
-    lists : (way : PendingWay) → Moves way step old new → All (IsKeptIn folder) new.done × All (IsKeptIn folder) new.undone
-    lists Do moves = of_journal _ moves.1 (All-cons (IsKeptIn folder) step old.done kept keeps.done) (All-nil (IsKeptIn folder))
+    lists : (direction : PendingDirection) → Mutations direction step old new → All (IsKeptIn folder) new.done × All (IsKeptIn folder) new.undone
+    lists Do mutations = of_journal _ mutations.1 (All-cons (IsKeptIn folder) step old.done kept keeps.done) (All-nil (IsKeptIn folder))
     lists Undo (steps, was, is) = of_journal _ is (tail_of old.done steps was keeps.done) (All-cons (IsKeptIn folder) step old.undone kept keeps.undone)
     lists Redo (steps, was, is) = of_journal _ is (All-cons (IsKeptIn folder) step old.done kept keeps.done) (tail_of old.undone steps was keeps.undone)
 
 -- the head after a step
-pub keeps_settled : (folder after : Files) (old new : Journal) (p : Option Pending) (way : PendingWay) (step : Recorded) (text : List ℕ)
-    → KeepsJournal folder old p → IsKeptIn folder step → Moves way step old new → Sets head_path (Some text) folder after
+pub keeps_settled : (folder after : Files) (old new : Journal) (p : Option Pending) (direction : PendingDirection) (step : Recorded) (text : List ℕ)
+    → KeepsJournal folder old p → IsKeptIn folder step → Mutations direction step old new → Sets head_path (Some text) folder after
     → IsGoodHead text (head_of new None) → KeepsJournal after new None
-keeps_settled folder after old new p way step text keeps kept moves sets good =
-    keeps_with_head folder after new None text (kept_moved folder old new p way step keeps kept moves) sets good
+keeps_settled folder after old new p direction step text keeps kept mutations sets good =
+    keeps_with_head folder after new None text (kept_moved folder old new p direction step keeps kept mutations) sets good
 
 -- the head as it was before the step
 pub keeps_again : (folder after : Files) (journal : Journal) (p : Pending) (text : List ℕ) → KeepsJournal folder journal (Some p)

@@ -11,7 +11,7 @@ use Rattle.reuse_session.specs.session.Session.{IsSameBut}
 use Rattle.reuse_tree.specs.Tree.{undo_folder_of}
 use Rattle.reuse_tree.specs.declared.journal.entry.Entry.{Entry}
 use Rattle.reuse_tree.proofs.OfTree.{get-folder}
-use Rattle.reuse_tree.proofs.TurnLemmas.{put_sets, put_doubt}
+use Rattle.reuse_tree.proofs.ApplyLemmas.{put_sets, put_doubt}
 
 -- a file of the folder, read at a path that is its
 pub file_in_folder : (files : Files) (path place : List ℕ) → path ≡ place → lies_under place journal_folder ≡ true → get files path ≡ get (undo_folder_of files) place

@@ -5,8 +5,8 @@ use Rattle.reuse_session.specs.journal.History.{Memory, head_listing, row_listin
 use Rattle.reuse_session.specs.journal.Journal.{Recorded, Journal, ahead, rows_in}
 use Rattle.reuse_session.specs.journal.JournalFiles.{head_of}
 use Rattle.reuse_session.specs.session.Session.{listed_as, Remembers}
-use Rattle.reuse_tree.specs.declared.way.Way.{Way}
-use Rattle.reuse_tree.specs.declared.way.Way.TheVariants.{Do, Undo}
+use Rattle.reuse_tree.specs.declared.direction.Direction.{Direction}
+use Rattle.reuse_tree.specs.declared.direction.Direction.TheVariants.{Forward, Backward}
 use Rattle.reuse_session.specs.declared.journal.history.ListedEntry.{ListedEntry}
 use Rattle.reuse_tree.specs.declared.journal.head.Head.{Head}
 use Rattle.reuse_tree.specs.declared.journal.head.Pending.{Pending}
@@ -57,18 +57,18 @@ none_listed entries steps are = (
 )
 
 -- the entries that a way goes on with are listed as its steps
-ahead_listed : (way : Way) (memory : Memory) (journal : Journal) → Remembers memory journal → entries_ahead way memory ≡ map listed_as (reverse (ahead way journal))
-ahead_listed Undo memory journal remembers = remembers.done
-ahead_listed Do memory journal remembers = remembers.undone
+ahead_listed : (direction : Direction) (memory : Memory) (journal : Journal) → Remembers memory journal → entries_ahead direction memory ≡ map listed_as (reverse (ahead direction journal))
+ahead_listed Backward memory journal remembers = remembers.done
+ahead_listed Forward memory journal remembers = remembers.undone
 
 -- the next of them, as a step
-pub next_step : (way : Way) (memory : Memory) (journal : Journal) (entry : ListedEntry) (front : List ListedEntry) → Remembers memory journal → entries_ahead way memory ≡ front ++ entry ∷ []
-    → (step : Recorded) × (steps : List Recorded) × (ahead way journal ≡ step ∷ steps) × (entry ≡ listed_as step) × (front ≡ map listed_as (reverse steps))
-next_step way memory journal entry front remembers last =
-    last_step (entries_ahead way memory) (ahead way journal) entry front (ahead_listed way memory journal remembers) last
+pub next_step : (direction : Direction) (memory : Memory) (journal : Journal) (entry : ListedEntry) (front : List ListedEntry) → Remembers memory journal → entries_ahead direction memory ≡ front ++ entry ∷ []
+    → (step : Recorded) × (steps : List Recorded) × (ahead direction journal ≡ step ∷ steps) × (entry ≡ listed_as step) × (front ≡ map listed_as (reverse steps))
+next_step direction memory journal entry front remembers last =
+    last_step (entries_ahead direction memory) (ahead direction journal) entry front (ahead_listed direction memory journal remembers) last
 
-pub none_ahead : (way : Way) (memory : Memory) (journal : Journal) → Remembers memory journal → (entries_ahead way memory ≡ []) ↔ (ahead way journal ≡ [])
-none_ahead way memory journal remembers = none_listed (entries_ahead way memory) (ahead way journal) (ahead_listed way memory journal remembers)
+pub none_ahead : (direction : Direction) (memory : Memory) (journal : Journal) → Remembers memory journal → (entries_ahead direction memory ≡ []) ↔ (ahead direction journal ≡ [])
+none_ahead direction memory journal remembers = none_listed (entries_ahead direction memory) (ahead direction journal) (ahead_listed direction memory journal remembers)
 
 pub count_done : (memory : Memory) (journal : Journal) → Remembers memory journal → length memory.done ≡ length journal.done
 count_done memory journal remembers = count_listed memory.done journal.done remembers.done

@@ -9,15 +9,15 @@ use Rattle.reuse_tree.specs.Change.{path_of}
 use Rattle.reuse_tree.specs.Files.{Files, tree_of}
 use Rattle.reuse_tree.specs.declared.change.Change.{Change}
 use Rattle.reuse_session.specs.session.Answer.{TellsNoFault, IsOpenRefusal}
-use Rattle.reuse_tree.specs.Entry.{CanBeSetBack, IsFirstWithout}
-use Rattle.reuse_tree.specs.Head.{way_of}
+use Rattle.reuse_tree.specs.Entry.{CanBeRolledBack, IsFirstWithout}
+use Rattle.reuse_tree.specs.Head.{direction_of}
 use Rattle.reuse_session.specs.journal.Journal.{Recorded, Journal, State}
 use Rattle.reuse_session.specs.journal.JournalFiles.{head_path, entry_path, entry_in, number_of, EntrySays, IsKeptIn, KeepsJournal}
 use Rattle.reuse_session.specs.journal.Opening.{named, IsReadable, IsLeastUnreadable, IsFirstUnreadable, IsFirstBadIn, IsFirstBad, IsStuckAt, CanOpenOn, OpensAs, OpensOn}
 use Rattle.reuse_session.specs.journal.Standing.{IsUnderWay}
 use Rattle.reuse_tree.specs.Tree.{undo_folder_of}
 use Rattle.reuse_tree.specs.declared.journal.head.Pending.{Pending}
-use Rattle.reuse_tree.specs.declared.journal.head.PendingWay.{PendingWay}
+use Rattle.reuse_tree.specs.declared.journal.head.PendingDirection.{PendingDirection}
 use Rattle.reuse_session.specs.declared.reply.Refusal.{Refusal}
 use Rattle.reuse_session.specs.declared.reply.Refusal.TheVariants.{BadJournal, Moved, Failed}
 use Rattle.reuse_session.proofs.lemmas.journal.FilesInDoubt.{standing_bad, under_way_bad}
@@ -60,24 +60,24 @@ bad_once files p q (inr (inr a)) (inr (inr b)) = bad_in_once (undo_folder_of fil
 
 -- ---- one step is pending
 
-pub record IsOneStep (journal : Journal) (way : PendingWay) (step : Recorded) (other : Journal) (turn : PendingWay) (next : Recorded) : Type 0 where
+pub record IsOneStep (journal : Journal) (direction : PendingDirection) (step : Recorded) (other : Journal) (turn : PendingDirection) (next : Recorded) : Type 0 where
   pub journals : journal ≡ other
-  pub ways : way ≡ turn
+  pub directions : direction ≡ turn
   pub steps : step ≡ next
 
-pub one_step : (folder : Files) (journal other : Journal) (way turn : PendingWay) (step next : Recorded)
-    → KeepsJournal folder journal (Some (record { entry = number_of step; way = way })) → KeepsJournal folder other (Some (record { entry = number_of next; way = turn }))
-    → IsKeptIn folder step → IsKeptIn folder next → IsOneStep journal way step other turn next
-one_step folder journal other way turn step next keeps keeps_other kept kept_next =
-    let told : Pending = record { entry = number_of step; way = way } in
-    let tells : Pending = record { entry = number_of next; way = turn } in
+pub one_step : (folder : Files) (journal other : Journal) (direction turn : PendingDirection) (step next : Recorded)
+    → KeepsJournal folder journal (Some (record { entry = number_of step; direction = direction })) → KeepsJournal folder other (Some (record { entry = number_of next; direction = turn }))
+    → IsKeptIn folder step → IsKeptIn folder next → IsOneStep journal direction step other turn next
+one_step folder journal other direction turn step next keeps keeps_other kept kept_next =
+    let told : Pending = record { entry = number_of step; direction = direction } in
+    let tells : Pending = record { entry = number_of next; direction = turn } in
     let both = same_journal folder journal other (Some told) (Some tells) keeps keeps_other in
     let same : told ≡ tells = let e = both.1 in cc in
     let number : number_of step ≡ number_of next = ap (λ (p : Pending). p.entry) same in
     let here = subst (λ n. EntrySays (get folder (entry_path n)) (entry_in step)) number kept in
     record {
       journals = both.0;
-      ways = ap (λ (p : Pending). p.way) same;
+      directions = ap (λ (p : Pending). p.direction) same;
       steps = same_step step next number (same_entry (get folder (entry_path (number_of next))) (entry_in step) (entry_in next) here kept_next);
     }
 
@@ -104,10 +104,10 @@ without_once Holds changes p q a b =
 
 pub stuck_once : (files : Files) (p q : List ℕ) → IsStuckAt files p → IsStuckAt files q → p ≡ q
 stuck_once files p q a b =
-    let one = one_step (undo_folder_of files) a.journal b.journal a.way b.way a.step b.step a.keeps b.keeps a.kept b.kept in
-    let here = subst (λ (s : Recorded). IsFirstWithout (CanBeSetBack (way_of b.way) (tree_of files)) s.changes p) one.steps
-    (subst (λ (w : PendingWay). IsFirstWithout (CanBeSetBack (way_of w) (tree_of files)) a.step.changes p) one.ways a.stuck) in
-    without_once (CanBeSetBack (way_of b.way) (tree_of files)) b.step.changes p q here b.stuck
+    let one = one_step (undo_folder_of files) a.journal b.journal a.direction b.direction a.step b.step a.keeps b.keeps a.kept b.kept in
+    let here = subst (λ (s : Recorded). IsFirstWithout (CanBeRolledBack (direction_of b.direction) (tree_of files)) s.changes p) one.steps
+    (subst (λ (w : PendingDirection). IsFirstWithout (CanBeRolledBack (direction_of w) (tree_of files)) a.step.changes p) one.directions a.stuck) in
+    without_once (CanBeRolledBack (direction_of b.direction) (tree_of files)) b.step.changes p q here b.stuck
 
 -- ---- they open on one standing
 
@@ -116,18 +116,18 @@ same_state a b tree journal =
     let same_tree : a ≡ record { tree = b.tree; journal = a.journal } = ap (λ t. record { tree = t; journal = a.journal }) tree in
     same_tree ∙ ap (λ j. record { tree = b.tree; journal = j }) journal
 
-same_tree : (files : Files) (way : PendingWay) (step : Recorded) (a b : State) → IsUnderWay way step a files → IsUnderWay way step b files → a.tree ≡ b.tree
-same_tree files way step a b under other =
+same_tree : (files : Files) (direction : PendingDirection) (step : Recorded) (a b : State) → IsUnderWay direction step a files → IsUnderWay direction step b files → a.tree ≡ b.tree
+same_tree files direction step a b under other =
     let good = entry_good (get (undo_folder_of files) (entry_path (number_of step))) (entry_in step) under.kept in
-    back_at_start (way_of way) step.changes good b.tree (tree_of files) a.tree other.partly under.partly
+    back_at_start (direction_of direction) step.changes good b.tree (tree_of files) a.tree other.partly under.partly
 
 pub opened_once : (files : Files) (a b : State) → CanOpenOn files a → CanOpenOn files b → a ≡ b
 opened_once files a b (inl x) (inl y) = same_state a b (sym x.tree ∙ y.tree) (same_journal (undo_folder_of files) a.journal b.journal None None x.journal y.journal).0
 opened_once files a b (inl x) (inr (turn, next, y)) = absurd (none_pending (undo_folder_of files) a.journal b.journal _ x.journal y.journal)
-opened_once files a b (inr (way, step, x)) (inl y) = absurd (none_pending (undo_folder_of files) b.journal a.journal _ y.journal x.journal)
-opened_once files a b (inr (way, step, x)) (inr (turn, next, y)) =
-    let one = one_step (undo_folder_of files) a.journal b.journal way turn step next x.journal y.journal x.kept y.kept in
-    let here = subst (λ s. IsUnderWay turn s a files) one.steps (subst (λ w. IsUnderWay w step a files) one.ways x) in
+opened_once files a b (inr (direction, step, x)) (inl y) = absurd (none_pending (undo_folder_of files) b.journal a.journal _ y.journal x.journal)
+opened_once files a b (inr (direction, step, x)) (inr (turn, next, y)) =
+    let one = one_step (undo_folder_of files) a.journal b.journal direction turn step next x.journal y.journal x.kept y.kept in
+    let here = subst (λ s. IsUnderWay turn s a files) one.steps (subst (λ w. IsUnderWay w step a files) one.directions x) in
     same_state a b (same_tree files turn next a b here y) one.journals
 
 -- ---- no two of these hold
@@ -135,23 +135,23 @@ opened_once files a b (inr (way, step, x)) (inr (turn, next, y)) =
 pub not_bad_and_stuck : (files : Files) (p q : List ℕ) → IsFirstBad files p → IsStuckAt files q → ⊥
 not_bad_and_stuck files p q bad stuck =
     let folder = undo_folder_of files in
-    none_bad files stuck.journal (Some (record { entry = number_of stuck.step; way = stuck.way })) stuck.above.0 stuck.above.1 stuck.keeps
+    none_bad files stuck.journal (Some (record { entry = number_of stuck.step; direction = stuck.direction })) stuck.above.0 stuck.above.1 stuck.keeps
     (All-cons (IsReadable folder) (number_of stuck.step) [] (entry_in stuck.step, stuck.kept) (All-nil (IsReadable folder))) p bad
 
 pub not_bad_and_opened : (files : Files) (p : List ℕ) (held : State) → IsFirstBad files p → CanOpenOn files held → ⊥
 not_bad_and_opened files p held bad (inl standing) = standing_bad files held standing p bad
-not_bad_and_opened files p held bad (inr (way, step, under)) = under_way_bad files way step held under p bad
+not_bad_and_opened files p held bad (inr (direction, step, under)) = under_way_bad files direction step held under p bad
 
 pub not_stuck_and_opened : (files : Files) (p : List ℕ) (held : State) → IsStuckAt files p → CanOpenOn files held → ⊥
 not_stuck_and_opened files p held stuck (inl standing) = none_pending (undo_folder_of files) held.journal stuck.journal _ standing.journal stuck.keeps
-not_stuck_and_opened files p held stuck (inr (way, step, under)) =
+not_stuck_and_opened files p held stuck (inr (direction, step, under)) =
     let folder = undo_folder_of files in
-    let one = one_step folder stuck.journal held.journal stuck.way way stuck.step step stuck.keeps under.journal stuck.kept under.kept in
-    let here = subst (λ (s : Recorded). IsFirstWithout (CanBeSetBack (way_of way) (tree_of files)) s.changes p) one.steps
-    (subst (λ (w : PendingWay). IsFirstWithout (CanBeSetBack (way_of w) (tree_of files)) stuck.step.changes p) one.ways stuck.stuck) in
+    let one = one_step folder stuck.journal held.journal stuck.direction direction stuck.step step stuck.keeps under.journal stuck.kept under.kept in
+    let here = subst (λ (s : Recorded). IsFirstWithout (CanBeRolledBack (direction_of direction) (tree_of files)) s.changes p) one.steps
+    (subst (λ (w : PendingDirection). IsFirstWithout (CanBeRolledBack (direction_of w) (tree_of files)) stuck.step.changes p) one.directions stuck.stuck) in
     let good = entry_good (get folder (entry_path (number_of step))) (entry_in step) under.kept in
-    none_without (CanBeSetBack (way_of way) (tree_of files)) step.changes p
-    (settles_from (way_of way) held.tree (tree_of files) step.changes good under.good.are_files under.partly) here
+    none_without (CanBeRolledBack (direction_of direction) (tree_of files)) step.changes p
+    (settles_from (direction_of direction) held.tree (tree_of files) step.changes good under.good.are_files under.partly) here
 
 -- ---- so an answer that is right is exact
 

@@ -3,13 +3,13 @@ use Rattle.std.proofs.Common.{◌≡◌, ◌⊎◌, inl, inr, ⊎_elim, ℕ, ◌
 use Rattle.reuse_tree.specs.Asked.{OnlyReads, Leaves, IsSynced}
 use Rattle.reuse_tree.specs.Entry.{SomeMade}
 use Rattle.reuse_tree.specs.Files.{Files, tree_of}
-use Rattle.reuse_tree.specs.Head.{way_of}
+use Rattle.reuse_tree.specs.Head.{direction_of}
 use Rattle.reuse_tree.specs.Lasting.{IsMidway}
 use Rattle.reuse_tree.specs.Tree.{undo_folder_of, Sets}
 use Rattle.reuse_tree.specs.declared.cause.Cause.{Cause}
 use Rattle.reuse_tree.specs.declared.journal.head.Pending.{Pending}
-use Rattle.reuse_tree.specs.declared.journal.head.PendingWay.{PendingWay}
-use Rattle.reuse_tree.specs.declared.journal.head.PendingWay.TheVariants.{Do, Undo, Redo}
+use Rattle.reuse_tree.specs.declared.journal.head.PendingDirection.{PendingDirection}
+use Rattle.reuse_tree.specs.declared.journal.head.PendingDirection.TheVariants.{Do, Undo, Redo}
 use Rattle.reuse_tree.specs.declared.store.Store.{Ghosts}
 use Rattle.reuse_tree.proofs.MadeLemmas.{made_all, made_none}
 use Rattle.reuse_session.specs.session.Answer.{IsEarly}
@@ -20,7 +20,7 @@ use Rattle.reuse_session.specs.journal.JournalFiles.{head_path, number_of}
 use Rattle.reuse_session.specs.journal.Losses.{IsSafeOn, AreSafeOn, AreInDoubt, StopsBackWithDoubt}
 use Rattle.reuse_session.specs.journal.Opening.{IsRead}
 use Rattle.reuse_session.specs.session.Session.{Remembers}
-use Rattle.reuse_session.specs.journal.Standing.{Moves, IsStanding, IsStep, IsUnderWay, InDoubt}
+use Rattle.reuse_session.specs.journal.Standing.{Mutations, IsStanding, IsStep, IsUnderWay, InDoubt}
 use Rattle.reuse_session.specs.declared.reply.Refusal.{Refusal}
 use Rattle.reuse_session.specs.declared.failure.Failure.TheVariants.{Interrupted}
 use Rattle.reuse_session.specs.declared.reply.Refusal.TheVariants.{Failed}
@@ -35,32 +35,32 @@ same_front : (step other : Recorded) (steps more : List Recorded) → step ∷ s
 same_front step other steps more e = cc
 
 -- a new step uses a number
-new_uses : (way : PendingWay) (step : Recorded) (old new : Journal) → Moves way step old new → (way ≡ Do) ⊎ (new.used ≡ old.used)
-new_uses Do step old new moves = inl refl
-new_uses Undo step old new moves = inr (ap (λ j. j.used) moves.2)
-new_uses Redo step old new moves = inr (ap (λ j. j.used) moves.2)
+new_uses : (direction : PendingDirection) (step : Recorded) (old new : Journal) → Mutations direction step old new → (direction ≡ Do) ⊎ (new.used ≡ old.used)
+new_uses Do step old new mutations = inl refl
+new_uses Undo step old new mutations = inr (ap (λ j. j.used) mutations.2)
+new_uses Redo step old new mutations = inr (ap (λ j. j.used) mutations.2)
 
 -- what is undone isn't redone
-not_back_and_on : (step other : Recorded) (old new : Journal) → Moves Undo step old new → Moves Redo other old new → ⊥
+not_back_and_on : (step other : Recorded) (old new : Journal) → Mutations Undo step old new → Mutations Redo other old new → ⊥
 not_back_and_on step other old new back on =
     let one = ap length back.1 in
     let left : length new.done ≡ length back.0 = ap (λ j. length j.done) back.2 in
     let more : length new.done ≡ length (other ∷ old.done) = ap (λ j. length j.done) on.2 in
     omega (arith, one, left, more)
 
-not_new : (step : Recorded) (old new : Journal) → Moves Do step old new → new.used ≡ old.used → ⊥
-not_new step old new moves same = let used : new.used ≡ old.used + 1 = ap (λ j. j.used) moves.1 in omega (arith, used, same)
+not_new : (step : Recorded) (old new : Journal) → Mutations Do step old new → new.used ≡ old.used → ⊥
+not_new step old new mutations same = let used : new.used ≡ old.used + 1 = ap (λ j. j.used) mutations.1 in omega (arith, used, same)
 
-pub moves_once : (way turn : PendingWay) (step other : Recorded) (old new : Journal) → Moves way step old new → Moves turn other old new → (way ≡ turn) × (step ≡ other)
-moves_once Do Do step other old new a b = (refl, same_front step other old.done old.done (ap (λ j. j.done) (sym a.1 ∙ b.1)))
-moves_once Do Undo step other old new a b = absurd (not_new step old new a (ap (λ j. j.used) b.2))
-moves_once Do Redo step other old new a b = absurd (not_new step old new a (ap (λ j. j.used) b.2))
-moves_once Undo Do step other old new a b = absurd (not_new other old new b (ap (λ j. j.used) a.2))
-moves_once Redo Do step other old new a b = absurd (not_new other old new b (ap (λ j. j.used) a.2))
-moves_once Undo Redo step other old new a b = absurd (not_back_and_on step other old new a b)
-moves_once Redo Undo step other old new a b = absurd (not_back_and_on other step old new b a)
-moves_once Undo Undo step other old new a b = (refl, same_front step other a.0 b.0 (sym a.1 ∙ b.1))
-moves_once Redo Redo step other old new a b = (refl, same_front step other a.0 b.0 (sym a.1 ∙ b.1))
+pub mutates_once : (direction turn : PendingDirection) (step other : Recorded) (old new : Journal) → Mutations direction step old new → Mutations turn other old new → (direction ≡ turn) × (step ≡ other)
+mutates_once Do Do step other old new a b = (refl, same_front step other old.done old.done (ap (λ j. j.done) (sym a.1 ∙ b.1)))
+mutates_once Do Undo step other old new a b = absurd (not_new step old new a (ap (λ j. j.used) b.2))
+mutates_once Do Redo step other old new a b = absurd (not_new step old new a (ap (λ j. j.used) b.2))
+mutates_once Undo Do step other old new a b = absurd (not_new other old new b (ap (λ j. j.used) a.2))
+mutates_once Redo Do step other old new a b = absurd (not_new other old new b (ap (λ j. j.used) a.2))
+mutates_once Undo Redo step other old new a b = absurd (not_back_and_on step other old new a b)
+mutates_once Redo Undo step other old new a b = absurd (not_back_and_on other step old new b a)
+mutates_once Undo Undo step other old new a b = (refl, same_front step other a.0 b.0 (sym a.1 ∙ b.1))
+mutates_once Redo Redo step other old new a b = (refl, same_front step other a.0 b.0 (sym a.1 ∙ b.1))
 
 module _ {S : Type 0} (store : Ghosts S) (earlier held next : State) where
   -- ---- what was only read
@@ -98,7 +98,7 @@ module _ {S : Type 0} (store : Ghosts S) (earlier held next : State) where
       λ left is. stands.1 left (reads.may left is),
     )
     reads_standing memory journal read (inr (inr step)) =
-        let e = (same_journal (undo_folder_of (store.files old)) journal held.journal None (Some (record { entry = number_of step.1; way = step.0 })) read.keeps step.3.journal).1 in
+        let e = (same_journal (undo_folder_of (store.files old)) journal held.journal None (Some (record { entry = number_of step.1; direction = step.0 })) read.keeps step.3.journal).1 in
         absurd (cc)
 
   -- where a step is pending, it is under way in the files
@@ -113,26 +113,26 @@ module _ {S : Type 0} (store : Ghosts S) (earlier held next : State) where
   pub standing_safe : (files : Files) → IsStanding files held → IsSafeOn earlier held files
   standing_safe files stands = record { tree = stands.tree; opens = inl stands }
 
-  module _ (way : PendingWay) (step : Recorded) (leads : IsStep way step held next) where
-    none_made : (tree : Files) → tree ≡ held.tree → SomeMade (way_of way) step.changes held.tree tree
-    none_made tree same = subst (SomeMade (way_of way) step.changes held.tree) (sym same) (made_none (way_of way) step.changes held.tree)
+  module _ (direction : PendingDirection) (step : Recorded) (leads : IsStep direction step held next) where
+    none_made : (tree : Files) → tree ≡ held.tree → SomeMade (direction_of direction) step.changes held.tree tree
+    none_made tree same = subst (SomeMade (direction_of direction) step.changes held.tree) (sym same) (made_none (direction_of direction) step.changes held.tree)
 
     -- of all that may be left, some of the step's changes are made
-    pub some_made : (left : Files) → IsSafeOn earlier held left ⊎ InDoubt held next left → SomeMade (way_of way) step.changes held.tree (tree_of left)
+    pub some_made : (left : Files) → IsSafeOn earlier held left ⊎ InDoubt held next left → SomeMade (direction_of direction) step.changes held.tree (tree_of left)
     some_made left (inl safe) = none_made (tree_of left) safe.tree
     some_made left (inr (inl stands)) = none_made (tree_of left) stands.tree
-    some_made left (inr (inr (inl stands))) = subst (SomeMade (way_of way) step.changes held.tree) (sym stands.tree) (made_all (way_of way) step.changes held.tree next.tree leads.leads)
+    some_made left (inr (inr (inl stands))) = subst (SomeMade (direction_of direction) step.changes held.tree) (sym stands.tree) (made_all (direction_of direction) step.changes held.tree next.tree leads.leads)
     some_made left (inr (inr (inr (turn, other, other_leads, under)))) =
-        let one = moves_once way turn step other held.journal next.journal leads.moves other_leads.moves in
-        subst (λ (s : Recorded). SomeMade (way_of way) s.changes held.tree (tree_of left)) (sym one.1)
-        (subst (λ (w : PendingWay). SomeMade (way_of w) other.changes held.tree (tree_of left)) (sym one.0) under.partly.made)
+        let one = mutates_once direction turn step other held.journal next.journal leads.mutations other_leads.mutations in
+        subst (λ (s : Recorded). SomeMade (direction_of direction) s.changes held.tree (tree_of left)) (sym one.1)
+        (subst (λ (w : PendingDirection). SomeMade (direction_of w) other.changes held.tree (tree_of left)) (sym one.0) under.partly.made)
 
-    module _ (before : Files) (under : IsUnderWay way step held before) (text : List ℕ) (stands : (after : Files) → tree_of after ≡ held.tree → SetsHead text before after → IsStanding after held) where
+    module _ (before : Files) (under : IsUnderWay direction step held before) (text : List ℕ) (stands : (after : Files) → tree_of after ≡ held.tree → SetsHead text before after → IsStanding after held) where
       -- where it stops among the changes, or before the head is put, it is under way still
-      still : (after : Files) → IsMidway (way_of way) step.changes held.tree (undo_folder_of before) after → IsUnderWay way step held after
-      still after midway = under_way_still way step held before after under midway
+      still : (after : Files) → IsMidway (direction_of direction) step.changes held.tree (undo_folder_of before) after → IsUnderWay direction step held after
+      still after midway = under_way_still direction step held before after under midway
 
-      all_back : (done : Files) → tree_of done ≡ held.tree → undo_folder_of done ≡ undo_folder_of before → (after : Files) → after ≡ done → IsUnderWay way step held after
+      all_back : (done : Files) → tree_of done ≡ held.tree → undo_folder_of done ≡ undo_folder_of before → (after : Files) → after ≡ done → IsUnderWay direction step held after
       all_back done tree folder after same = still after (record { tree = none_made (tree_of after) (ap tree_of same ∙ tree); folder = ap undo_folder_of same ∙ folder })
 
       -- and once that is put, they are the standing from before the step
@@ -140,19 +140,19 @@ module _ {S : Type 0} (store : Ghosts S) (earlier held next : State) where
       settled done tree folder after sets =
           stands after (head_keeps_tree done after (Some text) sets ∙ tree) (subst (λ f. Sets head_path (Some text) f (undo_folder_of after)) folder (head_sets done after (Some text) sets))
 
-      pub stops_in_doubt : (new : S) → StopsBackWithDoubt store (way_of way) step.changes text held.tree before new → AreInDoubt store earlier held next new
-      stops_in_doubt new (inl midway) = inr (inr (way, step, leads, still (store.files new) midway.0, λ left is. inr (inr (inr (way, step, leads, still left (midway.1 left is))))))
+      pub stops_in_doubt : (new : S) → StopsBackWithDoubt store (direction_of direction) step.changes text held.tree before new → AreInDoubt store earlier held next new
+      stops_in_doubt new (inl midway) = inr (inr (direction, step, leads, still (store.files new) midway.0, λ left is. inr (inr (inr (direction, step, leads, still left (midway.1 left is))))))
       stops_in_doubt new (inr (done, tree, folder, (inl same, each))) = inr (inr (
-        way,
+        direction,
         step,
         leads,
         all_back done tree folder (store.files new) same,
-        λ left is. inr (⊎_elim (λ (e : left ≡ done). inr (inr (way, step, leads, all_back done tree folder left e))) (λ (sets : Sets head_path (Some text) done left). inl (settled done tree folder left sets)) (each left is)),
+        λ left is. inr (⊎_elim (λ (e : left ≡ done). inr (inr (direction, step, leads, all_back done tree folder left e))) (λ (sets : Sets head_path (Some text) done left). inl (settled done tree folder left sets)) (each left is)),
       ))
       stops_in_doubt new (inr (done, tree, folder, (inr put, each))) = inl (
         settled done tree folder (store.files new) put,
         λ left is. ⊎_elim
-            (λ (e : left ≡ done). record { tree = ap tree_of e ∙ tree; opens = inr (inl (next, way, step, leads, all_back done tree folder left e)) })
+            (λ (e : left ≡ done). record { tree = ap tree_of e ∙ tree; opens = inr (inl (next, direction, step, leads, all_back done tree folder left e)) })
             (λ (sets : Sets head_path (Some text) done left). standing_safe left (settled done tree folder left sets))
             (each left is),
       )

@@ -6,32 +6,32 @@ use Rattle.std.specs.Str.{bytes_eq}
 use Rattle.std.proofs.lemmas.Bool.{false≢true}
 use Rattle.std.proofs.lemmas.Slice.Eq.{bytes_eq-Decides}
 use Rattle.reuse_tree.specs.Change.{path_of, IsProper}
-use Rattle.reuse_tree.specs.Entry.{makes, opposite, touches, TurnsBy, IsEntry, IsReady, SomeMade, ArePartlyMade, CanBeSetBack}
+use Rattle.reuse_tree.specs.Entry.{makes, opposite, touches, AppliesBy, IsEntry, IsReady, SomeMade, ArePartlyMade, CanBeRolledBack}
 use Rattle.reuse_tree.specs.Files.{Files, AreFiles, Clashes}
 use Rattle.reuse_tree.specs.Path.{lies_under}
 use Rattle.reuse_tree.specs.declared.change.Change.{Change}
-use Rattle.reuse_tree.specs.declared.way.Way.{Way}
+use Rattle.reuse_tree.specs.declared.direction.Direction.{Direction}
 use Rattle.reuse_tree.proofs.Differ.{touching}
 use Rattle.reuse_tree.proofs.FileMaps.{same_files}
-use Rattle.reuse_tree.proofs.MadeLemmas.{ready_once, returned, settles_from, turned}
-use Rattle.reuse_tree.proofs.Walk.{made_is_file, touched, turns_once_by}
+use Rattle.reuse_tree.proofs.MadeLemmas.{ready_once, returned, settles_from, applied}
+use Rattle.reuse_tree.proofs.Walk.{made_is_file, touched, applies_once_by}
 use Rattle.reuse_session.specs.journal.Recovery.{RecoversAt, RecoversTree}
 use Rattle.reuse_session.proofs.lemmas.journal.PartOfEntry.{all_left, left_all, none_left, none_more}
 
 -- ---- the tree that recovering leads to
 
-module _ (way : Way) (changes : List Change) (good : IsEntry changes) (tree start : Files)
-    (leads : RecoversTree way changes tree start) where
-  made_at : (change : Change) → RecoversAt way tree start change
-      → (get tree (path_of change) ≡ get start (path_of change)) ⊎ TurnsBy way change (get start (path_of change))
+module _ (direction : Direction) (changes : List Change) (good : IsEntry changes) (tree start : Files)
+    (leads : RecoversTree direction changes tree start) where
+  made_at : (change : Change) → RecoversAt direction tree start change
+      → (get tree (path_of change) ≡ get start (path_of change)) ⊎ AppliesBy direction change (get start (path_of change))
       (get tree (path_of change))
   made_at change (inl stays) = inl (sym stays.1)
   made_at change (inr (inl back)) = inr
-      (returned way change (get tree (path_of change)) (get start (path_of change)) back.1)
+      (returned direction change (get tree (path_of change)) (get start (path_of change)) back.1)
   made_at change (inr (inr stuck)) = inl (sym stuck.1)
 
   -- some of the changes are made on it
-  pub recovers_from : SomeMade way changes start tree
+  pub recovers_from : SomeMade direction changes start tree
   recovers_from = record {
     each = λ k d lt. made_at (get_or changes k d) (leads.each k d lt);
     others = λ path none. sym
@@ -39,25 +39,25 @@ module _ (way : Way) (changes : List Change) (good : IsEntry changes) (tree star
   }
 
   -- a change that can be rolled back can be made there, and one that can't be rolled back can't
-  pub ready_at : (change : Change) → CanBeSetBack way tree change → RecoversAt way tree start change
-      → IsReady way change (get start (path_of change))
-  ready_at change can (inl stays) = subst (IsReady way change) (sym stays.1) stays.0
+  pub ready_at : (change : Change) → CanBeRolledBack direction tree change → RecoversAt direction tree start change
+      → IsReady direction change (get start (path_of change))
+  ready_at change can (inl stays) = subst (IsReady direction change) (sym stays.1) stays.0
   ready_at change can
       (inr (inl back)) = (
         get tree (path_of change),
-        returned way change (get tree (path_of change))
+        returned direction change (get tree (path_of change))
             (get start (path_of change)) back.1,
       )
   ready_at change can (inr (inr stuck)) = absurd (stuck.0 can)
 
-  pub stuck_at : (change : Change) → (CanBeSetBack way tree change → ⊥) → RecoversAt way tree start change
-      → IsReady way change (get start (path_of change)) → ⊥
+  pub stuck_at : (change : Change) → (CanBeRolledBack direction tree change → ⊥) → RecoversAt direction tree start change
+      → IsReady direction change (get start (path_of change)) → ⊥
   stuck_at change none (inl stays) ready = none (inl stays.0)
   stuck_at change none (inr (inl back)) ready = none (inr back.0)
-  stuck_at change none (inr (inr stuck)) ready = none (inl (subst (IsReady way change) stuck.1 ready))
+  stuck_at change none (inr (inr stuck)) ready = none (inl (subst (IsReady direction change) stuck.1 ready))
 
   -- where some of the changes are made on it, recovering leads to it again
-  module _ (are : AreFiles start) (now : Files) (some : SomeMade way changes start now) where
+  module _ (are : AreFiles start) (now : Files) (some : SomeMade direction changes start now) where
     module _ (k : ℕ) (d : Change) (lt : k < length changes) where
       abbrev its : Change
       its = get_or changes k d
@@ -66,13 +66,13 @@ module _ (way : Way) (changes : List Change) (good : IsEntry changes) (tree star
           → (lies_under other (path_of its) || lies_under (path_of its) other) ≡ false
       apart_there other e = good.apart (path_of its) other (touched changes good k d lt) e
 
-      free : TurnsBy (opposite way) its (get now (path_of its)) (get start (path_of its))
-          → makes (opposite way) its ≡ true → (clash : Clashes now (path_of its)) → (b : Bool)
+      free : AppliesBy (opposite direction) its (get now (path_of its)) (get start (path_of its))
+          → makes (opposite direction) its ≡ true → (clash : Clashes now (path_of its)) → (b : Bool)
           → touches changes clash.other ≡ b → ⊥
-      free turns made clash true e = false≢true (sym (apart_there clash.other e) ∙ clash.nested)
-      free turns made clash false e =
+      free applies made clash true e = false≢true (sym (apart_there clash.other e) ∙ clash.nested)
+      free applies made clash false e =
           are.apart (path_of its)
-          (made_is_file (opposite way) its (get now (path_of its)) (get start (path_of its)) made turns)
+          (made_is_file (opposite direction) its (get now (path_of its)) (get start (path_of its)) made applies)
           (record {
             other = clash.other;
             is_file = ap is_some (sym (some.others clash.other e))
@@ -90,19 +90,19 @@ module _ (way : Way) (changes : List Change) (good : IsEntry changes) (tree star
         nested = clash.nested;
       }
 
-      still_stuck : get now (path_of its) ≡ get tree (path_of its) → (CanBeSetBack way tree its → ⊥)
-          → CanBeSetBack way now its → ⊥
-      still_stuck same stuck (inl ready) = stuck (inl (subst (IsReady way its) same ready))
+      still_stuck : get now (path_of its) ≡ get tree (path_of its) → (CanBeRolledBack direction tree its → ⊥)
+          → CanBeRolledBack direction now its → ⊥
+      still_stuck same stuck (inl ready) = stuck (inl (subst (IsReady direction its) same ready))
       still_stuck same stuck (inr can) = stuck (inr (record {
-        ready = subst (IsReady (opposite way) its) same can.ready;
+        ready = subst (IsReady (opposite direction) its) same can.ready;
         free = λ made clash. can.free made (clash_now clash (touches changes clash.other) refl);
       }))
 
-      still_at : (get now (path_of its) ≡ get start (path_of its)) ⊎ TurnsBy way its
-          (get start (path_of its)) (get now (path_of its)) → RecoversAt way tree start its
-          → RecoversAt way now start its
-      still_at (inr turns) was =
-          let back = turned way its (get start (path_of its)) (get now (path_of its)) turns in
+      still_at : (get now (path_of its) ≡ get start (path_of its)) ⊎ AppliesBy direction its
+          (get start (path_of its)) (get now (path_of its)) → RecoversAt direction tree start its
+          → RecoversAt direction now start its
+      still_at (inr applies) was =
+          let back = applied direction its (get start (path_of its)) (get now (path_of its)) applies in
           inr (inl (
             record {
               ready = (get start (path_of its), back);
@@ -111,30 +111,30 @@ module _ (way : Way) (changes : List Change) (good : IsEntry changes) (tree star
             },
             back,
           ))
-      still_at (inl same) (inl stays) = inl (subst (IsReady way its) (sym (same ∙ stays.1)) stays.0, sym same)
+      still_at (inl same) (inl stays) = inl (subst (IsReady direction its) (sym (same ∙ stays.1)) stays.0, sym same)
       still_at (inl same) (inr (inl back)) =
-          let turns = returned way its (get tree (path_of its)) (get start (path_of its)) back.1 in
-          inl (subst (IsReady way its) (sym same) (get tree (path_of its), turns), sym same)
+          let applies = returned direction its (get tree (path_of its)) (get start (path_of its)) back.1 in
+          inl (subst (IsReady direction its) (sym same) (get tree (path_of its), applies), sym same)
       still_at (inl same) (inr (inr stuck)) = inr (inr (still_stuck (same ∙ stuck.1) stuck.0, sym same))
 
-    pub recovers_still : RecoversTree way changes now start
+    pub recovers_still : RecoversTree direction changes now start
     recovers_still = record {
       each = λ k d lt. still_at k d lt (some.each k d lt) (leads.each k d lt);
       others = λ path none. sym (some.others path none);
     }
 
 -- recovering leads to one tree
-module _ (way : Way) (changes : List Change) (good : IsEntry changes) (tree one other : Files)
-    (leads : RecoversTree way changes tree one) (also : RecoversTree way changes tree other) where
-  once_at : (change : Change) → IsProper change → RecoversAt way tree one change → RecoversAt way tree other change
+module _ (direction : Direction) (changes : List Change) (good : IsEntry changes) (tree one other : Files)
+    (leads : RecoversTree direction changes tree one) (also : RecoversTree direction changes tree other) where
+  once_at : (change : Change) → IsProper change → RecoversAt direction tree one change → RecoversAt direction tree other change
       → get one (path_of change) ≡ get other (path_of change)
   once_at change proper (inl a) (inl b) = a.1 ∙ sym b.1
   once_at change proper (inl a) (inr (inl b)) = absurd
-      (ready_once way change (get tree (path_of change)) proper a.0 b.0.ready)
+      (ready_once direction change (get tree (path_of change)) proper a.0 b.0.ready)
   once_at change proper (inl a) (inr (inr b)) = absurd (b.0 (inl a.0))
   once_at change proper (inr (inl a)) (inl b) = absurd
-      (ready_once way change (get tree (path_of change)) proper b.0 a.0.ready)
-  once_at change proper (inr (inl a)) (inr (inl b)) = turns_once_by (opposite way) change (get tree (path_of change))
+      (ready_once direction change (get tree (path_of change)) proper b.0 a.0.ready)
+  once_at change proper (inr (inl a)) (inr (inl b)) = applies_once_by (opposite direction) change (get tree (path_of change))
       (get one (path_of change)) (get other (path_of change)) a.1 b.1
   once_at change proper (inr (inl a)) (inr (inr b)) = absurd (b.0 (inr a.0))
   once_at change proper (inr (inr a)) (inl b) = absurd (a.0 (inl b.0))
@@ -153,25 +153,25 @@ module _ (way : Way) (changes : List Change) (good : IsEntry changes) (tree one 
           (leads.each found.0 found.1 found.2) (also.each found.0 found.1 found.2))
 
 -- of a step that is under way from a tree, all can be rolled back, and recovering leads to that tree
-module _ (way : Way) (changes : List Change) (good : IsEntry changes) (start tree : Files) (are : AreFiles start)
-    (partly : ArePartlyMade way changes start tree) where
-  back_at : (change : Change) → IsProper change → IsReady way change (get start (path_of change))
-      → CanBeSetBack way tree change
-      → (get tree (path_of change) ≡ get start (path_of change)) ⊎ TurnsBy way change (get start (path_of change))
-      (get tree (path_of change)) → RecoversAt way tree start change
-  back_at change proper ready can (inl same) = inl (subst (IsReady way change) (sym same) ready, sym same)
-  back_at change proper ready (inl here) (inr turns) =
-      absurd (ready_once way change (get tree (path_of change)) proper here (
+module _ (direction : Direction) (changes : List Change) (good : IsEntry changes) (start tree : Files) (are : AreFiles start)
+    (partly : ArePartlyMade direction changes start tree) where
+  back_at : (change : Change) → IsProper change → IsReady direction change (get start (path_of change))
+      → CanBeRolledBack direction tree change
+      → (get tree (path_of change) ≡ get start (path_of change)) ⊎ AppliesBy direction change (get start (path_of change))
+      (get tree (path_of change)) → RecoversAt direction tree start change
+  back_at change proper ready can (inl same) = inl (subst (IsReady direction change) (sym same) ready, sym same)
+  back_at change proper ready (inl here) (inr applies) =
+      absurd (ready_once direction change (get tree (path_of change)) proper here (
         get start (path_of change),
-        turned way change (get start (path_of change))
-            (get tree (path_of change)) turns,
+        applied direction change (get start (path_of change))
+            (get tree (path_of change)) applies,
       ))
-  back_at change proper ready (inr can) (inr turns) = inr
-      (inl (can, turned way change (get start (path_of change)) (get tree (path_of change)) turns))
+  back_at change proper ready (inr can) (inr applies) = inr
+      (inl (can, applied direction change (get start (path_of change)) (get tree (path_of change)) applies))
 
-  pub recovers_partly : RecoversTree way changes tree start
+  pub recovers_partly : RecoversTree direction changes tree start
   recovers_partly =
-      let can = settles_from way start tree changes good are partly in
+      let can = settles_from direction start tree changes good are partly in
       record {
         each = λ k d lt. back_at (get_or changes k d) (good.proper k d lt) (partly.ready k d lt) (can k d lt)
             (partly.made.each k d lt);
@@ -202,12 +202,12 @@ module _ (test : List ℕ → Bool) where
           absurd (false≢true (sym is ∙ ap test (sym ((bytes_eq-Decides path (path_of change)).0 here)) ∙ passes))
       of_test more false is false other = more (rest other)
 
-  module _ (way : Way) (changes : List Change) (start now : Files) where
+  module _ (direction : Direction) (changes : List Change) (start now : Files) where
     abbrev Made : Change → Type 0
-    Made c = (get now (path_of c) ≡ get start (path_of c)) ⊎ TurnsBy way c (get start (path_of c)) (get now (path_of c))
+    Made c = (get now (path_of c) ≡ get start (path_of c)) ⊎ AppliesBy direction c (get start (path_of c)) (get now (path_of c))
 
     -- where some of these are made, some of all are
-    pub some_more : SomeMade way (chosen changes) start now → SomeMade way changes start now
+    pub some_more : SomeMade direction (chosen changes) start now → SomeMade direction changes start now
     some_more some = record {
       each = λ k d lt. at_test (get_or changes k d) (test (path_of (get_or changes k d))) refl
           (left_all (λ c. test (path_of c)) Made changes some.each k d lt);
@@ -219,17 +219,17 @@ module _ (test : List ℕ → Bool) where
         at_test c false e made = inl (some.others (path_of c) (none_left test changes (path_of c) e))
 
     -- and the other way round where the others can't be made
-    pub some_part : All (λ c. test (path_of c) ≡ false → IsReady way c (get start (path_of c)) → ⊥) changes
-        → SomeMade way changes start now → SomeMade way (chosen changes) start now
+    pub some_part : All (λ c. test (path_of c) ≡ false → IsReady direction c (get start (path_of c)) → ⊥) changes
+        → SomeMade direction changes start now → SomeMade direction (chosen changes) start now
     some_part stuck some = record {
       each = all_left (λ c. test (path_of c)) Made changes (λ k d lt passes. some.each k d lt);
       others = λ path none. at_test path none (touches changes path) refl;
     }
       where
-        same_at : (c : Change) → (IsReady way c (get start (path_of c)) → ⊥) → Made c
+        same_at : (c : Change) → (IsReady direction c (get start (path_of c)) → ⊥) → Made c
             → get now (path_of c) ≡ get start (path_of c)
         same_at c none (inl same) = same
-        same_at c none (inr turns) = absurd (none (get now (path_of c), turns))
+        same_at c none (inr applies) = absurd (none (get now (path_of c), applies))
 
         out : (path : List ℕ) → touches (chosen changes) path ≡ false → touches changes path ≡ true → (b : Bool)
             → test path ≡ b → test path ≡ false

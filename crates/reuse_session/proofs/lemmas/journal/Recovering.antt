@@ -19,58 +19,58 @@ use Rattle.reuse_tree.specs.Files.{Files, tree_of}
 use Rattle.reuse_tree.specs.Listing.{ArePaths, is_among}
 use Rattle.reuse_tree.specs.Tree.{is_of_tree}
 use Rattle.reuse_tree.specs.declared.change.Change.{Change}
-use Rattle.reuse_tree.specs.declared.way.Way.{Way}
+use Rattle.reuse_tree.specs.declared.direction.Direction.{Direction}
 use Rattle.reuse_tree.proofs.MadeLemmas.{ready_once}
 use Rattle.reuse_tree.proofs.OfTree.{tree_at}
 use Rattle.reuse_session.specs.journal.Recovery.{Picks, AreMade, AreStuck, AreFound, FindsNext}
 
 -- ---- what is found of one change
 
-module _ (way : Way) (change : Change) (files : Files) (of_tree : is_of_tree (path_of change) ≡ true) (ready : Bool) (is : IsTrue ready ↔ IsReady way change (get files (path_of change))) where
-  pub is_before : ready ≡ true → IsReady way change (get (tree_of files) (path_of change))
-  is_before e = subst (IsReady way change) (sym (tree_at files (path_of change) of_tree)) (is.0 e)
+module _ (direction : Direction) (change : Change) (files : Files) (of_tree : is_of_tree (path_of change) ≡ true) (ready : Bool) (is : IsTrue ready ↔ IsReady direction change (get files (path_of change))) where
+  pub is_before : ready ≡ true → IsReady direction change (get (tree_of files) (path_of change))
+  is_before e = subst (IsReady direction change) (sym (tree_at files (path_of change) of_tree)) (is.0 e)
 
-  pub not_before : ready ≡ false → ¬ (IsReady way change (get (tree_of files) (path_of change)))
-  not_before e r = false≢true (sym e ∙ is.1 (subst (IsReady way change) (tree_at files (path_of change) of_tree) r))
+  pub not_before : ready ≡ false → ¬ (IsReady direction change (get (tree_of files) (path_of change)))
+  not_before e r = false≢true (sym e ∙ is.1 (subst (IsReady direction change) (tree_at files (path_of change) of_tree) r))
 
 -- ---- what is found of all
 
 -- so far these were found of the changes, of which some are left
-pub record AreFoundSoFar (way : Way) (tree : Files) (changes left : List Change) (made stuck : List (List ℕ)) : Type 0 where
-  pub so_made : (rest : List (List ℕ)) → AreMade way tree left rest → AreMade way tree changes (made ++ rest)
-  pub so_stuck : (rest : List (List ℕ)) → AreStuck way tree left rest → AreStuck way tree changes (stuck ++ rest)
+pub record AreFoundSoFar (direction : Direction) (tree : Files) (changes left : List Change) (made stuck : List (List ℕ)) : Type 0 where
+  pub so_made : (rest : List (List ℕ)) → AreMade direction tree left rest → AreMade direction tree changes (made ++ rest)
+  pub so_stuck : (rest : List (List ℕ)) → AreStuck direction tree left rest → AreStuck direction tree changes (stuck ++ rest)
 
-pub nothing_found : (way : Way) (tree : Files) (changes : List Change) (made stuck : List (List ℕ)) → made ≡ [] → stuck ≡ [] → AreFoundSoFar way tree changes changes made stuck
-nothing_found way tree changes made stuck none_made none_stuck = record {
-  so_made = λ rest is. subst (λ ps. AreMade way tree changes (ps ++ rest)) (sym none_made) is;
-  so_stuck = λ rest is. subst (λ ps. AreStuck way tree changes (ps ++ rest)) (sym none_stuck) is;
+pub nothing_found : (direction : Direction) (tree : Files) (changes : List Change) (made stuck : List (List ℕ)) → made ≡ [] → stuck ≡ [] → AreFoundSoFar direction tree changes changes made stuck
+nothing_found direction tree changes made stuck none_made none_stuck = record {
+  so_made = λ rest is. subst (λ ps. AreMade direction tree changes (ps ++ rest)) (sym none_made) is;
+  so_stuck = λ rest is. subst (λ ps. AreStuck direction tree changes (ps ++ rest)) (sym none_stuck) is;
 }
 
 longer : (old more rest : List (List ℕ)) (path : List ℕ) → more ≡ old ++ path ∷ [] → old ++ path ∷ rest ≡ more ++ rest
 longer old more rest path is = sym (ap (λ ps. ps ++ rest) is ∙ append_assoc old (path ∷ []) rest)
 
-pub found_next : (way : Way) (tree : Files) (changes : List Change) (change : Change) (left : List Change) (made more_made stuck more_stuck : List (List ℕ)) → IsProper change
-    → AreFoundSoFar way tree changes (change ∷ left) made stuck → FindsNext way tree change made more_made stuck more_stuck → AreFoundSoFar way tree changes left more_made more_stuck
-found_next way tree changes change left made more_made stuck more_stuck proper so_far (inl before) = record {
-  so_made = λ rest is. subst (λ ps. AreMade way tree changes (ps ++ rest)) (sym before.1)
-      (so_far.so_made rest (inr (λ can. ready_once way change (get tree (path_of change)) proper before.0 can.ready, is)));
-  so_stuck = λ rest is. subst (λ ps. AreStuck way tree changes (ps ++ rest)) (sym before.2) (so_far.so_stuck rest (inr (inl before.0, is)));
+pub found_next : (direction : Direction) (tree : Files) (changes : List Change) (change : Change) (left : List Change) (made more_made stuck more_stuck : List (List ℕ)) → IsProper change
+    → AreFoundSoFar direction tree changes (change ∷ left) made stuck → FindsNext direction tree change made more_made stuck more_stuck → AreFoundSoFar direction tree changes left more_made more_stuck
+found_next direction tree changes change left made more_made stuck more_stuck proper so_far (inl before) = record {
+  so_made = λ rest is. subst (λ ps. AreMade direction tree changes (ps ++ rest)) (sym before.1)
+      (so_far.so_made rest (inr (λ can. ready_once direction change (get tree (path_of change)) proper before.0 can.ready, is)));
+  so_stuck = λ rest is. subst (λ ps. AreStuck direction tree changes (ps ++ rest)) (sym before.2) (so_far.so_stuck rest (inr (inl before.0, is)));
 }
-found_next way tree changes change left made more_made stuck more_stuck proper so_far (inr (inl here)) = record {
-  so_made = λ rest is. subst (AreMade way tree changes) (longer made more_made rest (path_of change) here.2) (so_far.so_made (path_of change ∷ rest) (inl (here.1, rest, refl, is)));
-  so_stuck = λ rest is. subst (λ ps. AreStuck way tree changes (ps ++ rest)) (sym here.3) (so_far.so_stuck rest (inr (inr here.1, is)));
+found_next direction tree changes change left made more_made stuck more_stuck proper so_far (inr (inl here)) = record {
+  so_made = λ rest is. subst (AreMade direction tree changes) (longer made more_made rest (path_of change) here.2) (so_far.so_made (path_of change ∷ rest) (inl (here.1, rest, refl, is)));
+  so_stuck = λ rest is. subst (λ ps. AreStuck direction tree changes (ps ++ rest)) (sym here.3) (so_far.so_stuck rest (inr (inr here.1, is)));
 }
-found_next way tree changes change left made more_made stuck more_stuck proper so_far (inr (inr here)) = record {
-  so_made = λ rest is. subst (λ ps. AreMade way tree changes (ps ++ rest)) (sym here.1) (so_far.so_made rest (inr (λ can. here.0 (inr can), is)));
-  so_stuck = λ rest is. subst (AreStuck way tree changes) (longer stuck more_stuck rest (path_of change) here.2) (so_far.so_stuck (path_of change ∷ rest) (inl (here.0, rest, refl, is)));
+found_next direction tree changes change left made more_made stuck more_stuck proper so_far (inr (inr here)) = record {
+  so_made = λ rest is. subst (λ ps. AreMade direction tree changes (ps ++ rest)) (sym here.1) (so_far.so_made rest (inr (λ can. here.0 (inr can), is)));
+  so_stuck = λ rest is. subst (AreStuck direction tree changes) (longer stuck more_stuck rest (path_of change) here.2) (so_far.so_stuck (path_of change ∷ rest) (inl (here.0, rest, refl, is)));
 }
 
-pub found_all : (way : Way) (tree : Files) (changes left : List Change) (made stuck : List (List ℕ)) → left ≡ [] → AreFoundSoFar way tree changes left made stuck → AreFound way tree changes made stuck
-found_all way tree changes left made stuck none so_far =
-    let at_end = subst (λ l. AreFoundSoFar way tree changes l made stuck) none so_far in
+pub found_all : (direction : Direction) (tree : Files) (changes left : List Change) (made stuck : List (List ℕ)) → left ≡ [] → AreFoundSoFar direction tree changes left made stuck → AreFound direction tree changes made stuck
+found_all direction tree changes left made stuck none so_far =
+    let at_end = subst (λ l. AreFoundSoFar direction tree changes l made stuck) none so_far in
     record {
-      made = subst (AreMade way tree changes) (append-nil made) (at_end.so_made [] refl);
-      stuck = subst (AreStuck way tree changes) (append-nil stuck) (at_end.so_stuck [] refl);
+      made = subst (AreMade direction tree changes) (append-nil made) (at_end.so_made [] refl);
+      stuck = subst (AreStuck direction tree changes) (append-nil stuck) (at_end.so_stuck [] refl);
     }
 
 -- ---- paths that are picked

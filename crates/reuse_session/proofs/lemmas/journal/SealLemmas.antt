@@ -13,22 +13,22 @@ use Rattle.reuse_tree.proofs.Sealed.{same_after, same_before}
 use Rattle.reuse_tree.specs.Entry.{IsReady, CanBeMade, AreAllSealed}
 use Rattle.reuse_session.specs.journal.Journal.{State}
 use Rattle.reuse_session.specs.journal.Seals.{tree_for, IsAsLeft, IsUntouched, IsToldApart}
-use Rattle.reuse_tree.specs.Turn.{IsReadyByRange}
+use Rattle.reuse_tree.specs.Apply.{IsReadyByRange}
 use Rattle.reuse_session.specs.session.Session.{IsRun}
 use Rattle.reuse_session.specs.declared.command.Command.{Command}
-use Rattle.reuse_tree.specs.declared.way.Way.{Way}
-use Rattle.reuse_tree.specs.declared.way.Way.TheVariants.{Do, Undo}
+use Rattle.reuse_tree.specs.declared.direction.Direction.{Direction}
+use Rattle.reuse_tree.specs.declared.direction.Direction.TheVariants.{Forward, Backward}
 use Rattle.reuse_session.proofs.lemmas.plan.Planning.{sealed_each}
 
 -- a file that is ready is so by range and length
-pub ready_by_range : (way : Way) (change : Change) (file : Option (List ℕ)) → IsReady way change file → IsReadyByRange way change file
-ready_by_range Do change file ready = (ready.0, ready.1.range)
-ready_by_range Undo change file ready = (ready.0, ready.1.range)
+pub ready_by_range : (direction : Direction) (change : Change) (file : Option (List ℕ)) → IsReady direction change file → IsReadyByRange direction change file
+ready_by_range Forward change file ready = (ready.0, ready.1.range)
+ready_by_range Backward change file ready = (ready.0, ready.1.range)
 
 -- two files from which a sealed change can be gone through have one digest
-same_digest : (way : Way) (change : Change) (file other : Option (List ℕ)) → is_sealed change ≡ true → IsReady way change file → IsReady way change other → option_map sha256 file ≡ option_map sha256 other
-same_digest Do change file other sealed ready too = same_before change other too.0 file too.1 sealed ready
-same_digest Undo change file other sealed ready too = same_after change too.0 other file too.1 sealed ready
+same_digest : (direction : Direction) (change : Change) (file other : Option (List ℕ)) → is_sealed change ≡ true → IsReady direction change file → IsReady direction change other → option_map sha256 file ≡ option_map sha256 other
+same_digest Forward change file other sealed ready too = same_before change other too.0 file too.1 sealed ready
+same_digest Backward change file other sealed ready too = same_after change too.0 other file too.1 sealed ready
 
 module _ (command : Command) (when : ℕ) (first second : State) (run : IsRun command when first second) where
   abbrev changes : List Change
@@ -39,21 +39,21 @@ module _ (command : Command) (when : ℕ) (first second : State) (run : IsRun co
       let listed = run.recorded in
       All-permutation (λ c. is_sealed c ≡ true) listed.0 run.step.changes listed.1 (sealed_each first.tree listed.0 listed.2.0 listed.2.2)
 
-  ready_on : (way : Way) → All (λ c. IsReady way c (get (tree_for way first second) (path_of c))) changes
-  ready_on Do i d lt = (get second.tree (path_of (get_or run.step.changes i d)), run.is_step.leads.each i d lt)
-  ready_on Undo i d lt = (get first.tree (path_of (get_or run.step.changes i d)), run.is_step.leads.each i d lt)
+  ready_on : (direction : Direction) → All (λ c. IsReady direction c (get (tree_for direction first second) (path_of c))) changes
+  ready_on Forward i d lt = (get second.tree (path_of (get_or run.step.changes i d)), run.is_step.leads.each i d lt)
+  ready_on Backward i d lt = (get first.tree (path_of (get_or run.step.changes i d)), run.is_step.leads.each i d lt)
 
-  pub told : (way : Way) (now : Files) → All (CanBeMade way now) changes → All (IsAsLeft way (tree_for way first second) now) changes
-  told way now can i d lt =
+  pub told : (direction : Direction) (now : Files) → All (CanBeMade direction now) changes → All (IsAsLeft direction (tree_for direction first second) now) changes
+  told direction now can i d lt =
       let change = get_or run.step.changes i d in
       record {
-        range = ready_by_range way change (get now (path_of change)) (can i d lt).ready;
-        digest = same_digest way change (get now (path_of change)) (get (tree_for way first second) (path_of change)) (sealed i d lt) (can i d lt).ready (ready_on way i d lt);
+        range = ready_by_range direction change (get now (path_of change)) (can i d lt).ready;
+        digest = same_digest direction change (get now (path_of change)) (get (tree_for direction first second) (path_of change)) (sealed i d lt) (can i d lt).ready (ready_on direction i d lt);
       }
 
-  pub exact : (way : Way) (now : Files) → All (IsToldApart (tree_for way first second) now) changes
-      → All (CanBeMade way now) changes ↔ All (IsUntouched way (tree_for way first second) now) changes
-  exact way now apart = (
-    λ can i d lt. record { same = apart i d lt (told way now can i d lt).digest; free = (can i d lt).free },
-    λ left i d lt. record { ready = subst (IsReady way (get_or run.step.changes i d)) (sym (left i d lt).same) (ready_on way i d lt); free = (left i d lt).free },
+  pub exact : (direction : Direction) (now : Files) → All (IsToldApart (tree_for direction first second) now) changes
+      → All (CanBeMade direction now) changes ↔ All (IsUntouched direction (tree_for direction first second) now) changes
+  exact direction now apart = (
+    λ can i d lt. record { same = apart i d lt (told direction now can i d lt).digest; free = (can i d lt).free },
+    λ left i d lt. record { ready = subst (IsReady direction (get_or run.step.changes i d)) (sym (left i d lt).same) (ready_on direction i d lt); free = (left i d lt).free },
   )

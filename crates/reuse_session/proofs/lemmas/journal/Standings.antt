@@ -4,13 +4,13 @@ use Rattle.reuse_tree.specs.Path.{journal_folder}
 use Rattle.reuse_tree.specs.Files.{Files, AreFiles, tree_of}
 use Rattle.reuse_session.specs.journal.Carried.{IsCarriedOut, IsStopped}
 use Rattle.reuse_tree.specs.Entry.{IsEntry, LeadsBy, SomeMade}
-use Rattle.reuse_tree.specs.Head.{way_of, IsGoodHead}
+use Rattle.reuse_tree.specs.Head.{direction_of, IsGoodHead}
 use Rattle.reuse_session.specs.journal.Journal.{Recorded, State}
 use Rattle.reuse_session.specs.journal.JournalFiles.{entry_path, head_of, number_of, IsKeptIn}
 use Rattle.reuse_session.specs.session.Session.{IsSameBut}
 use Rattle.reuse_session.specs.journal.Standing.{IsTree, IsStanding, IsStep, IsUnderWay, InDoubt}
 use Rattle.reuse_tree.specs.Tree.{undo_folder_of}
-use Rattle.reuse_tree.specs.declared.journal.head.PendingWay.{PendingWay}
+use Rattle.reuse_tree.specs.declared.journal.head.PendingDirection.{PendingDirection}
 use Rattle.reuse_tree.specs.declared.change.Change.{Change}
 use Rattle.reuse_tree.proofs.TreeLemmas.{tree_are_files}
 use Rattle.reuse_tree.proofs.Walk.{leads_once, none_outside}
@@ -28,53 +28,53 @@ after_entry files after held standing room same =
     }
 
 -- a tree stays one where changes of an entry lead on from it
-pub still_tree : (way : PendingWay) (changes : List Change) (before after : Files) → IsEntry changes → LeadsBy (way_of way) changes before after → IsTree before → AreFiles after → IsTree after
-still_tree way changes before after good leads tree are = record {
+pub still_tree : (direction : PendingDirection) (changes : List Change) (before after : Files) → IsEntry changes → LeadsBy (direction_of direction) changes before after → IsTree before → AreFiles after → IsTree after
+still_tree direction changes before after good leads tree are = record {
   are_files = are;
   no_reuse = leads.others (codes ".reuse") (none_outside changes (codes ".reuse") good refl) ∙ tree.no_reuse;
   no_undo = leads.others journal_folder (none_outside changes journal_folder good refl) ∙ tree.no_undo;
 }
 
 -- where the pending head is put and some changes are made, the step is under way
-pub under_way : (files after : Files) (way : PendingWay) (step : Recorded) (first second : State) → IsStanding files first → IsKeptIn (undo_folder_of files) step → IsStep way step first second → (pending : List ℕ)
-    → IsGoodHead pending (head_of first.journal (Some (record { entry = number_of step; way = way }))) → IsStopped (way_of way) step.changes pending files after → IsUnderWay way step first after
-under_way files after way step first second standing kept is_step pending head out = record {
+pub under_way : (files after : Files) (direction : PendingDirection) (step : Recorded) (first second : State) → IsStanding files first → IsKeptIn (undo_folder_of files) step → IsStep direction step first second → (pending : List ℕ)
+    → IsGoodHead pending (head_of first.journal (Some (record { entry = number_of step; direction = direction }))) → IsStopped (direction_of direction) step.changes pending files after → IsUnderWay direction step first after
+under_way files after direction step first second standing kept is_step pending head out = record {
   good = standing.good;
-  journal = keeps_pending (undo_folder_of files) (undo_folder_of after) first.journal (record { entry = number_of step; way = way }) pending standing.journal out.sets head;
+  journal = keeps_pending (undo_folder_of files) (undo_folder_of after) first.journal (record { entry = number_of step; direction = direction }) pending standing.journal out.sets head;
   kept = kept_stays (undo_folder_of files) (undo_folder_of after) step pending kept out.sets;
   partly = record {
-    made = subst (λ tree. SomeMade (way_of way) step.changes tree (tree_of after)) standing.tree out.tree;
-    ready = reach_ready (way_of way) step.changes first.tree second.tree is_step.leads;
+    made = subst (λ tree. SomeMade (direction_of direction) step.changes tree (tree_of after)) standing.tree out.tree;
+    ready = reach_ready (direction_of direction) step.changes first.tree second.tree is_step.leads;
   };
 }
 
-module _ (files after : Files) (way : PendingWay) (step : Recorded) (first second : State) (standing : IsStanding files first) (kept : IsKeptIn (undo_folder_of files) step) (is_step : IsStep way step first second) (good : IsEntry step.changes) (are : AreFiles after) where
-  start : LeadsBy (way_of way) step.changes (tree_of files) second.tree
-  start = subst (λ tree. LeadsBy (way_of way) step.changes tree second.tree) (sym standing.tree) is_step.leads
+module _ (files after : Files) (direction : PendingDirection) (step : Recorded) (first second : State) (standing : IsStanding files first) (kept : IsKeptIn (undo_folder_of files) step) (is_step : IsStep direction step first second) (good : IsEntry step.changes) (are : AreFiles after) where
+  start : LeadsBy (direction_of direction) step.changes (tree_of files) second.tree
+  start = subst (λ tree. LeadsBy (direction_of direction) step.changes tree second.tree) (sym standing.tree) is_step.leads
 
   -- once the step is carried out, the standing is the next
-  pub carried : (settled : List ℕ) → IsCarriedOut (way_of way) step.changes settled files after → IsGoodHead settled (head_of second.journal None) → IsStanding after second
+  pub carried : (settled : List ℕ) → IsCarriedOut (direction_of direction) step.changes settled files after → IsGoodHead settled (head_of second.journal None) → IsStanding after second
   carried settled out head =
-      let tree : tree_of after ≡ second.tree = leads_once (way_of way) step.changes (tree_of files) (tree_of after) second.tree out.tree start in
+      let tree : tree_of after ≡ second.tree = leads_once (direction_of direction) step.changes (tree_of files) (tree_of after) second.tree out.tree start in
       record {
         tree = tree;
-        good = still_tree way step.changes first.tree second.tree good is_step.leads standing.good (subst AreFiles tree (tree_are_files after are));
-        journal = keeps_settled (undo_folder_of files) (undo_folder_of after) first.journal second.journal None way step settled standing.journal kept is_step.moves out.sets head;
+        good = still_tree direction step.changes first.tree second.tree good is_step.leads standing.good (subst AreFiles tree (tree_are_files after are));
+        journal = keeps_settled (undo_folder_of files) (undo_folder_of after) first.journal second.journal None direction step settled standing.journal kept is_step.mutations out.sets head;
       }
 
   -- where that stops, the files are in doubt between the two
-  pub stopped : (pending settled : List ℕ) → (after ≡ files) ⊎ IsStopped (way_of way) step.changes pending files after ⊎ IsCarriedOut (way_of way) step.changes settled files after
-      → IsGoodHead pending (head_of first.journal (Some (record { entry = number_of step; way = way }))) → IsGoodHead settled (head_of second.journal None) → InDoubt first second after
+  pub stopped : (pending settled : List ℕ) → (after ≡ files) ⊎ IsStopped (direction_of direction) step.changes pending files after ⊎ IsCarriedOut (direction_of direction) step.changes settled files after
+      → IsGoodHead pending (head_of first.journal (Some (record { entry = number_of step; direction = direction }))) → IsGoodHead settled (head_of second.journal None) → InDoubt first second after
   stopped pending settled case pending_head settled_head =
       ⊎_elim
       (λ (same : after ≡ files). inl (subst (λ f. IsStanding f first) (sym same) standing))
       (λ rest. ⊎_elim
-      (λ (out : IsStopped (way_of way) step.changes pending files after). inr (inr (
-        way,
+      (λ (out : IsStopped (direction_of direction) step.changes pending files after). inr (inr (
+        direction,
         step,
         is_step,
-        under_way files after way step first second standing kept is_step pending pending_head out,
+        under_way files after direction step first second standing kept is_step pending pending_head out,
       )))
-      (λ (out : IsCarriedOut (way_of way) step.changes settled files after). inr (inl (carried settled out settled_head)))
+      (λ (out : IsCarriedOut (direction_of direction) step.changes settled files after). inr (inl (carried settled out settled_head)))
       rest)
       case

@@ -17,15 +17,15 @@ use Rattle.reuse_session.specs.session.Session.{store_of, memory_of, listed_as, 
 use Rattle.reuse_session.specs.journal.Standing.{IsTree, IsStanding}
 use Rattle.reuse_tree.specs.Tree.{undo_folder_of}
 use Rattle.reuse_session.specs.declared.session.Session.{Session}
-use Rattle.reuse_tree.specs.declared.way.Way.{Way}
-use Rattle.reuse_tree.specs.declared.way.Way.TheVariants.{Do, Undo}
+use Rattle.reuse_tree.specs.declared.direction.Direction.{Direction}
+use Rattle.reuse_tree.specs.declared.direction.Direction.TheVariants.{Forward, Backward}
 use Rattle.reuse_tree.specs.declared.cause.Cause.TheVariants as causes
 use Rattle.reuse_session.specs.declared.reply.Response.{Response}
 use Rattle.reuse_session.specs.declared.reply.Refusal.{Refusal}
 use Rattle.reuse_session.specs.declared.failure.Failure.TheVariants.{Memory as OutOfMemory, Fault, Interrupted}
 use Rattle.reuse_session.specs.declared.reply.Refusal.TheVariants.{BadJournal, Failed}
 use Rattle.reuse_session.proofs.lemmas.session.OnlyReading.{is_refused}
-use Rattle.reuse_session.proofs.lemmas.journal.HeadMoves.{below}
+use Rattle.reuse_session.proofs.lemmas.journal.HeadMutations.{below}
 use Rattle.reuse_session.proofs.lemmas.journal.JournalLemmas.{clash_beneath, entry_in_folder, like, paths_apart}
 use Rattle.reuse_tree.proofs.OfTree.{get-folder}
 use Rattle.reuse_session.proofs.lemmas.journal.Standings.{after_entry}
@@ -144,8 +144,8 @@ module _ (files : Files) (held : State) (standing : IsStanding files held) (free
 -- ---- numbers
 
 -- the number of a listed step is in range
-pub low_of : (way : Way) (step : Recorded) (steps : List Recorded) (old : Journal) → ahead way old ≡ step ∷ steps → IsSoundHead (head_of old None) → number_of step ≤ 999_999
-low_of Undo step steps old list sound =
+pub low_of : (direction : Direction) (step : Recorded) (steps : List Recorded) (old : Journal) → ahead direction old ≡ step ∷ steps → IsSoundHead (head_of old None) → number_of step ≤ 999_999
+low_of Backward step steps old list sound =
     let undone = map number_of (reverse old.undone) in
     let done : map number_of (reverse old.done) ≡ map number_of (reverse (step ∷ steps)) = ap (λ steps. map number_of (reverse steps)) list in
     let here = last_number steps step undone in
@@ -156,7 +156,7 @@ low_of Undo step steps old list sound =
     let given = sound.given_out i 0 lt in
     let at : get_or (map number_of (reverse old.done) ++ undone) i 0 ≡ number_of step = ap (λ ns. get_or (ns ++ undone) i 0) done ∙ here in
     omega (arith, given.1, at, sound.next.1)
-low_of Do step steps old list sound =
+low_of Forward step steps old list sound =
     let front = map number_of (reverse old.done) in
     let undone : map number_of (reverse old.undone) ≡ map number_of (reverse (step ∷ steps)) = ap (λ steps. map number_of (reverse steps)) list in
     let i = length front + length (map number_of (reverse steps)) in
@@ -177,7 +177,7 @@ counted memory journal r =
     ap (λ es. length es + length memory.undone) r.done ∙ ap (λ es. length (map listed_as (reverse journal.done)) + length es) r.undone
     ∙ omega (arith, length-map (reverse journal.done) listed_as, length-reverse journal.done, length-map (reverse journal.undone) listed_as, length-reverse journal.undone)
 
-pub as_many : (way : Way) (step : Recorded) (steps : List Recorded) (old : Journal) (memory moved : Memory) → ahead way old ≡ step ∷ steps → Remembers memory old
-    → Remembers moved (moved_on way step steps old) → listed_count moved ≡ listed_count memory
-as_many Undo step steps old memory moved list r s = omega (arith, counted moved (moved_on Undo step steps old) s, counted memory old r, ap length list)
-as_many Do step steps old memory moved list r s = omega (arith, counted moved (moved_on Do step steps old) s, counted memory old r, ap length list)
+pub as_many : (direction : Direction) (step : Recorded) (steps : List Recorded) (old : Journal) (memory moved : Memory) → ahead direction old ≡ step ∷ steps → Remembers memory old
+    → Remembers moved (moved_on direction step steps old) → listed_count moved ≡ listed_count memory
+as_many Backward step steps old memory moved list r s = omega (arith, counted moved (moved_on Backward step steps old) s, counted memory old r, ap length list)
+as_many Forward step steps old memory moved list r s = omega (arith, counted moved (moved_on Forward step steps old) s, counted memory old r, ap length list)

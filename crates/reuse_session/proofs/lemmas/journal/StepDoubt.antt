@@ -5,14 +5,14 @@ use Rattle.std.specs.List.{All}
 use Rattle.reuse_tree.specs.Asked.{Leaves, IsSynced, OnlyReads}
 use Rattle.reuse_tree.specs.Entry.{IsEntry, LeadsBy, SomeMade, ArePartlyMade}
 use Rattle.reuse_tree.specs.Files.{Files, AreFiles, tree_of}
-use Rattle.reuse_tree.specs.Head.{way_of, listed_way, IsGoodHead}
+use Rattle.reuse_tree.specs.Head.{direction_of, listed_direction, IsGoodHead}
 use Rattle.reuse_tree.specs.Tree.{undo_folder_of, Sets}
 use Rattle.reuse_tree.specs.declared.journal.head.Pending.{Pending}
-use Rattle.reuse_tree.specs.declared.journal.head.PendingWay.{PendingWay}
-use Rattle.reuse_tree.specs.declared.journal.head.PendingWay.TheVariants.{Do, Undo, Redo}
+use Rattle.reuse_tree.specs.declared.journal.head.PendingDirection.{PendingDirection}
+use Rattle.reuse_tree.specs.declared.journal.head.PendingDirection.TheVariants.{Do, Undo, Redo}
 use Rattle.reuse_tree.specs.declared.store.Store.{Ghosts}
-use Rattle.reuse_tree.specs.declared.way.Way.{Way}
-use Rattle.reuse_tree.specs.declared.way.Way.TheVariants as go
+use Rattle.reuse_tree.specs.declared.direction.Direction.{Direction}
+use Rattle.reuse_tree.specs.declared.direction.Direction.TheVariants as go
 use Rattle.reuse_tree.proofs.MadeLemmas.{made_none, made_all, reach_ready}
 use Rattle.reuse_tree.proofs.TreeLemmas.{tree_are_files}
 use Rattle.reuse_tree.proofs.Walk.{leads_once}
@@ -39,27 +39,27 @@ pub safe_entries : (earlier held : State) (left : Files) → IsSafeOn earlier he
 safe_entries earlier held left safe =
     ⊎_elim (λ (standing : IsStanding left held). (standing.journal.done, standing.journal.undone))
     (λ rest. ⊎_elim
-    (λ (on : (next : State) × (way : PendingWay) × (step : Recorded) × IsStep way step held next × IsUnderWay way step held left). let under = on.4 in (under.journal.done, under.journal.undone))
-    (λ (to : (way : PendingWay) × (step : Recorded) × IsStep way step earlier held × IsUnderWay way step earlier left).
-    let under = to.3 in kept_moved (undo_folder_of left) earlier.journal held.journal _ to.0 to.1 under.journal under.kept (to.2).moves)
+    (λ (on : (next : State) × (direction : PendingDirection) × (step : Recorded) × IsStep direction step held next × IsUnderWay direction step held left). let under = on.4 in (under.journal.done, under.journal.undone))
+    (λ (to : (direction : PendingDirection) × (step : Recorded) × IsStep direction step earlier held × IsUnderWay direction step earlier left).
+    let under = to.3 in kept_moved (undo_folder_of left) earlier.journal held.journal _ to.0 to.1 under.journal under.kept (to.2).mutations)
     rest)
     safe.opens
 
 -- a step that was done or undone is kept where all are
-pub kept_next : (way : Way) (step : Recorded) (held second : State) (folder : Files) → IsStep (listed_way way) step held second → All (IsKeptIn folder) held.journal.done × All (IsKeptIn folder) held.journal.undone → IsKeptIn folder step
-kept_next go.Undo step held second folder is_step all = let moves = is_step.moves in first_of_all (IsKeptIn folder) held.journal.done moves.0 step moves.1 all.0
-kept_next go.Do step held second folder is_step all = let moves = is_step.moves in first_of_all (IsKeptIn folder) held.journal.undone moves.0 step moves.1 all.1
+pub kept_next : (direction : Direction) (step : Recorded) (held second : State) (folder : Files) → IsStep (listed_direction direction) step held second → All (IsKeptIn folder) held.journal.done × All (IsKeptIn folder) held.journal.undone → IsKeptIn folder step
+kept_next go.Backward step held second folder is_step all = let mutations = is_step.mutations in first_of_all (IsKeptIn folder) held.journal.done mutations.0 step mutations.1 all.0
+kept_next go.Forward step held second folder is_step all = let mutations = is_step.mutations in first_of_all (IsKeptIn folder) held.journal.undone mutations.0 step mutations.1 all.1
 
 -- the step is under way, and nothing of it is made
-pub under_unmade : (way : PendingWay) (step : Recorded) (held next : State) (left : Files) → IsStep way step held next → IsTree held.tree
-    → KeepsJournal (undo_folder_of left) held.journal (Some (record { entry = number_of step; way = way })) → IsKeptIn (undo_folder_of left) step → tree_of left ≡ held.tree → IsUnderWay way step held left
-under_unmade way step held next left is_step good keeps kept tree = record {
+pub under_unmade : (direction : PendingDirection) (step : Recorded) (held next : State) (left : Files) → IsStep direction step held next → IsTree held.tree
+    → KeepsJournal (undo_folder_of left) held.journal (Some (record { entry = number_of step; direction = direction })) → IsKeptIn (undo_folder_of left) step → tree_of left ≡ held.tree → IsUnderWay direction step held left
+under_unmade direction step held next left is_step good keeps kept tree = record {
   good = good;
   journal = keeps;
   kept = kept;
   partly = record {
-    made = subst (λ t. SomeMade (way_of way) step.changes held.tree t) (sym tree) (made_none (way_of way) step.changes held.tree);
-    ready = reach_ready (way_of way) step.changes held.tree next.tree is_step.leads;
+    made = subst (λ t. SomeMade (direction_of direction) step.changes held.tree t) (sym tree) (made_none (direction_of direction) step.changes held.tree);
+    ready = reach_ready (direction_of direction) step.changes held.tree next.tree is_step.leads;
   };
 }
 
@@ -74,71 +74,71 @@ module _ (earlier held second : State) (step : Recorded) (was left : Files) (is_
 
   kept_new : IsKeptIn (undo_folder_of left) step
   kept_new =
-      let number : number_of step ≡ held.journal.used + 1 = is_new.moves.0 in
+      let number : number_of step ≡ held.journal.used + 1 = is_new.mutations.0 in
       subst (λ n. EntrySays (get (undo_folder_of left) (entry_path n)) (entry_in step)) (sym number)
       (subst (λ f. EntrySays f (entry_in step)) (sym (sym (file_in_folder left (entry_path (held.journal.used + 1)) (entry_path (held.journal.used + 1)) refl refl) ∙ sets.here)) says)
 
   -- another step from the standing is pending
-  on_then : (next : State) (way : PendingWay) (other : Recorded) → IsStep way other held next → IsUnderWay way other held was → IsSafeOn earlier held left
-  on_then next way other is_step under = record { tree = tree_then; opens = inr (inl (at_way way is_step under)) }
+  on_then : (next : State) (direction : PendingDirection) (other : Recorded) → IsStep direction other held next → IsUnderWay direction other held was → IsSafeOn earlier held left
+  on_then next direction other is_step under = record { tree = tree_then; opens = inr (inl (at_direction direction is_step under)) }
     where
       keeps : (p : Pending) → KeepsJournal (undo_folder_of was) held.journal (Some p) → KeepsJournal (undo_folder_of left) held.journal (Some p)
       keeps p journal = keeps_beside_any (undo_folder_of was) (undo_folder_of left) held.journal (Some p) (held.journal.used + 1) journal (omega arith) (omega arith) beside.0
 
-      at_way : (w : PendingWay) → IsStep w other held next → IsUnderWay w other held was → (n : State) × (v : PendingWay) × (s : Recorded) × IsStep v s held n × IsUnderWay v s held left
-      at_way Do goes here =
-          let same : number_of other ≡ number_of step = goes.moves.0 ∙ sym is_new.moves.0 in (
+      at_direction : (w : PendingDirection) → IsStep w other held next → IsUnderWay w other held was → (n : State) × (v : PendingDirection) × (s : Recorded) × IsStep v s held n × IsUnderWay v s held left
+      at_direction Do goes here =
+          let same : number_of other ≡ number_of step = goes.mutations.0 ∙ sym is_new.mutations.0 in (
             second,
             Do,
             step,
             is_new,
             under_unmade Do step held second left is_new good
-                (subst (λ n. KeepsJournal (undo_folder_of left) held.journal (Some (record { entry = n; way = Do }))) same (keeps (record { entry = number_of other; way = Do }) here.journal)) kept_new tree_then,
+                (subst (λ n. KeepsJournal (undo_folder_of left) held.journal (Some (record { entry = n; direction = Do }))) same (keeps (record { entry = number_of other; direction = Do }) here.journal)) kept_new tree_then,
           )
-      at_way Undo goes here =
-          let journal = keeps (record { entry = number_of other; way = Undo }) here.journal in
-          (next, Undo, other, goes, under_unmade Undo other held next left goes good journal (kept_next go.Undo other held next (undo_folder_of left) goes (journal.done, journal.undone)) tree_then)
-      at_way Redo goes here =
-          let journal = keeps (record { entry = number_of other; way = Redo }) here.journal in
-          (next, Redo, other, goes, under_unmade Redo other held next left goes good journal (kept_next go.Do other held next (undo_folder_of left) goes (journal.done, journal.undone)) tree_then)
+      at_direction Undo goes here =
+          let journal = keeps (record { entry = number_of other; direction = Undo }) here.journal in
+          (next, Undo, other, goes, under_unmade Undo other held next left goes good journal (kept_next go.Backward other held next (undo_folder_of left) goes (journal.done, journal.undone)) tree_then)
+      at_direction Redo goes here =
+          let journal = keeps (record { entry = number_of other; direction = Redo }) here.journal in
+          (next, Redo, other, goes, under_unmade Redo other held next left goes good journal (kept_next go.Forward other held next (undo_folder_of left) goes (journal.done, journal.undone)) tree_then)
 
   -- the step that led to the standing is pending
-  to_then : (way : PendingWay) (other : Recorded) → IsStep way other earlier held → IsUnderWay way other earlier was → IsSafeOn earlier held left
-  to_then way other is_step under = record { tree = tree_then; opens = inr (inr (at_way way is_step under)) }
+  to_then : (direction : PendingDirection) (other : Recorded) → IsStep direction other earlier held → IsUnderWay direction other earlier was → IsSafeOn earlier held left
+  to_then direction other is_step under = record { tree = tree_then; opens = inr (inr (at_direction direction is_step under)) }
     where
       keeps : (p : Pending) → KeepsJournal (undo_folder_of was) earlier.journal (Some p) → earlier.journal.used < held.journal.used + 1 → KeepsJournal (undo_folder_of left) earlier.journal (Some p)
       keeps p journal low = keeps_beside_any (undo_folder_of was) (undo_folder_of left) earlier.journal (Some p) (held.journal.used + 1) journal low (omega arith) beside.0
 
-      then_under : (w : PendingWay) → IsUnderWay w other earlier was → KeepsJournal (undo_folder_of left) earlier.journal (Some (record { entry = number_of other; way = w })) → IsKeptIn (undo_folder_of left) other → IsUnderWay w other earlier left
-      then_under w here journal kept = record { good = here.good; journal = journal; kept = kept; partly = subst (ArePartlyMade (way_of w) other.changes earlier.tree) (sym beside.1) here.partly }
+      then_under : (w : PendingDirection) → IsUnderWay w other earlier was → KeepsJournal (undo_folder_of left) earlier.journal (Some (record { entry = number_of other; direction = w })) → IsKeptIn (undo_folder_of left) other → IsUnderWay w other earlier left
+      then_under w here journal kept = record { good = here.good; journal = journal; kept = kept; partly = subst (ArePartlyMade (direction_of w) other.changes earlier.tree) (sym beside.1) here.partly }
 
-      at_way : (w : PendingWay) → IsStep w other earlier held → IsUnderWay w other earlier was → (v : PendingWay) × (s : Recorded) × IsStep v s earlier held × IsUnderWay v s earlier left
-      at_way Do goes here =
-          let used : held.journal.used ≡ earlier.journal.used + 1 = ap (λ (j : Journal). j.used) goes.moves.1 in
-          let number : number_of other ≡ earlier.journal.used + 1 = goes.moves.0 in (
+      at_direction : (w : PendingDirection) → IsStep w other earlier held → IsUnderWay w other earlier was → (v : PendingDirection) × (s : Recorded) × IsStep v s earlier held × IsUnderWay v s earlier left
+      at_direction Do goes here =
+          let used : held.journal.used ≡ earlier.journal.used + 1 = ap (λ (j : Journal). j.used) goes.mutations.1 in
+          let number : number_of other ≡ earlier.journal.used + 1 = goes.mutations.0 in (
             Do,
             other,
             goes,
-            then_under Do here (keeps (record { entry = number_of other; way = Do }) here.journal (omega arith))
+            then_under Do here (keeps (record { entry = number_of other; direction = Do }) here.journal (omega arith))
                 (kept_beside (undo_folder_of was) (undo_folder_of left) other (held.journal.used + 1) {low = held.journal.used + 1} (omega arith, omega arith) (omega arith) (omega arith) beside.0 here.kept),
           )
-      at_way Undo goes here =
-          let moves = goes.moves in
-          let used : held.journal.used ≡ earlier.journal.used = ap (λ (j : Journal). j.used) moves.2 in
-          let journal = keeps (record { entry = number_of other; way = Undo }) here.journal (omega arith) in
-          (Undo, other, goes, then_under Undo here journal (kept_next go.Undo other earlier held (undo_folder_of left) goes (journal.done, journal.undone)))
-      at_way Redo goes here =
-          let moves = goes.moves in
-          let used : held.journal.used ≡ earlier.journal.used = ap (λ (j : Journal). j.used) moves.2 in
-          let journal = keeps (record { entry = number_of other; way = Redo }) here.journal (omega arith) in
-          (Redo, other, goes, then_under Redo here journal (kept_next go.Do other earlier held (undo_folder_of left) goes (journal.done, journal.undone)))
+      at_direction Undo goes here =
+          let mutations = goes.mutations in
+          let used : held.journal.used ≡ earlier.journal.used = ap (λ (j : Journal). j.used) mutations.2 in
+          let journal = keeps (record { entry = number_of other; direction = Undo }) here.journal (omega arith) in
+          (Undo, other, goes, then_under Undo here journal (kept_next go.Backward other earlier held (undo_folder_of left) goes (journal.done, journal.undone)))
+      at_direction Redo goes here =
+          let mutations = goes.mutations in
+          let used : held.journal.used ≡ earlier.journal.used = ap (λ (j : Journal). j.used) mutations.2 in
+          let journal = keeps (record { entry = number_of other; direction = Redo }) here.journal (omega arith) in
+          (Redo, other, goes, then_under Redo here journal (kept_next go.Forward other earlier held (undo_folder_of left) goes (journal.done, journal.undone)))
 
   pub safe_with_entry : IsSafeOn earlier held left
   safe_with_entry =
       ⊎_elim (λ (standing : IsStanding was held). record { tree = tree_then; opens = inl (after_entry was left held standing room sets.elsewhere) })
       (λ rest. ⊎_elim
-      (λ (on : (next : State) × (way : PendingWay) × (other : Recorded) × IsStep way other held next × IsUnderWay way other held was). on_then on.0 on.1 on.2 on.3 on.4)
-      (λ (to : (way : PendingWay) × (other : Recorded) × IsStep way other earlier held × IsUnderWay way other earlier was). to_then to.0 to.1 to.2 to.3)
+      (λ (on : (next : State) × (direction : PendingDirection) × (other : Recorded) × IsStep direction other held next × IsUnderWay direction other held was). on_then on.0 on.1 on.2 on.3 on.4)
+      (λ (to : (direction : PendingDirection) × (other : Recorded) × IsStep direction other earlier held × IsUnderWay direction other earlier was). to_then to.0 to.1 to.2 to.3)
       rest)
       safe.opens
 
@@ -162,9 +162,9 @@ survives_weaker store IsNext IsOther earlier held new (Ok reply) weaker survives
 survives_weaker store IsNext IsOther earlier held new (Err (Failed (Interrupted cause))) weaker survives = (survives.0, weaker survives.0 survives.1, survives.2)
 survives_weaker store IsNext IsOther earlier held new (Err refusal) weaker survives = survives
 
-pub survives_replay : {S : Type 0} (store : Ghosts S) (IsNext : State → Type 0) (earlier held : State) (new : S) (way : Way) (paths : List (List ℕ)) (reply : Response) → reply ≡ reply_of way paths → IsSynced store new → Survives store IsNext earlier held (Ok reply) new
-survives_replay store IsNext earlier held new go.Do paths reply is synced = subst (λ r. Survives store IsNext earlier held (Ok r) new) (sym is) synced
-survives_replay store IsNext earlier held new go.Undo paths reply is synced = subst (λ r. Survives store IsNext earlier held (Ok r) new) (sym is) synced
+pub survives_replay : {S : Type 0} (store : Ghosts S) (IsNext : State → Type 0) (earlier held : State) (new : S) (direction : Direction) (paths : List (List ℕ)) (reply : Response) → reply ≡ reply_of direction paths → IsSynced store new → Survives store IsNext earlier held (Ok reply) new
+survives_replay store IsNext earlier held new go.Forward paths reply is synced = subst (λ r. Survives store IsNext earlier held (Ok r) new) (sym is) synced
+survives_replay store IsNext earlier held new go.Backward paths reply is synced = subst (λ r. Survives store IsNext earlier held (Ok r) new) (sym is) synced
 
 -- what was synced is safe on what stands there
 pub synced_is_safe : {S : Type 0} (store : Ghosts S) (earlier held : State) (new : S) → IsStanding (store.files new) held → IsSynced store new → AreSafeOn store earlier held new
@@ -176,10 +176,10 @@ reads_are_safe store earlier held old new reads safe left is = safe left (reads.
 
 -- ---- a step that is carried out
 
-module _ {S : Type 0} (store : Ghosts S) (old new : S) (way : PendingWay) (step : Recorded) (earlier held second : State) (standing : IsStanding (store.files old) held) (kept : IsKeptIn (undo_folder_of (store.files old)) step) (is_step : IsStep way step held second) (good : IsEntry step.changes) (are : AreFiles (store.files new))
-    (pending settled : List ℕ) (pending_head : IsGoodHead pending (head_of held.journal (Some (record { entry = number_of step; way = way })))) (settled_head : IsGoodHead settled (head_of second.journal None)) where
-  under : (after : Files) → IsStopped (way_of way) step.changes pending (store.files old) after → IsUnderWay way step held after
-  under after out = under_way (store.files old) after way step held second standing kept is_step pending pending_head out
+module _ {S : Type 0} (store : Ghosts S) (old new : S) (direction : PendingDirection) (step : Recorded) (earlier held second : State) (standing : IsStanding (store.files old) held) (kept : IsKeptIn (undo_folder_of (store.files old)) step) (is_step : IsStep direction step held second) (good : IsEntry step.changes) (are : AreFiles (store.files new))
+    (pending settled : List ℕ) (pending_head : IsGoodHead pending (head_of held.journal (Some (record { entry = number_of step; direction = direction })))) (settled_head : IsGoodHead settled (head_of second.journal None)) where
+  under : (after : Files) → IsStopped (direction_of direction) step.changes pending (store.files old) after → IsUnderWay direction step held after
+  under after out = under_way (store.files old) after direction step held second standing kept is_step pending pending_head out
 
   -- the pending head is put on what is safe
   safe_with_head : (was left : Files) → IsSafeOn earlier held was → IsKeptIn (undo_folder_of was) step → Sets head_path (Some pending) was left → IsSafeOn earlier held left
@@ -190,68 +190,68 @@ module _ {S : Type 0} (store : Ghosts S) (old new : S) (way : PendingWay) (step 
         tree = tree;
         opens = inr (inl (
           second,
-          way,
+          direction,
           step,
           is_step,
-          under_unmade way step held second left is_step standing.good
-              (keeps_with_head (undo_folder_of was) (undo_folder_of left) held.journal (Some (record { entry = number_of step; way = way })) pending (safe_entries earlier held was safe) in_folder pending_head)
+          under_unmade direction step held second left is_step standing.good
+              (keeps_with_head (undo_folder_of was) (undo_folder_of left) held.journal (Some (record { entry = number_of step; direction = direction })) pending (safe_entries earlier held was safe) in_folder pending_head)
               (kept_stays (undo_folder_of was) (undo_folder_of left) step pending has in_folder) tree,
         ));
       }
 
   -- all changes are made, and the pending head stands or the last one
-  module _ (done : Files) (leads : LeadsBy (way_of way) step.changes (tree_of (store.files old)) (tree_of done)) (first : SetsHead pending (store.files old) done) (good_second : IsTree second.tree) where
+  module _ (done : Files) (leads : LeadsBy (direction_of direction) step.changes (tree_of (store.files old)) (tree_of done)) (first : SetsHead pending (store.files old) done) (good_second : IsTree second.tree) where
     made_tree : tree_of done ≡ second.tree
-    made_tree = leads_once (way_of way) step.changes (tree_of (store.files old)) (tree_of done) second.tree leads (subst (λ tree. LeadsBy (way_of way) step.changes tree second.tree) (sym standing.tree) is_step.leads)
+    made_tree = leads_once (direction_of direction) step.changes (tree_of (store.files old)) (tree_of done) second.tree leads (subst (λ tree. LeadsBy (direction_of direction) step.changes tree second.tree) (sym standing.tree) is_step.leads)
 
-    made_under : IsUnderWay way step held done
-    made_under = under done (record { tree = made_all (way_of way) step.changes (tree_of (store.files old)) (tree_of done) leads; sets = first })
+    made_under : IsUnderWay direction step held done
+    made_under = under done (record { tree = made_all (direction_of direction) step.changes (tree_of (store.files old)) (tree_of done) leads; sets = first })
 
     made_standing : (after : Files) → Sets head_path (Some settled) done after → IsStanding after second
     made_standing after last = record {
       tree = head_keeps_tree done after (Some settled) last ∙ made_tree;
       good = good_second;
-      journal = keeps_settled (undo_folder_of (store.files old)) (undo_folder_of after) held.journal second.journal None way step settled standing.journal kept is_step.moves
+      journal = keeps_settled (undo_folder_of (store.files old)) (undo_folder_of after) held.journal second.journal None direction step settled standing.journal kept is_step.mutations
           (sets_again head_path (Some pending) (Some settled) (undo_folder_of (store.files old)) (undo_folder_of done) (undo_folder_of done) (undo_folder_of after) first refl (head_sets done after (Some settled) last)) settled_head;
     }
 
     doubt_at_last : (store.files new ≡ done) ⊎ Sets head_path (Some settled) done (store.files new) → Leaves store new (λ left. (left ≡ done) ⊎ Sets head_path (Some settled) done left) → AreInDoubt store earlier held second new
     doubt_at_last (inl same) lefts = inr (inr (
-      way,
+      direction,
       step,
       is_step,
-      subst (IsUnderWay way step held) (sym same) made_under,
-      λ left may. inr (⊎_elim (λ (is : left ≡ done). inr (inr (way, step, is_step, subst (IsUnderWay way step held) (sym is) made_under))) (λ (last : Sets head_path (Some settled) done left). inr (inl (made_standing left last))) (lefts left may)),
+      subst (IsUnderWay direction step held) (sym same) made_under,
+      λ left may. inr (⊎_elim (λ (is : left ≡ done). inr (inr (direction, step, is_step, subst (IsUnderWay direction step held) (sym is) made_under))) (λ (last : Sets head_path (Some settled) done left). inr (inl (made_standing left last))) (lefts left may)),
     ))
     doubt_at_last (inr sets) lefts = inr (inl (
       made_standing (store.files new) sets,
       λ left may. ⊎_elim
-          (λ (is : left ≡ done). subst (IsSafeOn held second) (sym is) (record { tree = made_tree; opens = inr (inr (way, step, is_step, made_under)) }))
+          (λ (is : left ≡ done). subst (IsSafeOn held second) (sym is) (record { tree = made_tree; opens = inr (inr (direction, step, is_step, made_under)) }))
           (λ (last : Sets head_path (Some settled) done left). let stands = made_standing left last in record { tree = stands.tree; opens = inl stands })
           (lefts left may),
     ))
 
   -- the tree behind the step is one
-  second_is_tree : (done : Files) → LeadsBy (way_of way) step.changes (tree_of (store.files old)) (tree_of done) → (store.files new ≡ done) ⊎ Sets head_path (Some settled) done (store.files new) → IsTree second.tree
+  second_is_tree : (done : Files) → LeadsBy (direction_of direction) step.changes (tree_of (store.files old)) (tree_of done) → (store.files new ≡ done) ⊎ Sets head_path (Some settled) done (store.files new) → IsTree second.tree
   second_is_tree done leads files =
-      let to = leads_once (way_of way) step.changes (tree_of (store.files old)) (tree_of done) second.tree leads (subst (λ tree. LeadsBy (way_of way) step.changes tree second.tree) (sym standing.tree) is_step.leads) in
+      let to = leads_once (direction_of direction) step.changes (tree_of (store.files old)) (tree_of done) second.tree leads (subst (λ tree. LeadsBy (direction_of direction) step.changes tree second.tree) (sym standing.tree) is_step.leads) in
       let now : tree_of (store.files new) ≡ second.tree = ⊎_elim (λ (same : store.files new ≡ done). ap tree_of same ∙ to) (λ (sets : Sets head_path (Some settled) done (store.files new)). head_keeps_tree done (store.files new) (Some settled) sets ∙ to) files in
-      still_tree way step.changes held.tree second.tree good is_step.leads standing.good (subst AreFiles now (tree_are_files (store.files new) are))
+      still_tree direction step.changes held.tree second.tree good is_step.leads standing.good (subst AreFiles now (tree_are_files (store.files new) are))
 
   -- where it stops the files are in doubt, and all that may be left
-  pub stops_in_doubt : AreSafeOn store earlier held old → Leaves store old (λ left. IsKeptIn (undo_folder_of left) step) → StopsWithDoubt store (way_of way) step.changes pending settled old new → AreInDoubt store earlier held second new
+  pub stops_in_doubt : AreSafeOn store earlier held old → Leaves store old (λ left. IsKeptIn (undo_folder_of left) step) → StopsWithDoubt store (direction_of direction) step.changes pending settled old new → AreInDoubt store earlier held second new
   stops_in_doubt safe has (inl (files, lefts)) =
       let safe_left : Leaves store new (IsSafeOn earlier held) = λ left is. ⊎_elim (λ was. safe left was)
       (λ (made : (was : Files) × store.may_be old was × Sets head_path (Some pending) was left). safe_with_head made.0 left (safe made.0 made.1) (has made.0 made.1) made.2) (lefts left is) in
       ⊎_elim (λ (same : store.files new ≡ store.files old). inl (subst (λ f. IsStanding f held) (sym same) standing, safe_left))
       (λ (sets : Sets head_path (Some pending) (store.files old) (store.files new)).
       let tree = head_keeps_tree (store.files old) (store.files new) (Some pending) sets in
-      let stops : IsStopped (way_of way) step.changes pending (store.files old) (store.files new) = record {
-        tree = subst (λ t. SomeMade (way_of way) step.changes (tree_of (store.files old)) t) (sym tree) (made_none (way_of way) step.changes (tree_of (store.files old)));
+      let stops : IsStopped (direction_of direction) step.changes pending (store.files old) (store.files new) = record {
+        tree = subst (λ t. SomeMade (direction_of direction) step.changes (tree_of (store.files old)) t) (sym tree) (made_none (direction_of direction) step.changes (tree_of (store.files old)));
         sets = head_sets (store.files old) (store.files new) (Some pending) sets;
       } in
-      inr (inr (way, step, is_step, under (store.files new) stops, λ left is. inl (safe_left left is))))
+      inr (inr (direction, step, is_step, under (store.files new) stops, λ left is. inl (safe_left left is))))
       files
   stops_in_doubt safe has (inr (inl (files, lefts))) =
-      inr (inr (way, step, is_step, under (store.files new) files, λ left is. inr (inr (inr (way, step, is_step, under left (lefts left is))))))
+      inr (inr (direction, step, is_step, under (store.files new) files, λ left is. inr (inr (inr (direction, step, is_step, under left (lefts left is))))))
   stops_in_doubt safe has (inr (inr (done, leads, first, last))) = doubt_at_last done leads first (second_is_tree done leads last.0) last.0 last.1

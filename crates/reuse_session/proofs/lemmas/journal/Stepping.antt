@@ -6,7 +6,7 @@ use Rattle.reuse_tree.specs.Files.{Files}
 use Rattle.reuse_tree.specs.declared.change.Change.{Change}
 use Rattle.reuse_session.specs.session.Command.{name_of}
 use Rattle.reuse_tree.specs.Entry.{IsEntry, LeadsBy}
-use Rattle.reuse_tree.specs.Head.{way_of, IsGoodHead, IsSoundHead}
+use Rattle.reuse_tree.specs.Head.{direction_of, IsGoodHead, IsSoundHead}
 use Rattle.reuse_session.specs.journal.History.{Memory, head_listing, remember_run, remember_moved}
 use Rattle.reuse_session.specs.journal.Journal.{Recorded, Journal, State, moved_on}
 use Rattle.reuse_session.specs.journal.JournalFiles.{head_of, number_of}
@@ -17,17 +17,17 @@ use Rattle.reuse_session.specs.session.Session.{listed_as, IsRun, IsStepOf, Reme
 use Rattle.reuse_session.specs.journal.Standing.{IsStanding, IsStep}
 use Rattle.reuse_tree.specs.Tree.{undo_folder_of}
 use Rattle.reuse_session.specs.declared.command.Command.{Command}
-use Rattle.reuse_tree.specs.declared.way.Way.{Way}
-use Rattle.reuse_tree.specs.declared.way.Way.TheVariants as go
+use Rattle.reuse_tree.specs.declared.direction.Direction.{Direction}
+use Rattle.reuse_tree.specs.declared.direction.Direction.TheVariants as go
 use Rattle.reuse_session.specs.declared.journal.history.ListedEntry.{ListedEntry}
 use Rattle.reuse_tree.specs.declared.journal.head.Pending.{Pending}
-use Rattle.reuse_tree.specs.declared.journal.head.PendingWay.TheVariants.{Do}
+use Rattle.reuse_tree.specs.declared.journal.head.PendingDirection.TheVariants.{Do}
 use Rattle.reuse_session.specs.session.Answer.{HasClash}
 use Rattle.reuse_tree.specs.declared.cause.Cause.{Cause}
 use Rattle.reuse_tree.specs.declared.cause.Cause.TheVariants as causes
 use Rattle.reuse_session.specs.declared.failure.Failure.TheVariants.{Interrupted}
 use Rattle.reuse_session.specs.declared.reply.Refusal.TheVariants.{Failed}
-use Rattle.reuse_session.proofs.lemmas.journal.HeadMoves.{sound_pending, sound_moved}
+use Rattle.reuse_session.proofs.lemmas.journal.HeadMutations.{sound_pending, sound_moved}
 use Rattle.reuse_session.proofs.lemmas.journal.JournalLemmas.{sound_head}
 use Rattle.reuse_session.proofs.lemmas.journal.MemoryLemmas.{listing_of}
 
@@ -46,7 +46,7 @@ second_of command when held changes after = record {
 
 module _ (command : Command) (when : ℕ) (held : State) (changes : List Change) (tree : Files) (same : tree ≡ held.tree) (plan : IsPlan (outcome_of command tree) tree changes) (entry : IsEntry changes) where
   pub run_step : IsStep Do (step_of command when held changes) held (second_of command when held changes plan.after)
-  run_step = record { leads = subst (λ t. LeadsBy (way_of Do) changes t plan.after) same plan.leads; moves = (refl, refl) }
+  run_step = record { leads = subst (λ t. LeadsBy (direction_of Do) changes t plan.after) same plan.leads; mutations = (refl, refl) }
 
   pub is_run : Records tree (edits_of command tree) changes → is_full (length held.journal.done) held.journal.used ≡ false → IsRun command when held (second_of command when held changes plan.after)
   is_run records room = record {
@@ -75,14 +75,14 @@ remembers_run memory journal step entry r is = record {
 }
 
 -- the next entry this way moves from the end of its list to that of the other
-pub remembers_moved : (way : Way) (memory : Memory) (journal : Journal) (step : Recorded) (steps : List Recorded) (entry : ListedEntry) (front : List ListedEntry) → Remembers memory journal
-    → entry ≡ listed_as step → front ≡ map listed_as (reverse steps) → Remembers (remember_moved way front entry memory) (moved_on way step steps journal)
-remembers_moved go.Undo memory journal step steps entry front r is rest = record {
+pub remembers_moved : (direction : Direction) (memory : Memory) (journal : Journal) (step : Recorded) (steps : List Recorded) (entry : ListedEntry) (front : List ListedEntry) → Remembers memory journal
+    → entry ≡ listed_as step → front ≡ map listed_as (reverse steps) → Remembers (remember_moved direction front entry memory) (moved_on direction step steps journal)
+remembers_moved go.Backward memory journal step steps entry front r is rest = record {
   done = rest;
   undone = ap (λ es. es ++ entry ∷ []) r.undone ∙ ap (λ e. map listed_as (reverse journal.undone) ++ e ∷ []) is ∙ sym (listed_more journal.undone step);
   used = r.used;
 }
-remembers_moved go.Do memory journal step steps entry front r is rest = record {
+remembers_moved go.Forward memory journal step steps entry front r is rest = record {
   done = ap (λ es. es ++ entry ∷ []) r.done ∙ ap (λ e. map listed_as (reverse journal.done) ++ e ∷ []) is ∙ sym (listed_more journal.done step);
   undone = rest;
   used = r.used;
@@ -103,21 +103,21 @@ module _ (memory : Memory) (files : Files) (first second : State) (standing : Is
   sound_first : IsSoundHead (head_of first.journal None)
   sound_first = sound_head (undo_folder_of files) first.journal None standing.journal
 
-  pending_is : pending ≡ record { entry = number_of is.step; way = pending.way }
-  pending_is = λ i. record { entry = is.number i; way = pending.way }
+  pending_is : pending ≡ record { entry = number_of is.step; direction = pending.direction }
+  pending_is = λ i. record { entry = is.number i; direction = pending.direction }
 
   pub sound_between : IsSoundHead (head_listing memory (Some pending))
   sound_between =
       subst IsSoundHead (sym (listing_of memory first.journal (Some pending) remembers))
-      (subst (λ p. IsSoundHead (head_of first.journal (Some p))) (sym pending_is) (sound_pending first.journal second.journal pending.way is.step sound_first is.is_step.moves is.low))
+      (subst (λ p. IsSoundHead (head_of first.journal (Some p))) (sym pending_is) (sound_pending first.journal second.journal pending.direction is.step sound_first is.is_step.mutations is.low))
 
   pub good_between : (text : List ℕ) → (IsSoundHead (head_listing memory (Some pending)) → IsGoodHead text (head_listing memory (Some pending)))
-      → IsGoodHead text (head_of first.journal (Some (record { entry = number_of is.step; way = pending.way })))
+      → IsGoodHead text (head_of first.journal (Some (record { entry = number_of is.step; direction = pending.direction })))
   good_between text good =
       subst (λ p. IsGoodHead text (head_of first.journal (Some p))) pending_is (subst (IsGoodHead text) (listing_of memory first.journal (Some pending) remembers) (good sound_between))
 
   pub sound_second : IsSoundHead (head_listing moved None)
-  sound_second = subst IsSoundHead (sym (listing_of moved second.journal None is.remembers)) (sound_moved first.journal second.journal pending.way is.step sound_first is.is_step.moves is.room)
+  sound_second = subst IsSoundHead (sym (listing_of moved second.journal None is.remembers)) (sound_moved first.journal second.journal pending.direction is.step sound_first is.is_step.mutations is.room)
 
   pub good_second : (text : List ℕ) → (IsSoundHead (head_listing moved None) → IsGoodHead text (head_listing moved None)) → IsGoodHead text (head_of second.journal None)
   good_second text good = subst (IsGoodHead text) (listing_of moved second.journal None is.remembers) (good sound_second)

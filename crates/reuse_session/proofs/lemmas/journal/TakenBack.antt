@@ -9,11 +9,11 @@ use Rattle.reuse_tree.specs.declared.change.Change.{Change}
 use Rattle.reuse_tree.specs.declared.change.Change.TheVariants as change
 use Rattle.reuse_tree.specs.Change.{path_of, IsProper}
 use Rattle.reuse_tree.proofs.GoodFiles.{put_keeps, remove_keeps}
-use Rattle.reuse_tree.specs.declared.way.Way.{Way}
-use Rattle.reuse_tree.specs.declared.way.Way.TheVariants.{Do, Undo}
-use Rattle.reuse_tree.specs.Entry.{IsEntry, ArePartlyMade, IsReady, TurnsBy, CanBeMade, CanBeSetBack, opposite, makes}
+use Rattle.reuse_tree.specs.declared.direction.Direction.{Direction}
+use Rattle.reuse_tree.specs.declared.direction.Direction.TheVariants.{Forward, Backward}
+use Rattle.reuse_tree.specs.Entry.{IsEntry, ArePartlyMade, IsReady, AppliesBy, CanBeMade, CanBeRolledBack, opposite, makes}
 use Rattle.reuse_tree.specs.EntryText.{HavePaths}
-use Rattle.reuse_tree.specs.Head.{way_of}
+use Rattle.reuse_tree.specs.Head.{direction_of}
 use Rattle.reuse_session.specs.journal.History.{Memory}
 use Rattle.reuse_session.specs.journal.Journal.{Journal, State}
 use Rattle.reuse_session.specs.journal.JournalFiles.{entry_path, EntrySays}
@@ -30,13 +30,13 @@ use Rattle.reuse_session.proofs.lemmas.journal.PendingRecovery.{none_in_tree}
 use Rattle.reuse_tree.proofs.Walk.{none_outside}
 
 -- where a change leaves a file, it makes it or one was there
-there_or_made : (way : Way) (c : Change) (old new : Option (List ℕ)) → TurnsBy way c old new → IsSome new → (makes way c ≡ true) ⊎ IsSome old
-there_or_made Do (change.Make path bytes digest) old new turns some = inl refl
-there_or_made Do (change.Drop path bytes digest) old new turns some = inr (ap is_some turns.range.0)
-there_or_made Do (change.Splice path at before after rest seal) old new turns some = inr (ap is_some turns.range.2.whole)
-there_or_made Undo (change.Make path bytes digest) old new turns some = inr (ap is_some turns.range.1)
-there_or_made Undo (change.Drop path bytes digest) old new turns some = inl refl
-there_or_made Undo (change.Splice path at before after rest seal) old new turns some = inr (ap is_some turns.range.3.whole)
+there_or_made : (direction : Direction) (c : Change) (old new : Option (List ℕ)) → AppliesBy direction c old new → IsSome new → (makes direction c ≡ true) ⊎ IsSome old
+there_or_made Forward (change.Make path bytes digest) old new applies some = inl refl
+there_or_made Forward (change.Drop path bytes digest) old new applies some = inr (ap is_some applies.range.0)
+there_or_made Forward (change.Splice path at before after rest seal) old new applies some = inr (ap is_some applies.range.2.whole)
+there_or_made Backward (change.Make path bytes digest) old new applies some = inr (ap is_some applies.range.1)
+there_or_made Backward (change.Drop path bytes digest) old new applies some = inl refl
+there_or_made Backward (change.Splice path at before after rest seal) old new applies some = inr (ap is_some applies.range.3.whole)
 
 -- a file that can be there
 with_file_keeps : (tree : Files) (path : List ℕ) (file : Option (List ℕ)) → AreFiles tree → is_path path ≡ true → (IsSome file → ¬ (Clashes tree path)) → AreFiles (with_file tree path file)
@@ -44,60 +44,60 @@ unfolding with_file
 with_file_keeps tree path None are good free = remove_keeps tree path are
 with_file_keeps tree path (Some bytes) are good free = put_keeps tree path bytes are good (free refl)
 
-module _ (way : Way) (changes : List Change) (good : IsEntry changes) (paths : HavePaths changes) (now : Files) (are : AreFiles now) (can : All (CanBeSetBack way now) changes) where
+module _ (direction : Direction) (changes : List Change) (good : IsEntry changes) (paths : HavePaths changes) (now : Files) (are : AreFiles now) (can : All (CanBeRolledBack direction now) changes) where
   -- the first so many are taken back
   abbrev Back : ℕ → Type 0
-  Back count = (tree : Files) × AreFiles tree × ArePartlyMade way (take count changes) tree now
+  Back count = (tree : Files) × AreFiles tree × ArePartlyMade direction (take count changes) tree now
 
   one_more_back : (count : ℕ) → count < length changes → Back count → Back (count + 1)
   one_more_back count lt so_far =
       let place = at_place changes count lt in
       let c = place.0 in
       let tree = so_far.0 in
-      let this : CanBeSetBack way now c = subst (CanBeSetBack way now) (sym place.1) (can count c lt) in
-      let held : get now (path_of c) ≡ get tree (path_of c) = stood way changes good count lt c place.1 now tree so_far.2 in
+      let this : CanBeRolledBack direction now c = subst (CanBeRolledBack direction now) (sym place.1) (can count c lt) in
+      let held : get now (path_of c) ≡ get tree (path_of c) = stood direction changes good count lt c place.1 now tree so_far.2 in
       ⊎_elim
-      (λ (ready : IsReady way c (get now (path_of c))). (
+      (λ (ready : IsReady direction c (get now (path_of c))). (
         tree,
         so_far.1,
-        back_more way changes good count lt c place.1 now tree so_far.2 tree (inl (subst (IsReady way c) held ready, refl)),
+        back_more direction changes good count lt c place.1 now tree so_far.2 tree (inl (subst (IsReady direction c) held ready, refl)),
       ))
-      (λ (made : CanBeMade (opposite way) now c).
-      let ready : IsReady (opposite way) c (get tree (path_of c)) = subst (IsReady (opposite way) c) held made.ready in
-      let not_ready : IsReady way c (get tree (path_of c)) → ⊥ = λ r. ready_once way c (get tree (path_of c)) (subst IsProper (sym place.1) (good.proper count c lt)) r ready in
+      (λ (made : CanBeMade (opposite direction) now c).
+      let ready : IsReady (opposite direction) c (get tree (path_of c)) = subst (IsReady (opposite direction) c) held made.ready in
+      let not_ready : IsReady direction c (get tree (path_of c)) → ⊥ = λ r. ready_once direction c (get tree (path_of c)) (subst IsProper (sym place.1) (good.proper count c lt)) r ready in
       let good_path : is_path (path_of c) ≡ true = subst (λ x. is_path (path_of x) ≡ true) (sym place.1) (paths count c lt) in
       let free : IsSome ready.0 → ¬ (Clashes tree (path_of c)) = λ some clash. ⊎_elim
-      (λ (made_here : makes (opposite way) c ≡ true). still_free way changes good count lt c place.1 now tree so_far.2 (inr made) not_ready made_here clash)
+      (λ (made_here : makes (opposite direction) c ≡ true). still_free direction changes good count lt c place.1 now tree so_far.2 (inr made) not_ready made_here clash)
       (λ (there : IsSome (get tree (path_of c))). so_far.1.apart (path_of c) there clash)
-      (there_or_made (opposite way) c (get tree (path_of c)) ready.0 ready.1 some) in (
+      (there_or_made (opposite direction) c (get tree (path_of c)) ready.0 ready.1 some) in (
         with_file tree (path_of c) ready.0,
         with_file_keeps tree (path_of c) ready.0 so_far.1 good_path free,
-        back_more way changes good count lt c place.1 now tree so_far.2 (with_file tree (path_of c) ready.0) (inr (step_with (opposite way) c tree ready.0 ready.1)),
+        back_more direction changes good count lt c place.1 now tree so_far.2 (with_file tree (path_of c) ready.0) (inr (step_with (opposite direction) c tree ready.0 ready.1)),
       ))
       this
 
   back_to : (count : ℕ) → count ≤ length changes → Back count
-  back_to zero within = (now, are, back_none way changes now)
+  back_to zero within = (now, are, back_none direction changes now)
   back_to (suc count) within =
       let next : count + 1 ≡ suc count = omega arith in
       subst Back next (one_more_back count (omega arith) (back_to count (omega arith)))
 
-  pub start_of : (start : Files) × AreFiles start × ArePartlyMade way changes start now
+  pub start_of : (start : Files) × AreFiles start × ArePartlyMade direction changes start now
   start_of =
       let all = back_to (length changes) (omega arith) in
-      (all.0, all.1, subst (λ front. ArePartlyMade way front all.0 now) (take-length changes) all.2)
+      (all.0, all.1, subst (λ front. ArePartlyMade direction front all.0 now) (take-length changes) all.2)
 
 entry_paths : (file : Option (List ℕ)) (entry : Entry) → EntrySays file entry → HavePaths entry.changes
 entry_paths None entry says = absurd says
 entry_paths (Some text) entry says = says.paths
 
 -- what is pending was under way from a standing
-module _ (before : Files) (pending : Pending) (memory : Memory) (journal : Journal) (read : IsRead before (Some pending) memory journal) (entry : Entry) (says : EntrySays (get (undo_folder_of before) (entry_path pending.entry)) entry) (are : AreFiles before) (can : All (CanBeSetBack (way_of pending.way) (tree_of before)) entry.changes) where
-  pub was_under_way : (first : State) × IsUnderWay pending.way (recorded pending.entry entry) first before
+module _ (before : Files) (pending : Pending) (memory : Memory) (journal : Journal) (read : IsRead before (Some pending) memory journal) (entry : Entry) (says : EntrySays (get (undo_folder_of before) (entry_path pending.entry)) entry) (are : AreFiles before) (can : All (CanBeRolledBack (direction_of pending.direction) (tree_of before)) entry.changes) where
+  pub was_under_way : (first : State) × IsUnderWay pending.direction (recorded pending.entry entry) first before
   was_under_way =
       let file = get (undo_folder_of before) (entry_path pending.entry) in
       let good = entry_good file entry says in
-      let start = start_of (way_of pending.way) entry.changes good (entry_paths file entry says) (tree_of before) (tree_are_files before are) can in
+      let start = start_of (direction_of pending.direction) entry.changes good (entry_paths file entry says) (tree_of before) (tree_are_files before are) can in
       let none : (path : List ℕ) → is_of_tree path ≡ false → get before path ≡ None → get start.0 path ≡ None =
       λ path out here. sym (start.2.made.others path (none_outside entry.changes path good out)) ∙ none_in_tree before path here in
       let tree : IsTree start.0 = record { are_files = start.1; no_reuse = none (codes ".reuse") refl read.no_reuse; no_undo = none journal_folder refl read.no_undo } in (

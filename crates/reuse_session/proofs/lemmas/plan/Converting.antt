@@ -145,7 +145,7 @@ module _ (tree : Files) (paths : List (List ℕ)) (bytes : List ℕ) (are : Show
       dropped dep5_path bytes ∷ made toml_path text ∷ [],
       replaced ∙ refused_by _ false (refusals.Clash toml_path) (ok_edits (dropped dep5_path bytes ∷ made toml_path text ∷ [])) e,
       (
-        record { path = refl; removed = refl; written = refl; proper = tt; small = short; turns = record { range = (here, refl); from = ap (option_map sha256) here; to = tt }; sealed = refl },
-        (record { path = refl; removed = refl; written = refl; proper = tt; small = fits; turns = record { range = (none_from_test (get tree toml_path) (there false absent), refl); from = tt; to = refl }; sealed = refl }, tt),
+        record { path = refl; removed = refl; written = refl; proper = tt; small = short; applies = record { range = (here, refl); from = ap (option_map sha256) here; to = tt }; sealed = refl },
+        (record { path = refl; removed = refl; written = refl; proper = tt; small = fits; applies = record { range = (none_from_test (get tree toml_path) (there false absent), refl); from = tt; to = refl }; sealed = refl }, tt),
       ),
     )

@@ -116,7 +116,7 @@ module _ (tree : Files) (texts : List LicenceText) where
     written = refl;
     proper = tt;
     small = subst (λ (o : Option (List ℕ)). length (unwrap_or o []) ≤ LONGEST_FILE) (sym (text_at path made)) made.short;
-    turns = record { range = (made.absent, refl); from = tt; to = refl };
+    applies = record { range = (made.absent, refl); from = tt; to = refl };
     sealed = refl;
   }
 

@@ -107,7 +107,7 @@ making_made tree path at clone (Ok edit) splice here fits answer same = by_test 
       written = refl;
       proper = tt;
       small = subst (λ xs. length xs ≤ LONGEST_FILE) around fits.1;
-      turns = record { range = (here, ap (λ xs. Some xs) around); from = tt; to = ap (λ xs. Some (sha256 xs)) around };
+      applies = record { range = (here, ap (λ xs. Some xs) around); from = tt; to = ap (λ xs. Some (sha256 xs)) around };
       sealed = refl;
     }
 

@@ -18,7 +18,7 @@ use Rattle.reuse_tree.specs.Path.{lies_under}
 use Rattle.reuse_tree.specs.Files.{Files, AreFiles}
 use Rattle.reuse_tree.specs.declared.change.Change.{Change}
 use Rattle.reuse_tree.specs.declared.change.Change.TheVariants.{Make, Drop, Splice}
-use Rattle.reuse_tree.specs.Change.{path_of, Turns}
+use Rattle.reuse_tree.specs.Change.{path_of, Applies}
 use Rattle.reuse_tree.proofs.FileMaps.{same_files}
 use Rattle.reuse_tree.specs.Entry.{removed_by, written_by, entry_size}
 use Rattle.reuse_session.specs.declared.reply.Refusal.{Refusal}
@@ -54,14 +54,14 @@ spliced bytes front old new back at e n =
     (ap₂ take (sym n) (e ∙ append_assoc front old back) ∙ take-append_seam front (old ++ back))
     (ap₂ drop (ap (λ m. m + length old) (sym n) ∙ sym (length-append front old)) e ∙ drop_front (front ++ old) back)
 
-turned : (c : Change) (before after : Option (List ℕ)) → Turns c before after → file_after c before ≡ after
-turned (Make path new digest) before after t = sym t.range.1
-turned (Drop path old digest) before after t = sym t.range.1
-turned (Splice path at old new rest seal) None after t = absurd (none_is t.range.2.whole)
+applied : (c : Change) (before after : Option (List ℕ)) → Applies c before after → file_after c before ≡ after
+applied (Make path new digest) before after t = sym t.range.1
+applied (Drop path old digest) before after t = sym t.range.1
+applied (Splice path at old new rest seal) None after t = absurd (none_is t.range.2.whole)
   where
     none_is : {x : List ℕ} → None ≡ Some x → ⊥
     none_is e = cc
-turned (Splice path at old new rest seal) (Some bytes) after t =
+applied (Splice path at old new rest seal) (Some bytes) after t =
     let r = t.range in
     ap (λ x. Some x) (spliced bytes r.0 old new r.1 at (some_is bytes (r.0 ++ old ++ r.1) r.2.whole) r.2.before) ∙ sym r.3.whole
 
@@ -70,7 +70,7 @@ edit_made tree c = record { path = path_of c; removed = removed_by c; written = 
 
 made_is : (tree : Files) (c : Change) (e : Edit) → CarriesOutEdit tree c e → e ≡ edit_made tree c
 made_is tree c e makes =
-    let file : e.file ≡ file_after c (get tree (path_of c)) = sym (turned c (get tree e.path) e.file makes.turns) ∙ ap (λ p. file_after c (get tree p)) (sym makes.path) in
+    let file : e.file ≡ file_after c (get tree (path_of c)) = sym (applied c (get tree e.path) e.file makes.applies) ∙ ap (λ p. file_after c (get tree p)) (sym makes.path) in
     λ i. record { path = sym makes.path i; removed = sym makes.removed i; written = sym makes.written i; file = file i }
 
 list_made : (tree : Files) (changes : List Change) (edits : List Edit) → MakesEach tree changes edits → edits ≡ map (edit_made tree) changes
@@ -220,11 +220,11 @@ pub sorted_plan : (tree : Files) (given : Result (List Edit) Refusal) (changes s
 sorted_plan tree given changes sorted are made moved ordered fits few =
     let fit = fits made.0 made.1 in
     let same = list_made tree changes made.0 made.2 in
-    let turned = subst (λ es. IsPermutation es (map (edit_made tree) sorted)) (sym same) (IsPermutation-map (edit_made tree) changes sorted moved) in
+    let applied = subst (λ es. IsPermutation es (map (edit_made tree) sorted)) (sym same) (IsPermutation-map (edit_made tree) changes sorted moved) in
     let each = each_made tree sorted (All-permutation (MakesIts tree) changes sorted moved (all_made tree changes made.0 made.2)) in
-    let distinct = still_distinct tree made.0 (map (edit_made tree) sorted) turned fit.distinct in
+    let distinct = still_distinct tree made.0 (map (edit_made tree) sorted) applied fit.distinct in
     let ascending = ascending_sorted (paths_at (map (edit_made tree) sorted)) (subst (IsSortedBy (λ x y. is_lt (slice_cmp nat_cmp x y))) (sym (paths_made tree sorted)) (paths_sorted sorted ordered)) distinct in
-    let plan = plan_of_edits tree (map (edit_made tree) sorted) are (fit_sorted tree made.0 (map (edit_made tree) sorted) turned ascending fit) (sym (same_many tree sorted (map (edit_made tree) sorted) each) ∙ few) sorted each in
+    let plan = plan_of_edits tree (map (edit_made tree) sorted) are (fit_sorted tree made.0 (map (edit_made tree) sorted) applied ascending fit) (sym (same_many tree sorted (map (edit_made tree) sorted) each) ∙ few) sorted each in
     subst (λ r. IsPlan (tree_after tree r) tree sorted) (sym made.1)
     (subst (λ r. IsPlan r tree sorted)
-    (ap₂ (λ b t. cond b (Err TooMany) (Ok t)) (sym (same_too_many tree made.0 (map (edit_made tree) sorted) turned fit.distinct)) (sym (same_tree tree made.0 (map (edit_made tree) sorted) turned fit.distinct))) plan)
+    (ap₂ (λ b t. cond b (Err TooMany) (Ok t)) (sym (same_too_many tree made.0 (map (edit_made tree) sorted) applied fit.distinct)) (sym (same_tree tree made.0 (map (edit_made tree) sorted) applied fit.distinct))) plan)

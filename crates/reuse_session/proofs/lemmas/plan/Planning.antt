@@ -15,13 +15,13 @@ use Rattle.reuse_tree.specs.Path.{is_path, lies_under}
 use Rattle.reuse_tree.specs.Files.{Files, AreFiles, Clashes}
 use Rattle.reuse_tree.specs.declared.change.Change.{Change}
 use Rattle.reuse_tree.specs.declared.change.Change.TheVariants.{Make, Drop, Splice}
-use Rattle.reuse_tree.specs.Change.{path_of, is_sealed, IsProper, Turns}
+use Rattle.reuse_tree.specs.Change.{path_of, is_sealed, IsProper, Applies}
 use Rattle.reuse_tree.specs.Digest.{IsDigestOf}
 use Rattle.reuse_tree.proofs.FileMaps.{get-put_same, get-put_other, get-removed_same, get-removed_other}
-use Rattle.reuse_tree.specs.declared.way.Way.TheVariants.{Do}
+use Rattle.reuse_tree.specs.declared.direction.Direction.TheVariants.{Forward}
 use Rattle.reuse_session.specs.declared.reply.Refusal.TheVariants as refusals
 use Rattle.reuse_tree.specs.Tree.{is_of_tree}
-use Rattle.reuse_tree.specs.Entry.{paths_of, touches, fixed_size, change_size, entry_size, AreAllSealed, HasOwnDigest, IsSmall, IsEntry, TurnsBy, LeadsAll}
+use Rattle.reuse_tree.specs.Entry.{paths_of, touches, fixed_size, change_size, entry_size, AreAllSealed, HasOwnDigest, IsSmall, IsEntry, AppliesBy, LeadsAll}
 use Rattle.reuse_tree.specs.Listing.{ArePaths, is_among}
 use Rattle.reuse_session.specs.plan.Outcome.{Edit, with_file, edited, edit_size, is_too_many, tree_after}
 use Rattle.reuse_session.specs.plan.Plan.{IsPlan, CarriesOutEdit, MakesEach}
@@ -147,7 +147,7 @@ sealed_each tree (c ∷ changes) [] each = absurd each
 sealed_each tree (c ∷ changes) (e ∷ edits) each = All-cons (λ (c : Change). is_sealed c ≡ true) c changes each.0.sealed (sealed_each tree changes edits each.1)
 
 -- a change that leads from a file to another has the digest of its own
-pub own_digest : (change : Change) (before after : Option (List ℕ)) → Turns change before after → HasOwnDigest change
+pub own_digest : (change : Change) (before after : Option (List ℕ)) → Applies change before after → HasOwnDigest change
 own_digest (Make path new digest) before after t = subst (IsDigestOf digest) t.range.1 t.to
 own_digest (Drop path old digest) before after t = subst (IsDigestOf digest) t.range.0 t.from
 own_digest (Splice path at old new rest seal) before after t = tt
@@ -156,7 +156,7 @@ own_each : (tree : Files) (changes : List Change) (edits : List Edit) → MakesE
 own_each tree [] [] each = All-nil HasOwnDigest
 own_each tree [] (e ∷ edits) each = absurd each
 own_each tree (c ∷ changes) [] each = absurd each
-own_each tree (c ∷ changes) (e ∷ edits) each = All-cons HasOwnDigest c changes (own_digest c _ _ each.0.turns) (own_each tree changes edits each.1)
+own_each tree (c ∷ changes) (e ∷ edits) each = All-cons HasOwnDigest c changes (own_digest c _ _ each.0.applies) (own_each tree changes edits each.1)
 
 of_tree_each : (tree : Files) (changes : List Change) (edits : List Edit) → MakesEach tree changes edits → AllByRecursion (IsFit tree) edits → All (λ (c : Change). is_of_tree (path_of c) ≡ true) changes
 of_tree_each tree [] [] each of = All-nil (λ (c : Change). is_of_tree (path_of c) ≡ true)
@@ -165,13 +165,13 @@ of_tree_each tree (c ∷ changes) [] each of = absurd each
 of_tree_each tree (c ∷ changes) (e ∷ edits) each of =
     All-cons (λ (x : Change). is_of_tree (path_of x) ≡ true) c changes (ap is_of_tree each.0.path ∙ of.0.of_tree) (of_tree_each tree changes edits each.1 of.1)
 
-leads_each : (tree after : Files) (changes : List Change) (edits : List Edit) → MakesEach tree changes edits → EachHas after edits → All (λ (c : Change). TurnsBy Do c (get tree (path_of c)) (get after (path_of c))) changes
-leads_each tree after [] [] each has = All-nil (λ (c : Change). TurnsBy Do c (get tree (path_of c)) (get after (path_of c)))
+leads_each : (tree after : Files) (changes : List Change) (edits : List Edit) → MakesEach tree changes edits → EachHas after edits → All (λ (c : Change). AppliesBy Forward c (get tree (path_of c)) (get after (path_of c))) changes
+leads_each tree after [] [] each has = All-nil (λ (c : Change). AppliesBy Forward c (get tree (path_of c)) (get after (path_of c)))
 leads_each tree after [] (e ∷ edits) each has = absurd each
 leads_each tree after (c ∷ changes) [] each has = absurd each
 leads_each tree after (c ∷ changes) (e ∷ edits) each has =
-    All-cons (λ (x : Change). TurnsBy Do x (get tree (path_of x)) (get after (path_of x))) c changes
-    (subst (λ p. Turns c (get tree p) (get after p)) (sym each.0.path) (subst (λ f. Turns c (get tree e.path) f) (sym has.0) each.0.turns))
+    All-cons (λ (x : Change). AppliesBy Forward x (get tree (path_of x)) (get after (path_of x))) c changes
+    (subst (λ p. Applies c (get tree p) (get after p)) (sym each.0.path) (subst (λ f. Applies c (get tree e.path) f) (sym has.0) each.0.applies))
     (leads_each tree after changes edits each.1 has.1)
 
 -- ---- the edited tree is one

@@ -23,7 +23,7 @@ use Rattle.reuse_tree.specs.EntryText.{HavePaths}
 use Rattle.reuse_tree.specs.Listing.{ArePaths, is_among}
 use Rattle.reuse_session.specs.plan.Reverting.{stands_as_written, is_short, put_back, taken_back, taken_back_on, taken_back_unless}
 use Rattle.reuse_tree.specs.Tree.{is_of_tree}
-use Rattle.reuse_tree.specs.declared.way.Way.TheVariants.{Undo}
+use Rattle.reuse_tree.specs.declared.direction.Direction.TheVariants.{Backward}
 use Rattle.reuse_session.proofs.lemmas.plan.Planning.{paths_at, IsFit, AreEdits}
 use Rattle.reuse_session.proofs.lemmas.plan.RevertPlanning.{untouched_back}
 use Rattle.reuse_tree.proofs.Testing.{clashes_keys}
@@ -42,17 +42,17 @@ back_path (Splice path at old new rest seal) (Some file) edit e =
     ap (λ (x : Edit). x.path) (sym (cond_some (stands_as_written file at old new rest seal && is_short file && is_short (spliced file at (length new) old)) (put_back path file at old new) edit e).1)
 
 -- only a change that makes a file again is taken back where nothing is
-makes_there : (change : Change) (edit : Edit) → taken_back change None ≡ Some edit → makes Undo change ≡ true
+makes_there : (change : Change) (edit : Edit) → taken_back change None ≡ Some edit → makes Backward change ≡ true
 makes_there (Make path new after) edit e = absurd (none-some edit e)
 makes_there (Drop path old before) edit e = refl
 makes_there (Splice path at old new rest seal) edit e = absurd (none-some edit e)
 
 -- a change that can be taken back is, as its path holds it, and where it makes a file nothing clashes
-pub back_on : (tree : Files) (change : Change) (edit : Edit) → taken_back_on tree change ≡ Some edit → (taken_back change (get tree (path_of change)) ≡ Some edit) × ((makes Undo change && is_clash tree (path_of change)) ≡ false)
-back_on tree change edit e = of_test (makes Undo change && is_clash tree (path_of change)) refl e
+pub back_on : (tree : Files) (change : Change) (edit : Edit) → taken_back_on tree change ≡ Some edit → (taken_back change (get tree (path_of change)) ≡ Some edit) × ((makes Backward change && is_clash tree (path_of change)) ≡ false)
+back_on tree change edit e = of_test (makes Backward change && is_clash tree (path_of change)) refl e
   where
-    of_test : (b : Bool) → (makes Undo change && is_clash tree (path_of change)) ≡ b → cond b None (taken_back change (get tree (path_of change))) ≡ Some edit
-        → (taken_back change (get tree (path_of change)) ≡ Some edit) × ((makes Undo change && is_clash tree (path_of change)) ≡ false)
+    of_test : (b : Bool) → (makes Backward change && is_clash tree (path_of change)) ≡ b → cond b None (taken_back change (get tree (path_of change))) ≡ Some edit
+        → (taken_back change (get tree (path_of change)) ≡ Some edit) × ((makes Backward change && is_clash tree (path_of change)) ≡ false)
     of_test true is h = absurd (none-some edit h)
     of_test false is h = (h, is)
 
@@ -67,7 +67,7 @@ fit_back tree change edit of_tree good e = record {
       false≢true (sym back.1 ∙ ap (λ b. b && is_clash tree (path_of change)) makes_it ∙ clashes);
 }
   where
-    back : (taken_back change (get tree (path_of change)) ≡ Some edit) × ((makes Undo change && is_clash tree (path_of change)) ≡ false)
+    back : (taken_back change (get tree (path_of change)) ≡ Some edit) × ((makes Backward change && is_clash tree (path_of change)) ≡ false)
     back = back_on tree change edit e
 
     same : edit.path ≡ path_of change

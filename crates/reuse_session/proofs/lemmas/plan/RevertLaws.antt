@@ -15,7 +15,7 @@ use Rattle.std.proofs.lemmas.List.Sums.{sum_by-cons}
 use Rattle.std.proofs.lemmas.Slice.Eq.{bytes_eq-Decides, starts_is}
 use Rattle.reuse_text.specs.Text.{spliced}
 use Rattle.reuse_tree.specs.Files.{Files, AreFiles}
-use Rattle.reuse_tree.specs.Change.{path_of, is_sealed, digest_after, TurnsByRange}
+use Rattle.reuse_tree.specs.Change.{path_of, is_sealed, digest_after, AppliesByRange}
 use Rattle.reuse_tree.specs.Digest.{IsDigestOf}
 use Rattle.reuse_tree.specs.declared.change.Change.{Change}
 use Rattle.reuse_tree.specs.declared.change.Change.TheVariants.{Make, Drop, Splice}
@@ -29,7 +29,7 @@ use Rattle.reuse_tree.specs.Listing.{is_among}
 use Rattle.reuse_session.specs.plan.Outcome.{edited, edit_size, is_too_many, tree_after, outcome_of}
 use Rattle.reuse_session.specs.plan.Reverting.{stands_at, has_digest, is_as_left, stands_as_written, is_short, put_back, taken_back, taken_back_on}
 use Rattle.reuse_session.specs.declared.command.Command.TheVariants.{Revert}
-use Rattle.reuse_tree.specs.declared.way.Way.TheVariants.{Undo}
+use Rattle.reuse_tree.specs.declared.direction.Direction.TheVariants.{Backward}
 use Rattle.reuse_session.specs.declared.reply.Refusal.TheVariants.{TooMany}
 use Rattle.reuse_session.proofs.lemmas.plan.Planning.{paths_at, EachHas, edited_other, edited_has}
 use Rattle.reuse_session.proofs.lemmas.plan.RevertFitting.{backs, still_ascend, still_among}
@@ -148,7 +148,7 @@ pub record TakesTo (change : Change) (before after : Option (List ℕ)) : Type 0
   pub written : edit.written ≡ removed_by change
   pub file : edit.file ≡ before
 
-pub takes_to : (change : Change) (before after : Option (List ℕ)) → IsSmall change → TurnsByRange change before after → IsDigestOf (digest_after change) after → TakesTo change before after
+pub takes_to : (change : Change) (before after : Option (List ℕ)) → IsSmall change → AppliesByRange change before after → IsDigestOf (digest_after change) after → TakesTo change before after
 takes_to (Make path new digest) before after small t sealed = record {
   edit = dropped path new;
   is = ap (taken_back (Make path new digest)) t.1 ∙ ap (λ b. cond b (Some (dropped path new)) None) ((bytes_eq-Decides new new).1 refl);
@@ -199,8 +199,8 @@ module _ (before after : Files) where
   is_back changes entry are leads = recursion_from_All IsBack changes (λ k d low.
       let change = get_or changes k d in
       let taken = takes_to change (get before (path_of change)) (get after (path_of change)) (entry.small k d low) (leads.each k d low).range (leads.each k d low).to in
-      let free = (can_lead Undo changes after before entry are (leads_back changes before after leads) k d low).free in
-      let none = not_both (makes Undo change) (is_clash after (path_of change)) (λ m c. free m ((clashes_keys after (path_of change)).0 c)) in
+      let free = (can_lead Backward changes after before entry are (leads_back changes before after leads) k d low).free in
+      let none = not_both (makes Backward change) (is_clash after (path_of change)) (λ m c. free m ((clashes_keys after (path_of change)).0 c)) in
       (taken, where_free after change none ∙ taken.is))
 
   none_stuck : (changes : List Change) → AllByRecursion IsBack changes → stuck_on [] after changes ≡ []

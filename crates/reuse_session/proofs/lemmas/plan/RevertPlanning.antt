@@ -23,7 +23,7 @@ use Rattle.reuse_tree.specs.Entry.{makes}
 use Rattle.reuse_tree.specs.Listing.{is_among}
 use Rattle.reuse_session.specs.plan.Plan.{CarriesOutEdit, MakesEdit}
 use Rattle.reuse_session.specs.plan.Reverting.{stands_at, is_as_left, stands_as_written, is_short, put_back, taken_back, taken_back_on, taken_back_unless}
-use Rattle.reuse_tree.specs.declared.way.Way.TheVariants.{Undo}
+use Rattle.reuse_tree.specs.declared.direction.Direction.TheVariants.{Backward}
 use Rattle.reuse_session.specs.declared.reply.Refusal.{Refusal}
 
 abbrev pub found : Option Edit → Result (Option Edit) Refusal
@@ -68,7 +68,7 @@ module _ (tree : Files) (path file new : List ℕ) (after : Option (List ℕ)) w
           written = refl;
           proper = tt;
           small = subst (λ (f : List ℕ). length f ≤ LONGEST_FILE) (sym is) short;
-          turns = record { range = (here, refl); from = ap (option_map sha256) here; to = tt };
+          applies = record { range = (here, refl); from = ap (option_map sha256) here; to = tt };
           sealed = refl;
         }),
       )
@@ -86,7 +86,7 @@ make_makes tree path old before clone bytes cloned same here short = (
     written = refl;
     proper = tt;
     small = short;
-    turns = record { range = (here, refl); from = tt; to = refl };
+    applies = record { range = (here, refl); from = tt; to = refl };
     sealed = refl;
   })),
 )
@@ -155,7 +155,7 @@ module _ (tree : Files) (path file old new : List ℕ) (at rest : ℕ) (seal : O
             written = refl;
             proper = λ e. differ (sym e);
             small = (omega (arith, within, short), omega (arith, within, fits));
-            turns = record {
+            applies = record {
               range = (
                 take at file,
                 drop (at + length new) file,
@@ -171,10 +171,10 @@ module _ (tree : Files) (path file old new : List ℕ) (at rest : ℕ) (seal : O
 
 -- ---- on a tree
 
-pub stuck_by_clash : (tree : Files) (change : Change) → (makes Undo change && is_clash tree (path_of change)) ≡ true → MakesEdit tree (found (taken_back_on tree change)) None
+pub stuck_by_clash : (tree : Files) (change : Change) → (makes Backward change && is_clash tree (path_of change)) ≡ true → MakesEdit tree (found (taken_back_on tree change)) None
 stuck_by_clash tree change e = ap (λ b. found (cond b None (taken_back change (get tree (path_of change))))) e
 
-pub where_free : (tree : Files) (change : Change) → (makes Undo change && is_clash tree (path_of change)) ≡ false → taken_back_on tree change ≡ taken_back change (get tree (path_of change))
+pub where_free : (tree : Files) (change : Change) → (makes Backward change && is_clash tree (path_of change)) ≡ false → taken_back_on tree change ≡ taken_back change (get tree (path_of change))
 where_free tree change e = ap (λ b. cond b None (taken_back change (get tree (path_of change)))) e
 
 -- ---- beside paths that later steps touched

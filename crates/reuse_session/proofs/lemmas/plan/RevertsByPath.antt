@@ -7,7 +7,7 @@ use Rattle.std.proofs.lemmas.Bool.{false≢true}
 use Rattle.std.proofs.lemmas.List.Elements.{recursion_from_All}
 use Rattle.std.proofs.lemmas.Slice.Eq.{bytes_eq-Decides}
 use Rattle.reuse_tree.specs.Files.{Files, Clashes}
-use Rattle.reuse_tree.specs.Change.{path_of, Turns}
+use Rattle.reuse_tree.specs.Change.{path_of, Applies}
 use Rattle.reuse_tree.specs.declared.change.Change.{Change}
 use Rattle.reuse_tree.specs.Clash.{is_clash}
 use Rattle.reuse_session.specs.plan.Edit.{Edit}
@@ -16,7 +16,7 @@ use Rattle.reuse_tree.specs.Listing.{is_among}
 use Rattle.reuse_session.specs.plan.Outcome.{edited, outcome_of, edits_of, tree_after}
 use Rattle.reuse_session.specs.plan.Reverting.{taken_back, taken_back_on, taken_back_unless}
 use Rattle.reuse_session.specs.declared.command.Command.TheVariants.{Revert}
-use Rattle.reuse_tree.specs.declared.way.Way.TheVariants.{Undo}
+use Rattle.reuse_tree.specs.declared.direction.Direction.TheVariants.{Backward}
 use Rattle.reuse_session.proofs.lemmas.plan.Planning.{paths_at, EachHas, edited_other, edited_has}
 use Rattle.reuse_session.proofs.lemmas.plan.RevertFitting.{backs, back_on, path_unless, edits_are, still_ascend, still_among}
 use Rattle.reuse_session.proofs.lemmas.plan.RevertLaws.{takes_to, not_both}
@@ -34,20 +34,20 @@ reverted_edits changes touched skip now reverted h =
 
 -- ---- what can be taken back
 
-free_where : (tree : Files) (change : Change) → (is_some (taken_back_on tree change) ≡ true) ⊎ (Clashes tree (path_of change) → ⊥) → (makes Undo change && is_clash tree (path_of change)) ≡ false
+free_where : (tree : Files) (change : Change) → (is_some (taken_back_on tree change) ≡ true) ⊎ (Clashes tree (path_of change) → ⊥) → (makes Backward change && is_clash tree (path_of change)) ≡ false
 free_where tree change (inl e) = of_back (taken_back_on tree change) refl e
   where
-    of_back : (o : Option Edit) → taken_back_on tree change ≡ o → is_some o ≡ true → (makes Undo change && is_clash tree (path_of change)) ≡ false
+    of_back : (o : Option Edit) → taken_back_on tree change ≡ o → is_some o ≡ true → (makes Backward change && is_clash tree (path_of change)) ≡ false
     of_back None is e = absurd (false≢true e)
     of_back (Some edit) is e = (back_on tree change edit is).1
-free_where tree change (inr none) = not_both (makes Undo change) (is_clash tree (path_of change)) (λ m c. none ((clashes_keys tree (path_of change)).0 c))
+free_where tree change (inr none) = not_both (makes Backward change) (is_clash tree (path_of change)) (λ m c. none ((clashes_keys tree (path_of change)).0 c))
 
 free_unless : (touched : List (List ℕ)) (tree : Files) (change : Change) → (is_some (taken_back_unless touched tree change) ≡ true) ⊎ ((Clashes tree (path_of change) → ⊥) × (is_among touched (path_of change) ≡ false))
-    → ((makes Undo change && is_clash tree (path_of change)) ≡ false) × (is_among touched (path_of change) ≡ false)
+    → ((makes Backward change && is_clash tree (path_of change)) ≡ false) × (is_among touched (path_of change) ≡ false)
 free_unless touched tree change (inl e) = of_test (is_among touched (path_of change)) refl e
   where
     of_test : (b : Bool) → is_among touched (path_of change) ≡ b → is_some (cond b None (taken_back_on tree change)) ≡ true
-        → ((makes Undo change && is_clash tree (path_of change)) ≡ false) × (is_among touched (path_of change) ≡ false)
+        → ((makes Backward change && is_clash tree (path_of change)) ≡ false) × (is_among touched (path_of change) ≡ false)
     of_test true is h = absurd (false≢true h)
     of_test false is h = (free_where tree change (inl h), is)
 free_unless touched tree change (inr none) = (free_where tree change (inr none.0), none.1)
@@ -71,7 +71,7 @@ module _ (touched : List (List ℕ)) (before after now : Files) (path : List ℕ
   -- what is known of a change of the path
   pub record Returns (change : Change) : Type 0 where
     pub small : IsSmall change
-    pub turns : Turns change (get before (path_of change)) (get after (path_of change))
+    pub applies : Applies change (get before (path_of change)) (get after (path_of change))
     pub back : (path ≡ path_of change → (is_some (taken_back_unless touched now change) ≡ true) ⊎ ((Clashes now (path_of change) → ⊥) × (is_among touched (path_of change) ≡ false)))
 
   others_have : (files : Files) (o : Option Edit) (edits : List Edit) → EachHas files (cons_option o edits) → EachHas files edits
@@ -84,7 +84,7 @@ module _ (touched : List (List ℕ)) (before after now : Files) (path : List ℕ
     where
       here : path ≡ path_of c → get files path ≡ get before path
       here is =
-          let taken = takes_to c (get before (path_of c)) (get after (path_of c)) all.0.small all.0.turns.range all.0.turns.to in
+          let taken = takes_to c (get before (path_of c)) (get after (path_of c)) all.0.small all.0.applies.range all.0.applies.to in
           let same_there = subst (λ p. get now p ≡ get after p) is same in
           let free = free_unless touched now c (all.0.back is) in
           let done = where_untouched touched now c free.1 ∙ where_free now c free.0 ∙ ap (taken_back c) same_there ∙ taken.is in
@@ -99,15 +99,15 @@ module _ (touched : List (List ℕ)) (before after now : Files) (path : List ℕ
       → AllByRecursion Returns changes
   returns_all changes skip edits entry leads h (inl asked) =
       let none = none_stuck (stuck_on touched now changes) (backs touched now changes) edits (ap (λ b. unless_stuck (cond b [] (stuck_on touched now changes)) (backs touched now changes)) (sym asked) ∙ h) in
-      each changes (recursion_from_All IsSmall changes entry.small) (recursion_from_All (λ (c : Change). Turns c (get before (path_of c)) (get after (path_of c))) changes leads.each) (all_back touched now changes none)
+      each changes (recursion_from_All IsSmall changes entry.small) (recursion_from_All (λ (c : Change). Applies c (get before (path_of c)) (get after (path_of c))) changes leads.each) (all_back touched now changes none)
     where
-      each : (cs : List Change) → AllByRecursion IsSmall cs → AllByRecursion (λ (c : Change). Turns c (get before (path_of c)) (get after (path_of c))) cs
+      each : (cs : List Change) → AllByRecursion IsSmall cs → AllByRecursion (λ (c : Change). Applies c (get before (path_of c)) (get after (path_of c))) cs
           → AllByRecursion (λ c. is_some (taken_back_unless touched now c) ≡ true) cs → AllByRecursion Returns cs
-      each [] small turns back = tt
-      each (c ∷ cs) small turns back = (record { small = small.0; turns = turns.0; back = λ here. inl back.0 }, each cs small.1 turns.1 back.1)
+      each [] small applies back = tt
+      each (c ∷ cs) small applies back = (record { small = small.0; applies = applies.0; back = λ here. inl back.0 }, each cs small.1 applies.1 back.1)
   returns_all changes skip edits entry leads h (inr free) =
       recursion_from_All Returns changes (λ k d low.
-      record { small = entry.small k d low; turns = leads.each k d low; back = λ here. inr (subst (λ p. (Clashes now p → ⊥) × (is_among touched p ≡ false)) here free) })
+      record { small = entry.small k d low; applies = leads.each k d low; back = λ here. inr (subst (λ p. (Clashes now p → ⊥) × (is_among touched p ≡ false)) here free) })
 
   untouched : (changes : List Change) (b : Bool) → is_among (paths_at (backs touched now changes)) path ≡ b → touches changes path ≡ false → b ≡ false
   untouched changes true e none = absurd (false≢true (sym none ∙ still_among touched now changes path e))

@@ -42,7 +42,7 @@ module _ (bytes : List ℕ) (s n : ℕ) (within : s + n ≤ length bytes) where
       omega (arith, old_len, rest_len, length-drop (s + n) bytes, within, short),
       omega (arith, front_len, rest_len, fits, length-append (take s bytes ++ new) (drop (s + n) bytes), length-append (take s bytes) new),
     );
-    turns = record {
+    applies = record {
       range = (take s bytes, drop (s + n) bytes, record { whole = here ∙ ap (λ b. Some b) (three_parts bytes s n); before = front_len; behind = sym rest_len }, record { whole = refl; before = front_len; behind = sym rest_len });
       from = ap (option_map sha256) here;
       to = ap (λ m. Some (sha256 (take s bytes ++ new ++ drop (s + m) bytes))) (sym old_len);

@@ -8,10 +8,10 @@ use Rattle.reuse_tree.specs.Files.{Files, Clashes}
 use Rattle.reuse_tree.specs.Tree.{undo_folder_of}
 use Rattle.reuse_tree.specs.declared.change.Change.{Change}
 use Rattle.reuse_tree.specs.declared.journal.entry.Entry.{Entry}
-use Rattle.reuse_tree.specs.declared.journal.head.PendingWay.{PendingWay}
+use Rattle.reuse_tree.specs.declared.journal.head.PendingDirection.{PendingDirection}
 use Rattle.reuse_tree.specs.declared.store.Store.{Ghosts}
-use Rattle.reuse_tree.specs.declared.way.Way.{Way}
-use Rattle.reuse_tree.specs.declared.way.Way.TheVariants as way
+use Rattle.reuse_tree.specs.declared.direction.Direction.{Direction}
+use Rattle.reuse_tree.specs.declared.direction.Direction.TheVariants as direction
 use Rattle.reuse_tree.specs.declared.cause.Cause.{Cause}
 use Rattle.reuse_session.specs.session.Answer.{IsBrokenOrMemory, IsEarly, IsStop, IsNoClash, IsRunAnswer, HasCause, HasClash, RefusedAsRead, TellsNoFault}
 use Rattle.reuse_session.specs.session.Calls.{files_of, folder_of, IsCall, LeavesRun}
@@ -165,23 +165,23 @@ run_is_step (Ok reply) is = refl
 run_is_step (Err refusal) is = refl
 
 -- a reply of an undo or a redo is no revert's
-no_revert : (go : Way) (steps : List Recorded) (held left : State) (reverted : Reverted) → Replays go steps held (Ok (replies.Reverted reverted)) left → ⊥
-no_revert way.Undo [] held left reverted replays = let is = replays.0 in cc
-no_revert way.Do [] held left reverted replays = let is = replays.0 in cc
-no_revert way.Undo (step ∷ steps) held left reverted replays = let is = replays.0 in cc
-no_revert way.Do (step ∷ steps) held left reverted replays = let is = replays.0 in cc
+no_revert : (go : Direction) (steps : List Recorded) (held left : State) (reverted : Reverted) → Replays go steps held (Ok (replies.Reverted reverted)) left → ⊥
+no_revert direction.Backward [] held left reverted replays = let is = replays.0 in cc
+no_revert direction.Forward [] held left reverted replays = let is = replays.0 in cc
+no_revert direction.Backward (step ∷ steps) held left reverted replays = let is = replays.0 in cc
+no_revert direction.Forward (step ∷ steps) held left reverted replays = let is = replays.0 in cc
 
-pub replay_is_step : (go : Way) (steps : List Recorded) (held : State) (Stands : State → Type 0) (answer : Result Response Refusal) → (TellsNoFault answer → (left : State) × Stands left × Replays go steps held answer left)
+pub replay_is_step : (go : Direction) (steps : List Recorded) (held : State) (Stands : State → Type 0) (answer : Result Response Refusal) → (TellsNoFault answer → (left : State) × Stands left × Replays go steps held answer left)
     → as_step answer ≡ answer
 replay_is_step go steps held Stands (Ok (replies.Reverted reverted)) exact = let e = exact tt in absurd (no_revert go steps held e.0 reverted e.2)
 replay_is_step go steps held Stands (Ok reply) exact = refl
 replay_is_step go steps held Stands (Err refusal) exact = refl
 
 -- where an undo or a redo stopped, the next state is that after its step
-pub replay_doubt : (way : PendingWay) (held : State) (files : Files) (answer : Result Response Refusal) → IfErr answer (λ refusal. IsStop refusal → StopsAfter way held files)
-    → IfErr answer (λ refusal. IsStop refusal → (second : State) × IsNextBy way held second × InDoubt held second files)
-replay_doubt way held files (Ok reply) doubt = tt
-replay_doubt way held files (Err refusal) doubt = λ stop. let left = doubt stop in (left.0, (left.1, left.2), left.3)
+pub replay_doubt : (direction : PendingDirection) (held : State) (files : Files) (answer : Result Response Refusal) → IfErr answer (λ refusal. IsStop refusal → StopsAfter direction held files)
+    → IfErr answer (λ refusal. IsStop refusal → (second : State) × IsNextBy direction held second × InDoubt held second files)
+replay_doubt direction held files (Ok reply) doubt = tt
+replay_doubt direction held files (Err refusal) doubt = λ stop. let left = doubt stop in (left.0, (left.1, left.2), left.3)
 
 -- ---- a revert
 

@@ -3,15 +3,15 @@ use Rattle.std.proofs.Common.{◌≡◌, ◌⊎◌, inl, inr, ⊎_elim, ℕ, Boo
 use Rattle.std.specs.FinMap.{get}
 use Rattle.std.proofs.lemmas.Option.{none-some}
 use Rattle.reuse_tree.specs.Files.{Files}
-use Rattle.reuse_tree.specs.declared.way.Way.TheVariants as way
+use Rattle.reuse_tree.specs.declared.direction.Direction.TheVariants as direction
 use Rattle.reuse_session.specs.declared.command.Command.{Command}
 use Rattle.reuse_session.specs.declared.events.Driven.{Driven}
 use Rattle.reuse_session.specs.declared.events.Driven.TheVariants.{Open, Closed}
 use Rattle.reuse_session.specs.declared.events.Event.TheVariants as asked
 use Rattle.reuse_tree.specs.declared.journal.head.Head.{Head}
 use Rattle.reuse_tree.specs.declared.journal.head.Pending.{Pending}
-use Rattle.reuse_tree.specs.declared.journal.head.PendingWay.{PendingWay}
-use Rattle.reuse_tree.specs.declared.journal.head.PendingWay.TheVariants as pending
+use Rattle.reuse_tree.specs.declared.journal.head.PendingDirection.{PendingDirection}
+use Rattle.reuse_tree.specs.declared.journal.head.PendingDirection.TheVariants as pending
 use Rattle.reuse_tree.specs.declared.cause.Cause.{Cause}
 use Rattle.reuse_session.specs.declared.reply.Response.{Response}
 use Rattle.reuse_session.specs.declared.reply.Response.TheVariants.{Opened}
@@ -30,7 +30,7 @@ use Rattle.reuse_session.specs.session.Model.{Gives}
 use Rattle.reuse_session.specs.journal.Opening.{OpensOn}
 use Rattle.reuse_session.specs.session.Requests.{IfFailed, MayFail}
 use Rattle.reuse_session.specs.session.Session.{store_of, Remembers, LeadUpTo, LeadOn, HoldsSnapshots, StandsOn, StandsAt, IsKept, IsRun, StopsAfterRun}
-use Rattle.reuse_session.specs.journal.Standing.{IsStanding, IsStep, IsUnderWay, InDoubt, Moves}
+use Rattle.reuse_session.specs.journal.Standing.{IsStanding, IsStep, IsUnderWay, InDoubt, Mutations}
 use Rattle.reuse_session.specs.session.Driven.{IsAt, store_in}
 use Rattle.reuse_session.specs.session.Stops.{Point, open_at, closed, Reopens, Continues, AnswersEvent, AreLeft}
 use Rattle.reuse_tree.specs.Tree.{undo_folder_of}
@@ -45,25 +45,25 @@ module _ (held : State) (state : Snapshots) (holds : HoldsSnapshots held state) 
   pub ran_on : (command : Command) (when : ℕ) (files : Files) → IsStanding files held → IsRun command when held second → HoldsSnapshots second (ran_by state command when).1
   ran_on command when files good run = (step_follows held state holds command when second run good.good.are_files).1
 
-  undone_by : (recorded : Recorded) (steps : List Recorded) (past : List Kept) → LeadUpTo state.tree (recorded ∷ steps) past → LeadsBy way.Undo recorded.changes held.tree second.tree
+  undone_by : (recorded : Recorded) (steps : List Recorded) (past : List Kept) → LeadUpTo state.tree (recorded ∷ steps) past → LeadsBy direction.Backward recorded.changes held.tree second.tree
       → second.journal ≡ record { done = steps; undone = recorded ∷ held.journal.undone; used = held.journal.used } → HoldsSnapshots second (undone state past).1
   undone_by recorded steps [] h leads moved = absurd h
   undone_by recorded steps (kept ∷ past) h leads moved =
       let back = back_from held state holds recorded.changes kept.tree h.1.leads in
       record {
-        tree = leads_once way.Undo recorded.changes held.tree second.tree kept.tree leads back;
+        tree = leads_once direction.Backward recorded.changes held.tree second.tree kept.tree leads back;
         past = subst (λ j. LeadUpTo kept.tree j.done past) (sym moved) h.2;
         future = subst (λ j. LeadOn kept.tree j.undone (record { label = kept.label; tree = state.tree } ∷ state.future)) (sym moved) (h.0, h.1, holds.future);
         used = ap (λ j. j.used) moved ∙ holds.used;
       }
 
-  redone_by : (recorded : Recorded) (steps : List Recorded) (future : List Kept) → LeadOn state.tree (recorded ∷ steps) future → LeadsBy way.Do recorded.changes held.tree second.tree
+  redone_by : (recorded : Recorded) (steps : List Recorded) (future : List Kept) → LeadOn state.tree (recorded ∷ steps) future → LeadsBy direction.Forward recorded.changes held.tree second.tree
       → second.journal ≡ record { done = recorded ∷ held.journal.done; undone = steps; used = held.journal.used } → HoldsSnapshots second (redone state future).1
   redone_by recorded steps [] h leads moved = absurd h
   redone_by recorded steps (kept ∷ future) h leads moved =
       let on = on_from held state holds recorded.changes kept.tree h.1.leads in
       record {
-        tree = leads_once way.Do recorded.changes held.tree second.tree kept.tree leads on;
+        tree = leads_once direction.Forward recorded.changes held.tree second.tree kept.tree leads on;
         past = subst (λ j. LeadUpTo kept.tree j.done (record { label = kept.label; tree = state.tree } ∷ state.past)) (sym moved) (h.0, h.1, holds.past);
         future = subst (λ j. LeadOn kept.tree j.undone future) (sym moved) h.2;
         used = ap (λ j. j.used) moved ∙ holds.used;
@@ -71,13 +71,13 @@ module _ (held : State) (state : Snapshots) (holds : HoldsSnapshots held state) 
 
   pub undo_next : IsNextBy pending.Undo held second → HoldsSnapshots second (undone state state.past).1
   undo_next next =
-      let moves = next.1.moves in
-      undone_by next.0 moves.0 state.past (subst (λ steps. LeadUpTo state.tree steps state.past) moves.1 holds.past) next.1.leads moves.2
+      let mutations = next.1.mutations in
+      undone_by next.0 mutations.0 state.past (subst (λ steps. LeadUpTo state.tree steps state.past) mutations.1 holds.past) next.1.leads mutations.2
 
   pub redo_next : IsNextBy pending.Redo held second → HoldsSnapshots second (redone state state.future).1
   redo_next next =
-      let moves = next.1.moves in
-      redone_by next.0 moves.0 state.future (subst (λ steps. LeadOn state.tree steps state.future) moves.1 holds.future) next.1.leads moves.2
+      let mutations = next.1.mutations in
+      redone_by next.0 mutations.0 state.future (subst (λ steps. LeadOn state.tree steps state.future) mutations.1 holds.future) next.1.leads mutations.2
 
 module _ (held : State) (state : Snapshots) (holds : HoldsSnapshots held state) (files : Files) where
   pub run_left : (before : Files) (command : Command) (when : ℕ) → IsStanding before held → StopsAfterRun command when held files → AreLeft files state (Some (ran_by state command when).1)
@@ -86,18 +86,18 @@ module _ (held : State) (state : Snapshots) (holds : HoldsSnapshots held state) 
 -- ---- opening
 
 -- no step leads from a journal to itself
-pub no_step : (way : PendingWay) (recorded : Recorded) (journal : Journal) → Moves way recorded journal journal → ⊥
-no_step pending.Do recorded journal moves = omega (arith, ap (λ (j : Journal). j.used) moves.1)
-no_step pending.Undo recorded journal moves = omega (arith, ap length moves.1, ap (λ (j : Journal). length j.done) moves.2)
-no_step pending.Redo recorded journal moves = omega (arith, ap length moves.1, ap (λ (j : Journal). length j.undone) moves.2)
+pub no_step : (direction : PendingDirection) (recorded : Recorded) (journal : Journal) → Mutations direction recorded journal journal → ⊥
+no_step pending.Do recorded journal mutations = omega (arith, ap (λ (j : Journal). j.used) mutations.1)
+no_step pending.Undo recorded journal mutations = omega (arith, ap length mutations.1, ap (λ (j : Journal). length j.done) mutations.2)
+no_step pending.Redo recorded journal mutations = omega (arith, ap length mutations.1, ap (λ (j : Journal). length j.undone) mutations.2)
 
 -- files in doubt between a standing and itself are it
 one_standing : (files : Files) (held : State) → InDoubt held held files → IsStanding files held
 one_standing files held doubt =
     ⊎_elim (λ (first : IsStanding files held). first)
-    (λ (rest : IsStanding files held ⊎ ((way : PendingWay) × (step : Recorded) × IsStep way step held held × IsUnderWay way step held files)).
+    (λ (rest : IsStanding files held ⊎ ((direction : PendingDirection) × (step : Recorded) × IsStep direction step held held × IsUnderWay direction step held files)).
     ⊎_elim (λ (second : IsStanding files held). second)
-    (λ (under : (way : PendingWay) × (step : Recorded) × IsStep way step held held × IsUnderWay way step held files). absurd (no_step under.0 under.1 held.journal under.2.moves)) rest) doubt
+    (λ (under : (direction : PendingDirection) × (step : Recorded) × IsStep direction step held held × IsUnderWay direction step held files). absurd (no_step under.0 under.1 held.journal under.2.mutations)) rest) doubt
 
 -- where a session opens, it stands on one of the states
 pub reached : {S : Type 0} (files : S → Files) (before : Files) (session : Session S) (state : Snapshots) (next : Option Snapshots) → AreLeft before state next
@@ -139,16 +139,16 @@ stays_closed files before store refusal old left recovers =
     (closed old, left_out refusal old (recovers some.0 some.1 some.2).0, (refl, left_again before (files store) old.state old.next left (λ first second doubt. (recovers first second doubt).1)))
 
 -- no step is under way where nothing is pending
-pub none_under_way : (files : Files) (held : State) (way : PendingWay) (recorded : Recorded) (first : State) → IsStanding files held → IsUnderWay way recorded first files → ⊥
-none_under_way files held way recorded first good under =
-    let pending : Pending = record { entry = number_of recorded; way = way } in
+pub none_under_way : (files : Files) (held : State) (direction : PendingDirection) (recorded : Recorded) (first : State) → IsStanding files held → IsUnderWay direction recorded first files → ⊥
+none_under_way files held direction recorded first good under =
+    let pending : Pending = record { entry = number_of recorded; direction = direction } in
     none-some pending (ap (λ (h : Head). h.pending) (same_head (get (undo_folder_of files) head_path) (head_of held.journal None) (head_of first.journal (Some pending)) good.journal.head under.journal.head))
 
 -- a standing stays when it is opened
 pub stays_open : (before after : Files) (held first : State) → IsStanding before held → OpensOn before first after → after ≡ before
 stays_open before after held first good opened =
     ⊎_elim (λ (same : IsStanding before first × (after ≡ before)). same.1)
-    (λ (under : (way : PendingWay) × (step : Recorded) × IsUnderWay way step first before × IsStanding after first). absurd (none_under_way before held under.0 under.1 first good under.2)) opened
+    (λ (under : (direction : PendingDirection) × (step : Recorded) × IsUnderWay direction step first before × IsStanding after first). absurd (none_under_way before held under.0 under.1 first good under.2)) opened
 
 -- ---- a request to an open session
 

@@ -4,7 +4,7 @@ use Rattle.std.proofs.lemmas.List.{map-append, reverse-append, length-map, nil_f
 use Rattle.reuse_tree.specs.Files.{Files, AreFiles}
 use Rattle.reuse_tree.specs.declared.change.Change.{Change}
 use Rattle.reuse_tree.specs.Change.{path_of}
-use Rattle.reuse_tree.specs.declared.way.Way.TheVariants as way
+use Rattle.reuse_tree.specs.declared.direction.Direction.TheVariants as direction
 use Rattle.reuse_session.specs.declared.command.Command.{Command}
 use Rattle.reuse_tree.specs.declared.command_name.CommandName.{CommandName}
 use Rattle.reuse_session.specs.declared.reply.Response.{Response}
@@ -31,17 +31,17 @@ length_up_to tree (step ∷ steps) [] h = absurd h
 
 module _ (held : State) (state : Snapshots) (holds : HoldsSnapshots held state) where
   -- changes that lead to the machine's tree lead back from the tree that is held
-  pub back_from : (changes : List Change) (tree : Files) → LeadsAll changes tree state.tree → LeadsBy way.Undo changes held.tree tree
-  back_from changes tree leads = subst (λ t. LeadsBy way.Undo changes t tree) (sym holds.tree) (leads_back changes tree state.tree leads)
+  pub back_from : (changes : List Change) (tree : Files) → LeadsAll changes tree state.tree → LeadsBy direction.Backward changes held.tree tree
+  back_from changes tree leads = subst (λ t. LeadsBy direction.Backward changes t tree) (sym holds.tree) (leads_back changes tree state.tree leads)
 
-  pub on_from : (changes : List Change) (tree : Files) → LeadsAll changes state.tree tree → LeadsBy way.Do changes held.tree tree
-  on_from changes tree leads = subst (λ t. LeadsBy way.Do changes t tree) (sym holds.tree) leads
+  pub on_from : (changes : List Change) (tree : Files) → LeadsAll changes state.tree tree → LeadsBy direction.Forward changes held.tree tree
+  on_from changes tree leads = subst (λ t. LeadsBy direction.Forward changes t tree) (sym holds.tree) leads
 
   undo_by_cases : (new : State) (result : Result Response Refusal) (done : List Recorded) (past : List Kept) → LeadUpTo state.tree done past → Undoes done held result new → state.past ≡ past
       → (result ≡ (undone state past).0) × HoldsSnapshots new (undone state past).1
   undo_by_cases new result [] [] h u e = (u.0, subst (λ s. HoldsSnapshots s state) (sym u.1) holds)
   undo_by_cases new (Ok given) (step ∷ steps) (kept ∷ past) h u e =
-      let tree : new.tree ≡ kept.tree = leads_once way.Undo step.changes held.tree new.tree kept.tree u.2 (back_from step.changes kept.tree h.1.leads) in (
+      let tree : new.tree ≡ kept.tree = leads_once direction.Backward step.changes held.tree new.tree kept.tree u.2 (back_from step.changes kept.tree h.1.leads) in (
         ap (λ r. Ok r) (u.0 ∙ ap Undone (sym (changed_by_entry step.changes kept.tree state.tree h.1.good h.1.leads))),
         record {
           tree = tree;
@@ -51,7 +51,7 @@ module _ (held : State) (state : Snapshots) (holds : HoldsSnapshots held state) 
         },
       )
   undo_by_cases new (Err refusal) (step ∷ steps) (kept ∷ past) h u e =
-      absurd (none_stuck way.Undo held.tree step.changes u.0.0 (can_lead way.Undo step.changes held.tree kept.tree h.1.good h.1.are_files.0 (back_from step.changes kept.tree h.1.leads)) u.0.2)
+      absurd (none_stuck direction.Backward held.tree step.changes u.0.0 (can_lead direction.Backward step.changes held.tree kept.tree h.1.good h.1.are_files.0 (back_from step.changes kept.tree h.1.leads)) u.0.2)
   undo_by_cases new result [] (kept ∷ past) h u e = absurd h
   undo_by_cases new result (step ∷ steps) [] h u e = absurd h
 
@@ -63,7 +63,7 @@ module _ (held : State) (state : Snapshots) (holds : HoldsSnapshots held state) 
       → (result ≡ (redone state future).0) × HoldsSnapshots new (redone state future).1
   redo_by_cases new result [] [] h u = (u.0, subst (λ s. HoldsSnapshots s state) (sym u.1) holds)
   redo_by_cases new (Ok given) (step ∷ steps) (kept ∷ future) h u =
-      let tree : new.tree ≡ kept.tree = leads_once way.Do step.changes held.tree new.tree kept.tree u.2 (on_from step.changes kept.tree h.1.leads) in (
+      let tree : new.tree ≡ kept.tree = leads_once direction.Forward step.changes held.tree new.tree kept.tree u.2 (on_from step.changes kept.tree h.1.leads) in (
         ap (λ r. Ok r) (u.0 ∙ ap Redone (sym (changed_by_entry step.changes state.tree kept.tree h.1.good h.1.leads))),
         record {
           tree = tree;
@@ -73,7 +73,7 @@ module _ (held : State) (state : Snapshots) (holds : HoldsSnapshots held state) 
         },
       )
   redo_by_cases new (Err refusal) (step ∷ steps) (kept ∷ future) h u =
-      absurd (none_stuck way.Do held.tree step.changes u.0.0 (can_lead way.Do step.changes held.tree kept.tree h.1.good h.1.are_files.1 (on_from step.changes kept.tree h.1.leads)) u.0.2)
+      absurd (none_stuck direction.Forward held.tree step.changes u.0.0 (can_lead direction.Forward step.changes held.tree kept.tree h.1.good h.1.are_files.1 (on_from step.changes kept.tree h.1.leads)) u.0.2)
   redo_by_cases new result [] (kept ∷ future) h u = absurd h
   redo_by_cases new result (step ∷ steps) [] h u = absurd h
 

@@ -101,9 +101,9 @@ module _ {S : Type 0} (store : Ghosts S) (old : Session S) (numbers ordered text
   -- ---- once it is done
 
   module _ (new : Session S) (made : store.honest (store_of new) → PutsAndRemoves text paths (files_of store old) (files_of store new)) (memory : memory_of new ≡ memory_besides numbers (memory_of old))
-      (written : store.written (store_of new) ≤ store.written (store_of old) + length text) (moves : store.moves (store_of new) ≤ store.moves (store_of old) + 1 + length paths) where
-    few_moves : store.moves (store_of new) ≤ store.moves (store_of old) + 1 + length numbers
-    few_moves = omega (arith, moves, is.few, ap length is.are_paths, length-map (reverse ordered) entry_path, length-reverse ordered)
+      (written : store.written (store_of new) ≤ store.written (store_of old) + length text) (mutations : store.mutations (store_of new) ≤ store.mutations (store_of old) + 1 + length paths) where
+    few_mutations : store.mutations (store_of new) ≤ store.mutations (store_of old) + 1 + length numbers
+    few_mutations = omega (arith, mutations, is.few, ap length is.are_paths, length-map (reverse ordered) entry_path, length-reverse ordered)
 
     pub leaves_done : (forgotten : List ℕ) → LeavesForgetting store numbers (Ok forgotten) old new
     leaves_done forgotten = record {
@@ -117,7 +117,7 @@ module _ {S : Type 0} (store : Ghosts S) (old : Session S) (numbers ordered text
       doubt = λ honest held stands. tt;
       late = tt;
       written = λ honest held stands. omega (arith, written, room held stands);
-      moves = few_moves;
+      mutations = few_mutations;
       clash = λ honest. tt;
       free = λ honest. free_then numbers text paths entries (files_of store old) (files_of store new) (made honest);
     }
@@ -127,8 +127,8 @@ module _ {S : Type 0} (store : Ghosts S) (old : Session S) (numbers ordered text
   abbrev pub Stops : Files → Type 0
   Stops after = (after ≡ files_of store old) ⊎ ((count : ℕ) × PutsAndRemoves text (take count paths) (files_of store old) after)
 
-  module _ (new : Session S) (cause : Cause) (made : store.honest (store_of new) → Stops (files_of store new)) (asked : store.moves (store_of old) < store.moves (store_of new))
-      (written : store.written (store_of new) ≤ store.written (store_of old) + length text) (moves : store.moves (store_of new) ≤ store.moves (store_of old) + 1 + length paths)
+  module _ (new : Session S) (cause : Cause) (made : store.honest (store_of new) → Stops (files_of store new)) (asked : store.mutations (store_of old) < store.mutations (store_of new))
+      (written : store.written (store_of new) ≤ store.written (store_of old) + length text) (mutations : store.mutations (store_of new) ≤ store.mutations (store_of old) + 1 + length paths)
       (not_moved : cause ≡ causes.Moved → ⊥) (clash : store.honest (store_of new) → cause ≡ causes.Clash → Clashes (files_of store old) head_path) where
     pub leaves_stop : LeavesForgetting store numbers (Err (Failed (Interrupted cause))) old new
     leaves_stop = record {
@@ -146,7 +146,7 @@ module _ {S : Type 0} (store : Ghosts S) (old : Session S) (numbers ordered text
           (λ (part : (count : ℕ) × PutsAndRemoves text (take count paths) (files_of store old) (files_of store new)). inr (first_standing held stands part.0 (files_of store new) part.1)) (made honest);
       late = λ stop. asked;
       written = λ honest held stands. omega (arith, written, room held stands);
-      moves = omega (arith, moves, is.few, ap length is.are_paths, length-map (reverse ordered) entry_path, length-reverse ordered);
+      mutations = omega (arith, mutations, is.few, ap length is.are_paths, length-map (reverse ordered) entry_path, length-reverse ordered);
       clash = λ honest. stop_clash ⊥ (Clashes (files_of store old) head_path) cause not_moved (clash honest);
       free = λ honest. ⊎_elim (λ (same : files_of store new ≡ files_of store old). subst (λ files. IsFree (undo_folder_of files)) (sym same))
           (λ (part : (count : ℕ) × PutsAndRemoves text (take count paths) (files_of store old) (files_of store new)). free_then numbers text (take part.0 paths) (first_entries part.0) (files_of store old) (files_of store new) part.1) (made honest);
@@ -185,7 +185,7 @@ leaves_none store session forgotten = record {
   doubt = λ honest held stands. tt;
   late = tt;
   written = λ honest held stands. omega arith;
-  moves = omega arith;
+  mutations = omega arith;
   clash = λ honest. tt;
   free = λ honest free. free;
 }

@@ -11,7 +11,7 @@ use Rattle.reuse_session.specs.journal.JournalFiles.{head_path, IsFree, IsKeptIn
 use Rattle.reuse_session.specs.journal.Standing.{IsStanding}
 use Rattle.reuse_session.specs.session.Stops.{HoldState}
 use Rattle.reuse_tree.specs.Tree.{undo_folder_of}
-use Rattle.reuse_tree.proofs.TurnLemmas.{none_is_some}
+use Rattle.reuse_tree.proofs.ApplyLemmas.{none_is_some}
 use Rattle.reuse_tree.proofs.TreeLemmas.{tree_file}
 use Rattle.reuse_tree.proofs.OfTree.{get-folder}
 

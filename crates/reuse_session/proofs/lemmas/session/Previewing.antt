@@ -15,8 +15,8 @@ use Rattle.reuse_session.specs.session.Machine.{Kept, Snapshots, is_full, run_pa
 use Rattle.reuse_session.specs.session.Previews.{path_outcomes_alone, PreviewsReplay, ReadsOnly, IsPreviewRefusal, run_path_outcomes_on}
 use Rattle.reuse_session.specs.session.Session.{store_of, LeadUpTo, LeadOn, HoldsSnapshots, StandsAt}
 use Rattle.reuse_session.specs.declared.command.Command.{Command}
-use Rattle.reuse_tree.specs.declared.way.Way.{Way}
-use Rattle.reuse_tree.specs.declared.way.Way.TheVariants as way
+use Rattle.reuse_tree.specs.declared.direction.Direction.{Direction}
+use Rattle.reuse_tree.specs.declared.direction.Direction.TheVariants as direction
 use Rattle.reuse_session.specs.declared.path_outcome.PathOutcome.{PathOutcome}
 use Rattle.reuse_session.specs.declared.path_outcome.PathOutcome.TheVariants as path_outcome
 use Rattle.reuse_session.specs.declared.path_outcome.Previewed.{Previewed}
@@ -33,52 +33,52 @@ use Rattle.reuse_tree.proofs.Walk.{can_lead}
 -- ---- the path outcomes of changes
 
 -- one path outcome more
-pub path_outcome_push : (way : Way) (tree : Files) (changes : List Change) (path_outcomes : List PathOutcome) (change : Change) (told : PathOutcome) → ArePathOutcomesOf way tree changes path_outcomes → IsPathOutcomeOf way tree change told
-    → ArePathOutcomesOf way tree (changes ++ change ∷ []) (path_outcomes ++ told ∷ [])
-path_outcome_push way tree [] [] change told are is = (is, tt)
-path_outcome_push way tree (c ∷ cs) (f ∷ fs) change told are is = (are.0, path_outcome_push way tree cs fs change told are.1 is)
-path_outcome_push way tree [] (f ∷ fs) change told are is = absurd are
-path_outcome_push way tree (c ∷ cs) [] change told are is = absurd are
+pub path_outcome_push : (direction : Direction) (tree : Files) (changes : List Change) (path_outcomes : List PathOutcome) (change : Change) (told : PathOutcome) → ArePathOutcomesOf direction tree changes path_outcomes → IsPathOutcomeOf direction tree change told
+    → ArePathOutcomesOf direction tree (changes ++ change ∷ []) (path_outcomes ++ told ∷ [])
+path_outcome_push direction tree [] [] change told are is = (is, tt)
+path_outcome_push direction tree (c ∷ cs) (f ∷ fs) change told are is = (are.0, path_outcome_push direction tree cs fs change told are.1 is)
+path_outcome_push direction tree [] (f ∷ fs) change told are is = absurd are
+path_outcome_push direction tree (c ∷ cs) [] change told are is = absurd are
 
 -- a change that can be made changes its path
-changes_path : (way : Way) (tree : Files) (change : Change) (told : PathOutcome) → CanBeMade way tree change → IsPathOutcomeOf way tree change told → (path : List ℕ) × (told ≡ path_outcome.Changes path) × IsPathOutcomeOf way tree change (path_outcome.Changes path)
-changes_path way tree change (path_outcome.Changes path) can is = (path, refl, is)
-changes_path way tree change (path_outcome.Refused (refusals.Moved path)) can is = absurd (is.1 can)
-changes_path way tree change told can is = absurd is
+changes_path : (direction : Direction) (tree : Files) (change : Change) (told : PathOutcome) → CanBeMade direction tree change → IsPathOutcomeOf direction tree change told → (path : List ℕ) × (told ≡ path_outcome.Changes path) × IsPathOutcomeOf direction tree change (path_outcome.Changes path)
+changes_path direction tree change (path_outcome.Changes path) can is = (path, refl, is)
+changes_path direction tree change (path_outcome.Refused (refusals.Moved path)) can is = absurd (is.1 can)
+changes_path direction tree change told can is = absurd is
 
-pub all_change : (way : Way) (tree : Files) (changes : List Change) (path_outcomes : List PathOutcome) → All (CanBeMade way tree) changes → ArePathOutcomesOf way tree changes path_outcomes → path_outcomes ≡ map path_outcome.Changes (paths_of changes)
-all_change way tree [] [] can are = refl
-all_change way tree (c ∷ cs) (f ∷ fs) can are =
-    let one = changes_path way tree c f (All-head (CanBeMade way tree) c cs can) are.0 in
-    ap (λ x. x ∷ fs) (one.1 ∙ ap path_outcome.Changes one.2.0) ∙ ap (λ xs. path_outcome.Changes (path_of c) ∷ xs) (all_change way tree cs fs (All-tail (CanBeMade way tree) c cs can) are.1)
-all_change way tree [] (f ∷ fs) can are = absurd are
-all_change way tree (c ∷ cs) [] can are = absurd are
+pub all_change : (direction : Direction) (tree : Files) (changes : List Change) (path_outcomes : List PathOutcome) → All (CanBeMade direction tree) changes → ArePathOutcomesOf direction tree changes path_outcomes → path_outcomes ≡ map path_outcome.Changes (paths_of changes)
+all_change direction tree [] [] can are = refl
+all_change direction tree (c ∷ cs) (f ∷ fs) can are =
+    let one = changes_path direction tree c f (All-head (CanBeMade direction tree) c cs can) are.0 in
+    ap (λ x. x ∷ fs) (one.1 ∙ ap path_outcome.Changes one.2.0) ∙ ap (λ xs. path_outcome.Changes (path_of c) ∷ xs) (all_change direction tree cs fs (All-tail (CanBeMade direction tree) c cs can) are.1)
+all_change direction tree [] (f ∷ fs) can are = absurd are
+all_change direction tree (c ∷ cs) [] can are = absurd are
 
 -- ---- the machine
 
 module _ (held : State) (state : Snapshots) (holds : HoldsSnapshots held state) where
-  undo_by_cases : (answer : Result (List PathOutcome) Refusal) (done : List Recorded) (past : List Kept) → LeadUpTo state.tree done past → PreviewsReplay way.Undo done held.tree answer → answer ≡ undo_path_outcomes state.tree past
+  undo_by_cases : (answer : Result (List PathOutcome) Refusal) (done : List Recorded) (past : List Kept) → LeadUpTo state.tree done past → PreviewsReplay direction.Backward done held.tree answer → answer ≡ undo_path_outcomes state.tree past
   undo_by_cases answer [] [] h told = told
   undo_by_cases (Ok path_outcomes) (step ∷ steps) (kept ∷ past) h told =
-      ap (λ fs. Ok fs) (all_change way.Undo held.tree step.changes path_outcomes (can_lead way.Undo step.changes held.tree kept.tree h.1.good h.1.are_files.0 (back_from held state holds step.changes kept.tree h.1.leads)) told
+      ap (λ fs. Ok fs) (all_change direction.Backward held.tree step.changes path_outcomes (can_lead direction.Backward step.changes held.tree kept.tree h.1.good h.1.are_files.0 (back_from held state holds step.changes kept.tree h.1.leads)) told
       ∙ ap (map path_outcome.Changes) (sym (changed_by_entry step.changes kept.tree state.tree h.1.good h.1.leads)))
   undo_by_cases (Err refusal) (step ∷ steps) (kept ∷ past) h told = absurd told
   undo_by_cases answer [] (kept ∷ past) h told = absurd h
   undo_by_cases answer (step ∷ steps) [] h told = absurd h
 
-  pub undo_as_previewed : (answer : Result (List PathOutcome) Refusal) → PreviewsReplay way.Undo held.journal.done held.tree answer → answer ≡ undo_path_outcomes state.tree state.past
+  pub undo_as_previewed : (answer : Result (List PathOutcome) Refusal) → PreviewsReplay direction.Backward held.journal.done held.tree answer → answer ≡ undo_path_outcomes state.tree state.past
   undo_as_previewed answer told = undo_by_cases answer held.journal.done state.past holds.past told
 
-  redo_by_cases : (answer : Result (List PathOutcome) Refusal) (steps : List Recorded) (future : List Kept) → LeadOn state.tree steps future → PreviewsReplay way.Do steps held.tree answer → answer ≡ redo_path_outcomes state.tree future
+  redo_by_cases : (answer : Result (List PathOutcome) Refusal) (steps : List Recorded) (future : List Kept) → LeadOn state.tree steps future → PreviewsReplay direction.Forward steps held.tree answer → answer ≡ redo_path_outcomes state.tree future
   redo_by_cases answer [] [] h told = told
   redo_by_cases (Ok path_outcomes) (step ∷ steps) (kept ∷ future) h told =
-      ap (λ fs. Ok fs) (all_change way.Do held.tree step.changes path_outcomes (can_lead way.Do step.changes held.tree kept.tree h.1.good h.1.are_files.1 (on_from held state holds step.changes kept.tree h.1.leads)) told
+      ap (λ fs. Ok fs) (all_change direction.Forward held.tree step.changes path_outcomes (can_lead direction.Forward step.changes held.tree kept.tree h.1.good h.1.are_files.1 (on_from held state holds step.changes kept.tree h.1.leads)) told
       ∙ ap (map path_outcome.Changes) (sym (changed_by_entry step.changes state.tree kept.tree h.1.good h.1.leads)))
   redo_by_cases (Err refusal) (step ∷ steps) (kept ∷ future) h told = absurd told
   redo_by_cases answer [] (kept ∷ future) h told = absurd h
   redo_by_cases answer (step ∷ steps) [] h told = absurd h
 
-  pub redo_as_previewed : (answer : Result (List PathOutcome) Refusal) → PreviewsReplay way.Do held.journal.undone held.tree answer → answer ≡ redo_path_outcomes state.tree state.future
+  pub redo_as_previewed : (answer : Result (List PathOutcome) Refusal) → PreviewsReplay direction.Forward held.journal.undone held.tree answer → answer ≡ redo_path_outcomes state.tree state.future
   redo_as_previewed answer told = redo_by_cases answer held.journal.undone state.future holds.future told
 
 -- a refusal that tells a fault isn't told
@@ -106,16 +106,16 @@ pub run_as_previewed_on : (command : Command) (held : State) (full : Bool) (answ
     → cond full (answer ≡ Err refusals.JournalFull) (IfOk answer (λ path_outcomes. path_outcomes ≡ path_outcomes_of command held.tree) × IfErr answer IsEarlyFailure) → TellsNoFault answer → answer ≡ run_path_outcomes_on held command
 run_as_previewed_on command held full answer = preview_of command held.tree held.tree (is_full (length held.journal.done) held.journal.used) full answer refl
 
-pub replay_as_previewed : (way : Way) (step : Recorded) (steps : List Recorded) (made : List Change) (tree now : Files) (answer : Result (List PathOutcome) Refusal) → step.changes ≡ made → now ≡ tree
-    → IfOk answer (ArePathOutcomesOf way now made) → IfErr answer IsEarlyFailure → TellsNoFault answer → PreviewsReplay way (step ∷ steps) tree answer
-replay_as_previewed way step steps made tree now (Ok path_outcomes) changes same are kind told = subst (λ t. ArePathOutcomesOf way t step.changes path_outcomes) same (subst (λ cs. ArePathOutcomesOf way now cs path_outcomes) (sym changes) are)
-replay_as_previewed way step steps made tree now (Err refusal) changes same are kind told = absurd (look_told (List PathOutcome) refusal kind told)
+pub replay_as_previewed : (direction : Direction) (step : Recorded) (steps : List Recorded) (made : List Change) (tree now : Files) (answer : Result (List PathOutcome) Refusal) → step.changes ≡ made → now ≡ tree
+    → IfOk answer (ArePathOutcomesOf direction now made) → IfErr answer IsEarlyFailure → TellsNoFault answer → PreviewsReplay direction (step ∷ steps) tree answer
+replay_as_previewed direction step steps made tree now (Ok path_outcomes) changes same are kind told = subst (λ t. ArePathOutcomesOf direction t step.changes path_outcomes) same (subst (λ cs. ArePathOutcomesOf direction now cs path_outcomes) (sym changes) are)
+replay_as_previewed direction step steps made tree now (Err refusal) changes same are kind told = absurd (look_told (List PathOutcome) refusal kind told)
 
 -- what going one step this way tells
-pub step_as_previewed : (go : Way) (held : State) (state : Snapshots) → HoldsSnapshots held state → (answer : Result (List PathOutcome) Refusal) → PreviewsReplay go (ahead go held.journal) held.tree answer
+pub step_as_previewed : (go : Direction) (held : State) (state : Snapshots) → HoldsSnapshots held state → (answer : Result (List PathOutcome) Refusal) → PreviewsReplay go (ahead go held.journal) held.tree answer
     → answer ≡ step_path_outcomes go state
-step_as_previewed way.Undo held state holds answer told = undo_as_previewed held state holds answer told
-step_as_previewed way.Do held state holds answer told = redo_as_previewed held state holds answer told
+step_as_previewed direction.Backward held state holds answer told = undo_as_previewed held state holds answer told
+step_as_previewed direction.Forward held state holds answer told = redo_as_previewed held state holds answer told
 
 -- ---- path outcomes with their changes, and without
 

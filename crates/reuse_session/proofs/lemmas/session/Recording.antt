@@ -23,11 +23,11 @@ use Rattle.reuse_session.specs.session.Session.{store_of, memory_of, listed_as, 
 use Rattle.reuse_session.specs.journal.Standing.{InDoubt}
 use Rattle.reuse_tree.specs.Tree.{undo_folder_of}
 use Rattle.reuse_session.specs.declared.command.Command.{Command}
-use Rattle.reuse_tree.specs.declared.way.Way.TheVariants as way
+use Rattle.reuse_tree.specs.declared.direction.Direction.TheVariants as direction
 use Rattle.reuse_session.specs.declared.journal.history.ListedEntry.{ListedEntry}
 use Rattle.reuse_tree.specs.declared.journal.entry.Entry.{Entry}
 use Rattle.reuse_tree.specs.declared.journal.head.Pending.{Pending}
-use Rattle.reuse_tree.specs.declared.journal.head.PendingWay.TheVariants as ways
+use Rattle.reuse_tree.specs.declared.journal.head.PendingDirection.TheVariants as directions
 use Rattle.reuse_session.specs.declared.reply.Response.{Response}
 use Rattle.reuse_session.specs.declared.reply.Response.TheVariants.{Changed}
 use Rattle.reuse_session.specs.declared.reply.Refusal.{Refusal}
@@ -35,7 +35,7 @@ use Rattle.reuse_session.specs.declared.failure.Failure.TheVariants.{Fault, Inte
 use Rattle.reuse_session.specs.declared.reply.Refusal.TheVariants.{Failed}
 use Rattle.reuse_session.specs.declared.session.Session.{Session}
 use Rattle.reuse_session.proofs.lemmas.session.FolderLemmas.{folder_put, folder_stepped, entry_text_stays}
-use Rattle.reuse_session.proofs.lemmas.journal.HeadMoves.{below}
+use Rattle.reuse_session.proofs.lemmas.journal.HeadMutations.{below}
 use Rattle.reuse_session.proofs.lemmas.journal.JournalLemmas.{free_stays, free_beside, tree_beside}
 use Rattle.reuse_tree.specs.Asked.{OnlyReads}
 use Rattle.reuse_session.proofs.lemmas.session.OnlyReading.{early_is_no_stop}
@@ -66,7 +66,7 @@ pub record EntryPut {S : Type 0} (store : Ghosts S) (old : Session S) (command :
   pub is_entry : entry ≡ record { changes = changes; command = name_of command; when = when }
   pub was_honest : store.honest put → store.honest (store_of old)
   pub beside : store.honest put → IsSameBut (entry_path (number + 1)) (files_of store old) (store.files put)
-  pub asks : store.moves put ≤ store.moves (store_of old) + 1
+  pub asks : store.mutations put ≤ store.mutations (store_of old) + 1
   pub at_most : IsEntry entry.changes → store.written put ≤ store.written (store_of old) + entry_size entry.changes
 
 -- it is put and says what the step does, which the head is to list
@@ -107,15 +107,15 @@ module _ {S : Type 0} {store : Ghosts S} {old : Session S} {command : Command} {
         (recorded_known (tree_of (files_of store old)) (edits_of command (tree_of (files_of store old))) changes (name_of command) (here honest).entry (here honest).recorded)
 
     -- each of its changes can be made beside it
-    pub can_go : (made : List Change) → made ≡ entry.changes → store.honest put → CanGo way.Do (tree_of (store.files put)) made
+    pub can_go : (made : List Change) → made ≡ entry.changes → store.honest put → CanGo direction.Forward (tree_of (store.files put)) made
     can_go made is_made honest =
         let files = files_of store old in
         let plan = here honest in
         let same : made ≡ changes = is_made ∙ ap (λ (e : Entry). e.changes) p.is_entry in
         let tree : tree_of (store.files put) ≡ tree_of files = tree_beside files (store.files put) ((memory_of old).used + 1) (others honest) in record {
           entry = subst IsEntry (sym same) plan.entry;
-          each = subst (λ t. All (CanBeMade way.Do t) made) (sym tree)
-              (subst (All (CanBeMade way.Do (tree_of files))) (sym same) (can_lead way.Do changes (tree_of files) plan.plan.after plan.entry plan.plan.are_files plan.plan.leads));
+          each = subst (λ t. All (CanBeMade direction.Forward t) made) (sym tree)
+              (subst (All (CanBeMade direction.Forward (tree_of files))) (sym same) (can_lead direction.Forward changes (tree_of files) plan.plan.after plan.entry plan.plan.are_files plan.plan.leads));
         }
 
     -- the entry was not put
@@ -130,7 +130,7 @@ module _ {S : Type 0} {store : Ghosts S} {old : Session S} {command : Command} {
       folder = λ honest. folder_put (files_of store old) (store.files put) ((memory_of old).used + 1) (others honest);
       texts = λ honest paths e. absurd (cc);
       written = λ honest held stands. omega (arith, at_most_recorded honest held stands);
-      moves = λ honest. omega (arith, p.asks);
+      mutations = λ honest. omega (arith, p.asks);
       begins = λ early. p.asks;
       clash = λ honest. fault_clash (Clashes (files_of store old) (next_path old)) (Clashes (files_of store old) head_path) refusal (put_early refusal is)
           (λ e. subst (λ n. Clashes (files_of store old) (entry_path (n + 1))) p.is_number (clash honest e));
@@ -148,7 +148,7 @@ module _ {S : Type 0} {store : Ghosts S} {old : Session S} {command : Command} {
       made_good honest = subst IsEntry (sym same) (here honest).entry
 
       pub recording : store.honest put → (held : State) → StandsOn store.files old held
-          → Recording store.files command when (record old { store = put }) changes made (record { entry = number + 1; way = ways.Do }) moved held
+          → Recording store.files command when (record old { store = put }) changes made (record { entry = number + 1; direction = directions.Do }) moved held
       recording honest held stands =
           let plan = here honest in
           let tree = tree_of (files_of store old) in
@@ -185,9 +185,9 @@ module _ {S : Type 0} {store : Ghosts S} {old : Session S} {command : Command} {
       -- what the step leaves then
       module _ (new : Session S) (was_put : store.honest (store_of new) → store.honest put)
           (stepped : store.honest (store_of new) → IsEntry made → IsSameBut head_path (undo_folder_of (store.files put)) (folder_of store new))
-          (written : IsSoundHead (head_listing (memory_of old) (Some (record { entry = number + 1; way = ways.Do }))) → IsSoundHead (head_listing moved None) → IsEntry made
+          (written : IsSoundHead (head_listing (memory_of old) (Some (record { entry = number + 1; direction = directions.Do }))) → IsSoundHead (head_listing moved None) → IsEntry made
           → store.written (store_of new) ≤ store.written put + head_room (listed_count (memory_of old)) + head_room (listed_count moved))
-          (asks : store.moves (store_of new) ≤ store.moves put + length made + 2)
+          (asks : store.mutations (store_of new) ≤ store.mutations put + length made + 2)
         where
           folder_left : store.honest (store_of new) → IsSameButTwo (next_path old) head_path (folder_of store old) (folder_of store new)
           folder_left honest =
@@ -208,8 +208,8 @@ module _ {S : Type 0} {store : Ghosts S} {old : Session S} {command : Command} {
               let many : listed_count moved ≡ length (memory_of old).done + 1 = ap listed_count l.is_moved ∙ omega (arith, length-append (memory_of old).done (listed ∷ [])) in
               omega (arith, written between second (made_good (was_put honest)), many, at_most_recorded (was_put honest) held stands)
 
-          moves_left : store.honest (store_of new) → store.moves (store_of new) ≤ store.moves (store_of old) + edit_count (edits_of command (tree_of (files_of store old))) + 3
-          moves_left honest =
+          mutations_left : store.honest (store_of new) → store.mutations (store_of new) ≤ store.mutations (store_of old) + edit_count (edits_of command (tree_of (files_of store old))) + 3
+          mutations_left honest =
               let tree = tree_of (files_of store old) in
               omega (arith, asks, p.asks, ap length same, count_recorded tree (edits_of command tree) changes (here (was_put honest)).recorded)
 
@@ -233,7 +233,7 @@ module _ {S : Type 0} {store : Ghosts S} {old : Session S} {command : Command} {
               ),
             );
             written = written_left;
-            moves = moves_left;
+            mutations = mutations_left;
             begins = tt;
             clash = λ honest. tt;
             free = free_left;
@@ -241,17 +241,17 @@ module _ {S : Type 0} {store : Ghosts S} {old : Session S} {command : Command} {
 
           pub halt_leaves : (refusal : Refusal) → store.written put ≡ store.written (store_of old) + length (entry_text entry) → (IsEarly refusal → new ≡ record old { store = put })
               → (store.honest (store_of new) → (held second : State) → StandsOn store.files (record old { store = put }) held
-              → IsStepOf (undo_folder_of (store.files put)) made (record { entry = number + 1; way = ways.Do }) moved held second → IsStop refusal → InDoubt held second (files_of store new))
+              → IsStepOf (undo_folder_of (store.files put)) made (record { entry = number + 1; direction = directions.Do }) moved held second → IsStop refusal → InDoubt held second (files_of store new))
               → (IsEntry made → IsStop refusal → store.written put < store.written (store_of new))
-              → (store.honest (store_of new) → IsEntry made → All (CanBeMade way.Do (tree_of (store.files put))) made → HasClash ⊥ (Clashes (store.files put) head_path) refusal)
+              → (store.honest (store_of new) → IsEntry made → All (CanBeMade direction.Forward (tree_of (store.files put))) made → HasClash ⊥ (Clashes (store.files put) head_path) refusal)
               → LeavesRun store command when (Err refusal) old new
-          halt_leaves refusal counted refused moves more clash = record {
+          halt_leaves refusal counted refused mutations more clash = record {
             unchanged = λ honest early. subst (λ s. IsSameBut (next_path old) (files_of store old) (files_of store s)) (sym (refused early)) (others (was_put honest));
             stands = λ honest held stands early. subst (λ s. StandsOn store.files s held) (sym (refused early)) (still (was_put honest) held stands);
             early = λ honest held stands early. subst (λ s. store.written (store_of s) ≤ store.written (store_of old) + recorded_size (edits_of command held.tree)) (sym (refused early)) (at_most_recorded (was_put honest) held stands);
             doubt = λ honest held stands stop.
                 let at = recording (was_put honest) held stands in
-                (at.second, at.run, moves honest held at.second at.stands at.is stop);
+                (at.second, at.run, mutations honest held at.second at.stands at.is stop);
             late = λ honest stop. (
               record { changes = changes; command = name_of command; when = when },
               (refl, refl, (here (was_put honest)).recorded),
@@ -260,8 +260,8 @@ module _ {S : Type 0} {store : Ghosts S} {old : Session S} {command : Command} {
             folder = folder_left;
             texts = λ honest paths e. absurd (cc);
             written = written_left;
-            moves = moves_left;
-            begins = λ early. subst (λ s. store.moves (store_of s) ≤ store.moves (store_of old) + 1) (sym (refused early)) p.asks;
+            mutations = mutations_left;
+            begins = λ early. subst (λ s. store.mutations (store_of s) ≤ store.mutations (store_of old) + 1) (sym (refused early)) p.asks;
             clash = λ honest.
                 let files = files_of store old in
                 let can = (can_go made l.is_made (was_put honest)).each in
@@ -288,9 +288,9 @@ after_reading store old new read reads was_honest command when result leaves = r
       (leaves.texts honest paths e);
   written = λ honest held stands. subst (λ n. store.written (store_of new) ≤ n + recorded_size (edits_of command held.tree) + head_room (listed_count (memory_of old)) + head_room (length (memory_of old).done + 1)) reads.written
       (leaves.written honest held (still honest held stands));
-  moves = λ honest. subst (λ f. store.moves (store_of new) ≤ store.moves (store_of old) + edit_count (edits_of command (tree_of f)) + 3) (same honest)
-      (subst (λ n. store.moves (store_of new) ≤ n + edit_count (edits_of command (tree_of (store.files read))) + 3) reads.moves (leaves.moves honest));
-  begins = subst (λ n. IfErr result (λ refusal. IsEarly refusal → store.moves (store_of new) ≤ n + 1)) reads.moves leaves.begins;
+  mutations = λ honest. subst (λ f. store.mutations (store_of new) ≤ store.mutations (store_of old) + edit_count (edits_of command (tree_of f)) + 3) (same honest)
+      (subst (λ n. store.mutations (store_of new) ≤ n + edit_count (edits_of command (tree_of (store.files read))) + 3) reads.mutations (leaves.mutations honest));
+  begins = subst (λ n. IfErr result (λ refusal. IsEarly refusal → store.mutations (store_of new) ≤ n + 1)) reads.mutations leaves.begins;
   clash = λ honest. subst (λ f. IfErr result (HasClash (Clashes f (next_path old)) (Clashes f head_path))) (same honest) (leaves.clash honest);
   free = λ honest. subst (λ f. IsFree (undo_folder_of f) → IsFree (folder_of store new)) (same honest) (leaves.free honest);
 }

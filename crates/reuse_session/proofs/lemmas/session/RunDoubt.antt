@@ -18,7 +18,7 @@ use Rattle.reuse_session.specs.session.Session.{store_of, StandsOn}
 use Rattle.reuse_session.specs.journal.Standing.{IsStanding}
 use Rattle.reuse_session.specs.declared.command.Command.{Command}
 use Rattle.reuse_session.specs.declared.session.Session.{Session}
-use Rattle.reuse_session.proofs.lemmas.journal.HeadMoves.{below}
+use Rattle.reuse_session.proofs.lemmas.journal.HeadMutations.{below}
 use Rattle.reuse_session.proofs.lemmas.session.Recording.{EntryPut, known}
 use Rattle.reuse_session.proofs.lemmas.session.Running.{full_alike}
 use Rattle.reuse_session.proofs.lemmas.journal.StepDoubt.{safe_with_entry}

@@ -13,7 +13,7 @@ use Rattle.reuse_session.specs.plan.Outcome.{outcome_of}
 use Rattle.reuse_session.specs.plan.Plan.{IsRefusalOf}
 use Rattle.reuse_session.specs.session.Session.{HoldsSnapshots, StandsOn, StandsAt, Follows, IsRun, Runs}
 use Rattle.reuse_session.specs.declared.command.Command.{Command}
-use Rattle.reuse_tree.specs.declared.way.Way.TheVariants as way
+use Rattle.reuse_tree.specs.declared.direction.Direction.TheVariants as direction
 use Rattle.reuse_session.specs.declared.reply.Response.{Response}
 use Rattle.reuse_session.specs.declared.reply.Response.TheVariants.{Changed, NothingChanged}
 use Rattle.reuse_session.specs.declared.reply.Refusal.{Refusal}
@@ -40,7 +40,7 @@ runs_refused command when held refusal room planned told due = (room, due, refl)
 pub runs_nothing : (command : Command) (when : ℕ) (held : State) (changes : List Change) (after : Files) → is_full (length held.journal.done) held.journal.used ≡ false
     → outcome_of command held.tree ≡ Ok after → length changes ≡ 0 → LeadsAll changes held.tree after → Runs command when held (Ok NothingChanged) held
 runs_nothing command when held changes after room outcome none leads =
-    let same : after ≡ held.tree = leads_once way.Do [] held.tree after held.tree (subst (λ cs. LeadsAll cs held.tree after) (nil_from_length changes none) leads) (stays_by_none held.tree) in
+    let same : after ≡ held.tree = leads_once direction.Forward [] held.tree after held.tree (subst (λ cs. LeadsAll cs held.tree after) (nil_from_length changes none) leads) (stays_by_none held.tree) in
     (room, outcome ∙ ap (λ t. Ok t) same, refl)
 
 -- a step
@@ -59,7 +59,7 @@ module _ (held : State) (state : Snapshots) (holds : HoldsSnapshots held state) 
       (record { done = record { label = record { number = held.journal.used + 1; when = when; command = name_of command }; changes = run.step.changes } ∷ held.journal.done; undone = []; used = held.journal.used + 1 }) =
       λ i. record { done = record { label = run.label i; changes = run.step.changes } ∷ held.journal.done; undone = []; used = held.journal.used + 1 } in
       run_follows held state holds command when run.step.changes second.tree run.room run.outcome run.entry run.is_step.leads are run.are_files second refl
-      (run.is_step.moves.1 ∙ labelled)
+      (run.is_step.mutations.1 ∙ labelled)
 
   stays_put : (result : Result Response Refusal) (left : State) → left ≡ held → ran_by state command when ≡ (result, state)
       → (result ≡ (ran_by state command when).0) × HoldsSnapshots left (ran_by state command when).1

@@ -3,8 +3,8 @@ use Rattle.std.proofs.Common.{◌≡◌, ◌⊎◌, inl, inr, ⊎_elim, ℕ, Boo
 use Rattle.reuse_tree.specs.Files.{Files}
 use Rattle.reuse_tree.specs.declared.cause.Cause.{Cause}
 use Rattle.reuse_tree.specs.declared.store.Store.{Ghosts}
-use Rattle.reuse_tree.specs.declared.way.Way.{Way}
-use Rattle.reuse_tree.specs.declared.way.Way.TheVariants as way
+use Rattle.reuse_tree.specs.declared.direction.Direction.{Direction}
+use Rattle.reuse_tree.specs.declared.direction.Direction.TheVariants as direction
 use Rattle.reuse_session.specs.session.Answer.{IsEarly, IsNoStep, IsStop, TellsNoFault}
 use Rattle.reuse_session.specs.session.Calls.{files_of}
 use Rattle.reuse_session.specs.session.Driven.{StandsSafely, GoesSafely}
@@ -44,10 +44,10 @@ runs_stay command when held left (Ok reply) runs none = absurd runs
 runs_stay command when held left (Err JournalFull) runs none = runs.1
 runs_stay command when held left (Err refusal) runs none = runs.2
 
-replays_stay : (go : Way) (steps : List Recorded) (held left : State) (answer : Result Response Refusal) → Replays go steps held answer left → IsNoStep (as_step answer) → left ≡ held
+replays_stay : (go : Direction) (steps : List Recorded) (held left : State) (answer : Result Response Refusal) → Replays go steps held answer left → IsNoStep (as_step answer) → left ≡ held
 replays_stay go [] held left answer replays none = replays.1
-replays_stay way.Undo (step ∷ steps) held left (Ok reply) replays none = absurd (subst (λ r. IsNoStep (as_step (Ok r))) replays.0 none)
-replays_stay way.Do (step ∷ steps) held left (Ok reply) replays none = absurd (subst (λ r. IsNoStep (as_step (Ok r))) replays.0 none)
+replays_stay direction.Backward (step ∷ steps) held left (Ok reply) replays none = absurd (subst (λ r. IsNoStep (as_step (Ok r))) replays.0 none)
+replays_stay direction.Forward (step ∷ steps) held left (Ok reply) replays none = absurd (subst (λ r. IsNoStep (as_step (Ok r))) replays.0 none)
 replays_stay go (step ∷ steps) held left (Err refusal) replays none = replays.1
 
 reverts_stay : (number : ℕ) (skip_moved : Bool) (when : ℕ) (held left : State) (answer : Result Reverted Refusal) → Reverts number skip_moved when held answer left → IsNoStep (as_run answer) → left ≡ held
@@ -63,8 +63,8 @@ runs_as_step command when held left (Err refusal) runs = refl
 
 makes_stay : (call : Call) (when : ℕ) (held left : State) (answer : Result Response Refusal) → Makes call when held answer left → IsNoStep (as_step answer) → left ≡ held
 makes_stay (calls.Run command) when held left answer makes none = runs_stay command when held left answer makes (subst IsNoStep (runs_as_step command when held left answer makes) none)
-makes_stay calls.Undo when held left answer makes none = replays_stay way.Undo held.journal.done held left answer makes none
-makes_stay calls.Redo when held left answer makes none = replays_stay way.Do held.journal.undone held left answer makes none
+makes_stay calls.Undo when held left answer makes none = replays_stay direction.Backward held.journal.done held left answer makes none
+makes_stay calls.Redo when held left answer makes none = replays_stay direction.Forward held.journal.undone held left answer makes none
 makes_stay (calls.Revert number skip_moved) when held left answer makes none =
     reverts_stay number skip_moved when held left makes.0 makes.2 (subst IsNoStep (ap as_step makes.1 ∙ revert_is_step makes.0) none)
 

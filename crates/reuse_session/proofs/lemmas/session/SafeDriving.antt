@@ -62,7 +62,7 @@ closes_safely store request answer state session cause is fails safely =
 pub doubt_left : {S : Type 0} (store : Ghosts S) (earlier held next : State) (new : S) → AreInDoubt store earlier held next new → InDoubt held next (store.files new)
 doubt_left store earlier held next new (inl (standing, safe)) = inl standing
 doubt_left store earlier held next new (inr (inl (standing, safe))) = inr (inl standing)
-doubt_left store earlier held next new (inr (inr (way, recorded, leads, under, left))) = inr (inr (way, recorded, leads, under))
+doubt_left store earlier held next new (inr (inr (direction, recorded, leads, under, left))) = inr (inr (direction, recorded, leads, under))
 
 pub found_left : {S : Type 0} (store : Ghosts S) (new : S) (state : Snapshots) (next : Option Snapshots) → MayBeFound store new state next → AreLeft (store.files new) state next
 found_left store new state None found = (found.1, found.3, found.2)
@@ -111,7 +111,7 @@ module _ {S : Type 0} (store : Ghosts S) (before : S) where
       alone : AreInDoubt store earlier held held after → MayBeFound store after state None
       alone (inl (stands, still)) = (earlier, held, holds, stands, still)
       alone (inr (inl (stands, still))) = (held, held, holds, stands, still)
-      alone (inr (inr (way, recorded, leads, under, others))) = absurd (no_step way recorded held.journal leads.moves)
+      alone (inr (inr (direction, recorded, leads, under, others))) = absurd (no_step direction recorded held.journal leads.mutations)
   found_again after state (Some next) (earlier, held, second, holds, reaches, doubt) survives = (earlier, held, second, holds, reaches, survives earlier held second doubt)
 
   pub closed_safely : (after : S) (refusal : Refusal) (old : Point) → MayBeFound store before old.state old.next

@@ -1,4 +1,4 @@
-use Rattle.reuse_tree.proofs.Turning.{is_sealed-inverse}
+use Rattle.reuse_tree.proofs.Applying.{is_sealed-inverse}
 use Rattle.reuse_tree.proofs.Sealed.{same_after, same_before}
 use Rattle.reuse_tree.proofs.laws.seal_tells_files_apart.Goals as goal
 

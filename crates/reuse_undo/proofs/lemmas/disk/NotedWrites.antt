@@ -2,7 +2,7 @@
 use Rattle.std.specs.Prelude.{◌==◌}
 use Rattle.std.proofs.Common.{◌≡◌, inl, inr, ℕ, false, List, [], ◌∷◌, length, Option, Some, None, Result, Ok, subst}
 use Rattle.reuse_tree.specs.Asked.{IsWrite, AreWrites}
-use Rattle.reuse_tree.specs.Calls.{failures_of, written_of, moves_of}
+use Rattle.reuse_tree.specs.Calls.{failures_of, written_of, mutations_of}
 use Rattle.reuse_tree.specs.declared.fault.StoreFault.{StoreFault}
 use Rattle.reuse_tree.specs.declared.file_write.FileWrite.{FileWrite}
 use Rattle.reuse_tree.specs.declared.parts.Parts.{Parts}
@@ -17,7 +17,7 @@ noted calls_of = record {
   may_be = λ store. MayBeLeft (calls_of store).start (calls_of store).doubts (calls_of store).calls;
   failures = λ store. failures_of (calls_of store).calls;
   written = λ store. written_of (calls_of store).calls;
-  moves = λ store. moves_of (calls_of store).calls;
+  mutations = λ store. mutations_of (calls_of store).calls;
   honest = λ store. IsHonest (calls_of store).start (calls_of store).calls;
 }
 
@@ -26,28 +26,28 @@ module _ {S : Type 0} (calls_of : S → CallRecord) where
   record_of path None old new answer write =
       let r = write.0 in
       let l = write.1 in (
-        record { kept = r.kept; ok = r.ok; err = r.err; may = λ left is. r.may left is; device = r.device; written = r.written; moves = r.moves },
-        record { was_honest = l.was_honest; failures = l.failures; written = l.written; moves = l.moves },
+        record { kept = r.kept; ok = r.ok; err = r.err; may = λ left is. r.may left is; device = r.device; written = r.written; mutations = r.mutations },
+        record { was_honest = l.was_honest; failures = l.failures; written = l.written; mutations = l.mutations },
       )
   record_of path (Some parts) old new answer write =
       let p = write.0 in
       let l = write.1 in (
-        record { kept = p.kept; ok = p.ok; err = p.err; may = λ left is. p.may left is; device = p.device; written = p.written; moves = p.moves },
-        record { was_honest = l.was_honest; failures = l.failures; written = l.written; moves = l.moves },
+        record { kept = p.kept; ok = p.ok; err = p.err; may = λ left is. p.may left is; device = p.device; written = p.written; mutations = p.mutations },
+        record { was_honest = l.was_honest; failures = l.failures; written = l.written; mutations = l.mutations },
       )
 
   of_record : (path : List ℕ) (file : Option Parts) (old new : S) (answer : Result (Unit {0}) StoreFault) → IsWrite (noted (λ calls. calls)) path file (calls_of old) (calls_of new) answer → IsWrite (noted calls_of) path file old new answer
   of_record path None old new answer write =
       let r = write.0 in
       let l = write.1 in (
-        record { kept = r.kept; ok = r.ok; err = r.err; may = λ left is. r.may left is; device = r.device; written = r.written; moves = r.moves },
-        record { was_honest = l.was_honest; failures = l.failures; written = l.written; moves = l.moves },
+        record { kept = r.kept; ok = r.ok; err = r.err; may = λ left is. r.may left is; device = r.device; written = r.written; mutations = r.mutations },
+        record { was_honest = l.was_honest; failures = l.failures; written = l.written; mutations = l.mutations },
       )
   of_record path (Some parts) old new answer write =
       let p = write.0 in
       let l = write.1 in (
-        record { kept = p.kept; ok = p.ok; err = p.err; may = λ left is. p.may left is; device = p.device; written = p.written; moves = p.moves },
-        record { was_honest = l.was_honest; failures = l.failures; written = l.written; moves = l.moves },
+        record { kept = p.kept; ok = p.ok; err = p.err; may = λ left is. p.may left is; device = p.device; written = p.written; mutations = p.mutations },
+        record { was_honest = l.was_honest; failures = l.failures; written = l.written; mutations = l.mutations },
       )
 
   -- writes that begin at a store with one record begin at each store that has it

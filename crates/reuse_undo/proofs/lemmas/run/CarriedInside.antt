@@ -21,7 +21,7 @@ pub record IsSameStore {W S : Type 0} (outer : Ghosts W) (inner : Ghosts S) (who
   pub files : outer.files whole ≡ inner.files inside
   pub failures : outer.failures whole ≡ inner.failures inside
   pub written : outer.written whole ≡ inner.written inside
-  pub moves : outer.moves whole ≡ inner.moves inside
+  pub mutations : outer.mutations whole ≡ inner.mutations inside
   pub gives : inner.honest inside → outer.honest whole
   pub takes : outer.honest whole → inner.honest inside
   pub gives_left : (left : Files) → inner.may_be inside left → outer.may_be whole left
@@ -36,7 +36,7 @@ reads_inside outer inner before after old new b a reads =
       may = λ left is. b.takes_left left (reads.may left (a.gives_left left is));
       failures = omega (arith, reads.failures, b.failures, a.failures);
       written = sym a.written ∙ reads.written ∙ b.written;
-      moves = sym a.moves ∙ reads.moves ∙ b.moves;
+      mutations = sym a.mutations ∙ reads.mutations ∙ b.mutations;
     }
 
 undrawn_inside : {W S : Type 0} (outer : Ghosts W) (inner : Ghosts S) (before after : W) (old new : S) → IsSameStore outer inner before old → IsSameStore outer inner after new

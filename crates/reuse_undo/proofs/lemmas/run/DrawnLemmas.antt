@@ -5,21 +5,21 @@ use Rattle.std.specs.Option.{option_map}
 use Rattle.std.specs.Prelude.{unwrap_or}
 use Rattle.reuse_text.specs.Text.{spliced}
 use Rattle.reuse_text.specs.declared.TheConstants.{LONGEST_FILE}
-use Rattle.reuse_tree.specs.Change.{path_of, TurnsByRange}
+use Rattle.reuse_tree.specs.Change.{path_of, AppliesByRange}
 use Rattle.reuse_tree.specs.Digest.{swapped}
-use Rattle.reuse_tree.specs.Entry.{IsSmall, TurnsBy}
+use Rattle.reuse_tree.specs.Entry.{IsSmall, AppliesBy}
 use Rattle.reuse_tree.specs.Files.{Files, tree_of}
 use Rattle.reuse_tree.specs.Store.{reading_of}
 use Rattle.reuse_tree.specs.declared.change.Change.{Change}
 use Rattle.reuse_tree.specs.declared.change.Change.TheVariants.{Make, Drop, Splice}
 use Rattle.reuse_tree.specs.declared.digest.Seal.{Seal}
-use Rattle.reuse_tree.specs.declared.way.Way.{Way}
-use Rattle.reuse_tree.specs.declared.way.Way.TheVariants as go
+use Rattle.reuse_tree.specs.declared.direction.Direction.{Direction}
+use Rattle.reuse_tree.specs.declared.direction.Direction.TheVariants as go
 use Rattle.reuse_tree.specs.declared.store.Reading.TheVariants.{Absent, Found, TooLong}
 use Rattle.reuse_tree.proofs.ReadingLemmas.{absent_is, found_is, long_is}
 use Rattle.reuse_tree.proofs.Sealed.{splices}
 use Rattle.reuse_tree.proofs.TreeLemmas.{read_there}
-use Rattle.reuse_tree.proofs.Turning.{turns_back_by_range, turns_once_by_range}
+use Rattle.reuse_tree.proofs.Applying.{applies_back_by_range, applies_once_by_range}
 use Rattle.reuse_undo.specs.print.DiffText.{part_before, part_after, IsDiff}
 use Rattle.reuse_undo.specs.run.Drawn.{gone, AreDiffs, AreSmallSteps, IsPathDiff, IsRangeWithin}
 use Rattle.reuse_undo.specs.print.RowLines.{AppendsSome}
@@ -28,13 +28,13 @@ use Rattle.reuse_undo.proofs.lemmas.print.RowLemmas.{AppendsSome-row}
 -- ---- one change
 
 -- the change that is made leads from what the path holds to what it is to hold
-pub gone_by_range : (way : Way) (change : Change) (before after : Option (List ℕ)) → TurnsBy way change before after → TurnsByRange (gone way change) before after
-gone_by_range go.Do change before after turns = turns.range
-gone_by_range go.Undo change before after turns = turns_back_by_range change after before turns.range
+pub gone_by_range : (direction : Direction) (change : Change) (before after : Option (List ℕ)) → AppliesBy direction change before after → AppliesByRange (gone direction change) before after
+gone_by_range go.Forward change before after applies = applies.range
+gone_by_range go.Backward change before after applies = applies_back_by_range change after before applies.range
 
 -- a change of a range, of the file that it leads from
 range_once : (path : List ℕ) (at : ℕ) (old new : List ℕ) (rest : ℕ) (seal : Option Seal) (before after : Option (List ℕ)) → at + length old + rest ≤ LONGEST_FILE → at + length new + rest ≤ LONGEST_FILE
-    → TurnsByRange (Splice path at old new rest seal) before after
+    → AppliesByRange (Splice path at old new rest seal) before after
     → (file : List ℕ) × (before ≡ Some file) × IsRangeWithin file at old new × (after ≡ Some (spliced file at (length old) new))
 range_once path at old new rest seal before after small new_small h =
     let front = h.0 in
@@ -43,7 +43,7 @@ range_once path at old new rest seal before after small new_small h =
     let held = h.2 in
     let change = Splice path at old new rest seal in
     let long : length file ≡ length front + length old + length back = length-append (front ++ old) back ∙ ap (λ n. n + length back) (length-append front old) in
-    let from : TurnsByRange change (Some file) after = subst (λ b. TurnsByRange change b after) held.whole h in (
+    let from : AppliesByRange change (Some file) after = subst (λ b. AppliesByRange change b after) held.whole h in (
       file,
       held.whole,
       record {
@@ -51,34 +51,34 @@ range_once path at old new rest seal before after small new_small h =
         small = omega (arith, long, held.before, held.behind, small);
         new_small = omega (arith, new_small);
       },
-      turns_once_by_range change (Some file) after _ from (splices path at old new rest seal file (from.0, from.1, from.2)),
+      applies_once_by_range change (Some file) after _ from (splices path at old new rest seal file (from.0, from.1, from.2)),
     )
 
 -- the same, gone through this way
-pub range_of : (way : Way) (path : List ℕ) (at : ℕ) (old new : List ℕ) (rest : ℕ) (seal : Option Seal) (before after : Option (List ℕ)) → IsSmall (Splice path at old new rest seal)
-    → TurnsBy way (Splice path at old new rest seal) before after
+pub range_of : (direction : Direction) (path : List ℕ) (at : ℕ) (old new : List ℕ) (rest : ℕ) (seal : Option Seal) (before after : Option (List ℕ)) → IsSmall (Splice path at old new rest seal)
+    → AppliesBy direction (Splice path at old new rest seal) before after
     → (file : List ℕ) × (before ≡ Some file)
-    × IsRangeWithin file at (unwrap_or (part_before (gone way (Splice path at old new rest seal))) []) (unwrap_or (part_after (gone way (Splice path at old new rest seal))) [])
-    × (after ≡ Some (spliced file at (length (unwrap_or (part_before (gone way (Splice path at old new rest seal))) [])) (unwrap_or (part_after (gone way (Splice path at old new rest seal))) [])))
-range_of go.Do path at old new rest seal before after small turns = range_once path at old new rest seal before after small.0 small.1 turns.range
-range_of go.Undo path at old new rest seal before after small turns =
+    × IsRangeWithin file at (unwrap_or (part_before (gone direction (Splice path at old new rest seal))) []) (unwrap_or (part_after (gone direction (Splice path at old new rest seal))) [])
+    × (after ≡ Some (spliced file at (length (unwrap_or (part_before (gone direction (Splice path at old new rest seal))) [])) (unwrap_or (part_after (gone direction (Splice path at old new rest seal))) [])))
+range_of go.Forward path at old new rest seal before after small applies = range_once path at old new rest seal before after small.0 small.1 applies.range
+range_of go.Backward path at old new rest seal before after small applies =
     let change = Splice path at old new rest seal in
-    range_once path at new old rest (option_map swapped seal) before after small.1 small.0 (gone_by_range go.Undo change before after turns)
+    range_once path at new old rest (option_map swapped seal) before after small.1 small.0 (gone_by_range go.Backward change before after applies)
 
 -- what is drawn of a range is the diff of its file
-pub drawn_range : (way : Way) (change : Change) (path : List ℕ) (at : ℕ) (old new : List ℕ) (rest : ℕ) (seal : Option Seal) → change ≡ Splice path at old new rest seal
-    → (tree after : Files) (name : List ℕ) (before_part after_part : Option (List ℕ)) → name ≡ path_of change → before_part ≡ part_before (gone way change) → after_part ≡ part_after (gone way change)
-    → IsSmall change → TurnsBy way change (get tree (path_of change)) (get after (path_of change)) → (Holds : (List ℕ → Type 0) → Type 0)
+pub drawn_range : (direction : Direction) (change : Change) (path : List ℕ) (at : ℕ) (old new : List ℕ) (rest : ℕ) (seal : Option Seal) → change ≡ Splice path at old new rest seal
+    → (tree after : Files) (name : List ℕ) (before_part after_part : Option (List ℕ)) → name ≡ path_of change → before_part ≡ part_before (gone direction change) → after_part ≡ part_after (gone direction change)
+    → IsSmall change → AppliesBy direction change (get tree (path_of change)) (get after (path_of change)) → (Holds : (List ℕ → Type 0) → Type 0)
     → ((file : List ℕ) → get tree name ≡ Some file → IsRangeWithin file at (unwrap_or before_part []) (unwrap_or after_part [])
     → Holds (IsDiff name (Some file) (Some (spliced file at (length (unwrap_or before_part [])) (unwrap_or after_part [])))))
     → Holds (IsPathDiff tree after (path_of change))
-drawn_range way (Make p w d) path at old new rest seal is tree after name b a here from to small turns Holds drawn = absurd (cc)
-drawn_range way (Drop p o d) path at old new rest seal is tree after name b a here from to small turns Holds drawn = absurd (cc)
-drawn_range way (Splice p n o w r s) path at old new rest seal is tree after name b a here from to small turns Holds drawn =
-    let range = range_of way p n o w r s (get tree p) (get after p) small turns in
+drawn_range direction (Make p w d) path at old new rest seal is tree after name b a here from to small applies Holds drawn = absurd (cc)
+drawn_range direction (Drop p o d) path at old new rest seal is tree after name b a here from to small applies Holds drawn = absurd (cc)
+drawn_range direction (Splice p n o w r s) path at old new rest seal is tree after name b a here from to small applies Holds drawn =
+    let range = range_of direction p n o w r s (get tree p) (get after p) small applies in
     let file = range.0 in
     let place : n ≡ at = cc in
-    let one = part_before (gone way (Splice p n o w r s)) in
+    let one = part_before (gone direction (Splice p n o w r s)) in
     let within : IsRangeWithin file at (unwrap_or b []) (unwrap_or a []) =
     subst (λ m. IsRangeWithin file m (unwrap_or b []) (unwrap_or a [])) place (
     subst (λ (x : Option (List ℕ)). IsRangeWithin file n (unwrap_or x []) (unwrap_or a [])) (sym from) (
@@ -136,11 +136,11 @@ drawn_more before after changes i x old new low is drawn one =
     subst (AreDiffs before after (take (i + 1) changes)) (sym all.1.1) all.1.0
 
 -- the same of changes that lead from one tree to the other
-pub drawn_step : (way : Way) (before after : Files) (changes : List Change) (i : ℕ) (x : Change) (old new : List ℕ) → i < length changes → x ≡ get_or changes i x → AreSmallSteps way changes before after
+pub drawn_step : (direction : Direction) (before after : Files) (changes : List Change) (i : ℕ) (x : Change) (old new : List ℕ) → i < length changes → x ≡ get_or changes i x → AreSmallSteps direction changes before after
     → AreDiffs before after (take i changes) old
-    → (IsSmall x → TurnsBy way x (get before (path_of x)) (get after (path_of x)) → AppendsSome (Some old) (Some new) (IsPathDiff before after (path_of x)))
+    → (IsSmall x → AppliesBy direction x (get before (path_of x)) (get after (path_of x)) → AppendsSome (Some old) (Some new) (IsPathDiff before after (path_of x)))
     → AreDiffs before after (take (i + 1) changes) new
-drawn_step way before after changes i x old new low is steps drawn one =
+drawn_step direction before after changes i x old new low is steps drawn one =
     let small = subst IsSmall (sym is) (steps.small i x low) in
-    let turns = subst (λ (y : Change). TurnsBy way y (get before (path_of y)) (get after (path_of y))) (sym is) (steps.leads.each i x low) in
-    drawn_more before after changes i x old new low is drawn (one small turns)
+    let applies = subst (λ (y : Change). AppliesBy direction y (get before (path_of y)) (get after (path_of y))) (sym is) (steps.leads.each i x low) in
+    drawn_more before after changes i x old new low is drawn (one small applies)

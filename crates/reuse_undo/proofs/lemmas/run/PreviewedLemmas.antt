@@ -4,8 +4,8 @@ use Rattle.std.proofs.lemmas.Bool.{false≢true}
 use Rattle.reuse_tree.specs.Entry.{IsEntry}
 use Rattle.reuse_tree.specs.Files.{Files}
 use Rattle.reuse_tree.specs.declared.store.Store.{Ghosts}
-use Rattle.reuse_tree.specs.declared.way.Way.{Way}
-use Rattle.reuse_tree.specs.declared.way.Way.TheVariants as go
+use Rattle.reuse_tree.specs.declared.direction.Direction.{Direction}
+use Rattle.reuse_tree.specs.declared.direction.Direction.TheVariants as go
 use Rattle.reuse_session.specs.session.Answer.{TellsNoFault}
 use Rattle.reuse_session.specs.session.PathOutcomes.{first_refusal}
 use Rattle.reuse_session.specs.journal.Journal.{State, ahead, changes_ahead, Replays}
@@ -63,11 +63,11 @@ broken_same {A} first refusal is broken =
 -- ---- what would change
 
 -- it is there only where none of the path outcomes is a refusal
-accepted_in : (way : Way) (answer : Result Previewed Refusal) → IfSome (planned_in way answer) (λ planned. IsAccepted (replied replies.Preview (path_outcomes_alone answer)))
-accepted_in way (Err refusal) = tt
-accepted_in way (Ok previewed) = by_refusal (is_refused previewed.path_outcomes) refl
+accepted_in : (direction : Direction) (answer : Result Previewed Refusal) → IfSome (planned_in direction answer) (λ planned. IsAccepted (replied replies.Preview (path_outcomes_alone answer)))
+accepted_in direction (Err refusal) = tt
+accepted_in direction (Ok previewed) = by_refusal (is_refused previewed.path_outcomes) refl
   where
-    by_refusal : (b : Bool) → is_refused previewed.path_outcomes ≡ b → IfSome (planned_unless b previewed.changes way) (λ planned. IsAccepted (replied replies.Preview (path_outcomes_alone (Ok previewed))))
+    by_refusal : (b : Bool) → is_refused previewed.path_outcomes ≡ b → IfSome (planned_unless b previewed.changes direction) (λ planned. IsAccepted (replied replies.Preview (path_outcomes_alone (Ok previewed))))
     by_refusal true is = tt
     by_refusal false is = (previewed.path_outcomes, refl, is)
 
@@ -75,12 +75,12 @@ same_path_outcomes : (one other : List PathOutcome) → replies.Preview one ≡ 
 same_path_outcomes one other is = cc
 
 -- and there it is
-accepted_some : (way : Way) (answer : Result Previewed Refusal) (IsThat : PlannedChanges → Type 0) → IsAccepted (replied replies.Preview (path_outcomes_alone answer))
-    → IfOk answer (λ previewed. is_refused previewed.path_outcomes ≡ false → IsThat (going way previewed.changes)) → IsSomeAnd (planned_in way answer) IsThat
-accepted_some way (Err refusal) IsThat accepted all = absurd accepted
-accepted_some way (Ok previewed) IsThat accepted all = by_refusal (is_refused previewed.path_outcomes) refl
+accepted_some : (direction : Direction) (answer : Result Previewed Refusal) (IsThat : PlannedChanges → Type 0) → IsAccepted (replied replies.Preview (path_outcomes_alone answer))
+    → IfOk answer (λ previewed. is_refused previewed.path_outcomes ≡ false → IsThat (going direction previewed.changes)) → IsSomeAnd (planned_in direction answer) IsThat
+accepted_some direction (Err refusal) IsThat accepted all = absurd accepted
+accepted_some direction (Ok previewed) IsThat accepted all = by_refusal (is_refused previewed.path_outcomes) refl
   where
-    by_refusal : (b : Bool) → is_refused previewed.path_outcomes ≡ b → IsSomeAnd (planned_unless b previewed.changes way) IsThat
+    by_refusal : (b : Bool) → is_refused previewed.path_outcomes ≡ b → IsSomeAnd (planned_unless b previewed.changes direction) IsThat
     by_refusal true is = absurd (false≢true (sym accepted.2 ∙ ap is_refused (sym (same_path_outcomes previewed.path_outcomes accepted.0 accepted.1)) ∙ is))
     by_refusal false is = all is
 
@@ -94,35 +94,35 @@ none_first (path_outcome.Skipped path ∷ path_outcomes) none = none_first path_
 -- a run's changes lead to the tree of the command's outcome
 pub run_previews : (command : Command) (held : State) (answer : Result Previewed Refusal) (after : Files)
     → IfOk answer (λ previewed. first_refusal previewed.path_outcomes ≡ None → IsPlan (outcome_of command held.tree) held.tree previewed.changes) → outcome_of command held.tree ≡ Ok after
-    → IsAccepted (replied replies.Preview (path_outcomes_alone answer)) → IsSomeAnd (planned_in go.Do answer) (λ planned. LeadsAsPreviewed planned held.tree after)
-run_previews command held answer after plan left accepted = accepted_some go.Do answer (λ planned. LeadsAsPreviewed planned held.tree after) accepted (planned answer plan)
+    → IsAccepted (replied replies.Preview (path_outcomes_alone answer)) → IsSomeAnd (planned_in go.Forward answer) (λ planned. LeadsAsPreviewed planned held.tree after)
+run_previews command held answer after plan left accepted = accepted_some go.Forward answer (λ planned. LeadsAsPreviewed planned held.tree after) accepted (planned answer plan)
   where
     planned : (answer : Result Previewed Refusal) → IfOk answer (λ previewed. first_refusal previewed.path_outcomes ≡ None → IsPlan (outcome_of command held.tree) held.tree previewed.changes)
-        → IfOk answer (λ previewed. is_refused previewed.path_outcomes ≡ false → LeadsAsPreviewed (going go.Do previewed.changes) held.tree after)
+        → IfOk answer (λ previewed. is_refused previewed.path_outcomes ≡ false → LeadsAsPreviewed (going go.Forward previewed.changes) held.tree after)
     planned (Err refusal) plan = tt
     planned (Ok previewed) plan = λ none. plan_previews (outcome_of command held.tree) held.tree after previewed.changes (plan (none_first previewed.path_outcomes none)) left
 
 -- a step's changes lead to the tree that an undo or a redo leaves
-pub step_previews : (way : Way) (held : State) (answer : Result Previewed Refusal) (reply : Response) (new : State) (after : Files) → Replays way (ahead way held.journal) held (Ok reply) new
-    → new.tree ≡ after → IfOk answer (λ previewed. changes_ahead (ahead way held.journal) ≡ Some previewed.changes) → IfOk answer (λ previewed. IsEntry previewed.changes)
-    → IsAccepted (replied replies.Preview (path_outcomes_alone answer)) → IsSomeAnd (planned_in way answer) (λ planned. LeadsAsPreviewed planned held.tree after)
-step_previews way held answer reply new after replays is next entry accepted = accepted_some way answer (λ planned. LeadsAsPreviewed planned held.tree after) accepted (leads answer next entry)
+pub step_previews : (direction : Direction) (held : State) (answer : Result Previewed Refusal) (reply : Response) (new : State) (after : Files) → Replays direction (ahead direction held.journal) held (Ok reply) new
+    → new.tree ≡ after → IfOk answer (λ previewed. changes_ahead (ahead direction held.journal) ≡ Some previewed.changes) → IfOk answer (λ previewed. IsEntry previewed.changes)
+    → IsAccepted (replied replies.Preview (path_outcomes_alone answer)) → IsSomeAnd (planned_in direction answer) (λ planned. LeadsAsPreviewed planned held.tree after)
+step_previews direction held answer reply new after replays is next entry accepted = accepted_some direction answer (λ planned. LeadsAsPreviewed planned held.tree after) accepted (leads answer next entry)
   where
-    leads : (answer : Result Previewed Refusal) → IfOk answer (λ previewed. changes_ahead (ahead way held.journal) ≡ Some previewed.changes) → IfOk answer (λ previewed. IsEntry previewed.changes)
-        → IfOk answer (λ previewed. is_refused previewed.path_outcomes ≡ false → LeadsAsPreviewed (going way previewed.changes) held.tree after)
+    leads : (answer : Result Previewed Refusal) → IfOk answer (λ previewed. changes_ahead (ahead direction held.journal) ≡ Some previewed.changes) → IfOk answer (λ previewed. IsEntry previewed.changes)
+        → IfOk answer (λ previewed. is_refused previewed.path_outcomes ≡ false → LeadsAsPreviewed (going direction previewed.changes) held.tree after)
     leads (Err refusal) next entry = tt
     leads (Ok previewed) next entry =
-        λ none. subst (LeadsAsPreviewed (going way previewed.changes) held.tree) is (replay_previews way (ahead way held.journal) held reply new previewed.changes replays next entry)
+        λ none. subst (LeadsAsPreviewed (going direction previewed.changes) held.tree) is (replay_previews direction (ahead direction held.journal) held reply new previewed.changes replays next entry)
 
 -- ---- both
 
-pub answered_with : {S : Type 0} (store : Ghosts S) (request : Request) (way : Way) (answer : Result Previewed Refusal) (told : Result Response Refusal) (planned : Option PlannedChanges) (old new : Session S)
-    → told ≡ replied replies.Preview (path_outcomes_alone answer) → planned ≡ planned_in way answer → IsAnswered store request told old new
+pub answered_with : {S : Type 0} (store : Ghosts S) (request : Request) (direction : Direction) (answer : Result Previewed Refusal) (told : Result Response Refusal) (planned : Option PlannedChanges) (old new : Session S)
+    → told ≡ replied replies.Preview (path_outcomes_alone answer) → planned ≡ planned_in direction answer → IsAnswered store request told old new
     → (store.honest (store_of new) → (held : State) → StandsOn store.files old held → (after : Files) → WouldLeave request held after → IsAccepted (replied replies.Preview (path_outcomes_alone answer))
-    → IsSomeAnd (planned_in way answer) (λ planned. LeadsAsPreviewed planned held.tree after)) → IsAnsweredWith store request told planned old new
-answered_with store request way answer told planned old new is was answered previews = record {
+    → IsSomeAnd (planned_in direction answer) (λ planned. LeadsAsPreviewed planned held.tree after)) → IsAnsweredWith store request told planned old new
+answered_with store request direction answer told planned old new is was answered previews = record {
   answered = answered;
-  accepted = subst (λ (f : Option PlannedChanges). IfSome f (λ g. IsAccepted told)) (sym was) (subst (λ (t : Result Response Refusal). IfSome (planned_in way answer) (λ g. IsAccepted t)) (sym is) (accepted_in way answer));
+  accepted = subst (λ (f : Option PlannedChanges). IfSome f (λ g. IsAccepted told)) (sym was) (subst (λ (t : Result Response Refusal). IfSome (planned_in direction answer) (λ g. IsAccepted t)) (sym is) (accepted_in direction answer));
   previews = λ honest held stands after would accepted.
       subst (λ (f : Option PlannedChanges). IsSomeAnd f (λ g. LeadsAsPreviewed g held.tree after)) (sym was) (previews honest held stands after would (subst (λ (t : Result Response Refusal). IsAccepted t) is accepted));
 }

@@ -13,8 +13,8 @@ use Rattle.reuse_tree.specs.Files.{Files}
 use Rattle.reuse_tree.specs.Tree.{same_file, changed_paths, undo_folder_of}
 use Rattle.reuse_tree.specs.declared.change.Change.{Change}
 use Rattle.reuse_tree.specs.declared.journal.entry.Entry.{Entry}
-use Rattle.reuse_tree.specs.declared.way.Way.{Way}
-use Rattle.reuse_tree.specs.declared.way.Way.TheVariants as go
+use Rattle.reuse_tree.specs.declared.direction.Direction.{Direction}
+use Rattle.reuse_tree.specs.declared.direction.Direction.TheVariants as go
 use Rattle.reuse_tree.proofs.Differ.{changed_by_entry, changed_by_none, only_keys}
 use Rattle.reuse_tree.proofs.DifferingPaths.{among_changed, changed_ascend}
 use Rattle.reuse_tree.proofs.TreeLemmas.{among_keys}
@@ -101,11 +101,11 @@ one_outcome : (one other : Files) → outcome_is one ≡ outcome_is other → on
 one_outcome one other is = cc
 
 -- changes that are gone through this way
-abbrev pub going : Way → List Change → PlannedChanges
-going way changes = record { changes = changes; way = way }
+abbrev pub going : Direction → List Change → PlannedChanges
+going direction changes = record { changes = changes; direction = direction }
 
 -- and the changes that were planned lead there
-pub plan_previews : (outcome : Result Files Refusal) (before after : Files) (changes : List Change) → IsPlan outcome before changes → outcome ≡ Ok after → LeadsAsPreviewed (going go.Do changes) before after
+pub plan_previews : (outcome : Result Files Refusal) (before after : Files) (changes : List Change) → IsPlan outcome before changes → outcome ≡ Ok after → LeadsAsPreviewed (going go.Forward changes) before after
 plan_previews outcome before after changes plan is =
     let leads = subst (LeadsAll changes before) (one_outcome plan.after after (sym plan.outcome ∙ is)) plan.leads in
     elim plan.good [
@@ -113,26 +113,26 @@ plan_previews outcome before after changes plan is =
       | inr entry ↦ record { leads = record { small = entry.small; leads = leads }; paths = changed_by_entry changes before after entry leads }
     ]
   where
-    none_previews : (changes : List Change) → changes ≡ [] → LeadsAll changes before after → LeadsAsPreviewed (going go.Do changes) before after
+    none_previews : (changes : List Change) → changes ≡ [] → LeadsAll changes before after → LeadsAsPreviewed (going go.Forward changes) before after
     none_previews [] none leads = record { leads = record { small = λ k d low. absurd (omega (arith, low)); leads = leads }; paths = changed_by_none before after leads }
     none_previews (change ∷ rest) none leads = absurd (cc)
 
 -- ---- a step
 
-back_leads : (changes : List Change) (before after : Files) → LeadsBy go.Undo changes before after → LeadsAll changes after before
+back_leads : (changes : List Change) (before after : Files) → LeadsBy go.Backward changes before after → LeadsAll changes after before
 back_leads changes before after leads = record { each = leads.each; others = λ path none. sym (leads.others path none) }
 
-step_paths : (way : Way) (changes : List Change) (before after : Files) → IsEntry changes → LeadsBy way changes before after → changed_paths before after ≡ paths_of changes
-step_paths go.Do changes before after entry leads = changed_by_entry changes before after entry leads
-step_paths go.Undo changes before after entry leads = changed_back before after ∙ changed_by_entry changes after before entry (back_leads changes before after leads)
+step_paths : (direction : Direction) (changes : List Change) (before after : Files) → IsEntry changes → LeadsBy direction changes before after → changed_paths before after ≡ paths_of changes
+step_paths go.Forward changes before after entry leads = changed_by_entry changes before after entry leads
+step_paths go.Backward changes before after entry leads = changed_back before after ∙ changed_by_entry changes after before entry (back_leads changes before after leads)
 
 -- an undo or a redo that is accepted has a step to go on with, and its changes lead there
-pub replay_previews : (way : Way) (steps : List Recorded) (held : State) (reply : Response) (new : State) (changes : List Change) → Replays way steps held (Ok reply) new
-    → changes_ahead steps ≡ Some changes → IsEntry changes → LeadsAsPreviewed (going way changes) held.tree new.tree
-replay_previews way [] held reply new changes replays next entry = absurd (cc)
-replay_previews way (step ∷ steps) held reply new changes replays next entry =
-    let leads = subst (λ made. LeadsBy way made held.tree new.tree) (some_changes step.changes changes next) replays.2 in
-    record { leads = record { small = entry.small; leads = leads }; paths = step_paths way changes held.tree new.tree entry leads }
+pub replay_previews : (direction : Direction) (steps : List Recorded) (held : State) (reply : Response) (new : State) (changes : List Change) → Replays direction steps held (Ok reply) new
+    → changes_ahead steps ≡ Some changes → IsEntry changes → LeadsAsPreviewed (going direction changes) held.tree new.tree
+replay_previews direction [] held reply new changes replays next entry = absurd (cc)
+replay_previews direction (step ∷ steps) held reply new changes replays next entry =
+    let leads = subst (λ made. LeadsBy direction made held.tree new.tree) (some_changes step.changes changes next) replays.2 in
+    record { leads = record { small = entry.small; leads = leads }; paths = step_paths direction changes held.tree new.tree entry leads }
   where
     some_changes : (one other : List Change) → Some one ≡ Some other → one ≡ other
     some_changes one other is = cc

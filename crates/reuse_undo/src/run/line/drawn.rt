@@ -5,7 +5,7 @@ ghost use Rattle.std.specs.Option.{option_copied};
 ghost use Rattle.reuse_text.specs.Text.{spliced};
 ghost use Rattle.reuse_tree.specs.Asked.{OnlyReads};
 ghost use Rattle.reuse_tree.specs.Change.{path_of};
-ghost use Rattle.reuse_tree.specs.Entry.{IsSmall, TurnsBy};
+ghost use Rattle.reuse_tree.specs.Entry.{IsSmall, AppliesBy};
 ghost use Rattle.reuse_tree.specs.Files.{Files, tree_of};
 ghost use Rattle.reuse_undo.specs.print.DiffText.{part_before, part_after, IsDiff};
 ghost use Rattle.reuse_undo.specs.run.Drawn.{gone, AreDiffs, AreSmallSteps, IsPathDiff, IsRangeWithin, WouldLead};
@@ -18,7 +18,7 @@ use crate::print::diff::{Turn, bytes_of, print_diff};
 use crate::run::fault::{Fault, in_memory};
 use reuse_session::Refusal;
 use reuse_text::{LONGEST_FILE, splice};
-use reuse_tree::{Change, PathText, Reading, Store, Way};
+use reuse_tree::{Change, Direction, PathText, Reading, Store};
 use std::alloc::Global;
 
 /// The diff of what would change: of each path that the file as it is and as the call leaves it, in
@@ -33,7 +33,7 @@ pub fn draw<S: Store>(
     ensures reads { OnlyReads S.Store store.old store.new }
     ensures fault { IfErr result (IsOfDiff S.Store store.old store.new) }
 {
-    draw_all(alloc, store, planned.changes.as_slice(), planned.way)
+    draw_all(alloc, store, planned.changes.as_slice(), planned.direction)
 }
 
 // The diff of changes that are gone through this way.
@@ -41,16 +41,16 @@ fn draw_all<S: Store>(
     alloc: Global,
     store: &mut S,
     changes: &[Change],
-    way: Way,
+    direction: Direction,
 ) -> Result<Vec<u8>, Fault>
-    ensures drawn { S.honest store.new → (before : Files) → (after : Files) → tree_of (S.files store.old) ≡ before → AreSmallSteps way changes.now before after
+    ensures drawn { S.honest store.new → (before : Files) → (after : Files) → tree_of (S.files store.old) ≡ before → AreSmallSteps direction changes.now before after
         → IfOk result (λ text. AreDiffs before after changes.now text.items) }
     ensures reads { OnlyReads S.Store store.old store.new }
     ensures fault { IfErr result (IsOfDiff S.Store store.old store.new) }
 {
     let mut text = Vec::new(alloc);
     for change in changes {
-        draw_one(alloc, store, &mut text, change, way)?;
+        draw_one(alloc, store, &mut text, change, direction)?;
     }
     Ok(text)
 }
@@ -60,15 +60,15 @@ fn draw_one<S: Store>(
     store: &mut S,
     text: &mut Vec<u8>,
     change: &Change,
-    way: Way,
+    direction: Direction,
 ) -> Result<(), Fault>
     ensures drawn { S.honest store.new → (before : Files) → (after : Files) → tree_of (S.files store.old) ≡ before → IsSmall change.now
-        → TurnsBy way change.now (get before (path_of change.now)) (get after (path_of change.now))
+        → AppliesBy direction change.now (get before (path_of change.now)) (get after (path_of change.now))
         → OnOk result (AppendsSome (Some text.old.items) (Some text.new.items) (IsPathDiff before after (path_of change.now))) }
     ensures reads { OnlyReads S.Store store.old store.new }
     ensures fault { IfErr result (IsOfDiff S.Store store.old store.new) }
 {
-    let turn = turn_of(change, way);
+    let turn = turn_of(change, direction);
     match change {
         Change::Splice { at, .. } => draw_range(alloc, store, text, turn, *at),
         _ => in_memory(print_diff(text, alloc, turn)),
@@ -76,14 +76,14 @@ fn draw_one<S: Store>(
 }
 
 // What a change records, gone through this way.
-fn turn_of(change: &Change, way: Way) -> Turn<'_>
+fn turn_of(change: &Change, direction: Direction) -> Turn<'_>
     ensures path { result.path.now ≡ path_of change.now }
-    ensures before { option_copied result.before ≡ part_before (gone way change.now) }
-    ensures after { option_copied result.after ≡ part_after (gone way change.now) }
+    ensures before { option_copied result.before ≡ part_before (gone direction change.now) }
+    ensures after { option_copied result.after ≡ part_after (gone direction change.now) }
 {
-    match way {
-        Way::Do => Turn::of(change),
-        Way::Undo => Turn::of(change).back(),
+    match direction {
+        Direction::Forward => Turn::of(change),
+        Direction::Backward => Turn::of(change).back(),
     }
 }
 

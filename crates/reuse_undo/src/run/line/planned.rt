@@ -7,14 +7,15 @@ ghost use Rattle.reuse_session.specs.session.Requests.{replied};
 
 use super::printed::is_refused;
 use reuse_session::{Answer, Call, Changes, Previewed, Refusal, Request, Response, Session};
-use reuse_tree::{Store, Way};
+use reuse_tree::Direction::{Backward, Forward};
+use reuse_tree::{Direction, Store};
 use std::alloc::Global;
 
 /// What a call would change, and which way the changes are gone through.
 #[derive(Drop)]
 pub struct PlannedChanges {
     pub changes: Changes,
-    pub way: Way,
+    pub direction: Direction,
 }
 
 /// Makes the call. Of a dry run without a refusal what would change is answered too.
@@ -40,9 +41,9 @@ fn call_with_changes<S: Store + Drop>(
     ensures { IsAnsweredWith S.Store (Request.Preview call.now) result.0 result.1 session.old session.new }
 {
     match call {
-        Call::Run(command) => told_with(session.preview_changes(alloc, command), Way::Do),
-        Call::Undo => told_with(session.preview_step(alloc, Way::Undo), Way::Undo),
-        Call::Redo => told_with(session.preview_step(alloc, Way::Do), Way::Do),
+        Call::Run(command) => told_with(session.preview_changes(alloc, command), Forward),
+        Call::Undo => told_with(session.preview_step(alloc, Backward), Backward),
+        Call::Redo => told_with(session.preview_step(alloc, Forward), Forward),
         Call::Revert { number, skip_moved } => {
             revert_with_changes(alloc, session, *number, *skip_moved)
         }
@@ -62,16 +63,19 @@ fn revert_with_changes<S: Store + Drop>(
         Ok(command) => {
             let previewed = session.preview_changes(alloc, &command);
             drop(command);
-            told_with(previewed, Way::Do)
+            told_with(previewed, Forward)
         }
         Err(refusal) => (Err(refusal), None),
     }
 }
 
 // What is told of a preview, and what would change where none of the path outcomes is a refusal.
-fn told_with(answer: Result<Previewed, Refusal>, way: Way) -> (Answer, Option<PlannedChanges>)
+fn told_with(
+    answer: Result<Previewed, Refusal>,
+    direction: Direction,
+) -> (Answer, Option<PlannedChanges>)
     ensures told { result.0 ≡ replied Response.Preview (path_outcomes_alone answer) }
-    ensures planned { result.1 ≡ planned_in way answer }
+    ensures planned { result.1 ≡ planned_in direction answer }
 {
     match answer {
         Ok(
@@ -80,7 +84,7 @@ fn told_with(answer: Result<Previewed, Refusal>, way: Way) -> (Answer, Option<Pl
                 changes,
             },
         ) => {
-            let planned = planned_of(is_refused(path_outcomes.as_slice()), changes, way);
+            let planned = planned_of(is_refused(path_outcomes.as_slice()), changes, direction);
             (Ok(Response::Preview(path_outcomes)), planned)
         }
         Err(refusal) => (Err(refusal), None),
@@ -88,13 +92,13 @@ fn told_with(answer: Result<Previewed, Refusal>, way: Way) -> (Answer, Option<Pl
 }
 
 // What would change, unless that is refused.
-fn planned_of(is_refused: bool, changes: Changes, way: Way) -> Option<PlannedChanges>
-    ensures { result ≡ planned_unless is_refused changes way }
+fn planned_of(is_refused: bool, changes: Changes, direction: Direction) -> Option<PlannedChanges>
+    ensures { result ≡ planned_unless is_refused changes direction }
 {
     if is_refused {
         drop(changes);
         None
     } else {
-        Some(PlannedChanges { changes, way })
+        Some(PlannedChanges { changes, direction })
     }
 }

@@ -13,7 +13,7 @@ use Rattle.reuse_session.specs.session.Session.{IsSameBut, HasEntryText}
 use Rattle.reuse_session.proofs.lemmas.journal.Barriers.{IsBehind}
 use Rattle.reuse_session.proofs.lemmas.journal.JournalLemmas.{sets_in_folder}
 use Rattle.reuse_session.proofs.lemmas.journal.JournalReading.{put_says, put_beside, failed_beside, counted_most, counted_entry}
-use Rattle.reuse_tree.proofs.TurnLemmas.{put_sets}
+use Rattle.reuse_tree.proofs.ApplyLemmas.{put_sets}
 use Rattle.reuse_session.proofs.journal.files.put_entry.Given.{Over}
 use Rattle.reuse_session.proofs.journal.files.put_entry.Goals.{After-put, After-sync}
 use Rattle.reuse_session.proofs.journal.files.put_entry.Goals as goal

@@ -9,7 +9,7 @@ use Rattle.reuse_session.proofs.lemmas.journal.Barriers.{IsBehind}
 use Rattle.reuse_session.proofs.lemmas.journal.HeadPuts.{head_keeps_tree}
 use Rattle.reuse_session.specs.journal.JournalFiles.{head_path}
 use Rattle.reuse_session.proofs.lemmas.journal.JournalReading.{counted_head}
-use Rattle.reuse_tree.proofs.TurnLemmas.{put_sets, put_doubt}
+use Rattle.reuse_tree.proofs.ApplyLemmas.{put_sets, put_doubt}
 use Rattle.reuse_session.proofs.journal.files.put_head.Given.{Over}
 use Rattle.reuse_session.proofs.journal.files.put_head.Goals.{After-put, After-sync}
 use Rattle.reuse_session.proofs.journal.files.put_head.Goals as goal

@@ -2,7 +2,7 @@ use Rattle.std.proofs.Common.{◌≡◌, ◌<◌, ◌≤◌, ◌+◌, length, ar
 use Rattle.std.proofs.lemmas.Result.{IfOk-from_err, IfErr-at_err}
 use Rattle.reuse_session.specs.session.Answer.{HasCause, IsEarly, IsNoClash, IsOpenRefusal, IsReadRefusal, RefusedAsRead}
 use Rattle.reuse_session.specs.journal.History.{Memory}
-use Rattle.reuse_session.specs.journal.Opening.{IsRead, IsSettled, IsStuckAt, MovesToOpen, OpensOn, StopsOpening}
+use Rattle.reuse_session.specs.journal.Opening.{IsRead, IsSettled, IsStuckAt, MutationsToOpen, OpensOn, StopsOpening}
 use Rattle.reuse_session.specs.session.Session.{head_room, HasHeadText, IsSameBut, Remembers}
 use Rattle.reuse_session.specs.journal.JournalFiles.{head_of, head_path, entry_path, HeadSays, EntrySays}
 use Rattle.reuse_session.specs.declared.reply.Refusal.{Refusal}
@@ -65,7 +65,7 @@ returns-in_err-pending g c =
       survives = λ h earlier held next doubt. refused_in_doubt store earlier held next old new reads h result refusal (OpensSafely store earlier held next new) is doubt;
       texts = λ h. IfOk-from_err result (λ memory. (store.files new ≡ store.files old) ⊎ HasHeadText memory (store.files new)) c.from_residual.ensures.0;
       written = λ h head says. omega (arith, reads.written);
-      moves = λ h. inl reads.moves;
+      mutations = λ h. inl reads.mutations;
       early = subst (λ r. IfErr r (λ refusal. IsEarly refusal → OnlyReads store old new)) (sym is) (λ early. reads);
       late = λ cause e other. absurd (IfErr-at_err IsReadRefusal (passed_on result call given was e) c.read_journal.ensures.refusal);
       quiet = λ h held standing. reads;
@@ -95,7 +95,7 @@ returns-in-None g c =
       survives = λ h earlier held next doubt. reads_standing store earlier held next old new reads h memory (read h).0 (read h).1 doubt;
       texts = λ h. inl (reads.files h);
       written = λ h head says. omega (arith, reads.written);
-      moves = λ h. inl reads.moves;
+      mutations = λ h. inl reads.mutations;
       early = tt;
       late = λ cause e other. absurd (no_refusal memory (Failed (Interrupted cause)) e);
       quiet = λ h held standing. reads;
@@ -146,12 +146,12 @@ module _ (g : Over) (c : After-recover_pending g) (honest : g.S.Store.honest c.r
       let count = as_many_listed (undo_folder_of (g.S.Store.files c.args.store.now)) read_before.0 (Some c.in-Some.pending) c.in_ok-pending.history head read.keeps read.remembers says in
       omega (arith, c.recover_pending.ensures.written honest read_before.0 read_after, count, c.read_journal.ensures.reads.written)
 
-  moves_to_open : MovesToOpen g.S.Store c.args.store.now c.recover_pending.new.store
-  moves_to_open =
+  mutations_to_open : MutationsToOpen g.S.Store c.args.store.now c.recover_pending.new.store
+  mutations_to_open =
       let kept = read_before.1.keeps in
       ⊎_elim
-      (λ (none : g.S.Store.moves c.recover_pending.new.store ≡ g.S.Store.moves c.read_journal.new.store). inl (none ∙ c.read_journal.ensures.reads.moves))
-      (λ (some : (entry : Entry) × EntrySays (map.get (undo_folder_of (g.S.Store.files c.read_journal.new.store)) (entry_path c.in-Some.pending.entry)) entry × (g.S.Store.moves c.recover_pending.new.store ≤ g.S.Store.moves c.read_journal.new.store + length entry.changes + 1)).
+      (λ (none : g.S.Store.mutations c.recover_pending.new.store ≡ g.S.Store.mutations c.read_journal.new.store). inl (none ∙ c.read_journal.ensures.reads.mutations))
+      (λ (some : (entry : Entry) × EntrySays (map.get (undo_folder_of (g.S.Store.files c.read_journal.new.store)) (entry_path c.in-Some.pending.entry)) entry × (g.S.Store.mutations c.recover_pending.new.store ≤ g.S.Store.mutations c.read_journal.new.store + length entry.changes + 1)).
       inr (
         some.0,
         record {
@@ -161,9 +161,9 @@ module _ (g : Over) (c : After-recover_pending g) (honest : g.S.Store.honest c.r
           tells = refl;
           is = subst (λ f. EntrySays (map.get (undo_folder_of f) (entry_path c.in-Some.pending.entry)) some.0) same_files some.1;
         },
-        omega (arith, some.2, c.read_journal.ensures.reads.moves),
+        omega (arith, some.2, c.read_journal.ensures.reads.mutations),
       ))
-      (c.recover_pending.ensures.moves honest)
+      (c.recover_pending.ensures.mutations honest)
 
 pub returns-in_err-recover_pending-in-Some : goal.returns-in_err-recover_pending-in-Some
 returns-in_err-recover_pending-in-Some g c =
@@ -196,9 +196,9 @@ returns-in_err-recover_pending-in-Some g c =
           subst (λ r. MatchResult r (OpensSafely store earlier held next new) (λ refusal. AreInDoubt store earlier held next new)) (sym is) left;
       texts = λ h. IfOk-from_err result (λ memory. (store.files new ≡ store.files old) ⊎ HasHeadText memory (store.files new)) c.from_residual-in_err-recover_pending-in-Some.ensures.0;
       written = head_written g s;
-      moves = moves_to_open g s;
+      mutations = mutations_to_open g s;
       early = subst (λ r. IfErr r (λ refusal. IsEarly refusal → OnlyReads store old new)) (sym is) (λ early. reads_more store old mid new reads (told.early early));
-      late = λ cause e other. omega (arith, reads.moves, c.recover_pending.ensures.late cause (passed_on result call given was e) other);
+      late = λ cause e other. omega (arith, reads.mutations, c.recover_pending.ensures.late cause (passed_on result call given was e) other);
       quiet = λ h held standing. absurd (never_standing g s h held standing);
       folder = folder_kept g s;
       refusal = subst (λ r. IfErr r IsOpenRefusal) (sym is) told.refusal;
@@ -234,7 +234,7 @@ returns-in_ok-recover_pending-in-Some g c =
           inl (left.0, step.remembers, left.1);
       texts = λ h. inr (done.texts h (read_before g s h).0 (read_after g s h));
       written = head_written g s;
-      moves = moves_to_open g s;
+      mutations = mutations_to_open g s;
       early = tt;
       late = λ cause e other. absurd (no_refusal memory (Failed (Interrupted cause)) e);
       quiet = λ h held standing. absurd (never_standing g s h held standing);

@@ -7,8 +7,8 @@ use Rattle.reuse_tree.proofs.AskedLemmas.{reads_more}
 use Rattle.reuse_tree.specs.Files.{AreFiles, Clashes, Files, tree_of}
 use Rattle.reuse_session.specs.session.Answer.{IsEarly, IsFailure}
 use Rattle.reuse_session.specs.journal.Carried.{IsRolledBack, StopsRollingBack}
-use Rattle.reuse_tree.specs.Entry.{IsEntry, SomeMade, ArePartlyMade, CanBeSetBack, IsFirstWithout}
-use Rattle.reuse_tree.specs.Head.{way_of, IsGoodHead}
+use Rattle.reuse_tree.specs.Entry.{IsEntry, SomeMade, ArePartlyMade, CanBeRolledBack, IsFirstWithout}
+use Rattle.reuse_tree.specs.Head.{direction_of, IsGoodHead}
 use Rattle.reuse_session.specs.journal.History.{head_listing}
 use Rattle.reuse_session.specs.journal.JournalFiles.{head_path, entry_path, head_of, number_of, EntrySays}
 use Rattle.reuse_session.specs.journal.Losses.{AreSafeOn, AreInDoubt, StopsBackWithDoubt}
@@ -17,7 +17,7 @@ use Rattle.reuse_session.specs.session.Session.{IsSameBut}
 use Rattle.reuse_session.specs.journal.Standing.{IsStanding, IsUnderWay}
 use Rattle.reuse_tree.specs.Tree.{undo_folder_of}
 use Rattle.reuse_tree.specs.declared.change.Change.{Change}
-use Rattle.reuse_tree.specs.declared.way.Way.{Way}
+use Rattle.reuse_tree.specs.declared.direction.Direction.{Direction}
 use Rattle.reuse_session.specs.declared.failure.Failure.TheVariants.{Memory}
 use Rattle.reuse_session.specs.declared.reply.Refusal.TheVariants.{Failed}
 use Rattle.reuse_session.specs.journal.Journal.{Journal, Recorded, State}
@@ -44,7 +44,7 @@ returns-in_err-entry-clause-recovers g c honest journal read step first number u
     let refusal = c.in_err-entry.field-0.0 in
     let readable = pending_readable (files c.args.store.now) c.args.pending c.args.history.now journal read in
     let failure = read_failure refusal c.in_err-entry.ensures.refusal (λ path e. (c.read_entry.ensures.bad honest path (c.in_err-entry.was ∙ ap (λ x. Err x) e)).1 readable.0 readable.1) in
-    stays_under_way c.from_residual.result p.0 refusal c.args.pending.way step first (files c.args.store.now) (files c.read_entry.new.store) p.1 p.2 failure (c.read_entry.ensures.reads.files honest) under
+    stays_under_way c.from_residual.result p.0 refusal c.args.pending.direction step first (files c.args.store.now) (files c.read_entry.new.store) p.1 p.2 failure (c.read_entry.ensures.reads.files honest) under
 
 pub returns-in_err-entry-clause-no_bad : goal.returns-in_err-entry-clause-no_bad
 returns-in_err-entry-clause-no_bad g c honest journal read path e =
@@ -60,7 +60,7 @@ pub returns-in_err-settled-clause-recovers : goal.returns-in_err-settled-clause-
 returns-in_err-settled-clause-recovers g c honest journal read step first number under =
     let files = g.S.Store.files in
     let p = err_from_is_err_and c.from_residual-in_err-settled.result c.from_residual-in_err-settled.ensures.1 in
-    stays_under_way c.from_residual-in_err-settled.result p.0 (Failed Memory) c.args.pending.way step first (files c.args.store.now) (files c.read_entry.new.store) p.1 p.2 tt (c.read_entry.ensures.reads.files honest) under
+    stays_under_way c.from_residual-in_err-settled.result p.0 (Failed Memory) c.args.pending.direction step first (files c.args.store.now) (files c.read_entry.new.store) p.1 p.2 tt (c.read_entry.ensures.reads.files honest) under
 
 pub returns-in_err-path-clause-survives : goal.returns-in_err-path-clause-survives
 returns-in_err-path-clause-survives g c honest journal read earlier held next doubt =
@@ -71,7 +71,7 @@ pub returns-in_err-path-clause-recovers : goal.returns-in_err-path-clause-recove
 returns-in_err-path-clause-recovers g c honest journal read step first number under =
     let files = g.S.Store.files in
     let p = err_from_is_err_and c.from_residual-in_err-path.result c.from_residual-in_err-path.ensures.1 in
-    stays_under_way c.from_residual-in_err-path.result p.0 (Failed Memory) c.args.pending.way step first (files c.args.store.now) (files c.read_entry.new.store) p.1 p.2 tt (c.read_entry.ensures.reads.files honest) under
+    stays_under_way c.from_residual-in_err-path.result p.0 (Failed Memory) c.args.pending.direction step first (files c.args.store.now) (files c.read_entry.new.store) p.1 p.2 tt (c.read_entry.ensures.reads.files honest) under
 
 -- what is known once the pending step is rolled back, or isn't
 module _ (g : Over) (c : After-roll_back g) (honest : g.S.Store.honest c.roll_back.new.store) (journal : Journal) (read : IsRead (g.S.Store.files c.args.store.now) (Some c.args.pending) c.args.history.now journal) where
@@ -93,16 +93,16 @@ module _ (g : Over) (c : After-roll_back g) (honest : g.S.Store.honest c.roll_ba
       (λ sound. subst (λ t. IsGoodHead t (head_listing c.args.history.now None)) (sym c.as_slice.ensures.value) (c.in_ok-settled.ensures.good sound))
 
   -- what rolling back says of the files, the way and the changes that it was given is said of those of the step
-  of_step : (Says : Files → Way → List Change → Type 0) → Says (g.S.Store.files c.read_entry.new.store) c.way.result c.as_slice-changes.result.now → Says (g.S.Store.files c.args.store.now) (way_of c.args.pending.way) c.in_ok-entry.entry.changes
-  of_step Says = at_same Says (g.S.Store.files c.read_entry.new.store) (g.S.Store.files c.args.store.now) c.way.result (way_of c.args.pending.way) c.as_slice-changes.result.now c.in_ok-entry.entry.changes same c.way.ensures c.as_slice-changes.ensures
+  of_step : (Says : Files → Direction → List Change → Type 0) → Says (g.S.Store.files c.read_entry.new.store) c.direction.result c.as_slice-changes.result.now → Says (g.S.Store.files c.args.store.now) (direction_of c.args.pending.direction) c.in_ok-entry.entry.changes
+  of_step Says = at_same Says (g.S.Store.files c.read_entry.new.store) (g.S.Store.files c.args.store.now) c.direction.result (direction_of c.args.pending.direction) c.as_slice-changes.result.now c.in_ok-entry.entry.changes same c.direction.ensures c.as_slice-changes.ensures
 
-  given_to : (Says : Files → Way → List Change → Type 0) → Says (g.S.Store.files c.args.store.now) (way_of c.args.pending.way) c.in_ok-entry.entry.changes → Says (g.S.Store.files c.read_entry.new.store) c.way.result c.as_slice-changes.result.now
-  given_to Says = at_same Says (g.S.Store.files c.args.store.now) (g.S.Store.files c.read_entry.new.store) (way_of c.args.pending.way) c.way.result c.in_ok-entry.entry.changes c.as_slice-changes.result.now (sym same) (sym c.way.ensures) (sym c.as_slice-changes.ensures)
+  given_to : (Says : Files → Direction → List Change → Type 0) → Says (g.S.Store.files c.args.store.now) (direction_of c.args.pending.direction) c.in_ok-entry.entry.changes → Says (g.S.Store.files c.read_entry.new.store) c.direction.result c.as_slice-changes.result.now
+  given_to Says = at_same Says (g.S.Store.files c.args.store.now) (g.S.Store.files c.read_entry.new.store) (direction_of c.args.pending.direction) c.direction.result c.in_ok-entry.entry.changes c.as_slice-changes.result.now (sym same) (sym c.direction.ensures) (sym c.as_slice-changes.ensures)
 
   -- a step that was under way is taken back, or stays under way where that fails
-  stands_or_stays : (step : Recorded) (first : State) → number_of step ≡ c.args.pending.entry → IsUnderWay c.args.pending.way step first (g.S.Store.files c.args.store.now)
+  stands_or_stays : (step : Recorded) (first : State) → number_of step ≡ c.args.pending.entry → IsUnderWay c.args.pending.direction step first (g.S.Store.files c.args.store.now)
       → MatchResult c.roll_back.result (λ done. IsStanding (g.S.Store.files c.roll_back.new.store) first)
-      (λ refusal. IsFailure refusal × (IsStanding (g.S.Store.files c.roll_back.new.store) first ⊎ IsUnderWay c.args.pending.way step first (g.S.Store.files c.roll_back.new.store)))
+      (λ refusal. IsFailure refusal × (IsStanding (g.S.Store.files c.roll_back.new.store) first ⊎ IsUnderWay c.args.pending.direction step first (g.S.Store.files c.roll_back.new.store)))
   stands_or_stays step first number under =
       let old = g.S.Store.files c.args.store.now in
       let new = g.S.Store.files c.roll_back.new.store in
@@ -135,16 +135,16 @@ module _ (g : Over) (c : After-roll_back g) (honest : g.S.Store.honest c.roll_ba
       let changes = its_changes files pending memory journal read entry says at.step held at.number at.under in
       let partly = given_to (λ f w cs. ArePartlyMade w cs held.tree (tree_of f)) (partly_made files pending memory journal read entry says at.step held at.number at.under) in
       let each = each_in_doubt store earlier held next old pending memory journal read doubt in
-      let sure : Leaves store mid (λ kept. SomeMade c.way.result c.as_slice-changes.result.now held.tree (tree_of kept)) =
-      λ kept is. given_to (λ f w cs. SomeMade w cs held.tree (tree_of kept)) (subst (λ cs. SomeMade (way_of pending.way) cs held.tree (tree_of kept)) changes
-      (some_made store earlier held next pending.way at.step at.leads kept (each kept (c.read_entry.ensures.reads.may kept is)))) in
-      survives store earlier held next result new (λ refusal. IsFailure refusal × (IsStanding (store.files new) held ⊎ IsUnderWay pending.way at.step held (store.files new)))
+      let sure : Leaves store mid (λ kept. SomeMade c.direction.result c.as_slice-changes.result.now held.tree (tree_of kept)) =
+      λ kept is. given_to (λ f w cs. SomeMade w cs held.tree (tree_of kept)) (subst (λ cs. SomeMade (direction_of pending.direction) cs held.tree (tree_of kept)) changes
+      (some_made store earlier held next pending.direction at.step at.leads kept (each kept (c.read_entry.ensures.reads.may kept is)))) in
+      survives store earlier held next result new (λ refusal. IsFailure refusal × (IsStanding (store.files new) held ⊎ IsUnderWay pending.direction at.step held (store.files new)))
       (stands_or_stays at.step held at.number at.under) (c.roll_back.ensures.lasting honest good held.tree partly sure)
       (IfErr-weaker result (λ refusal. IsEarly refusal → OnlyReads store mid new) (λ refusal. IsEarly refusal → AreInDoubt store earlier held next new)
       (λ refusal reads early. doubt_stays store earlier held next old new (reads_more store old mid new c.read_entry.ensures.reads (reads early)) honest doubt) c.roll_back.ensures.early)
-      (λ cause e. stops_in_doubt store earlier held next pending.way at.step at.leads files at.under text
+      (λ cause e. stops_in_doubt store earlier held next pending.direction at.step at.leads files at.under text
       (λ after tree sets. stands files pending memory journal read entry says at.step held at.number at.under after text good_text tree sets) new
-      (subst (λ cs. StopsBackWithDoubt store (way_of pending.way) cs text held.tree files new) (sym changes)
+      (subst (λ cs. StopsBackWithDoubt store (direction_of pending.direction) cs text held.tree files new) (sym changes)
       (of_step (λ f w cs. StopsBackWithDoubt store w cs text held.tree f new) (c.roll_back.ensures.left honest good held.tree partly sure cause e))))
 
 pub returns-clause-survives : goal.returns-clause-survives
@@ -164,7 +164,7 @@ pub returns-clause-moved : goal.returns-clause-moved
 returns-clause-moved g c honest journal read path e =
     let at = (goal.at.returns-clause-moved g c).After-roll_back in
     is_stuck (g.S.Store.files c.args.store.now) c.args.pending c.args.history.now journal read c.in_ok-entry.entry (says g at honest journal read) path
-    (of_step g at honest journal read (λ f w cs. IsFirstWithout (CanBeSetBack w (tree_of f)) cs path) (c.roll_back.ensures.moved honest (good g at honest journal read) path e))
+    (of_step g at honest journal read (λ f w cs. IsFirstWithout (CanBeRolledBack w (tree_of f)) cs path) (c.roll_back.ensures.moved honest (good g at honest journal read) path e))
 
 pub returns-clause-recovers : goal.returns-clause-recovers
 returns-clause-recovers g c honest journal read = stands_or_stays g (goal.at.returns-clause-recovers g c).After-roll_back honest journal read
@@ -183,15 +183,15 @@ returns-clause-interrupted g c honest journal read cause e =
     let at = (goal.at.returns-clause-interrupted g c).After-roll_back in
     let new = g.S.Store.files c.roll_back.new.store in
     let step = recorded c.args.pending.entry c.in_ok-entry.entry in
-    let can = of_step g at honest journal read (λ f w cs. All (CanBeSetBack w (tree_of f)) cs) (c.roll_back.ensures.tested honest (good g at honest journal read) cause e) in
+    let can = of_step g at honest journal read (λ f w cs. All (CanBeRolledBack w (tree_of f)) cs) (c.roll_back.ensures.tested honest (good g at honest journal read) cause e) in
     let was = was_under_way (g.S.Store.files c.args.store.now) c.args.pending c.args.history.now journal read c.in_ok-entry.entry (says g at honest journal read) (are_files g at honest journal read) can in
     let left = stands_or_stays g at honest journal read step was.0 refl was.1 in
-    let stays = subst (λ r. MatchResult r (λ _. IsStanding new was.0) (λ refusal. IsFailure refusal × (IsStanding new was.0 ⊎ IsUnderWay c.args.pending.way step was.0 new))) e left in
-    (was.0, c.args.pending.way, step, was.1, stays.1)
+    let stays = subst (λ r. MatchResult r (λ _. IsStanding new was.0) (λ refusal. IsFailure refusal × (IsStanding new was.0 ⊎ IsUnderWay c.args.pending.direction step was.0 new))) e left in
+    (was.0, c.args.pending.direction, step, was.1, stays.1)
 
-pub returns-clause-moves : goal.returns-clause-moves
-returns-clause-moves g c honest =
-    inr (c.in_ok-entry.entry, c.in_ok-entry.ensures.ok (c.roll_back.ensures.later.was_honest honest), omega (arith, c.roll_back.ensures.moves, ap length c.as_slice-changes.ensures, c.read_entry.ensures.reads.moves))
+pub returns-clause-mutations : goal.returns-clause-mutations
+returns-clause-mutations g c honest =
+    inr (c.in_ok-entry.entry, c.in_ok-entry.ensures.ok (c.roll_back.ensures.later.was_honest honest), omega (arith, c.roll_back.ensures.mutations, ap length c.as_slice-changes.ensures, c.read_entry.ensures.reads.mutations))
 
 pub returns-clause-folder : goal.returns-clause-folder
 returns-clause-folder g c honest journal read =
@@ -202,7 +202,7 @@ pub returns-clause-texts : goal.returns-clause-texts
 returns-clause-texts g c honest journal read =
     let new = g.S.Store.files c.roll_back.new.store in
     on_ok_weaker c.roll_back.result
-    (λ (rolled : IsRolledBack c.way.result c.as_slice-changes.result.now c.as_slice.result.now (g.S.Store.files c.read_entry.new.store) new). file_in_folder new head_path head_path refl refl ∙ rolled.sets.here ∙ ap (λ text. Some text) (c.as_slice.ensures.value ∙ c.in_ok-settled.ensures.text))
+    (λ (rolled : IsRolledBack c.direction.result c.as_slice-changes.result.now c.as_slice.result.now (g.S.Store.files c.read_entry.new.store) new). file_in_folder new head_path head_path refl refl ∙ rolled.sets.here ∙ ap (λ text. Some text) (c.as_slice.ensures.value ∙ c.in_ok-settled.ensures.text))
     (c.roll_back.ensures.done honest (good g (goal.at.returns-clause-texts g c).After-roll_back honest journal read))
 
 pub returns-clause-clash : goal.returns-clause-clash

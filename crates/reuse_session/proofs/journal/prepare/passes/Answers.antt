@@ -5,51 +5,51 @@ use Rattle.std.proofs.lemmas.Result.{IfOk-weaker}
 use Rattle.reuse_tree.specs.Files.{Files, tree_of}
 use Rattle.reuse_tree.specs.Change.{path_of}
 use Rattle.reuse_tree.specs.declared.change.Change.{Change}
-use Rattle.reuse_tree.specs.declared.way.Way.{Way}
+use Rattle.reuse_tree.specs.declared.direction.Direction.{Direction}
 use Rattle.reuse_tree.specs.Tree.{is_of_tree}
-use Rattle.reuse_tree.specs.Entry.{IsReady, CanBeMade, CanBeSetBack, opposite}
+use Rattle.reuse_tree.specs.Entry.{IsReady, CanBeMade, CanBeRolledBack, opposite}
 use Rattle.reuse_session.specs.journal.Tested.{Passes}
 use Rattle.reuse_session.specs.declared.journal.prepare.Aim.{Aim}
 use Rattle.reuse_tree.proofs.OfTree.{tree_at}
 use Rattle.reuse_session.proofs.journal.prepare.passes.Goals as goal
 
-module _ (way : Way) (change : Change) (files : Files) (of_tree : is_of_tree (path_of change) ≡ true) (ready : Bool) (is : IsTrue ready ↔ IsReady way change (get files (path_of change))) where
-  not_made : ready ≡ true → CanBeSetBack way (tree_of files) change
-  not_made holds = inl (subst (IsReady way change) (sym (tree_at files (path_of change) of_tree)) (is.0 holds))
+module _ (direction : Direction) (change : Change) (files : Files) (of_tree : is_of_tree (path_of change) ≡ true) (ready : Bool) (is : IsTrue ready ↔ IsReady direction change (get files (path_of change))) where
+  not_made : ready ≡ true → CanBeRolledBack direction (tree_of files) change
+  not_made holds = inl (subst (IsReady direction change) (sym (tree_at files (path_of change) of_tree)) (is.0 holds))
 
-  made : ready ≡ false → (other : Way) → other ≡ opposite way → (later : Files) → later ≡ files → (answer : Bool)
-      → (IsTrue answer ↔ CanBeMade other (tree_of later) change) → IsTrue answer ↔ CanBeSetBack way (tree_of files) change
+  made : ready ≡ false → (other : Direction) → other ≡ opposite direction → (later : Files) → later ≡ files → (answer : Bool)
+      → (IsTrue answer ↔ CanBeMade other (tree_of later) change) → IsTrue answer ↔ CanBeRolledBack direction (tree_of files) change
   made fails other is_opposite later same answer h =
-      let can : IsTrue answer ↔ CanBeMade (opposite way) (tree_of files) change = subst (λ w. IsTrue answer ↔ CanBeMade w (tree_of files) change) is_opposite (subst (λ m. IsTrue answer ↔ CanBeMade other (tree_of m) change) same h) in (
+      let can : IsTrue answer ↔ CanBeMade (opposite direction) (tree_of files) change = subst (λ w. IsTrue answer ↔ CanBeMade w (tree_of files) change) is_opposite (subst (λ m. IsTrue answer ↔ CanBeMade other (tree_of m) change) same h) in (
         λ holds. inr (can.0 holds),
         λ either. ⊎_elim
-            (λ (r : IsReady way change (get (tree_of files) (path_of change))). absurd (false≢true (sym fails ∙ is.1 (subst (IsReady way change) (tree_at files (path_of change) of_tree) r))))
-            (λ (m : CanBeMade (opposite way) (tree_of files) change). can.1 m)
+            (λ (r : IsReady direction change (get (tree_of files) (path_of change))). absurd (false≢true (sym fails ∙ is.1 (subst (IsReady direction change) (tree_at files (path_of change) of_tree) r))))
+            (λ (m : CanBeMade (opposite direction) (tree_of files) change). can.1 m)
             either,
       )
 
 pub returns-in-Go-clause-ok : goal.returns-in-Go-clause-ok
 returns-in-Go-clause-ok g c honest proper small of_tree =
-    subst (λ (aim : Aim). IfOk c.can_be_made.result (λ (b : Bool). IsTrue b ↔ Passes aim c.args.way (tree_of (g.S.Store.files c.args.store.now)) c.args.change.now)) (sym c.in-Go.is)
+    subst (λ (aim : Aim). IfOk c.can_be_made.result (λ (b : Bool). IsTrue b ↔ Passes aim c.args.direction (tree_of (g.S.Store.files c.args.store.now)) c.args.change.now)) (sym c.in-Go.is)
     (c.can_be_made.ensures.ok honest proper small of_tree)
 
 pub returns-then-branch-clause-ok : goal.returns-then-branch-clause-ok
 returns-then-branch-clause-ok g c honest proper small of_tree =
     let files = g.S.Store.files c.args.store.now in
-    subst (λ (aim : Aim). IsTrue true ↔ Passes aim c.args.way (tree_of files) c.args.change.now) (sym c.in-SetBack.is)
-    (λ _. not_made c.args.way c.args.change.now files of_tree c.in_ok-can_turn-in-SetBack.field-0 (c.in_ok-can_turn-in-SetBack.ensures.ok honest proper small) c.if-branch.true, λ _. refl)
+    subst (λ (aim : Aim). IsTrue true ↔ Passes aim c.args.direction (tree_of files) c.args.change.now) (sym c.in-RollingBack.is)
+    (λ _. not_made c.args.direction c.args.change.now files of_tree c.in_ok-can_apply-in-RollingBack.field-0 (c.in_ok-can_apply-in-RollingBack.ensures.ok honest proper small) c.if-branch.true, λ _. refl)
 
 pub returns-else-branch-clause-ok : goal.returns-else-branch-clause-ok
 returns-else-branch-clause-ok g c honest proper small of_tree =
     let files = g.S.Store.files c.args.store.now in
-    let way = c.args.way in
+    let direction = c.args.direction in
     let change = c.args.change.now in
-    let before = c.can_be_made-in-SetBack.ensures.reads.was_honest honest in
-    let same = c.can_turn.ensures.reads.files before in
-    subst (λ (aim : Aim). IfOk c.can_be_made-in-SetBack.result (λ (b : Bool). IsTrue b ↔ Passes aim way (tree_of files) change)) (sym c.in-SetBack.is) (
-    IfOk-weaker c.can_be_made-in-SetBack.result
-    (λ (b : Bool). IsTrue b ↔ CanBeMade c.opposite.result (tree_of (g.S.Store.files c.can_turn.new.store)) change)
-    (λ (b : Bool). IsTrue b ↔ CanBeSetBack way (tree_of files) change)
-    (made way change files of_tree c.in_ok-can_turn-in-SetBack.field-0 (c.in_ok-can_turn-in-SetBack.ensures.ok before proper small) c.if-branch.false c.opposite.result c.opposite.ensures (g.S.Store.files c.can_turn.new.store) same)
-    (c.can_be_made-in-SetBack.ensures.ok honest proper small of_tree)
+    let before = c.can_be_made-in-RollingBack.ensures.reads.was_honest honest in
+    let same = c.can_apply.ensures.reads.files before in
+    subst (λ (aim : Aim). IfOk c.can_be_made-in-RollingBack.result (λ (b : Bool). IsTrue b ↔ Passes aim direction (tree_of files) change)) (sym c.in-RollingBack.is) (
+    IfOk-weaker c.can_be_made-in-RollingBack.result
+    (λ (b : Bool). IsTrue b ↔ CanBeMade c.opposite.result (tree_of (g.S.Store.files c.can_apply.new.store)) change)
+    (λ (b : Bool). IsTrue b ↔ CanBeRolledBack direction (tree_of files) change)
+    (made direction change files of_tree c.in_ok-can_apply-in-RollingBack.field-0 (c.in_ok-can_apply-in-RollingBack.ensures.ok before proper small) c.if-branch.false c.opposite.result c.opposite.ensures (g.S.Store.files c.can_apply.new.store) same)
+    (c.can_be_made-in-RollingBack.ensures.ok honest proper small of_tree)
     )

@@ -38,18 +38,18 @@ not_moved faults.Clash answer path is moved = cc
 
 -- the test tells whether the change passes on the tree with which the walk began
 test_tells : (g : Over) (c : In_ok-passes g) → g.S.Store.honest c.passes.new.store → IsEntry c.args.changes.now
-    → IsTrue c.in_ok-passes.field-0 ↔ Passes c.args.aim c.args.way (tree_of (g.S.Store.files c.args.store.now)) c.change-item.result
+    → IsTrue c.in_ok-passes.field-0 ↔ Passes c.args.aim c.args.direction (tree_of (g.S.Store.files c.args.store.now)) c.change-item.result
 test_tells g c honest good =
     let kept = c.loop-change.invariant in
     let before = c.passes.ensures.reads.was_honest honest in
     tested c.args.changes.now c.loop-change.change-index c.loop-change-test.true c.change-item.result c.change-item.is
-    (λ files. IsTrue c.in_ok-passes.field-0 ↔ Passes c.args.aim c.args.way (tree_of files) c.change-item.result) good kept.reads before (c.in_ok-passes.ensures.ok honest)
+    (λ files. IsTrue c.in_ok-passes.field-0 ↔ Passes c.args.aim c.args.direction (tree_of files) c.change-item.result) good kept.reads before (c.in_ok-passes.ensures.ok honest)
 
 pub returns-then-not-branch-clause-moved : goal.returns-then-not-branch-clause-moved
 returns-then-not-branch-clause-moved g c honest good path e =
     let can = test_tells g (goal.at.returns-then-not-branch-clause-moved g c).In_ok-passes honest good in
     let here : path ≡ path_of c.change-item.result = sym (same_path c.in_ok-try_clone.field-0 path e) ∙ c.in_ok-try_clone.ensures ∙ c.path.ensures in
-    first_without c.args.changes.now c.loop-change.change-index c.loop-change-test.true c.change-item.result c.change-item.is (Passes c.args.aim c.args.way (tree_of (g.S.Store.files c.args.store.now))) path
+    first_without c.args.changes.now c.loop-change.change-index c.loop-change-test.true c.change-item.result c.change-item.is (Passes c.args.aim c.args.direction (tree_of (g.S.Store.files c.args.store.now))) path
     (c.loop-change.invariant.ready (c.passes.ensures.reads.was_honest honest) good) (λ made. false≢true (sym c.if-not-branch.true ∙ can.1 made)) here
 
 pub loop-change-init : goal.loop-change-init
@@ -64,14 +64,14 @@ loop-change-preserved g c =
     let was_honest = c.passes.ensures.reads.was_honest in
     record {
       reads = reads_more g.S.Store _ _ _ kept.reads c.passes.ensures.reads;
-      ready = λ honest good. passes c.args.changes.now c.loop-change.change-index c.loop-change-test.true c.change-item.result c.change-item.is (Passes c.args.aim c.args.way (tree_of (g.S.Store.files c.args.store.now)))
+      ready = λ honest good. passes c.args.changes.now c.loop-change.change-index c.loop-change-test.true c.change-item.result c.change-item.is (Passes c.args.aim c.args.direction (tree_of (g.S.Store.files c.args.store.now)))
           (kept.ready (was_honest honest) good) ((test_tells g (goal.at.loop-change-preserved g c).In_ok-passes honest good).0 c.if-not-branch.false);
     }
 
 pub returns-clause-ready : goal.returns-clause-ready
 returns-clause-ready g c honest good =
     let all = take_all c.loop-change.change-index c.args.changes.now c.loop-change-test.false in
-    subst (All (Passes c.args.aim c.args.way (tree_of (g.S.Store.files c.args.store.now)))) all (c.loop-change.invariant.ready honest good)
+    subst (All (Passes c.args.aim c.args.direction (tree_of (g.S.Store.files c.args.store.now)))) all (c.loop-change.invariant.ready honest good)
 
 pub returns-then-not-branch-clause-fails : goal.returns-then-not-branch-clause-fails
 returns-then-not-branch-clause-fails g c = fails_otherwise g.S.Store _ _ (Err (refusals.Moved _)) tt

@@ -12,13 +12,13 @@ use Rattle.reuse_session.proofs.journal.recovery.find_next.Goals as goal
 
 pub returns-then-branch-clause-adds : goal.returns-then-branch-clause-adds
 returns-then-branch-clause-adds g c honest proper small of_tree =
-    inl (is_before c.args.way c.args.change.now (g.S.Store.files c.args.store.now) of_tree c.in_ok-can_turn.field-0 (c.in_ok-can_turn.ensures.ok honest proper small) c.if-branch.true, refl, refl)
+    inl (is_before c.args.direction c.args.change.now (g.S.Store.files c.args.store.now) of_tree c.in_ok-can_apply.field-0 (c.in_ok-can_apply.ensures.ok honest proper small) c.if-branch.true, refl, refl)
 
 -- the second test tells whether the change is made and can be taken back
 can_tell : (g : Over) (c : In_ok-can_be_made g) → g.S.Store.honest c.can_be_made.new.store → IsProper c.args.change.now → IsSmall c.args.change.now → is_of_tree (path_of c.args.change.now) ≡ true
-    → IsTrue c.in_ok-can_be_made.field-0 ↔ CanBeMade (opposite c.args.way) (tree_of (g.S.Store.files c.args.store.now)) c.args.change.now
+    → IsTrue c.in_ok-can_be_made.field-0 ↔ CanBeMade (opposite c.args.direction) (tree_of (g.S.Store.files c.args.store.now)) c.args.change.now
 can_tell g c honest proper small of_tree =
-    let same = c.can_turn.ensures.reads.files (c.can_be_made.ensures.reads.was_honest honest) in
+    let same = c.can_apply.ensures.reads.files (c.can_be_made.ensures.reads.was_honest honest) in
     let answer = c.in_ok-can_be_made.field-0 in
     let change = c.args.change.now in
     subst (λ w. IsTrue answer ↔ CanBeMade w (tree_of (g.S.Store.files c.args.store.now)) change) c.opposite.ensures
@@ -26,9 +26,9 @@ can_tell g c honest proper small of_tree =
     (c.in_ok-can_be_made.ensures.ok honest proper small of_tree))
 
 not_ready : (g : Over) (c : In_ok-can_be_made g) → g.S.Store.honest c.can_be_made.new.store → IsProper c.args.change.now → IsSmall c.args.change.now → is_of_tree (path_of c.args.change.now) ≡ true
-    → ¬ (IsReady c.args.way c.args.change.now (get (tree_of (g.S.Store.files c.args.store.now)) (path_of c.args.change.now)))
+    → ¬ (IsReady c.args.direction c.args.change.now (get (tree_of (g.S.Store.files c.args.store.now)) (path_of c.args.change.now)))
 not_ready g c honest proper small of_tree =
-    not_before c.args.way c.args.change.now (g.S.Store.files c.args.store.now) of_tree c.in_ok-can_turn.field-0 (c.in_ok-can_turn.ensures.ok (c.can_be_made.ensures.reads.was_honest honest) proper small) c.if-branch.false
+    not_before c.args.direction c.args.change.now (g.S.Store.files c.args.store.now) of_tree c.in_ok-can_apply.field-0 (c.in_ok-can_apply.ensures.ok (c.can_be_made.ensures.reads.was_honest honest) proper small) c.if-branch.false
 
 pub returns-in_ok-push-clause-adds : goal.returns-in_ok-push-clause-adds
 returns-in_ok-push-clause-adds g c honest proper small of_tree =
@@ -46,7 +46,7 @@ returns-in_ok-push-2-clause-adds g c honest proper small of_tree =
     inr (inr (
       λ can. ⊎_elim
           (not_ready g at honest proper small of_tree)
-          (λ (made : CanBeMade (opposite c.args.way) (tree_of (g.S.Store.files c.args.store.now)) c.args.change.now). false≢true (sym c.if-branch-2.false ∙ (can_tell g at honest proper small of_tree).1 made))
+          (λ (made : CanBeMade (opposite c.args.direction) (tree_of (g.S.Store.files c.args.store.now)) c.args.change.now). false≢true (sym c.if-branch-2.false ∙ (can_tell g at honest proper small of_tree).1 made))
           can,
       refl,
       c.in_ok-push-2.ensures.items ∙ ap (λ path. c.args.found.now.skipped.items ++ path ∷ []) (c.in_ok-path.ensures ∙ c.path.ensures),

@@ -46,8 +46,8 @@ returns-clause-interrupted g c honest cause e =
 
 -- what may be left of files that await recovery, or that are in doubt
 pub returns-in_err-pending-clause-lasting : goal.returns-in_err-pending-clause-lasting
-returns-in_err-pending-clause-lasting g c honest way step held awaits =
-    refused_on_the_way way step held g.S.Store c.args.store.now c.read_journal.new.store c.from_residual.result
+returns-in_err-pending-clause-lasting g c honest direction step held awaits =
+    refused_on_the_way direction step held g.S.Store c.args.store.now c.read_journal.new.store c.from_residual.result
     c.in_err-pending.field-0.0 (is_refused c.from_residual.result c.from_residual.ensures.1)
     (read_early c.in_err-pending.field-0.0 c.in_err-pending.ensures.refusal) c.read_journal.ensures.reads honest awaits
 
@@ -58,12 +58,12 @@ returns-in_err-pending-clause-survives g c honest earlier held next doubt =
     (is_refused c.from_residual.result c.from_residual.ensures.1) doubt
 
 pub returns-in-None-clause-lasting : goal.returns-in-None-clause-lasting
-returns-in-None-clause-lasting g c honest way step held awaits =
+returns-in-None-clause-lasting g c honest direction step held awaits =
     let r = c.in_ok-pending.ensures.ok honest in
     let read : IsRead (g.S.Store.files c.args.store.now) None c.in_ok-pending.history r.0 = subst
     (λ p. IsRead (g.S.Store.files c.args.store.now) p c.in_ok-pending.history r.0) c.in-None.is r.1 in
     absurd (none_pending (undo_folder_of (g.S.Store.files c.args.store.now)) r.0 held.journal
-    (record { entry = number_of step; way = way }) read.keeps awaits.files.pending.keeps)
+    (record { entry = number_of step; direction = direction }) read.keeps awaits.files.pending.keeps)
 
 pub returns-in-None-clause-survives : goal.returns-in-None-clause-survives
 returns-in-None-clause-survives g c honest earlier held next doubt =
@@ -83,11 +83,11 @@ returns-in-None-clause-survives g c honest earlier held next doubt =
 
 -- the files await recovery still, once the journal was read
 pub returns-clause-lasting : goal.returns-clause-lasting
-returns-clause-lasting g c honest way step held awaits =
+returns-clause-lasting g c honest direction step held awaits =
     let at = (goal.at.returns-clause-lasting g c).After-recover_step in
     let read = read_then g at honest in
-    c.recover_step.ensures.lasting honest read.0 read.1 way step held
-    (awaits_still way step held g.S.Store c.args.store.now c.read_journal.new.store c.read_journal.ensures.reads
+    c.recover_step.ensures.lasting honest read.0 read.1 direction step held
+    (awaits_still direction step held g.S.Store c.args.store.now c.read_journal.new.store c.read_journal.ensures.reads
     (c.recover_step.ensures.later.was_honest honest) awaits)
 
 pub returns-clause-survives : goal.returns-clause-survives
@@ -97,6 +97,6 @@ returns-clause-survives g c honest earlier held next doubt =
     recovers_in_doubt g.S.Store earlier held next c.read_journal.new.store c.recover_step.new.store honest
     c.in-Some.pending c.in_ok-pending.history read.0 read.1
     c.recover_step.result c.recover_step.ensures.early
-    (λ way step. c.recover_step.ensures.lasting honest read.0 read.1 way step held)
+    (λ direction step. c.recover_step.ensures.lasting honest read.0 read.1 direction step held)
     (doubt_stays g.S.Store earlier held next c.args.store.now c.read_journal.new.store c.read_journal.ensures.reads
     (c.recover_step.ensures.later.was_honest honest) doubt)

@@ -3,15 +3,15 @@ use Rattle.std.specs.FinMap.{get}
 use Rattle.std.specs.List.{All}
 use Rattle.std.proofs.lemmas.Result.{on_ok_weaker}
 use Rattle.reuse_tree.specs.Asked.{IsSynced, Leaves, OnlyReads}
-use Rattle.reuse_tree.specs.Entry.{ArePartlyMade, CanBeSetBack, IsEntry, SomeMade}
+use Rattle.reuse_tree.specs.Entry.{ArePartlyMade, CanBeRolledBack, IsEntry, SomeMade}
 use Rattle.reuse_tree.specs.Files.{Clashes, Files, tree_of}
-use Rattle.reuse_tree.specs.Head.{way_of, IsGoodHead}
+use Rattle.reuse_tree.specs.Head.{direction_of, IsGoodHead}
 use Rattle.reuse_tree.specs.Listing.{ArePaths}
 use Rattle.reuse_tree.specs.Tree.{undo_folder_of}
 use Rattle.reuse_tree.specs.declared.change.Change.{Change}
 use Rattle.reuse_tree.specs.declared.cause.Cause.{Cause}
-use Rattle.reuse_tree.specs.declared.journal.head.PendingWay.{PendingWay}
-use Rattle.reuse_tree.specs.declared.way.Way.{Way}
+use Rattle.reuse_tree.specs.declared.journal.head.PendingDirection.{PendingDirection}
+use Rattle.reuse_tree.specs.declared.direction.Direction.{Direction}
 use Rattle.reuse_tree.proofs.AskedLemmas.{reads_more}
 use Rattle.reuse_session.specs.session.Answer.{IsNoClash}
 use Rattle.reuse_session.specs.journal.Carried.{IsRolledBack, StopsBack}
@@ -45,13 +45,13 @@ module _ (g : Over) (c : In_ok-found g) (honest : g.S.Store.honest c.find_each.n
   says : EntrySays (get (undo_folder_of (g.S.Store.files c.args.store.now)) (entry_path c.args.pending.entry)) c.in_ok-entry.entry
   says = c.in_ok-entry.ensures.ok (c.find_each.ensures.reads.was_honest honest)
 
-  found : AreFound (way_of c.args.pending.way) (tree_of (g.S.Store.files c.args.store.now)) c.in_ok-entry.entry.changes c.in_ok-found.found.changed.items c.in_ok-found.found.skipped.items
+  found : AreFound (direction_of c.args.pending.direction) (tree_of (g.S.Store.files c.args.store.now)) c.in_ok-entry.entry.changes c.in_ok-found.found.changed.items c.in_ok-found.found.skipped.items
   found =
       let files = g.S.Store.files in
       let entry = c.in_ok-entry.entry in
       let good = is_entry (files c.args.store.now) c.args.pending c.args.history.now journal read entry says in
-      at_same (λ f w cs. AreFound w (tree_of f) cs c.in_ok-found.found.changed.items c.in_ok-found.found.skipped.items) (files c.read_entry.new.store) (files c.args.store.now) c.way-way.result (way_of c.args.pending.way) c.as_slice.result.now entry.changes
-      (c.read_entry.ensures.reads.files (c.find_each.ensures.reads.was_honest honest)) c.way-way.ensures c.as_slice.ensures
+      at_same (λ f w cs. AreFound w (tree_of f) cs c.in_ok-found.found.changed.items c.in_ok-found.found.skipped.items) (files c.read_entry.new.store) (files c.args.store.now) c.direction-direction.result (direction_of c.args.pending.direction) c.as_slice.result.now entry.changes
+      (c.read_entry.ensures.reads.files (c.find_each.ensures.reads.was_honest honest)) c.direction-direction.ensures c.as_slice.ensures
       (c.in_ok-found.ensures.found honest (subst IsEntry (sym c.as_slice.ensures) good))
 
 -- the first that is stuck is refused
@@ -67,7 +67,7 @@ returns-in_err-refuse_first-clause-moved g c honest journal read path e =
 -- what is known once those that can be rolled back are rolled back, whichever way that went
 module _ (g : Over) (c : After-roll_back_part g) (at : In_ok-found g) (honest : g.S.Store.honest c.roll_back_part.new.store) (journal : Journal) (read : IsRead (g.S.Store.files c.args.store.now) (Some c.args.pending) c.args.history.now journal)
     (its_says : EntrySays (get (undo_folder_of (g.S.Store.files c.args.store.now)) (entry_path c.args.pending.entry)) c.in_ok-entry.entry)
-    (its_found : AreFound (way_of c.args.pending.way) (tree_of (g.S.Store.files c.args.store.now)) c.in_ok-entry.entry.changes c.in_ok-found.found.changed.items c.in_ok-found.found.skipped.items)
+    (its_found : AreFound (direction_of c.args.pending.direction) (tree_of (g.S.Store.files c.args.store.now)) c.in_ok-entry.entry.changes c.in_ok-found.found.changed.items c.in_ok-found.found.skipped.items)
   where
     same : g.S.Store.files c.find_each.new.store ≡ g.S.Store.files c.args.store.now
     same =
@@ -81,19 +81,19 @@ module _ (g : Over) (c : After-roll_back_part g) (at : In_ok-found g) (honest : 
         ∙ ap (λ paths. changes_besides paths c.into_vec.result.items) c.as_slice-3.ensures.value ∙ ap (changes_besides c.in_ok-found.found.skipped.items) c.into_vec.ensures
 
     -- what rolling back says of what it was given is said of the step's changes that can be rolled back
-    of_step : (Says : Files → Way → List Change → Type 0) → Says (g.S.Store.files c.find_each.new.store) c.way-way.result c.as_slice-5.result.now
-        → Says (g.S.Store.files c.args.store.now) (way_of c.args.pending.way) (changes_besides c.in_ok-found.found.skipped.items c.in_ok-entry.entry.changes)
-    of_step Says = at_same Says (g.S.Store.files c.find_each.new.store) (g.S.Store.files c.args.store.now) c.way-way.result (way_of c.args.pending.way) c.as_slice-5.result.now (changes_besides c.in_ok-found.found.skipped.items c.in_ok-entry.entry.changes) same c.way-way.ensures part_is
+    of_step : (Says : Files → Direction → List Change → Type 0) → Says (g.S.Store.files c.find_each.new.store) c.direction-direction.result c.as_slice-5.result.now
+        → Says (g.S.Store.files c.args.store.now) (direction_of c.args.pending.direction) (changes_besides c.in_ok-found.found.skipped.items c.in_ok-entry.entry.changes)
+    of_step Says = at_same Says (g.S.Store.files c.find_each.new.store) (g.S.Store.files c.args.store.now) c.direction-direction.result (direction_of c.args.pending.direction) c.as_slice-5.result.now (changes_besides c.in_ok-found.found.skipped.items c.in_ok-entry.entry.changes) same c.direction-direction.ensures part_is
 
-    given_to : (Says : Files → Way → List Change → Type 0) → Says (g.S.Store.files c.args.store.now) (way_of c.args.pending.way) (changes_besides c.in_ok-found.found.skipped.items c.in_ok-entry.entry.changes)
-        → Says (g.S.Store.files c.find_each.new.store) c.way-way.result c.as_slice-5.result.now
-    given_to Says = at_same Says (g.S.Store.files c.args.store.now) (g.S.Store.files c.find_each.new.store) (way_of c.args.pending.way) c.way-way.result (changes_besides c.in_ok-found.found.skipped.items c.in_ok-entry.entry.changes) c.as_slice-5.result.now (sym same) (sym c.way-way.ensures) (sym part_is)
+    given_to : (Says : Files → Direction → List Change → Type 0) → Says (g.S.Store.files c.args.store.now) (direction_of c.args.pending.direction) (changes_besides c.in_ok-found.found.skipped.items c.in_ok-entry.entry.changes)
+        → Says (g.S.Store.files c.find_each.new.store) c.direction-direction.result c.as_slice-5.result.now
+    given_to Says = at_same Says (g.S.Store.files c.args.store.now) (g.S.Store.files c.find_each.new.store) (direction_of c.args.pending.direction) c.direction-direction.result (changes_besides c.in_ok-found.found.skipped.items c.in_ok-entry.entry.changes) c.as_slice-5.result.now (sym same) (sym c.direction-direction.ensures) (sym part_is)
 
     part : ArePart c.as_slice-5.result.now
     part = subst ArePart (sym part_is) (is_part (g.S.Store.files c.args.store.now) c.args.pending c.args.history.now journal read c.in_ok-entry.entry its_says c.in_ok-found.found.changed.items c.in_ok-found.found.skipped.items its_found)
 
-    can : All (CanBeSetBack c.way-way.result (tree_of (g.S.Store.files c.find_each.new.store))) c.as_slice-5.result.now
-    can = given_to (λ f w cs. All (CanBeSetBack w (tree_of f)) cs) (can_all (g.S.Store.files c.args.store.now) c.args.pending c.args.history.now journal read c.in_ok-entry.entry its_says c.in_ok-found.found.changed.items c.in_ok-found.found.skipped.items its_found)
+    can : All (CanBeRolledBack c.direction-direction.result (tree_of (g.S.Store.files c.find_each.new.store))) c.as_slice-5.result.now
+    can = given_to (λ f w cs. All (CanBeRolledBack w (tree_of f)) cs) (can_all (g.S.Store.files c.args.store.now) c.args.pending c.args.history.now journal read c.in_ok-entry.entry its_says c.in_ok-found.found.changed.items c.in_ok-found.found.skipped.items its_found)
 
     good_text : IsGoodHead c.as_slice-4.result.now (head_of journal None)
     good_text =
@@ -167,7 +167,7 @@ returns-clause-recovered g c honest journal read =
     let skipped = c.in_ok-found.found.skipped.items in
     let rolled = c.in_ok-roll_back_part.ensures.done honest (part g at.After-roll_back_part at.In_ok-found honest journal read it them) in
     inr (
-      c.args.pending.way,
+      c.args.pending.direction,
       recorded c.args.pending.entry entry,
       journal,
       has_pending files c.args.pending c.args.history.now journal read entry it changed skipped them,
@@ -181,8 +181,8 @@ returns-clause-recovered g c honest journal read =
 -- ---- what a loss of power may leave
 
 pub returns-in_err-entry-clause-lasting : goal.returns-in_err-entry-clause-lasting
-returns-in_err-entry-clause-lasting g c honest journal read way step held awaits =
-    refused_on_the_way way step held g.S.Store c.args.store.now c.read_entry.new.store c.from_residual.result
+returns-in_err-entry-clause-lasting g c honest journal read direction step held awaits =
+    refused_on_the_way direction step held g.S.Store c.args.store.now c.read_entry.new.store c.from_residual.result
     c.in_err-entry.field-0.0 (is_refused c.from_residual.result c.from_residual.ensures.1)
     (read_early c.in_err-entry.field-0.0 c.in_err-entry.ensures.refusal) c.read_entry.ensures.reads honest awaits
 
@@ -192,34 +192,34 @@ looked_at g c = reads_more g.S.Store c.args.store.now c.read_entry.new.store c.f
     c.read_entry.ensures.reads c.find_each.ensures.reads
 
 pub returns-in_err-found-clause-lasting : goal.returns-in_err-found-clause-lasting
-returns-in_err-found-clause-lasting g c honest journal read way step held awaits =
+returns-in_err-found-clause-lasting g c honest journal read direction step held awaits =
     let at = (goal.at.returns-in_err-found-clause-lasting g c).After-find_each in
-    refused_on_the_way way step held g.S.Store c.args.store.now c.find_each.new.store
+    refused_on_the_way direction step held g.S.Store c.args.store.now c.find_each.new.store
     c.from_residual-in_err-found.result c.in_err-found.field-0.0
     (is_refused c.from_residual-in_err-found.result c.from_residual-in_err-found.ensures.1)
     (put_early c.in_err-found.field-0.0 c.in_err-found.ensures.refusal) (looked_at g at) honest awaits
 
 pub returns-in_err-refuse_first-clause-lasting : goal.returns-in_err-refuse_first-clause-lasting
-returns-in_err-refuse_first-clause-lasting g c honest journal read way step held awaits =
+returns-in_err-refuse_first-clause-lasting g c honest journal read direction step held awaits =
     let at = (goal.at.returns-in_err-refuse_first-clause-lasting g c).After-find_each in
-    refused_on_the_way way step held g.S.Store c.args.store.now c.find_each.new.store
+    refused_on_the_way direction step held g.S.Store c.args.store.now c.find_each.new.store
     c.from_residual-in_err-refuse_first.result c.in_err-refuse_first.field-0.0
     (is_refused c.from_residual-in_err-refuse_first.result c.from_residual-in_err-refuse_first.ensures.1)
     (tested_early c.in_err-refuse_first.field-0.0 c.in_err-refuse_first.ensures.refusal)
     (looked_at g at) honest awaits
 
 pub returns-in_err-settled-clause-lasting : goal.returns-in_err-settled-clause-lasting
-returns-in_err-settled-clause-lasting g c honest journal read way step held awaits =
+returns-in_err-settled-clause-lasting g c honest journal read direction step held awaits =
     let at = (goal.at.returns-in_err-settled-clause-lasting g c).After-find_each in
-    refused_on_the_way way step held g.S.Store c.args.store.now c.find_each.new.store
+    refused_on_the_way direction step held g.S.Store c.args.store.now c.find_each.new.store
     c.from_residual-in_err-settled.result (Failed Memory)
     (is_refused c.from_residual-in_err-settled.result c.from_residual-in_err-settled.ensures.1) tt
     (looked_at g at) honest awaits
 
 pub returns-in_err-path-clause-lasting : goal.returns-in_err-path-clause-lasting
-returns-in_err-path-clause-lasting g c honest journal read way step held awaits =
+returns-in_err-path-clause-lasting g c honest journal read direction step held awaits =
     let at = (goal.at.returns-in_err-path-clause-lasting g c).After-find_each in
-    refused_on_the_way way step held g.S.Store c.args.store.now c.find_each.new.store c.from_residual-in_err-path.result
+    refused_on_the_way direction step held g.S.Store c.args.store.now c.find_each.new.store c.from_residual-in_err-path.result
     (Failed Memory)
     (is_refused c.from_residual-in_err-path.result c.from_residual-in_err-path.ensures.1) tt
     (looked_at g at) honest awaits
@@ -230,27 +230,27 @@ module _ (g : Over) (c : After-roll_back_part g) (at : In_ok-found g)
     (read : IsRead (g.S.Store.files c.args.store.now) (Some c.args.pending) c.args.history.now journal)
     (its_says : EntrySays
     (get (undo_folder_of (g.S.Store.files c.args.store.now)) (entry_path c.args.pending.entry)) c.in_ok-entry.entry)
-    (its_found : AreFound (way_of c.args.pending.way)
+    (its_found : AreFound (direction_of c.args.pending.direction)
     (tree_of (g.S.Store.files c.args.store.now)) c.in_ok-entry.entry.changes c.in_ok-found.found.changed.items
     c.in_ok-found.found.skipped.items)
-    (way : PendingWay) (step : Recorded) (held : State)
-    (awaits : AwaitsRecovery g.S.Store way step held c.args.store.now)
+    (direction : PendingDirection) (step : Recorded) (held : State)
+    (awaits : AwaitsRecovery g.S.Store direction step held c.args.store.now)
   where
-    partly_there : ArePartlyMade c.way-way.result c.as_slice-5.result.now held.tree
+    partly_there : ArePartlyMade c.direction-direction.result c.as_slice-5.result.now held.tree
         (tree_of (g.S.Store.files c.find_each.new.store))
     partly_there =
         given_to g c at honest journal read its_says its_found (λ f w cs. ArePartlyMade w cs held.tree (tree_of f))
         (partly_on
         (g.S.Store.files c.args.store.now) c.args.pending c.args.history.now journal read c.in_ok-entry.entry its_says
-        c.in_ok-found.found.changed.items c.in_ok-found.found.skipped.items its_found way step held awaits.files)
+        c.in_ok-found.found.changed.items c.in_ok-found.found.skipped.items its_found direction step held awaits.files)
 
     sure_there : Leaves g.S.Store c.find_each.new.store
-        (λ kept. SomeMade c.way-way.result c.as_slice-5.result.now held.tree (tree_of kept))
+        (λ kept. SomeMade c.direction-direction.result c.as_slice-5.result.now held.tree (tree_of kept))
     sure_there kept is =
         given_to g c at honest journal read its_says its_found (λ f w cs. SomeMade w cs held.tree (tree_of kept))
         (some_left
         (g.S.Store.files c.args.store.now) c.args.pending c.args.history.now journal read c.in_ok-entry.entry its_says
-        c.in_ok-found.found.changed.items c.in_ok-found.found.skipped.items its_found way step held awaits.files
+        c.in_ok-found.found.changed.items c.in_ok-found.found.skipped.items its_found direction step held awaits.files
         kept (awaits.trees kept (c.read_entry.ensures.reads.may kept (c.find_each.ensures.reads.may kept is))))
 
     synced_there : OnOk c.roll_back_part.result (IsSynced g.S.Store c.roll_back_part.new.store)
@@ -262,7 +262,7 @@ module _ (g : Over) (c : After-roll_back_part g) (at : In_ok-found g)
         on_ok_weaker c.roll_back_part.result
         (λ rolled. part_stands
         (g.S.Store.files c.args.store.now) c.args.pending c.args.history.now journal read c.in_ok-entry.entry its_says
-        c.in_ok-found.found.changed.items c.in_ok-found.found.skipped.items its_found way step held awaits.files
+        c.in_ok-found.found.changed.items c.in_ok-found.found.skipped.items its_found direction step held awaits.files
         g.S.Store c.roll_back_part.new.store c.as_slice-4.result.now
         (good_text g c at honest journal read its_says its_found)
         (g.met.S.Store.are_files c.roll_back_part.new.store honest)
@@ -273,12 +273,12 @@ module _ (g : Over) (c : After-roll_back_part g) (at : In_ok-found g)
         (c.roll_back_part.ensures.done honest (part g c at honest journal read its_says its_found))
 
     stops_there : (cause : Cause) → c.roll_back_part.result ≡ Err (Failed (Interrupted cause))
-        → AwaitsOrIs g.S.Store way step held c.roll_back_part.new.store × Leaves g.S.Store c.roll_back_part.new.store
-        (IsOrRecoversTo way step held)
+        → AwaitsOrIs g.S.Store direction step held c.roll_back_part.new.store × Leaves g.S.Store c.roll_back_part.new.store
+        (IsOrRecoversTo direction step held)
     stops_there cause e =
         part_stops
         (g.S.Store.files c.args.store.now) c.args.pending c.args.history.now journal read c.in_ok-entry.entry its_says
-        c.in_ok-found.found.changed.items c.in_ok-found.found.skipped.items its_found way step held awaits.files
+        c.in_ok-found.found.changed.items c.in_ok-found.found.skipped.items its_found direction step held awaits.files
         g.S.Store c.roll_back_part.new.store c.as_slice-4.result.now
         (good_text g c at honest journal read its_says its_found)
         (of_step g c at honest journal read its_says its_found
@@ -290,7 +290,7 @@ on_ok_at : {A E : Type 0} (P : Type 0) (result : Result A E) (x : A) → result 
 on_ok_at P result x was is = subst (λ r. OnOk r P) was is
 
 pub returns-in_err-roll_back_part-clause-lasting : goal.returns-in_err-roll_back_part-clause-lasting
-returns-in_err-roll_back_part-clause-lasting g c honest journal read way step held awaits =
+returns-in_err-roll_back_part-clause-lasting g c honest journal read direction step held awaits =
     let at = goal.at.returns-in_err-roll_back_part-clause-lasting g c in
     let looked = c.roll_back_part.ensures.later.was_honest honest in
     let it = says g at.In_ok-found looked journal read in
@@ -298,21 +298,21 @@ returns-in_err-roll_back_part-clause-lasting g c honest journal read way step he
     let result = c.from_residual-in_err-roll_back_part.result in
     let given = c.from_residual-in_err-roll_back_part.ensures.1 in
     let refusal = c.in_err-roll_back_part.field-0.0 in
-    rolled_on_the_way way step held g.S.Store c.args.store.now c.find_each.new.store c.roll_back_part.new.store result
+    rolled_on_the_way direction step held g.S.Store c.args.store.now c.find_each.new.store c.roll_back_part.new.store result
     refusal (is_refused result given) (looked_at g at.After-find_each) honest awaits
     c.in_err-roll_back_part.ensures.early
-    (λ cause e. stops_there g at.After-roll_back_part at.In_ok-found honest journal read it them way step held awaits
+    (λ cause e. stops_there g at.After-roll_back_part at.In_ok-found honest journal read it them direction step held awaits
     cause (c.in_err-roll_back_part.was ∙ ap (λ x. Err x) e))
 
 pub returns-clause-lasting : goal.returns-clause-lasting
-returns-clause-lasting g c honest journal read way step held awaits =
+returns-clause-lasting g c honest journal read direction step held awaits =
     let at = goal.at.returns-clause-lasting g c in
     let looked = c.roll_back_part.ensures.later.was_honest honest in
     let it = says g at.In_ok-found looked journal read in
     let them = found g at.In_ok-found looked journal read in
     let was = c.in_ok-roll_back_part.was in (
       on_ok_at _ c.roll_back_part.result _ was
-          (stands_there g at.After-roll_back_part at.In_ok-found honest journal read it them way step held awaits),
+          (stands_there g at.After-roll_back_part at.In_ok-found honest journal read it them direction step held awaits),
       on_ok_at _ c.roll_back_part.result _ was
-          (synced_there g at.After-roll_back_part at.In_ok-found honest journal read it them way step held awaits),
+          (synced_there g at.After-roll_back_part at.In_ok-found honest journal read it them direction step held awaits),
     )

@@ -9,7 +9,7 @@ use Rattle.reuse_tree.specs.Tree.{undo_folder_of}
 use Rattle.reuse_session.specs.session.Answer.{told_of, HasCause, IsEarly, IsNoClash, IsRollBackRefusal}
 use Rattle.reuse_session.specs.journal.Carried.{StopsBack, StopsRollingBack}
 use Rattle.reuse_session.specs.journal.Losses.{StopsBackWithDoubt}
-use Rattle.reuse_tree.specs.Entry.{ArePartlyMade, CanBeSetBack, SomeMade}
+use Rattle.reuse_tree.specs.Entry.{ArePartlyMade, CanBeRolledBack, SomeMade}
 use Rattle.reuse_session.specs.journal.JournalFiles.{head_path}
 use Rattle.reuse_tree.specs.declared.cause.Cause.{Cause}
 use Rattle.reuse_tree.specs.declared.cause.Cause.TheVariants as causes
@@ -81,13 +81,13 @@ read_so_far g c = reads_more g.S.Store c.args.store.now c.test_each.new.store c.
 pub returns-in-Err-clause-clash : goal.returns-in-Err-clause-clash
 returns-in-Err-clause-clash g c honest good free =
     let files = g.S.Store.files in
-    let before = c.set_all_back.ensures.later.was_honest honest in
+    let before = c.roll_back_changes.ensures.later.was_honest honest in
     let tested = c.sync.ensures.reads.was_honest before in
     let same = c.sync.ensures.reads.files before ∙ c.test_each.ensures.reads.files tested in
-    let can = subst (λ f. All (CanBeSetBack c.args.way (tree_of f)) c.args.changes.now) (sym same) (c.in_ok-test_each.ensures.ready tested good) in
-    let none = c.set_all_back.ensures.cause honest good can (λ clash. free (subst (λ f. Clashes f head_path) same clash)) in
+    let can = subst (λ f. All (CanBeRolledBack c.args.direction (tree_of f)) c.args.changes.now) (sym same) (c.in_ok-test_each.ensures.ready tested good) in
+    let none = c.roll_back_changes.ensures.cause honest good can (λ clash. free (subst (λ f. Clashes f head_path) same clash)) in
     subst IsNoClash (sym c.told.ensures)
-    (told_no_clash c.set_all_back.new.started c.in-Err.cause (λ e. none.0 (c.in-Err.is ∙ ap (λ x. Err x) e)) (λ e. none.1 (c.in-Err.is ∙ ap (λ x. Err x) e)))
+    (told_no_clash c.roll_back_changes.new.started c.in-Err.cause (λ e. none.0 (c.in-Err.is ∙ ap (λ x. Err x) e)) (λ e. none.1 (c.in-Err.is ∙ ap (λ x. Err x) e)))
 
 -- on the way from a tree no change is in doubt
 pub returns-in_err-test_each-clause-recovers : goal.returns-in_err-test_each-clause-recovers
@@ -98,8 +98,8 @@ returns-in_err-test_each-clause-recovers g c honest good start are partly path e
     let same = p.2 in
     let was = c.in_err-test_each.was in
     let moved : c.test_each.result ≡ Err (Moved path) = cc in
-    none_without (CanBeSetBack c.args.way tree) c.args.changes.now path
-    (settles_from c.args.way start tree c.args.changes.now good are partly)
+    none_without (CanBeRolledBack c.args.direction tree) c.args.changes.now path
+    (settles_from c.args.direction start tree c.args.changes.now good are partly)
     (c.test_each.ensures.moved honest good path moved)
 
 -- what is known behind the first barrier
@@ -107,78 +107,78 @@ module _ (g : Over) (c : After-sync g) (honest : g.S.Store.honest c.sync.new.sel
   same_files : g.S.Store.files c.sync.new.self ≡ g.S.Store.files c.args.store.now
   same_files = c.sync.ensures.reads.files honest ∙ c.test_each.ensures.reads.files (c.sync.ensures.reads.was_honest honest)
 
-  still_partly : (start : Files) → ArePartlyMade c.args.way c.args.changes.now start (tree_of (g.S.Store.files c.args.store.now)) → ArePartlyMade c.args.way c.args.changes.now start (tree_of (g.S.Store.files c.sync.new.self))
-  still_partly start = subst (λ files. ArePartlyMade c.args.way c.args.changes.now start (tree_of files)) (sym same_files)
+  still_partly : (start : Files) → ArePartlyMade c.args.direction c.args.changes.now start (tree_of (g.S.Store.files c.args.store.now)) → ArePartlyMade c.args.direction c.args.changes.now start (tree_of (g.S.Store.files c.sync.new.self))
+  still_partly start = subst (λ files. ArePartlyMade c.args.direction c.args.changes.now start (tree_of files)) (sym same_files)
 
 -- the head that is there is certain then, and each path of the tree is left as it is or as it might be
-midway : (g : Over) (c : After-sync g) → IsBehind g.S.Store c.test_each.new.store c.sync.new.self → (start : Files) → SomeMade c.args.way c.args.changes.now start (tree_of (g.S.Store.files c.sync.new.self)) → Leaves g.S.Store c.args.store.now (λ kept. SomeMade c.args.way c.args.changes.now start (tree_of kept))
-    → Leaves g.S.Store c.sync.new.self (IsMidway c.args.way c.args.changes.now start (undo_folder_of (g.S.Store.files c.sync.new.self)))
+midway : (g : Over) (c : After-sync g) → IsBehind g.S.Store c.test_each.new.store c.sync.new.self → (start : Files) → SomeMade c.args.direction c.args.changes.now start (tree_of (g.S.Store.files c.sync.new.self)) → Leaves g.S.Store c.args.store.now (λ kept. SomeMade c.args.direction c.args.changes.now start (tree_of kept))
+    → Leaves g.S.Store c.sync.new.self (IsMidway c.args.direction c.args.changes.now start (undo_folder_of (g.S.Store.files c.sync.new.self)))
 midway g c barrier start now sure left is =
     let got = barrier left is in
-    certain_midway c.args.way c.args.changes.now start (g.S.Store.files c.sync.new.self) got.0 left now (sure got.0 (c.test_each.ensures.reads.may got.0 got.1)) got.2
+    certain_midway c.args.direction c.args.changes.now start (g.S.Store.files c.sync.new.self) got.0 left now (sure got.0 (c.test_each.ensures.reads.may got.0 got.1)) got.2
 
 pub returns-in-Err-clause-stopped : goal.returns-in-Err-clause-stopped
 returns-in-Err-clause-stopped g c honest good start partly cause e =
     let store = g.S.Store in
     let at = (goal.at.returns-in-Err-clause-stopped g c).After-sync in
-    let before = c.set_all_back.ensures.later.was_honest honest in
-    let after = store.files c.set_all_back.new.store in
-    let stopped = c.set_all_back.ensures.stopped honest good start (still_partly g at before start partly) in
-    subst (λ files. StopsRollingBack c.args.way c.args.changes.now c.args.head.now.text.now start files after) (same_files g at before)
-    (subst (λ r. OnErr r (StopsRollingBack c.args.way c.args.changes.now c.args.head.now.text.now start (store.files c.sync.new.self) after)) c.in-Err.is stopped)
+    let before = c.roll_back_changes.ensures.later.was_honest honest in
+    let after = store.files c.roll_back_changes.new.store in
+    let stopped = c.roll_back_changes.ensures.stopped honest good start (still_partly g at before start partly) in
+    subst (λ files. StopsRollingBack c.args.direction c.args.changes.now c.args.head.now.text.now start files after) (same_files g at before)
+    (subst (λ r. OnErr r (StopsRollingBack c.args.direction c.args.changes.now c.args.head.now.text.now start (store.files c.sync.new.self) after)) c.in-Err.is stopped)
 
 pub returns-in-Err-clause-back : goal.returns-in-Err-clause-back
 returns-in-Err-clause-back g c honest good cause e =
     let store = g.S.Store in
     let at = (goal.at.returns-in-Err-clause-back g c).After-sync in
-    let after = store.files c.set_all_back.new.store in
-    subst (λ files. StopsBack c.args.way c.args.changes.now c.args.head.now.text.now files after) (same_files g at (c.set_all_back.ensures.later.was_honest honest))
-    (subst (λ r. OnErr r (StopsBack c.args.way c.args.changes.now c.args.head.now.text.now (store.files c.sync.new.self) after)) c.in-Err.is (c.set_all_back.ensures.back honest good))
+    let after = store.files c.roll_back_changes.new.store in
+    subst (λ files. StopsBack c.args.direction c.args.changes.now c.args.head.now.text.now files after) (same_files g at (c.roll_back_changes.ensures.later.was_honest honest))
+    (subst (λ r. OnErr r (StopsBack c.args.direction c.args.changes.now c.args.head.now.text.now (store.files c.sync.new.self) after)) c.in-Err.is (c.roll_back_changes.ensures.back honest good))
 
 pub returns-in-Err-clause-left : goal.returns-in-Err-clause-left
 returns-in-Err-clause-left g c honest good start partly sure cause e =
     let store = g.S.Store in
     let at = goal.at.returns-in-Err-clause-left g c in
-    let before = c.set_all_back.ensures.later.was_honest honest in
-    let new = c.set_all_back.new.store in
+    let before = c.roll_back_changes.ensures.later.was_honest honest in
+    let new = c.roll_back_changes.new.store in
     let now = still_partly g at.After-sync before start partly in
     let barrier : IsBehind store c.test_each.new.store c.sync.new.self = search rules in
-    let left = c.set_all_back.ensures.left honest good start now (midway g at.After-sync barrier start now.made sure) in
-    subst (λ files. StopsBackWithDoubt store c.args.way c.args.changes.now c.args.head.now.text.now start files new) (same_files g at.After-sync before)
-    (subst (λ r. OnErr r (StopsBackWithDoubt store c.args.way c.args.changes.now c.args.head.now.text.now start (store.files c.sync.new.self) new)) c.in-Err.is left)
+    let left = c.roll_back_changes.ensures.left honest good start now (midway g at.After-sync barrier start now.made sure) in
+    subst (λ files. StopsBackWithDoubt store c.args.direction c.args.changes.now c.args.head.now.text.now start files new) (same_files g at.After-sync before)
+    (subst (λ r. OnErr r (StopsBackWithDoubt store c.args.direction c.args.changes.now c.args.head.now.text.now start (store.files c.sync.new.self) new)) c.in-Err.is left)
 
 pub returns-in-Ok-clause-lasting : goal.returns-in-Ok-clause-lasting
 returns-in-Ok-clause-lasting g c honest good start partly sure =
     let at = goal.at.returns-in-Ok-clause-lasting g c in
-    let now = still_partly g at.After-sync (c.set_all_back.ensures.later.was_honest honest) start partly in
+    let now = still_partly g at.After-sync (c.roll_back_changes.ensures.later.was_honest honest) start partly in
     let barrier : IsBehind g.S.Store c.test_each.new.store c.sync.new.self = search rules in
-    let lasting = c.set_all_back.ensures.lasting honest good start now (midway g at.After-sync barrier start now.made sure) in
-    subst (λ r. OnOk r (IsSynced g.S.Store c.set_all_back.new.store)) c.in-Ok.is lasting
+    let lasting = c.roll_back_changes.ensures.lasting honest good start now (midway g at.After-sync barrier start now.made sure) in
+    subst (λ r. OnOk r (IsSynced g.S.Store c.roll_back_changes.new.store)) c.in-Ok.is lasting
 
 pub returns-in-Err-clause-refusal : goal.returns-in-Err-clause-refusal
-returns-in-Err-clause-refusal g c = subst IsRollBackRefusal (sym c.told.ensures) (told_refusal c.set_all_back.new.started c.in-Err.cause)
+returns-in-Err-clause-refusal g c = subst IsRollBackRefusal (sym c.told.ensures) (told_refusal c.roll_back_changes.new.started c.in-Err.cause)
 
 pub returns-in-Err-clause-moved : goal.returns-in-Err-clause-moved
-returns-in-Err-clause-moved g c honest good path e = absurd (never_moved c.set_all_back.new.started c.in-Err.cause path (ap (λ r. Err r) c.told.ensures) e)
+returns-in-Err-clause-moved g c honest good path e = absurd (never_moved c.roll_back_changes.new.started c.in-Err.cause path (ap (λ r. Err r) c.told.ensures) e)
 
 pub returns-in-Err-clause-recovers : goal.returns-in-Err-clause-recovers
-returns-in-Err-clause-recovers g c honest good start are partly path e = never_moved c.set_all_back.new.started c.in-Err.cause path (ap (λ r. Err r) c.told.ensures) e
+returns-in-Err-clause-recovers g c honest good start are partly path e = never_moved c.roll_back_changes.new.started c.in-Err.cause path (ap (λ r. Err r) c.told.ensures) e
 
 pub returns-in-Err-clause-tested : goal.returns-in-Err-clause-tested
-returns-in-Err-clause-tested g c honest good cause e = c.in_ok-test_each.ensures.ready (c.sync.ensures.reads.was_honest (c.set_all_back.ensures.later.was_honest honest)) good
+returns-in-Err-clause-tested g c honest good cause e = c.in_ok-test_each.ensures.ready (c.sync.ensures.reads.was_honest (c.roll_back_changes.ensures.later.was_honest honest)) good
 
 pub returns-in-Err-clause-early : goal.returns-in-Err-clause-early
 returns-in-Err-clause-early g c early =
-    let unstarted = told_early c.set_all_back.new.started c.in-Err.cause (subst IsEarly c.told.ensures early) in
-    reads_more g.S.Store c.args.store.now c.sync.new.self c.set_all_back.new.store (read_so_far g (goal.at.returns-in-Err-clause-early g c).After-sync) (c.set_all_back.ensures.notes.still unstarted).1
+    let unstarted = told_early c.roll_back_changes.new.started c.in-Err.cause (subst IsEarly c.told.ensures early) in
+    reads_more g.S.Store c.args.store.now c.sync.new.self c.roll_back_changes.new.store (read_so_far g (goal.at.returns-in-Err-clause-early g c).After-sync) (c.roll_back_changes.ensures.notes.still unstarted).1
 
 pub returns-in-Err-clause-late : goal.returns-in-Err-clause-late
 returns-in-Err-clause-late g c stop e other =
-    subst (λ n. n < g.S.Store.moves c.set_all_back.new.store) (read_so_far g (goal.at.returns-in-Err-clause-late g c).After-sync).moves
-    (c.set_all_back.ensures.notes.begun refl (told_late c.set_all_back.new.started c.in-Err.cause stop (ap (λ r. Err r) c.told.ensures) e other))
+    subst (λ n. n < g.S.Store.mutations c.roll_back_changes.new.store) (read_so_far g (goal.at.returns-in-Err-clause-late g c).After-sync).mutations
+    (c.roll_back_changes.ensures.notes.begun refl (told_late c.roll_back_changes.new.started c.in-Err.cause stop (ap (λ r. Err r) c.told.ensures) e other))
 
 pub returns-in-Err-clause-fault : goal.returns-in-Err-clause-fault
 returns-in-Err-clause-fault g c =
-    let Rose = g.S.Store.failures c.args.store.now < g.S.Store.failures c.set_all_back.new.store in
+    let Rose = g.S.Store.failures c.args.store.now < g.S.Store.failures c.roll_back_changes.new.store in
     subst (HasCause Rose) (sym c.told.ensures)
-    (told_cause Rose c.set_all_back.new.started c.in-Err.cause (λ e. past (read_so_far g (goal.at.returns-in-Err-clause-fault g c).After-sync).failures (c.set_all_back.ensures.device (c.in-Err.is ∙ ap (λ x. Err x) e))))
+    (told_cause Rose c.roll_back_changes.new.started c.in-Err.cause (λ e. past (read_so_far g (goal.at.returns-in-Err-clause-fault g c).After-sync).failures (c.roll_back_changes.ensures.device (c.in-Err.is ∙ ap (λ x. Err x) e))))

@@ -45,7 +45,7 @@ returns-in-Ok-clause-leaves g c =
     let is = to_forget g (goal.at.returns-in-Ok-clause-leaves g c).After-put_and_remove in
     leaves_done g.S.Store c.args.self.now _ _ _ _ is
     (record { store = c.put_and_remove.new.store; history = c.in_ok-numbers.field-0.left; broken = c.args.self.now.broken; counts = c.args.self.now.counts })
-    (λ honest. c.in-Ok.ensures.done honest) c.in_ok-numbers.ensures.left c.put_and_remove.ensures.written c.put_and_remove.ensures.moves c.new-in-Ok.result
+    (λ honest. c.in-Ok.ensures.done honest) c.in_ok-numbers.ensures.left c.put_and_remove.ensures.written c.put_and_remove.ensures.mutations c.new-in-Ok.result
 
 pub returns-in-Err-clause-survives : goal.returns-in-Err-clause-survives
 returns-in-Err-clause-survives g c honest earlier held stands safe left may =
@@ -57,5 +57,5 @@ pub returns-in-Err-clause-leaves : goal.returns-in-Err-clause-leaves
 returns-in-Err-clause-leaves g c =
     let is = to_forget g (goal.at.returns-in-Err-clause-leaves g c).After-put_and_remove in
     leaves_stop g.S.Store c.args.self.now _ _ _ _ is _ c.in-Err.cause
-    (λ honest. c.in-Err.ensures.stopped honest) c.put_and_remove.ensures.asked c.put_and_remove.ensures.written c.put_and_remove.ensures.moves
+    (λ honest. c.in-Err.ensures.stopped honest) c.put_and_remove.ensures.asked c.put_and_remove.ensures.written c.put_and_remove.ensures.mutations
     (λ e. c.put_and_remove.ensures.moved (c.in-Err.is ∙ ap (λ x. Err x) e)) (λ honest e. c.put_and_remove.ensures.clash honest (c.in-Err.is ∙ ap (λ x. Err x) e))

@@ -1,8 +1,8 @@
 use Rattle.std.proofs.Common.{◌≡◌, ◌+◌, length, Result, IfErr, refl, sym, subst}
 use Rattle.reuse_tree.specs.Files.{Clashes}
 use Rattle.reuse_tree.specs.Tree.{undo_folder_of}
-use Rattle.reuse_tree.specs.declared.way.Way.TheVariants as way
-use Rattle.reuse_tree.specs.declared.journal.head.PendingWay.TheVariants as ways
+use Rattle.reuse_tree.specs.declared.direction.Direction.TheVariants as direction
+use Rattle.reuse_tree.specs.declared.journal.head.PendingDirection.TheVariants as directions
 use Rattle.reuse_session.specs.session.Answer.{HasClash, IsNoClash}
 use Rattle.reuse_session.specs.session.Calls.{files_of}
 use Rattle.reuse_session.specs.journal.JournalFiles.{head_path, entry_path}
@@ -62,11 +62,11 @@ returns-in-Undo g c =
       exact = undo.exact;
       stands = λ honest held stands.
           stands_early store.files old new held answer stands undo.call.refused (early_files store (store_of old) (store_of new) answer undo.leaves.early honest);
-      doubt = λ honest held stands. replay_doubt ways.Undo held (files_of store new) answer (undo.leaves.doubt honest held stands);
+      doubt = λ honest held stands. replay_doubt directions.Undo held (files_of store new) answer (undo.leaves.doubt honest held stands);
       fails = make_fails calls.Undo c.args.when answer;
       survives = λ honest earlier held stands safe.
-          subst (λ a. Survives store (IsNextBy ways.Undo held) earlier held a (store_of new))
-          (sym (replay_is_step way.Undo held.journal.done held (StandsOn store.files new) answer (undo.exact honest held stands))) (undo.survives honest earlier held stands safe);
+          subst (λ a. Survives store (IsNextBy directions.Undo held) earlier held a (store_of new))
+          (sym (replay_is_step direction.Backward held.journal.done held (StandsOn store.files new) answer (undo.exact honest held stands))) (undo.survives honest earlier held stands safe);
       reads_only = λ look. absurd look;
       kept = λ look. absurd look;
       clash = λ honest held stands. undo.leaves.clash honest;
@@ -88,11 +88,11 @@ returns-in-Redo g c =
       exact = redo.exact;
       stands = λ honest held stands.
           stands_early store.files old new held answer stands redo.call.refused (early_files store (store_of old) (store_of new) answer redo.leaves.early honest);
-      doubt = λ honest held stands. replay_doubt ways.Redo held (files_of store new) answer (redo.leaves.doubt honest held stands);
+      doubt = λ honest held stands. replay_doubt directions.Redo held (files_of store new) answer (redo.leaves.doubt honest held stands);
       fails = make_fails calls.Redo c.args.when answer;
       survives = λ honest earlier held stands safe.
-          subst (λ a. Survives store (IsNextBy ways.Redo held) earlier held a (store_of new))
-          (sym (replay_is_step way.Do held.journal.undone held (StandsOn store.files new) answer (redo.exact honest held stands))) (redo.survives honest earlier held stands safe);
+          subst (λ a. Survives store (IsNextBy directions.Redo held) earlier held a (store_of new))
+          (sym (replay_is_step direction.Forward held.journal.undone held (StandsOn store.files new) answer (redo.exact honest held stands))) (redo.survives honest earlier held stands safe);
       reads_only = λ look. absurd look;
       kept = λ look. absurd look;
       clash = λ honest held stands. redo.leaves.clash honest;

@@ -19,8 +19,8 @@ use Rattle.reuse_session.proofs.session.Session.preview_listed.Goals as goal
 -- the entry can't be read
 pub returns-in_err-entry-clause-exact : goal.returns-in_err-entry-clause-exact
 returns-in_err-entry-clause-exact g c honest held stands told =
-    let way = c.args.way in
-    let next = next_of way g.S.Store.files c.args.self.now held c.args.listed c.requires.0 (remember_moved way c.requires.0 c.args.listed (memory_of c.args.self.now)) stands c.requires.1 refl in
+    let direction = c.args.direction in
+    let next = next_of direction g.S.Store.files c.args.self.now held c.args.listed c.requires.0 (remember_moved direction c.requires.0 c.args.listed (memory_of c.args.self.now)) stands c.requires.1 refl in
     let is = is_refused c.from_residual.result c.from_residual.ensures.1 in
     absurd (read_told c.in_err-entry.field-0.0 c.in_err-entry.ensures.refusal (any_told Previewed Response c.in_err-entry.field-0.0 (subst TellsNoFault is told))
     (λ path e. (c.read_entry.ensures.bad honest path (c.in_err-entry.was ∙ ap (λ x. Err x) e)).1 (entry_in next.step) (next_says next c.number.result c.number.ensures)))
@@ -29,20 +29,20 @@ returns-in_err-entry-clause-exact g c honest held stands told =
 pub returns-clause-exact : goal.returns-clause-exact
 returns-clause-exact g c honest held stands told =
     let store = g.S.Store in
-    let way = c.args.way in
+    let direction = c.args.direction in
     let read = c.replay_path_outcomes.ensures.reads.was_honest honest in
     let unread = c.read_entry.ensures.reads.files read in
-    let next = next_of way store.files c.args.self.now held c.args.listed c.requires.0 (remember_moved way c.requires.0 c.args.listed (memory_of c.args.self.now)) stands c.requires.1 refl in
+    let next = next_of direction store.files c.args.self.now held c.args.listed c.requires.0 (remember_moved direction c.requires.0 c.args.listed (memory_of c.args.self.now)) stands c.requires.1 refl in
     let made = c.as_slice.result.now in
     let changes : next.step.changes ≡ made = next_changes next c.number.result c.number.ensures c.in_ok-entry.entry (c.in_ok-entry.ensures.ok read) ∙ sym c.as_slice.ensures in
     let good : IsEntry made = subst IsEntry (sym c.as_slice.ensures) c.in_ok-entry.ensures.good in
-    subst (λ steps. PreviewsReplay way steps held.tree (Ok c.in_ok-path_outcomes.path_outcomes)) (sym next.list)
-    (replay_as_previewed way next.step next.steps made held.tree (tree_of (store.files c.read_entry.new.store)) (Ok c.in_ok-path_outcomes.path_outcomes) changes (ap tree_of unread ∙ stands.standing.tree)
+    subst (λ steps. PreviewsReplay direction steps held.tree (Ok c.in_ok-path_outcomes.path_outcomes)) (sym next.list)
+    (replay_as_previewed direction next.step next.steps made held.tree (tree_of (store.files c.read_entry.new.store)) (Ok c.in_ok-path_outcomes.path_outcomes) changes (ap tree_of unread ∙ stands.standing.tree)
     (c.in_ok-path_outcomes.ensures.path_outcomes honest good) tt told)
 
 pub returns-clause-changes : goal.returns-clause-changes
 returns-clause-changes g c honest held stands =
-    let way = c.args.way in
+    let direction = c.args.direction in
     let read = c.replay_path_outcomes.ensures.reads.was_honest honest in
-    let next = next_of way g.S.Store.files c.args.self.now held c.args.listed c.requires.0 (remember_moved way c.requires.0 c.args.listed (memory_of c.args.self.now)) stands c.requires.1 refl in
+    let next = next_of direction g.S.Store.files c.args.self.now held c.args.listed c.requires.0 (remember_moved direction c.requires.0 c.args.listed (memory_of c.args.self.now)) stands c.requires.1 refl in
     ap (λ (steps : List Recorded). changes_ahead steps) next.list ∙ ap (λ (made : List Change). Some made) (next_changes next c.number.result c.number.ensures c.in_ok-entry.entry (c.in_ok-entry.ensures.ok read))

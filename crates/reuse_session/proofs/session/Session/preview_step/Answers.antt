@@ -8,14 +8,14 @@ use Rattle.reuse_session.proofs.session.Session.preview_step.Goals as goal
 
 pub returns-in_default-clause-exact : goal.returns-in_default-clause-exact
 returns-in_default-clause-exact g c honest held stands told =
-    let way = c.args.way in
+    let direction = c.args.direction in
     let none = c.next.ensures.none (none_unless_some c.next.result c.in_default.not-Some) in
-    subst (λ steps. PreviewsReplay way steps held.tree (Err c.end_of.result)) (sym ((none_ahead way (memory_of c.args.self.now) held.journal stands.remembers).0 none)) (ap (λ r. Err r) c.end_of.ensures)
+    subst (λ steps. PreviewsReplay direction steps held.tree (Err c.end_of.result)) (sym ((none_ahead direction (memory_of c.args.self.now) held.journal stands.remembers).0 none)) (ap (λ r. Err r) c.end_of.ensures)
 
 pub returns-in_default-clause-machine : goal.returns-in_default-clause-machine
 returns-in_default-clause-machine g c honest state stands_at told =
-    step_as_previewed c.args.way stands_at.held state stands_at.holds _ (returns-in_default-clause-exact g c honest stands_at.held stands_at.stands told)
+    step_as_previewed c.args.direction stands_at.held state stands_at.holds _ (returns-in_default-clause-exact g c honest stands_at.held stands_at.stands told)
 
 pub returns-clause-machine : goal.returns-clause-machine
 returns-clause-machine g c honest state stands_at told =
-    step_as_previewed c.args.way stands_at.held state stands_at.holds (path_outcomes_alone c.preview_listed.result) (c.preview_listed.ensures.exact honest stands_at.held stands_at.stands told)
+    step_as_previewed c.args.direction stands_at.held state stands_at.holds (path_outcomes_alone c.preview_listed.result) (c.preview_listed.ensures.exact honest stands_at.held stands_at.stands told)

@@ -1,5 +1,5 @@
 use Rattle.std.proofs.Common.{◌∙◌, sym, subst}
-use Rattle.reuse_tree.specs.declared.way.Way.TheVariants as go
+use Rattle.reuse_tree.specs.declared.direction.Direction.TheVariants as go
 use Rattle.reuse_session.specs.session.Previews.{PreviewsReplay}
 use Rattle.reuse_session.proofs.lemmas.session.Previewing.{alone_err, alone_looks, alone_where, told_alone}
 use Rattle.reuse_session.proofs.session.Session.preview_undo.Goals as goal
@@ -12,7 +12,7 @@ returns-clause-nothing g c = alone_where c.preview_step.result c.path_outcomes_a
 
 pub returns-clause-exact : goal.returns-clause-exact
 returns-clause-exact g c honest held stands told =
-    subst (PreviewsReplay go.Undo held.journal.done held.tree) (sym c.path_outcomes_alone.ensures)
+    subst (PreviewsReplay go.Backward held.journal.done held.tree) (sym c.path_outcomes_alone.ensures)
     (c.preview_step.ensures.exact honest held stands (told_alone c.preview_step.result c.path_outcomes_alone.result c.path_outcomes_alone.ensures told))
 
 pub returns-clause-machine : goal.returns-clause-machine

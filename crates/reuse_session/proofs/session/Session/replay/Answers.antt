@@ -9,6 +9,6 @@ pub returns-in_default-clause-exact : goal.returns-in_default-clause-exact
 returns-in_default-clause-exact g c honest held stands told =
     let files = g.S.Store.files in
     let session = c.args.self.now in
-    let way = c.args.way in
-    subst (λ r. (left : State) × StandsOn files session left × Replays way (ahead way held.journal) held (Err r) left) (sym c.end_of.ensures)
-    (none_next way files session held stands (c.next.ensures.none (none_unless_some c.next.result c.in_default.not-Some)))
+    let direction = c.args.direction in
+    subst (λ r. (left : State) × StandsOn files session left × Replays direction (ahead direction held.journal) held (Err r) left) (sym c.end_of.ensures)
+    (none_next direction files session held stands (c.next.ensures.none (none_unless_some c.next.result c.in_default.not-Some)))

@@ -9,7 +9,7 @@ use Rattle.reuse_tree.proofs.AskedLemmas.{later_none}
 use Rattle.reuse_session.proofs.lemmas.session.OnlyReading.{is_refused}
 use Rattle.reuse_session.specs.journal.Carried.{IsCarriedOut, IsStopped}
 use Rattle.reuse_tree.specs.Entry.{IsEntry, CanBeMade, CanGo}
-use Rattle.reuse_tree.specs.Head.{way_of}
+use Rattle.reuse_tree.specs.Head.{direction_of}
 use Rattle.reuse_session.specs.session.Answer.{HasCause}
 use Rattle.reuse_session.specs.journal.History.{head_listing}
 use Rattle.reuse_session.specs.journal.JournalFiles.{head_path}
@@ -23,7 +23,7 @@ use Rattle.reuse_tree.specs.declared.cause.Cause.TheVariants as causes
 use Rattle.reuse_session.specs.declared.reply.Refusal.{Refusal}
 use Rattle.reuse_session.specs.declared.failure.Failure.TheVariants.{Memory, Interrupted}
 use Rattle.reuse_session.specs.declared.reply.Refusal.TheVariants.{Failed}
-use Rattle.reuse_tree.specs.declared.way.Way.{Way}
+use Rattle.reuse_tree.specs.declared.direction.Direction.{Direction}
 use Rattle.reuse_session.proofs.lemmas.session.FolderLemmas.{some_text}
 use Rattle.reuse_session.proofs.lemmas.journal.JournalReading.{file_in_folder}
 use Rattle.reuse_session.proofs.lemmas.journal.Standings.{carried, stopped}
@@ -46,47 +46,47 @@ call_none store session answer e =
 
 pub commit_step-carried-requires : goal.commit_step-carried-requires
 commit_step-carried-requires g c honest =
-    subst (λ w. CanGo w (tree_of (g.S.Store.files (store_of c.args.self.now))) c.args.changes.now) (sym c.way.ensures) (c.requires honest)
+    subst (λ w. CanGo w (tree_of (g.S.Store.files (store_of c.args.self.now))) c.args.changes.now) (sym c.direction.ensures) (c.requires honest)
 
-pub returns-in-Ok-clause-moves : goal.returns-in-Ok-clause-moves
-returns-in-Ok-clause-moves g c honest held second stands is =
+pub returns-in-Ok-clause-mutations : goal.returns-in-Ok-clause-mutations
+returns-in-Ok-clause-mutations g c honest held second stands is =
     let store = g.S.Store in
     let files = store.files (store_of c.args.self.now) in
     let after = store.files c.commit_step-carried.new.store in
     let settled = c.in_ok-settled.settled.items in
-    let out : IsCarriedOut (way_of c.args.pending.way) is.step.changes settled files after =
-    subst (λ w. IsCarriedOut w is.step.changes settled files after) c.way.ensures
-    (subst (λ cs. IsCarriedOut c.way.result cs settled files after) (sym is.changes)
-    (subst (λ text. IsCarriedOut c.way.result c.args.changes.now text files after) c.deref-2.ensures.value (c.in-Ok.ensures.done honest is.entry))) in
+    let out : IsCarriedOut (direction_of c.args.pending.direction) is.step.changes settled files after =
+    subst (λ w. IsCarriedOut w is.step.changes settled files after) c.direction.ensures
+    (subst (λ cs. IsCarriedOut c.direction.result cs settled files after) (sym is.changes)
+    (subst (λ text. IsCarriedOut c.direction.result c.args.changes.now text files after) c.deref-2.ensures.value (c.in-Ok.ensures.done honest is.entry))) in
     record {
       whole = stands.whole;
-      standing = carried files after c.args.pending.way is.step held second stands.standing is.kept is.is_step (subst IsEntry (sym is.changes) is.entry)
+      standing = carried files after c.args.pending.direction is.step held second stands.standing is.kept is.is_step (subst IsEntry (sym is.changes) is.entry)
           (g.met.S.Store.are_files c.commit_step-carried.new.store honest) settled out (good_second (memory_of c.args.self.now) files held second stands.standing stands.remembers is settled c.in_ok-settled.ensures.good);
       remembers = is.remembers;
     }
 
-pub returns-in-Err-clause-moves : goal.returns-in-Err-clause-moves
-returns-in-Err-clause-moves g c honest held second stands is stop =
+pub returns-in-Err-clause-mutations : goal.returns-in-Err-clause-mutations
+returns-in-Err-clause-mutations g c honest held second stands is stop =
     let store = g.S.Store in
     let files = store.files (store_of c.args.self.now) in
     let after = store.files c.commit_step-carried.new.store in
     let before = c.in_ok-before.before.items in
     let settled = c.in_ok-settled.settled.items in
     let memory = memory_of c.args.self.now in
-    let Left : Way → List Change → List ℕ → List ℕ → Type 0 = λ w cs p s. (after ≡ files) ⊎ IsStopped w cs p files after ⊎ IsCarriedOut w cs s files after in
-    let left : Left (way_of c.args.pending.way) is.step.changes before settled =
-    subst (λ w. Left w is.step.changes before settled) c.way.ensures
-    (subst (λ cs. Left c.way.result cs before settled) (sym is.changes)
-    (subst (λ text. Left c.way.result c.args.changes.now before text) c.deref-2.ensures.value
-    (subst (λ text. Left c.way.result c.args.changes.now text c.deref-2.result.now) c.deref.ensures.value (c.in-Err.ensures.stopped honest is.entry)))) in
-    stopped files after c.args.pending.way is.step held second stands.standing is.kept is.is_step (subst IsEntry (sym is.changes) is.entry) (g.met.S.Store.are_files c.commit_step-carried.new.store honest) before settled left
+    let Left : Direction → List Change → List ℕ → List ℕ → Type 0 = λ w cs p s. (after ≡ files) ⊎ IsStopped w cs p files after ⊎ IsCarriedOut w cs s files after in
+    let left : Left (direction_of c.args.pending.direction) is.step.changes before settled =
+    subst (λ w. Left w is.step.changes before settled) c.direction.ensures
+    (subst (λ cs. Left c.direction.result cs before settled) (sym is.changes)
+    (subst (λ text. Left c.direction.result c.args.changes.now before text) c.deref-2.ensures.value
+    (subst (λ text. Left c.direction.result c.args.changes.now text c.deref-2.result.now) c.deref.ensures.value (c.in-Err.ensures.stopped honest is.entry)))) in
+    stopped files after c.args.pending.direction is.step held second stands.standing is.kept is.is_step (subst IsEntry (sym is.changes) is.entry) (g.met.S.Store.are_files c.commit_step-carried.new.store honest) before settled left
     (good_between memory files held second stands.standing stands.remembers is before c.in_ok-before.ensures.good)
     (good_second memory files held second stands.standing stands.remembers is settled c.in_ok-settled.ensures.good)
 
 pub returns-in-Err-clause-clash : goal.returns-in-Err-clause-clash
 returns-in-Err-clause-clash g c honest good can =
     let files = g.S.Store.files (store_of c.args.self.now) in
-    let can_now = subst (λ w. All (CanBeMade w (tree_of files)) c.args.changes.now) (sym c.way.ensures) can in
+    let can_now = subst (λ w. All (CanBeMade w (tree_of files)) c.args.changes.now) (sym c.direction.ensures) can in
     stop_clash ⊥ (Clashes files head_path) c.in-Err.cause (λ e. c.commit_step-carried.ensures.moved honest good can_now (c.in-Err.is ∙ ap (λ x. Err x) e))
     (λ e. c.commit_step-carried.ensures.clash honest good can_now (c.in-Err.is ∙ ap (λ x. Err x) e))
 
@@ -150,12 +150,12 @@ returns-in-Err-clause-survives g c honest earlier held second stands is safe has
     let before = c.in_ok-before.before.items in
     let settled = c.in_ok-settled.settled.items in
     let memory = memory_of c.args.self.now in
-    let Stops : Way → List Change → List ℕ → List ℕ → Type 0 = λ w cs p s. StopsWithDoubt store w cs p s old new in
-    let stops : Stops (way_of c.args.pending.way) is.step.changes before settled =
-    subst (λ w. Stops w is.step.changes before settled) c.way.ensures
-    (subst (λ cs. Stops c.way.result cs before settled) (sym is.changes)
-    (subst (λ text. Stops c.way.result c.args.changes.now before text) c.deref-2.ensures.value
-    (subst (λ text. Stops c.way.result c.args.changes.now text c.deref-2.result.now) c.deref.ensures.value (c.in-Err.ensures.doubt honest is.entry (sure store old earlier held stands.standing safe))))) in
-    stops_in_doubt store old new c.args.pending.way is.step earlier held second stands.standing is.kept is.is_step (subst IsEntry (sym is.changes) is.entry) (g.met.S.Store.are_files new honest) before settled
+    let Stops : Direction → List Change → List ℕ → List ℕ → Type 0 = λ w cs p s. StopsWithDoubt store w cs p s old new in
+    let stops : Stops (direction_of c.args.pending.direction) is.step.changes before settled =
+    subst (λ w. Stops w is.step.changes before settled) c.direction.ensures
+    (subst (λ cs. Stops c.direction.result cs before settled) (sym is.changes)
+    (subst (λ text. Stops c.direction.result c.args.changes.now before text) c.deref-2.ensures.value
+    (subst (λ text. Stops c.direction.result c.args.changes.now text c.deref-2.result.now) c.deref.ensures.value (c.in-Err.ensures.doubt honest is.entry (sure store old earlier held stands.standing safe))))) in
+    stops_in_doubt store old new c.args.pending.direction is.step earlier held second stands.standing is.kept is.is_step (subst IsEntry (sym is.changes) is.entry) (g.met.S.Store.are_files new honest) before settled
     (good_between memory files held second stands.standing stands.remembers is before c.in_ok-before.ensures.good)
     (good_second memory files held second stands.standing stands.remembers is settled c.in_ok-settled.ensures.good) safe has stops

@@ -1,7 +1,7 @@
 use Rattle.std.proofs.Common.{◌≡◌, ◌+◌, Ok, Err, length, arith, ap, sym, subst, ◌∙◌}
 use Rattle.reuse_tree.specs.Asked.{Leaves, IsSynced}
 use Rattle.reuse_tree.specs.Tree.{undo_folder_of}
-use Rattle.reuse_tree.specs.declared.journal.head.PendingWay.TheVariants as ways
+use Rattle.reuse_tree.specs.declared.journal.head.PendingDirection.TheVariants as directions
 use Rattle.reuse_session.specs.session.Calls.{LeavesRun}
 use Rattle.reuse_session.specs.journal.Journal.{State}
 use Rattle.reuse_session.specs.journal.JournalFiles.{IsKeptIn}
@@ -27,7 +27,7 @@ entry_put g c = record {
   is_entry = λ i. record { changes = c.new.ensures i; command = c.name-command.ensures i; when = c.args.when };
   was_honest = c.put_entry.ensures.later.was_honest;
   beside = c.put_entry.ensures.others;
-  asks = c.put_entry.ensures.moves;
+  asks = c.put_entry.ensures.mutations;
   at_most = c.put_entry.ensures.written;
 }
 
@@ -68,14 +68,14 @@ returns-in_err-step-clause-leaves g c =
     let at = goal.at.returns-in_err-step-clause-leaves g c in
     subst (λ r. LeavesRun g.S.Store c.args.command.now c.args.when r c.args.self.now c.step.new.self) (sym (is_refused c.from_residual-in_err-step.result c.from_residual-in_err-step.ensures.1))
     (halt_leaves (entry_put g at.After-put_entry) (entry_listed g at.After-step) c.step.new.self c.step.ensures.call.later.was_honest c.step.ensures.folder c.step.ensures.written c.step.ensures.asks
-    c.in_err-step.field-0.0 c.in_ok-put_entry.ensures.counted c.in_err-step.ensures.refused c.in_err-step.ensures.moves c.in_err-step.ensures.late c.in_err-step.ensures.clash)
+    c.in_err-step.field-0.0 c.in_ok-put_entry.ensures.counted c.in_err-step.ensures.refused c.in_err-step.ensures.mutations c.in_err-step.ensures.late c.in_err-step.ensures.clash)
 
 pub returns-clause-exact : goal.returns-clause-exact
 returns-clause-exact g c honest held stands told =
     let at = goal.at.returns-clause-exact g c in
     let made = recording (entry_put g at.After-put_entry) (entry_listed g at.After-step) (c.step.ensures.call.later.was_honest honest) held stands in (
       made.second,
-      c.in_ok-step.ensures.moves honest held made.second made.stands made.is,
+      c.in_ok-step.ensures.mutations honest held made.second made.stands made.is,
       subst (λ ps. Runs c.args.command.now c.args.when held (Ok (Changed ps)) made.second) (sym (c.in_ok-paths.ensures ∙ ap paths_of c.deref.ensures.value)) made.runs,
     )
 
@@ -101,7 +101,7 @@ returns-in_err-put_entry-clause-survives g c honest earlier held stands safe =
 module _ (g : Over) (c : After-step g)
     (put : EntryPut g.S.Store c.args.self.now c.args.command.now c.args.when c.args.changes.items c.put_entry.new.store c.used-number.result (record { changes = c.new.result; command = c.name-command.result; when = c.args.when }))
     (honest : g.S.Store.honest (store_of c.step.new.self)) (earlier held : State) (stands : StandsOn g.S.Store.files c.args.self.now held) (safe : AreSafeOn g.S.Store earlier held (store_of c.args.self.now)) where
-  made : Recording g.S.Store.files c.args.command.now c.args.when (record c.args.self.now { store = c.put_entry.new.store }) c.args.changes.items c.as_slice.result.now (record { entry = c.used-number.result + 1; way = ways.Do }) c.in_ok-moved.moved held
+  made : Recording g.S.Store.files c.args.command.now c.args.when (record c.args.self.now { store = c.put_entry.new.store }) c.args.changes.items c.as_slice.result.now (record { entry = c.used-number.result + 1; direction = directions.Do }) c.in_ok-moved.moved held
   made = recording put (entry_listed g c) (c.step.ensures.call.later.was_honest honest) held stands
 
   synced : IsSynced g.S.Store c.put_entry.new.store

@@ -2,7 +2,7 @@ use Rattle.std.proofs.Common.{ℕ, take, arith, refl, sym, subst, ◌∙◌}
 use Rattle.std.specs.Prelude.{OnErr}
 use Rattle.std.proofs.lemmas.Result.{err_from_is_err_and}
 use Rattle.reuse_tree.proofs.AskedLemmas.{later_none, later_more}
-use Rattle.reuse_tree.proofs.TurnLemmas.{removal_sets, removal_doubt}
+use Rattle.reuse_tree.proofs.ApplyLemmas.{removal_sets, removal_doubt}
 use Rattle.reuse_session.specs.session.Forgetting.{Removes}
 use Rattle.reuse_session.proofs.lemmas.session.ForgottenFiles.{removes_none, removes_more, removes_or_more, removes_some_none, left_by_removal}
 use Rattle.reuse_session.proofs.session.forget.remove_each.Goals as goal
@@ -12,7 +12,7 @@ loop-path-init g c = record {
   removed = λ honest. removes_none (g.S.Store.files c.args.store.now);
   left = λ left may. (left, may, removes_some_none c.args.paths.now left);
   written = refl;
-  moves = omega arith;
+  mutations = omega arith;
   later = later_none g.S.Store c.args.store.now;
 }
 
@@ -24,7 +24,7 @@ loop-path-preserved g c =
           (c.loop-path.invariant.removed (c.remove.ensures.later.was_honest honest)) (removal_sets _ _ _ (c.in_ok-remove.ensures.removes.ok honest));
       left = left_by_removal store c.args.store.now c.loop-path.store c.remove.new.self c.args.paths.now c.path-item.result (c.loop-path.path-index, c.loop-path-test.true, sym c.path-item.is) c.remove.result c.remove.ensures.removes c.loop-path.invariant.left;
       written = c.remove.ensures.removes.written ∙ c.loop-path.invariant.written;
-      moves = omega (arith, c.remove.ensures.removes.moves, c.loop-path.invariant.moves);
+      mutations = omega (arith, c.remove.ensures.removes.mutations, c.loop-path.invariant.mutations);
       later = later_more store _ _ _ c.loop-path.invariant.later c.remove.ensures.later;
     }
 

@@ -12,6 +12,6 @@ invariant-loop-path g l =
       removed : store.honest l.store → Removes (take l.path-index l.paths) (store.files l.fn.store) (store.files l.store);
       left : Leaves store l.store (λ left. (kept : Files) × store.may_be l.fn.store kept × RemovesSome l.paths kept left);
       written : store.written l.store ≡ store.written l.fn.store;
-      moves : store.moves l.store ≡ store.moves l.fn.store + l.path-index;
+      mutations : store.mutations l.store ≡ store.mutations l.fn.store + l.path-index;
       later : IsLater store l.fn.store l.store;
     }

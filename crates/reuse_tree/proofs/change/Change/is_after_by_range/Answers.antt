@@ -1,4 +1,4 @@
-use Rattle.reuse_tree.proofs.Turning.{is_absent, drop_after, splice_after}
+use Rattle.reuse_tree.proofs.Applying.{is_absent, drop_after, splice_after}
 use Rattle.reuse_tree.proofs.change.Change.is_after_by_range.Goals as goal
 
 pub returns-in-Drop : goal.returns-in-Drop

@@ -1,4 +1,4 @@
-use Rattle.reuse_tree.proofs.Turning.{is_absent, make_before, splice_before}
+use Rattle.reuse_tree.proofs.Applying.{is_absent, make_before, splice_before}
 use Rattle.reuse_tree.proofs.change.Change.is_before_by_range.Goals as goal
 
 pub returns-in-Make : goal.returns-in-Make

@@ -1,7 +1,7 @@
 use Rattle.std.proofs.Common.{refl}
 use Rattle.std.proofs.lemmas.Bool.{false≢true}
 use Rattle.reuse_tree.proofs.ChangeStates.{after≢before, neither≢after, neither≢before, before_after, after_before, after_after, after_neither, neither_before, neither_after, neither_neither}
-use Rattle.reuse_tree.proofs.Turning.{before_too, not_both}
+use Rattle.reuse_tree.proofs.Applying.{before_too, not_both}
 use Rattle.reuse_tree.proofs.change.Change.state.Goals as goal
 
 pub is_sealed_before-requires : goal.is_sealed_before-requires

@@ -1,5 +1,5 @@
 use Rattle.std.proofs.Common.{refl}
-use Rattle.reuse_tree.proofs.Turning.{before_too}
+use Rattle.reuse_tree.proofs.Applying.{before_too}
 use Rattle.reuse_tree.proofs.change.Change.state_by_range.Goals as goal
 
 pub returns-then-is_before_by_range-clause-at_after : goal.returns-then-is_before_by_range-clause-at_after

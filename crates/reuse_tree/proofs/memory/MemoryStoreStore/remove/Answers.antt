@@ -10,5 +10,5 @@ returns-clause-removes c = record {
   may = λ left is. inr (files_in c.args.self.now.files, refl, is ∙ c.forget.ensures.files);
   device = search rules;
   written = search rules;
-  moves = search rules;
+  mutations = search rules;
 }

@@ -34,5 +34,5 @@ returns-clause-puts g c =
       may = λ left is. subst (λ (noted : CallRecord). MayBeLeft noted.start noted.doubts noted.calls left) c.note_put_parts.ensures is;
       device = grind (arith, common_steps);
       written = grind (arith, common_steps);
-      moves = grind (arith, common_steps);
+      mutations = grind (arith, common_steps);
     }

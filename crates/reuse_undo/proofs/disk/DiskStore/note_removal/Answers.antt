@@ -12,5 +12,5 @@ returns-clause-removes g c = record {
   may = λ left is. subst (λ (noted : CallRecord). MayBeLeft noted.start noted.doubts noted.calls left) c.note_remove.ensures is;
   device = grind (arith, common_steps);
   written = grind (arith, common_steps);
-  moves = grind (arith, common_steps);
+  mutations = grind (arith, common_steps);
 }

@@ -27,5 +27,5 @@ returns-clause-reads g c =
           (subst (λ (noted : CallRecord). MayBeLeft noted.start noted.doubts noted.calls left) c.note_sync.ensures is);
       failures = grind (arith, common_steps);
       written = grind (arith, common_steps);
-      moves = grind (arith, common_steps);
+      mutations = grind (arith, common_steps);
     }

@@ -16,7 +16,7 @@ loop-change-preserved g c =
       reads = reads_more g.S.Store _ _ _ so_far.reads read;
       drawn = λ honest before after tree steps.
           let was = read.was_honest honest in
-          drawn_step c.args.way before after c.args.changes.now c.loop-change.change-index c.change-item.result c.loop-change.text.items c.draw_one.new.text.items c.loop-change-test.true c.change-item.is
+          drawn_step c.args.direction before after c.args.changes.now c.loop-change.change-index c.change-item.result c.loop-change.text.items c.draw_one.new.text.items c.loop-change-test.true c.change-item.is
           steps (so_far.drawn was before after tree steps)
           (c.in_ok-draw_one.ensures.drawn honest before after (ap tree_of (so_far.reads.files was) ∙ tree));
     }

@@ -1,6 +1,6 @@
 use Rattle.std.proofs.Common.{◌∙◌, Ok, ap, sym, subst}
 use Rattle.reuse_tree.specs.Files.{Files}
-use Rattle.reuse_tree.specs.declared.way.Way.TheVariants as go
+use Rattle.reuse_tree.specs.declared.direction.Direction.TheVariants as go
 use Rattle.reuse_session.specs.declared.request.Call.{Call}
 use Rattle.reuse_session.specs.declared.request.Call.TheVariants as calls
 use Rattle.reuse_undo.specs.run.Drawn.{IsAnsweredWith}
@@ -21,7 +21,7 @@ returns-in-Run g c =
     let command = c.in-Run.command in
     let reads_with_cause = preview_reads_with_cause store answer old new told.reads_only told.refusal in
     subst (λ (call : Call). IsAnsweredWith store (requests.Preview call) with.result.0 with.result.1 old new) (sym c.in-Run.is)
-    (answered_with store (requests.Preview (calls.Run command)) go.Do answer with.result.0 with.result.1 old new with.ensures.told with.ensures.planned
+    (answered_with store (requests.Preview (calls.Run command)) go.Forward answer with.result.0 with.result.1 old new with.ensures.told with.ensures.planned
     (call_answered store answer with.result.0 old new with.ensures.told reads_with_cause told.broken (calls.Run command) told.answers) (λ honest held stands after would.
     run_previews command held answer after (told.plan honest held stands) (ran_to command would.0 held would.1 would.2 would.3 ∙ ap (λ (tree : Files). Ok tree) would.4)))
 
@@ -35,9 +35,9 @@ returns-in-Undo g c =
     let with = c.told_with-in-Undo in
     let reads_with_cause = preview_reads_with_cause store answer old new told.reads_only told.refusal in
     subst (λ (call : Call). IsAnsweredWith store (requests.Preview call) with.result.0 with.result.1 old new) (sym c.in-Undo.is)
-    (answered_with store (requests.Preview calls.Undo) go.Undo answer with.result.0 with.result.1 old new with.ensures.told with.ensures.planned
+    (answered_with store (requests.Preview calls.Undo) go.Backward answer with.result.0 with.result.1 old new with.ensures.told with.ensures.planned
     (call_answered store answer with.result.0 old new with.ensures.told reads_with_cause told.broken calls.Undo told.exact) (λ honest held stands after would.
-    step_previews go.Undo held answer would.1 would.2 after would.3 would.4 (told.changes honest held stands) told.good))
+    step_previews go.Backward held answer would.1 would.2 after would.3 would.4 (told.changes honest held stands) told.good))
 
 pub returns-in-Redo : goal.returns-in-Redo
 returns-in-Redo g c =
@@ -49,9 +49,9 @@ returns-in-Redo g c =
     let with = c.told_with-in-Redo in
     let reads_with_cause = preview_reads_with_cause store answer old new told.reads_only told.refusal in
     subst (λ (call : Call). IsAnsweredWith store (requests.Preview call) with.result.0 with.result.1 old new) (sym c.in-Redo.is)
-    (answered_with store (requests.Preview calls.Redo) go.Do answer with.result.0 with.result.1 old new with.ensures.told with.ensures.planned
+    (answered_with store (requests.Preview calls.Redo) go.Forward answer with.result.0 with.result.1 old new with.ensures.told with.ensures.planned
     (call_answered store answer with.result.0 old new with.ensures.told reads_with_cause told.broken calls.Redo told.exact) (λ honest held stands after would.
-    step_previews go.Do held answer would.1 would.2 after would.3 would.4 (told.changes honest held stands) told.good))
+    step_previews go.Forward held answer would.1 would.2 after would.3 would.4 (told.changes honest held stands) told.good))
 
 pub returns-in-Revert : goal.returns-in-Revert
 returns-in-Revert g c =

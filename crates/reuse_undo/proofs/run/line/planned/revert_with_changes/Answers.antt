@@ -1,6 +1,6 @@
 use Rattle.std.proofs.Common.{◌∙◌, Ok, Err, inl, inr, ap, refl, subst}
 use Rattle.reuse_tree.specs.Files.{Files}
-use Rattle.reuse_tree.specs.declared.way.Way.TheVariants as go
+use Rattle.reuse_tree.specs.declared.direction.Direction.TheVariants as go
 use Rattle.reuse_session.specs.session.Previews.{run_path_outcomes_on}
 use Rattle.reuse_session.specs.declared.command.Command.{Command}
 use Rattle.reuse_session.specs.declared.path_outcome.Previewed.{Previewed}
@@ -27,7 +27,7 @@ returns-in-Ok g c =
     let reads_only = c.revert_command.ensures.reads_only in
     let first = show_reads_with_cause store c.revert_command.result old mid c.revert_command.ensures.broken.1 reads_only.reads reads_only.kept reads_only.fails c.revert_command.ensures.call in
     let reads_with_cause = reads_with_cause_on store c.revert_command.result answer old mid new first (preview_reads_with_cause store answer mid new told.reads_only told.refusal) in
-    answered_with store (requests.Preview (calls.Revert number skip_moved)) go.Do answer with.result.0 with.result.1 old new with.ensures.told with.ensures.planned
+    answered_with store (requests.Preview (calls.Revert number skip_moved)) go.Forward answer with.result.0 with.result.1 old new with.ensures.told with.ensures.planned
     (call_answered store answer with.result.0 old new with.ensures.told reads_with_cause (broken_again old mid answer reads_only.kept.1 told.broken) (calls.Revert number skip_moved) (λ honest held stands tells.
     let was_honest = told.reads_only.reads.was_honest honest in
     let still = still_stands store c.revert_command.result old mid held first was_honest stands in
@@ -48,7 +48,7 @@ returns-in-Err g c =
     let reads_only = c.revert_command.ensures.reads_only in
     let first = show_reads_with_cause store c.revert_command.result old new c.revert_command.ensures.broken.1 reads_only.reads reads_only.kept reads_only.fails c.revert_command.ensures.call in
     let reads_with_cause = reads_with_cause_err {A = Command} {B = Previewed} store refusal old new (subst (λ r. ReadsOnlyWithCause store r old new) c.in-Err.is first) in
-    answered_with store (requests.Preview (calls.Revert c.args.number c.args.skip_moved)) go.Do (Err refusal) (Err refusal) _ old new refl refl
+    answered_with store (requests.Preview (calls.Revert c.args.number c.args.skip_moved)) go.Forward (Err refusal) (Err refusal) _ old new refl refl
     (call_answered store (Err refusal) (Err refusal) old new refl reads_with_cause (broken_same c.revert_command.result refusal c.in-Err.is c.revert_command.ensures.broken) (calls.Revert c.args.number c.args.skip_moved) (λ honest held stands told.
     let none = c.in-Err.ensures.exact honest held stands (told_again Previewed Command refusal told) in
     inl (ap (λ r. Err r) none.0, none.1))) (λ honest held stands after would accepted. absurd accepted)

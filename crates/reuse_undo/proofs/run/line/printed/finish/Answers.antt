@@ -16,9 +16,9 @@ told telling answer old new (Err (WouldRefuse path_outcomes)) accepts appends = 
 told telling answer old new (Err fault) accepts appends = absurd accepts
 
 -- what holds however the answer is accepted
-either_way : {T E : Type 0} {P : Type 0} (result : Result T E) → P → IfOk result (λ value. P)
-either_way (Ok value) holds = holds
-either_way (Err fault) holds = tt
+either_direction : {T E : Type 0} {P : Type 0} (result : Result T E) → P → IfOk result (λ value. P)
+either_direction (Ok value) holds = holds
+either_direction (Err fault) holds = tt
 
 drawn : (answer : Response) (Claim : Refusal → Type 0) (result : Result ℕ Fault) → Accepts answer result → IfNoDiff result Claim
 drawn answer Claim (Ok count) accepts = tt
@@ -34,7 +34,7 @@ pub returns-in-Ok : goal.returns-in-Ok
 returns-in-Ok g c =
     record {
       told = told c.args.telling c.args.told _ _ c.accept.result c.accept.ensures c.in-Ok.ensures.printed;
-      behind = λ planned. either_way c.accept.result (c.in-Ok.ensures.behind planned);
+      behind = λ planned. either_direction c.accept.result (c.in-Ok.ensures.behind planned);
       undrawn = drawn c.args.told _ c.accept.result c.accept.ensures;
       failed = written c.args.told _ _ c.accept.result c.accept.ensures c.in-Ok.ensures.kept;
     }
